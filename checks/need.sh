@@ -1,0 +1,12 @@
+# Sourced by the checks. `need PACKAGE COMMAND` sees that COMMAND is there, by Debian's PACKAGE where it must;
+# where it can't be had it prints a line 'skipped: ..' and ends the check with status 0.
+need() {
+  command -v "$2" >/dev/null 2>&1 && return 0
+  if [ "$(id -u)" -eq 0 ] && command -v apt-get >/dev/null 2>&1; then
+    timeout 300 env DEBIAN_FRONTEND=noninteractive apt-get install -y "$1" >/dev/null 2>&1 ||
+      { timeout 120 apt-get update >/dev/null 2>&1 && timeout 300 env DEBIAN_FRONTEND=noninteractive apt-get install -y "$1" >/dev/null 2>&1; }
+  fi
+  command -v "$2" >/dev/null 2>&1 && return 0
+  printf 'skipped: %s needs %s of the package %s, which is not to be had here\n' "$0" "$2" "$1"
+  exit 0
+}

@@ -1,0 +1,4 @@
+pub mod Stream
+pub mod Fronts
+pub mod Grammar
+mod Example
