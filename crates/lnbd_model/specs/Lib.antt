@@ -1,0 +1,4 @@
+pub mod Breach
+pub mod Errors
+pub mod Kind
+pub mod Text

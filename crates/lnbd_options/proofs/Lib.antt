@@ -1,0 +1,4 @@
+pub mod AskedLemmas
+pub mod HeadLemmas
+pub mod PutLemmas
+pub mod TextLemmas

@@ -1,0 +1,6 @@
+use Rattle.std.proofs.Common.{◌++◌, List, ℕ, ap, sym, ◌∙◌}
+use Rattle.lnbd_records.proofs.NumberLaws.{row-one}
+use Rattle.lnbd_records.proofs.numbers.push_u16.Goals as goal
+
+pub returns-clause-ok : goal.returns-clause-ok
+returns-clause-ok c = c.in_ok-extend_from_slice.ensures.items ∙ ap (λ (b : List ℕ). c.args.out.now.items ++ b) (c.to_be_bytes-two.ensures ∙ sym (row-one 2 c.args.value))

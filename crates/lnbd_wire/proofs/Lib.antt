@@ -1,0 +1,3 @@
+pub mod HelloLemmas
+pub mod Puts
+pub mod Readings

@@ -1,0 +1,59 @@
+-- A head is read in one way.
+use Rattle.std.proofs.Common.{◌≡◌, ◌↔◌, ℕ, List, [], ◌∷◌, refl, subst}
+use Rattle.lnbd_records.specs.Numbers.{Field}
+use Rattle.lnbd_records.specs.Fronts.{IsFront}
+use Rattle.lnbd_records.specs.Transmission.{simple_reply_magic, request_magic, structured_reply_magic}
+use Rattle.lnbd_records.proofs.FrontLemmas.{IsHead, one_front, number_of, nth}
+use Rattle.lnbd_wire.specs.declared.read.Read.{Read}
+use Rattle.lnbd_wire.specs.declared.read.Read.TheVariants.{Value, NeedMore, BadMagic}
+use Rattle.lnbd_wire.specs.declared.simple.SimpleHead.{SimpleHead}
+use Rattle.lnbd_wire.specs.declared.request.RequestHead.{RequestHead}
+use Rattle.lnbd_wire.specs.declared.chunk.ChunkHead.{ChunkHead}
+use Rattle.lnbd_wire.specs.Heads.{simple_fields, request_fields, chunk_fields, front_of}
+
+same_read : {T : Type 0} (a b : Read T) → front_of a ≡ front_of b → a ≡ b
+same_read (Value x) (Value y) e = cc
+same_read (Value x) NeedMore e = cc
+same_read (Value x) (BadMagic n) e = cc
+same_read NeedMore (Value y) e = cc
+same_read NeedMore NeedMore e = refl
+same_read NeedMore (BadMagic n) e = cc
+same_read (BadMagic m) (Value y) e = cc
+same_read (BadMagic m) NeedMore e = cc
+same_read (BadMagic m) (BadMagic n) e = cc
+
+-- An answer that is said of some bytes is the one answer.
+pub exactly : {T : Type 0} (fields : T → List Field) (magic size : ℕ) (ws : List ℕ) → IsHead T fields 4 magic size ws → (bytes : List ℕ) (a : Read T) → IsFront fields 4 magic size bytes (front_of a) → (b : Read T) → (a ≡ b) ↔ IsFront fields 4 magic size bytes (front_of b)
+exactly {T = T} fields magic size ws k bytes a p b =
+    let P : Read T → Type 0 = λ v. IsFront fields 4 magic size bytes (front_of v) in
+    (λ e. subst P e p, λ q. same_read a b (one_front fields 4 magic size ws k bytes (front_of a) (front_of b) p q))
+
+pub simple_head : IsHead SimpleHead simple_fields 4 simple_reply_magic 16 (4 ∷ 4 ∷ 8 ∷ [])
+unfolding number_of nth
+simple_head = record {
+  first = λ head. (_, refl);
+  wide = λ head. refl;
+  whole = refl;
+  back = λ fs. record { error = nth 1 fs; cookie = nth 2 fs };
+  undone = λ head. refl;
+}
+
+pub chunk_head : IsHead ChunkHead chunk_fields 4 structured_reply_magic 20 (4 ∷ 2 ∷ 2 ∷ 8 ∷ 4 ∷ [])
+unfolding number_of nth
+chunk_head = record {
+  first = λ head. (_, refl);
+  wide = λ head. refl;
+  whole = refl;
+  back = λ fs. record { flags = nth 1 fs; kind = nth 2 fs; cookie = nth 3 fs; length = nth 4 fs };
+  undone = λ head. refl;
+}
+
+pub request_head : IsHead RequestHead request_fields 4 request_magic 28 (4 ∷ 2 ∷ 2 ∷ 8 ∷ 8 ∷ 4 ∷ [])
+unfolding number_of nth
+request_head = record {
+  first = λ head. (_, refl);
+  wide = λ head. refl;
+  whole = refl;
+  back = λ fs. record { flags = nth 1 fs; kind = nth 2 fs; cookie = nth 3 fs; offset = nth 4 fs; length = nth 5 fs };
+  undone = λ head. refl;
+}

@@ -1,0 +1,37 @@
+-- The heads of the transmission phase, and what is read where one is wanted.
+use Rattle.std.specs.Prelude.{ℕ, ◌≤◌, List, [], ◌∷◌, length}
+use Rattle.lnbd_records.specs.Numbers.{Field, number, IsRow, Begins}
+use Rattle.lnbd_records.specs.Fronts.{Front, Whole, Short, Other, IsShort, HasOther}
+use Rattle.lnbd_records.specs.Transmission.{request, simple_reply, chunk_head}
+use Rattle.lnbd_wire.specs.declared.chunk.ChunkHead.{ChunkHead}
+use Rattle.lnbd_wire.specs.declared.request.RequestHead.{RequestHead}
+use Rattle.lnbd_wire.specs.declared.simple.SimpleHead.{SimpleHead}
+use Rattle.lnbd_wire.specs.declared.read.Judged.{Judged}
+use Rattle.lnbd_wire.specs.declared.read.Judged.TheVariants as judged
+use Rattle.lnbd_wire.specs.declared.read.Read.{Read}
+use Rattle.lnbd_wire.specs.declared.read.Read.TheVariants.{Value, NeedMore, BadMagic}
+
+abbrev pub simple_fields : SimpleHead → List Field
+simple_fields head = simple_reply head.error head.cookie
+
+abbrev pub chunk_fields : ChunkHead → List Field
+chunk_fields head = chunk_head head.flags head.kind head.cookie head.length
+
+abbrev pub request_fields : RequestHead → List Field
+request_fields head = request head.flags head.kind head.cookie head.offset head.length
+
+-- DISC: type 2, and all else is 0
+abbrev pub disconnect : List Field
+disconnect = request 0 2 0 0 0
+
+-- what is said of the front of some bytes
+abbrev pub front_of : {T : Type 0} → Read T → Front T
+front_of (Value head) = Whole head
+front_of NeedMore = Short
+front_of (BadMagic other) = Other other
+
+-- the same before the fields behind the magic are read
+abbrev pub IsJudged : (magic size : ℕ) → List ℕ → Judged → Type 0
+IsJudged magic size bytes judged.Whole = (size ≤ length bytes) × Begins (IsRow (number 4 magic ∷ [])) bytes
+IsJudged magic size bytes judged.NeedMore = IsShort 4 magic size bytes
+IsJudged magic size bytes (judged.BadMagic other) = HasOther 4 magic other bytes
