@@ -1,0 +1,4 @@
+pub mod Changes
+pub mod Order
+pub mod Rows
+pub mod Sound

@@ -1,0 +1,5 @@
+pub mod Done
+pub mod Inside
+pub mod Lends
+pub mod Marks
+pub mod Table

@@ -1,0 +1,13 @@
+//! The commands of one handle that are not retired: a row for each, by its cookie, and the order in which they
+//! were done.
+//!
+//! What a row holds is the caller's. Nothing here knows of commands, replies or callbacks.
+#![tactic(auto)]
+
+mod marks;
+mod table;
+
+pub use table::Table;
+
+#[cfg(test)]
+mod tests;
