@@ -1,0 +1,5 @@
+pub mod Address
+pub mod Fault
+pub mod Parts
+pub mod Spelling
+pub mod Written
