@@ -1,0 +1,5 @@
+pub mod Positions
+pub mod Ranges
+pub mod Spots
+pub mod Lists
+pub mod Laws
