@@ -1,0 +1,118 @@
+-- How many bytes may still come and go, and be held, without a new call of the caller. It is an upper bound, and a rough one.
+use Rattle.std.specs.Prelude.{◌≡◌, ℕ, ◌+◌, ◌-◌, ◌*◌, ◌<◌, true, List, [], ◌∷◌, length, map, is_some, if◌then◌else◌, ◌==◌}
+use Rattle.lnbd_history.specs.declared.kinds.Phase.{Phase}
+use Rattle.lnbd_history.specs.declared.kinds.Phase.TheVariants.{Greeting, Asked, AskedByName, OptMode, Ready, Refused}
+use Rattle.lnbd_history.specs.declared.kinds.Stage.{Stage}
+use Rattle.lnbd_history.specs.declared.kinds.Stage.TheVariants.{Created, Open, Disconnecting, Aborting, Closed, Dead}
+use Rattle.lnbd_history.specs.Answers.{is_living}
+use Rattle.lnbd_history.specs.Arrivals.{limit}
+use Rattle.lnbd_history.specs.Events.{Event, History, Wrote, Arrived, End, LinkFailed}
+use Rattle.lnbd_history.specs.Outgoing.{plain, request_at, total}
+use Rattle.lnbd_machine.specs.Machine.{Row, State, Machine, flying, step}
+use Rattle.lnbd_standing.specs.Standing.{StandsFor, May}
+
+-- The most bytes of the next record, where a reply to a command has at most `frame`. An option reply has a head of 20 bytes,
+-- and at most 65,536 behind it. In opt mode no option is unanswered: a head is a breach.
+abbrev pub most : (frame : ℕ) → Phase → ℕ
+most frame Greeting = 18
+most frame (Asked option) = 20 + 65536
+most frame AskedByName = 134
+most frame OptMode = 20
+most frame Ready = frame
+most frame (Refused code) = 0
+
+-- What may follow the next record. Each phase counts one, its request, its next record, and what may follow that.
+module _ (name : List ℕ) (contexts : List (List ℕ)) (frame commands : ℕ) where
+  -- the request of a phase
+  abbrev pub request : Phase → ℕ
+  request phase = total (map plain (request_at phase name contexts))
+
+  -- one reply for each command in flight
+  abbrev pub replies : ℕ
+  replies = commands * (1 + frame)
+
+  abbrev pub ready : ℕ
+  ready = 1 + frame + replies
+
+  -- EXPORT_NAME is asked, and what may follow
+  abbrev pub by_name : ℕ
+  by_name = request AskedByName + 1 + 134 + ready
+
+  -- an option is asked: its request, as many replies as it may have, and the one that ends the answer
+  abbrev pub asking : ℕ → ℕ
+  asking option = request (Asked option) + (limit option + 1) * (1 + 20 + 65536)
+
+  -- The answer to GO (7) may lead to EXPORT_NAME or to opt mode, that to SET_META_CONTEXT (10) to GO, that to
+  -- STRUCTURED_REPLY (8) to SET_META_CONTEXT, and the hello to STRUCTURED_REPLY.
+  unfoldable pub past_go : ℕ
+  past_go = 1 + 20 + by_name
+
+  unfoldable pub past_contexts : ℕ
+  past_contexts = asking 7 + past_go
+
+  unfoldable pub past_structured : ℕ
+  past_structured = asking 10 + past_contexts
+
+  unfoldable pub past_hello : ℕ
+  past_hello = asking 8 + past_structured
+
+  -- what may follow the answer to an option
+  abbrev pub past_option : ℕ → ℕ
+  past_option option =
+      if option == 8 then past_structured
+      else if option == 7 then past_go
+      else past_contexts
+
+  -- What may follow the next record, where so many replies of the answer that isn't ended are counted. The hello is
+  -- answered with 4 bytes of flags.
+  abbrev pub later : (count : ℕ) → Phase → ℕ
+  later count Greeting = 4 + past_hello
+  later count (Asked option) = (limit option - count) * (1 + 20 + 65536) + past_option option
+  later count AskedByName = ready
+  later count OptMode = 0
+  later count Ready = replies
+  later count (Refused code) = 0
+
+module _ {K : Type 0} where
+  -- the bytes that are asked of the commands in flight
+  abbrev pub asked_of : List (ℕ × Row K) → ℕ
+  asked_of [] = 0
+  asked_of (entry ∷ rows) = (if is_some entry.1.flight then entry.1.length else 0) + asked_of rows
+
+  -- A reply to a command has a head of 16 bytes, and no more behind it than are asked of all.
+  abbrev pub frame_of : State K → ℕ
+  frame_of state = 16 + asked_of state.rows
+
+  abbrev pub record_of : State K → ℕ
+  record_of state = most (frame_of state) state.talk.phase
+
+  abbrev pub later_of : State K → ℕ
+  later_of state = later state.talk.name state.talk.wanted (frame_of state) (flying state.rows) state.talk.pending.count state.talk.phase
+
+  -- what may still come in this stage, where so many bytes are held; after an abort 65,536 bytes are passed over
+  abbrev pub coming : Stage → State K → ℕ → ℕ
+  coming Created state held = 0
+  coming Open state held = 1 + (record_of state - held) + later_of state
+  coming Disconnecting state held = 1 + (record_of state - held) + later_of state
+  coming Aborting state held = 1 + (65536 - state.passed)
+  coming Closed state held = 0
+  coming (Dead cause) state held = 0
+
+  -- what may still come, and what waits to go out
+  abbrev pub left : State K → ℕ → ℕ
+  left state held = coming state.stage state held + total state.waits
+
+  unfoldable pub budget : Machine K → ℕ
+  budget machine = left machine.known (length machine.pending)
+
+  -- bytes came or went, or the connection ended
+  abbrev pub IsSpending : Machine K → Event K → Type 0
+  IsSpending now (Wrote n) = 0 < n
+  IsSpending now (Arrived bytes answers) = 0 < length bytes
+  IsSpending now (End answers) = is_living now.known.stage ≡ true
+  IsSpending now (LinkFailed answers) = is_living now.known.stage ≡ true
+  IsSpending now other = ⊥
+
+-- Each of them leaves less.
+abbrev pub EventsSpend : Type 0 → Type 0
+EventsSpend K = (limit : ℕ) (history : History K) (now : Machine K) (event : Event K) → StandsFor limit history now → May limit now event → IsSpending now event → budget (step now event) < budget now

@@ -1,0 +1,11 @@
+pub mod Commands
+pub mod Events
+pub mod Agreement
+pub mod Outgoing
+pub mod Arrivals
+pub mod Entries
+pub mod History
+pub mod Answers
+pub mod Refusals
+pub mod Talk
+pub mod Laws

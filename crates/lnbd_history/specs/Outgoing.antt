@@ -1,0 +1,117 @@
+-- What the client sends, and what of it still waits.
+use Rattle.std.specs.Prelude.{ℕ, ◌+◌, ◌-◌, Bool, true, false, List, [], ◌∷◌, ◌++◌, length, drop, if◌then◌else◌, ◌==◌, nat_lt, bit_and}
+use Rattle.lnbd_model.specs.Kind.{type_of}
+use Rattle.lnbd_records.specs.Numbers.{row}
+use Rattle.lnbd_records.specs.Handshake as handshake
+use Rattle.lnbd_records.specs.Requests.{info_request, meta_request}
+use Rattle.lnbd_records.specs.Transmission as transmission
+use Rattle.lnbd_history.specs.declared.kinds.Phase.{Phase}
+use Rattle.lnbd_history.specs.declared.kinds.Phase.TheVariants.{Greeting, Asked, AskedByName, OptMode, Ready, Refused}
+use Rattle.lnbd_history.specs.Agreement.{Turn, name_now, contexts_now, phase, is_info}
+use Rattle.lnbd_history.specs.Commands.{Command, is_write}
+
+-- Negotiation.
+
+-- the handshake flags that the client sends: of the server's flags the two that it knows
+abbrev pub client_flags : ℕ → List ℕ
+client_flags flags = row (handshake.client_flags (bit_and flags 3))
+
+-- INFO and GO ask for NAME (1), DESCRIPTION (2) and BLOCK_SIZE (3).
+abbrev pub option_body : ℕ → List ℕ → List (List ℕ) → List ℕ
+option_body option name contexts =
+    if is_info option then info_request name (1 ∷ 2 ∷ 3 ∷ [])
+    else if option == 10 then meta_request name contexts
+    else if option == 1 then name
+    else []
+
+abbrev pub option_request : ℕ → List ℕ → List ℕ
+option_request option body = row (handshake.option_head option (length body)) ++ body
+
+-- the request that is sent where negotiation comes to this phase
+abbrev pub request_at : Phase → List ℕ → List (List ℕ) → List (List ℕ)
+request_at (Asked option) name contexts = option_request option (option_body option name contexts) ∷ []
+request_at AskedByName name contexts = option_request 1 (option_body 1 name contexts) ∷ []
+request_at Greeting name contexts = []
+request_at OptMode name contexts = []
+request_at Ready name contexts = []
+request_at (Refused code) name contexts = []
+
+abbrev pub next_request : List Turn → List (List ℕ)
+next_request turns = request_at (phase turns) (name_now turns) (contexts_now turns)
+
+-- Parts.
+
+-- some bytes, and whether a command ends with them
+pub record Part : Type 0 where
+  pub bytes : List ℕ
+  pub ends : Bool
+
+-- bytes with which no command ends
+abbrev pub plain : List ℕ → Part
+plain bytes = record { bytes = bytes; ends = false }
+
+abbrev pub last_of : List ℕ → Part
+last_of bytes = record { bytes = bytes; ends = true }
+
+-- Flush has no range.
+abbrev pub head_of : {K : Type 0} → ℕ → Command K → List ℕ
+head_of cookie command = row (transmission.request command.flags (type_of command.kind) cookie command.offset command.length)
+
+-- a command's head, and a write's bytes behind it
+abbrev pub command_parts : {K : Type 0} → ℕ → Command K → List Part
+command_parts cookie command =
+    if is_write command.kind then plain (head_of cookie command) ∷ last_of command.payload ∷ []
+    else last_of (head_of cookie command) ∷ []
+
+-- DISC (2), which has no answer
+abbrev pub disconnect_part : Part
+disconnect_part = plain (row (transmission.request 0 2 0 0 0))
+
+-- ABORT (2)
+abbrev pub abort_part : Part
+abort_part = plain (option_request 2 [])
+
+-- What waits where so many bytes have gone out.
+abbrev pub waiting : List Part → ℕ → List Part
+waiting [] n = []
+waiting (part ∷ parts) n =
+    if n == 0 then part ∷ parts
+    else if nat_lt n (length part.bytes) then record { bytes = drop n part.bytes; ends = part.ends } ∷ parts
+    else waiting parts (n - length part.bytes)
+
+abbrev pub one_if : Bool → ℕ
+one_if test = if test then 1 else 0
+
+-- How many commands are wholly written: those whose last part has no waiting byte.
+abbrev pub whole : List Part → ℕ → ℕ
+whole [] n = 0
+whole (part ∷ parts) n =
+    if n == 0 then 0
+    else if nat_lt n (length part.bytes) then 0
+    else one_if part.ends + whole parts (n - length part.bytes)
+
+-- how many bytes these are
+abbrev pub total : List Part → ℕ
+total [] = 0
+total (part ∷ parts) = length part.bytes + total parts
+
+-- what is offered: the rest of the first part that waits
+abbrev pub out : List Part → List ℕ
+out [] = []
+out (part ∷ parts) = part.bytes
+
+-- Of what waits, so many bytes of the first part have gone out.
+abbrev pub wrote : List Part → ℕ → List Part
+wrote [] n = []
+wrote (part ∷ parts) n =
+    if n == 0 then part ∷ parts
+    else if nat_lt n (length part.bytes) then record { bytes = drop n part.bytes; ends = part.ends } ∷ parts
+    else parts
+
+-- how many commands end with these bytes
+abbrev pub ended : List Part → ℕ → ℕ
+ended [] n = 0
+ended (part ∷ parts) n =
+    if n == 0 then 0
+    else if nat_lt n (length part.bytes) then 0
+    else one_if part.ends

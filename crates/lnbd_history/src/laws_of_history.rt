@@ -1,0 +1,26 @@
+//! Laws of what histories mean. Each is the contract of a function that does nothing.
+
+ghost use Rattle.lnbd_history.specs.Laws.{CutsDoNotMatter, CallbacksAreCalledOnce, CloseFreesAll};
+ghost use Rattle.lnbd_history.specs.Talk.{ComesToAgreed};
+
+/// Negotiation that keeps no list, taken one turn at a time, comes to what all turns agree on.
+#[tactic(auto, using(crate::proofs::Agree::comes_to_agreed))]
+pub fn turns_come_to_what_is_agreed()
+    ensures { ComesToAgreed }
+{}
+
+/// How bytes are cut into arrivals changes nothing.
+pub fn cuts_do_not_matter<K>()
+    ensures { CutsDoNotMatter K }
+{}
+
+/// Each callback is completed at most once and freed at most once, and nothing is noted of it after
+/// its free.
+pub fn callbacks_are_called_once<K>()
+    ensures { CallbacksAreCalledOnce K }
+{}
+
+/// After a close each callback that was admitted was freed exactly once.
+pub fn close_frees_all<K>()
+    ensures { CloseFreesAll K }
+{}

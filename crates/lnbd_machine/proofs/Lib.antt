@@ -1,0 +1,9 @@
+pub mod Fold
+pub mod Walk
+pub mod Count
+pub mod Speaking
+pub mod Table
+pub mod Filing
+pub mod Bytes
+pub mod Right
+pub mod Partial

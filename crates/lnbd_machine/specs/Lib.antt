@@ -1,0 +1,4 @@
+pub mod Machine
+pub mod Now
+pub mod Does
+pub mod Laws
