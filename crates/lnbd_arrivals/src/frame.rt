@@ -1,0 +1,103 @@
+//! A simple reply at the front of some bytes.
+
+ghost use Rattle.std.specs.Prelude.{◌≡◌, ◌≤◌, ◌&&◌, ℕ, Option, Some, None, if◌then◌else◌, nat_lt, length};
+ghost use Rattle.std.specs.Option.{option_map};
+ghost use Rattle.lnbd_records.specs.Numbers.{number_at};
+ghost use Rattle.lnbd_history.specs.Arrivals.{Waiting as Known, content_size};
+ghost use Rattle.lnbd_history.specs.Commands.{is_read};
+ghost use Rattle.lnbd_commands.specs.Seen.{seen_waiting};
+ghost use Rattle.lnbd_arrivals.specs.Frames.{SeenAs};
+
+use lnbd_commands::Waiting;
+use lnbd_model::{Breach, Kind};
+use lnbd_records::{u32_at, u64_at};
+
+const MAGIC: u32 = 0x67446698;
+
+/// What the bytes at the front show of a simple reply.
+#[derive(Clone, Copy, Debug, PartialEq, Eq)]
+pub enum Seen {
+    /// Nothing yet: more bytes are needed.
+    Nothing,
+    /// A whole reply of 16 bytes and `size` bytes of data.
+    Whole {
+        cookie: u64,
+        error: u32,
+        size: usize,
+    },
+    /// A breach.
+    Broken(Breach),
+}
+
+/// The cookie of the reply, where its head is whole.
+#[tactic(auto, unfolding(lnbd_records::specs::Numbers::number_at))]
+pub fn cookie_in(bytes: &[u8]) -> Option<u64>
+    ensures { result ≡ (if nat_lt (length bytes.now) 16 then None else Some (number_at 8 8 bytes.now)) }
+{
+    if bytes.len() < 16 {
+        None
+    } else {
+        Some(u64_at(bytes, 8))
+    }
+}
+
+fn is_read(kind: Kind) -> bool
+    ensures { result ≡ is_read kind }
+{
+    matches!(kind, Kind::Read)
+}
+
+/// How many bytes follow the head of a reply with this error.
+pub fn content_size(command: &Waiting, error: u32) -> u64
+    ensures { result ≡ content_size (seen_waiting command.now) error }
+{
+    if error == 0 && is_read(command.kind) {
+        command.length
+    } else {
+        0
+    }
+}
+
+/// Whether a simple reply may not answer the command: a read where structured replies are on.
+fn is_barred(structured: bool, kind: Kind) -> bool
+    ensures { result ≡ (structured && is_read kind) }
+{
+    structured && is_read(kind)
+}
+
+/// What the bytes at the front show, where the command of their cookie, if it waits, is this one (NBD
+/// protocol, "Simple reply message").
+#[tactic(auto, unfolding(lnbd_history::specs::Arrivals::shows_frame, lnbd_history::specs::Arrivals::shows_simple, lnbd_stream::specs::Grammar::once, lnbd_stream::specs::Grammar::wants))]
+pub fn look_frame(structured: bool, waiting: Option<Waiting>, bytes: &[u8]) -> Seen
+    ensures { (waited : ℕ → Option Known) → (16 ≤ length bytes.now → waited (number_at 8 8 bytes.now) ≡ option_map seen_waiting waiting) → SeenAs structured waited bytes.now result }
+{
+    if bytes.len() < 4 {
+        return Seen::Nothing;
+    }
+    if u32_at(bytes, 0) != MAGIC {
+        return Seen::Broken(Breach::BadReplyMagic);
+    }
+    if bytes.len() < 16 {
+        return Seen::Nothing;
+    }
+    let error = u32_at(bytes, 4);
+    let cookie = u64_at(bytes, 8);
+    match waiting {
+        None => Seen::Broken(Breach::UnknownCookie),
+        Some(command) => {
+            if is_barred(structured, command.kind) {
+                return Seen::Broken(Breach::SimpleForRead);
+            }
+            let size = content_size(&command, error);
+            if ((bytes.len() - 16) as u64) < size {
+                Seen::Nothing
+            } else {
+                Seen::Whole {
+                    cookie,
+                    error,
+                    size: size as usize,
+                }
+            }
+        }
+    }
+}

@@ -1,0 +1,11 @@
+pub mod CloseLemmas
+pub mod IssueLemmas
+pub mod LandLemmas
+pub mod LoseLemmas
+pub mod MarkLemmas
+pub mod NumberLemmas
+pub mod ReplyLemmas
+pub mod ResultLemmas
+pub mod RowLemmas
+pub mod SoundLemmas
+pub mod TakesLemmas

@@ -1,0 +1,9 @@
+pub mod Asks
+pub mod Closes
+pub mod Commands
+pub mod Flights
+pub mod Lands
+pub mod Rows
+pub mod Seen
+pub mod Sound
+pub mod Takes

@@ -1,0 +1,207 @@
+//! The commands of one handle, and what each event does to them.
+
+ghost use Rattle.std.specs.Prelude.{◌≡◌, ◌≤◌, ◌+◌, [], ◌∷◌, ℕ, List, true, false, Some, None, IsSome, IfOk, IfErr, OnOk, OnErr, is_some, length};
+ghost use Rattle.std.specs.Option.{option_map};
+ghost use Rattle.lnbd_keyed.specs.Keyed.{value_at, keys};
+ghost use Rattle.lnbd_history.specs.Answers.{peeked_of};
+ghost use Rattle.lnbd_history.specs.Arrivals.{Waiting as Known, simple_content};
+ghost use Rattle.lnbd_history.specs.Commands.{Command, callbacks, flight_of};
+ghost use Rattle.lnbd_history.specs.Entries.{Dropped, Framed, Lost};
+ghost use Rattle.lnbd_machine.specs.Machine.{Row as SeenRow, file_all, file_in, flying, refused};
+ghost use Rattle.lnbd_machine.specs.Now.{completed_row};
+ghost use Rattle.lnbd_commands.specs.Commands.{Commands as Seen, cleared, issuing, no_commands, retiring, waiting_at};
+ghost use Rattle.lnbd_commands.specs.Seen.{seen_waiting};
+ghost use Rattle.lnbd_commands.specs.Takes.{IsReply, Takes, TakesReply};
+
+use crate::row::{Row, Waiting};
+use crate::rows::{answer_in, finish_in, lose_in};
+use lnbd_callbacks::{Caller, Desk};
+use lnbd_history::Peeked;
+use lnbd_inflight::Table;
+use lnbd_model::{NoMemory, Note};
+use std::alloc::Global;
+use std::marker::Model;
+
+/// The commands of one handle that are not retired, and the desk of their callbacks. They must be
+/// spent, in the end by `close`.
+pub struct Commands<K> {
+    pub(crate) alloc: Global,
+    pub(crate) table: Table<Row<K>>,
+    pub(crate) desk: Desk,
+    pub(crate) issued: u64,
+    pub(crate) freed: u64,
+}
+
+impl<K> Model for Commands<K> {
+    ghost use Rattle.lnbd_commands.specs.Commands.{Commands as Seen};
+    ghost use Rattle.lnbd_commands.specs.Sound.{IsSound};
+
+    ghost Value = { Seen K };
+
+    ghost view = { λ c. record { issued = c.issued; rows = c.table.rows; done = c.table.done; log = c.desk.log; freed = c.freed; room = c.desk.room } };
+
+    ghost invariant = { λ c. IsSound (record { issued = c.issued; rows = c.table.rows; done = c.table.done; log = c.desk.log; freed = c.freed; room = c.desk.room }) };
+}
+
+impl<K> Commands<K> {
+    /// No commands. It takes no memory.
+    pub fn new(alloc: Global) -> Commands<K>
+        ensures { result ≡ no_commands }
+    {
+        Commands {
+            alloc,
+            table: Table::new(alloc),
+            desk: Desk::new(alloc),
+            issued: 0,
+            freed: 0,
+        }
+    }
+
+    /// How many commands were issued: the last cookie, or 0.
+    pub fn issued(&self) -> u64
+        ensures { result ≡ self.now.issued }
+    {
+        self.issued
+    }
+
+    /// How many commands are not retired.
+    pub fn held(&self) -> usize
+        ensures { result ≡ length self.now.rows }
+    {
+        self.table.count()
+    }
+
+    /// How many commands are in flight (libnbd, nbd_aio_in_flight).
+    pub fn in_flight(&self) -> usize
+        ensures { result ≡ flying self.now.rows }
+    {
+        self.table.undone()
+    }
+
+    /// The completed command that completed first (libnbd, nbd_aio_peek_command_completed).
+    pub fn peek(&self) -> Peeked
+        ensures { result ≡ peeked_of self.now.done (length self.now.rows) }
+    {
+        match self.table.first_done() {
+            Some(cookie) => Peeked::Cookie(cookie),
+            None => {
+                if self.table.count() == 0 {
+                    Peeked::NoneLeft
+                } else {
+                    Peeked::NoneDone
+                }
+            }
+        }
+    }
+
+    /// What is known of a command, while it is in flight.
+    pub fn waiting(&self, cookie: u64) -> Option<Waiting>
+        ensures { option_map seen_waiting result ≡ waiting_at cookie self.now }
+    {
+        match self.table.get(cookie) {
+            Some(row) => row.waiting(),
+            None => None,
+        }
+    }
+
+    /// The notes since the log was last cleared, the earliest first.
+    pub fn notes(&self) -> &[Note]
+        ensures { result.now ≡ self.now.log.notes }
+    {
+        self.desk.notes()
+    }
+
+    /// Drops the notes.
+    pub fn clear_log(&mut self)
+        ensures { self.new ≡ cleared self.old }
+    {
+        self.desk.clear();
+    }
+
+    /// How many callbacks were admitted.
+    pub fn admitted(&self) -> u64
+        ensures { result ≡ self.now.log.admitted }
+    {
+        self.desk.admitted()
+    }
+
+    /// How many callbacks were freed.
+    pub fn freed(&self) -> u64
+        ensures { result ≡ self.now.freed }
+    {
+        self.freed
+    }
+}
+
+impl<K: Caller> Commands<K> {
+    /// Files a simple reply with this error, as the wire tells it, and these bytes under a command in
+    /// flight: it completes, and its callbacks are freed. The bytes are copied once. Only a command with a
+    /// chunk callback may want memory, for that note; then nothing has changed.
+    pub fn reply(
+        &mut self,
+        world: &mut K::World,
+        cookie: u64,
+        error: u32,
+        bytes: &[u8],
+    ) -> Result<(), NoMemory>
+        requires { IsReply (waiting_at cookie self.old) error bytes.now }
+        ensures ok { OnOk result (TakesReply K.steps cookie (waiting_at cookie self.old) error bytes.now self.old self.new world.old world.new) }
+        ensures err { OnErr result (self.new ≡ self.old) }
+        ensures err_world { OnErr result (world.new ≡ world.old) }
+    {
+        let landed = match answer_in(
+            &mut self.table,
+            self.alloc,
+            &mut self.desk,
+            world,
+            cookie,
+            error,
+            bytes,
+        ) {
+            Ok(landed) => landed,
+            Err(fault) => return Err(fault),
+        };
+        let _admitted = self.desk.admitted();
+        self.freed += landed.count();
+        finish_in(&mut self.table, &mut self.desk, world, cookie, landed);
+        Ok(())
+    }
+
+    /// Fails each command in flight with 107, ENOTCONN, or an earlier error of its own, in order of
+    /// cookies: each completes, and its callbacks are freed. It takes no memory.
+    ///
+    /// The time grows with the number of cookies from the first in flight to the last that was given out.
+    pub fn lose_all(&mut self, world: &mut K::World)
+        ensures { Takes K.steps (file_all Lost (keys self.old.rows)) self.old self.new world.old world.new }
+    {
+        let last = self.issued;
+        let mut lost = match self.table.first_undone() {
+            Some(first) => first - 1,
+            None => last,
+        };
+        while lost < last {
+            lost += 1;
+            self.lose_if(world, lost);
+        }
+    }
+
+    /// Fails a command, where it is in flight.
+    fn lose_if(&mut self, world: &mut K::World, cookie: u64)
+        ensures { Takes K.steps (file_in cookie Lost) self.old self.new world.old world.new }
+    {
+        if self.waiting(cookie).is_some() {
+            self.lose(world, cookie);
+        }
+    }
+
+    /// Fails a command in flight.
+    fn lose(&mut self, world: &mut K::World, cookie: u64)
+        requires { is_some (waiting_at cookie self.old) ≡ true }
+        ensures { Takes K.steps (file_in cookie Lost) self.old self.new world.old world.new }
+    {
+        let landed = lose_in(&mut self.table, self.alloc, cookie);
+        let _admitted = self.desk.admitted();
+        self.freed += landed.count();
+        finish_in(&mut self.table, &mut self.desk, world, cookie, landed);
+    }
+}

@@ -1,0 +1,139 @@
+//! The callbacks of one command: admitted together, called at its end, and freed together. Which
+//! command they belong to is not known here.
+
+ghost use Rattle.std.specs.Prelude.{◌≡◌, ◌++◌, [], ◌∷◌, true, is_some, IfOk, IfErr, OnOk, OnErr};
+ghost use Rattle.lnbd_history.specs.Commands.{flight_of};
+ghost use Rattle.lnbd_history.specs.Arrivals.{Data};
+ghost use Rattle.lnbd_history.specs.Entries.{Framed, first_free_calls, free_calls, completion_calls, chunk_calls, chunk_notes};
+ghost use Rattle.lnbd_commands.specs.Lands.{IsCounted};
+ghost use Rattle.lnbd_commands.specs.Flights.{IsFirstLive, IsLiveFlight, first_freed, freeing, completing, admitting, flight_count};
+
+use lnbd_callbacks::{Caller, Desk, Heard, Slot, Verdict};
+use lnbd_model::{Bytes, NoMemory};
+use std::marker::Model;
+
+/// The callbacks of a command in flight: the one for chunks or extents, if there is one, and the one for
+/// its completion. It must be spent.
+pub(crate) struct Flight<K> {
+    first: Option<Slot<K>>,
+    done: Slot<K>,
+}
+
+impl<K> Model for Flight<K> {
+    ghost use Rattle.lnbd_history.specs.Commands.{Flight as Seen};
+
+    ghost Value = { Seen K };
+
+    ghost view = { λ flight. record { first = flight.first; done = flight.done } };
+}
+
+/// Admits the callbacks of a command, the chunk or extents callback with the lower number, or hands
+/// them back and changes nothing.
+pub(crate) fn admit<K: Caller>(
+    desk: &mut Desk,
+    first: Option<K>,
+    done: K,
+) -> Result<Flight<K>, (Option<K>, K)>
+    ensures flight { IfOk result (λ flight. flight ≡ flight_of desk.old.log.admitted first done) }
+    ensures ok { OnOk result (desk.new ≡ record desk.old { log = admitting first desk.old.log }) }
+    ensures handed_back { IfErr result (λ back. back ≡ (first, done)) }
+    ensures err { OnErr result (desk.new ≡ desk.old) }
+{
+    match first {
+        None => match desk.admit(done) {
+            Ok(done) => Ok(Flight { first: None, done }),
+            Err(done) => Err((None, done)),
+        },
+        Some(first) => match desk.admit_two(first, done) {
+            Ok((first, done)) => Ok(Flight {
+                first: Some(first),
+                done,
+            }),
+            Err((first, done)) => Err((Some(first), done)),
+        },
+    }
+}
+
+/// Frees the chunk or extents callback, if there is one.
+fn free_first<K: Caller>(first: Option<Slot<K>>, desk: &mut Desk, world: &mut K::World)
+    requires { IsFirstLive first desk.old.log }
+    ensures world { K.steps world.old (first_free_calls first) world.new }
+    ensures desk { desk.new ≡ record desk.old { log = first_freed first desk.old.log } }
+{
+    match first {
+        Some(slot) => slot.free(desk, world),
+        None => {}
+    }
+}
+
+/// Completes a command with this error, 0 for none, and these bytes, and frees its callbacks.
+pub(crate) fn complete<K: Caller>(
+    flight: Flight<K>,
+    desk: &mut Desk,
+    world: &mut K::World,
+    error: u32,
+    bytes: Bytes,
+) -> Verdict
+    requires { IsLiveFlight flight desk.old.log }
+    ensures world { K.steps world.old (completion_calls flight error bytes result) world.new }
+    ensures desk { desk.new ≡ record desk.old { log = completing flight error result desk.old.log } }
+{
+    let Flight { first, done } = flight;
+    free_first(first, desk, world);
+    let mut done = done;
+    let verdict = done.complete(desk, world, error, bytes);
+    done.free(desk, world);
+    verdict
+}
+
+/// Frees the callbacks of a command that does not complete.
+pub(crate) fn free<K: Caller>(flight: Flight<K>, desk: &mut Desk, world: &mut K::World)
+    requires { IsLiveFlight flight desk.old.log }
+    ensures world { K.steps world.old (free_calls flight) world.new }
+    ensures desk { desk.new ≡ record desk.old { log = freeing flight desk.old.log } }
+{
+    let Flight { first, done } = flight;
+    free_first(first, desk, world);
+    done.free(desk, world);
+}
+
+impl<K> Flight<K> {
+    /// How many callbacks there are.
+    pub(crate) fn count(&self) -> u64
+        ensures { result ≡ flight_count self.now }
+    {
+        match &self.first {
+            None => 1,
+            Some(_) => 2,
+        }
+    }
+}
+
+impl<K: Caller> Flight<K> {
+    /// Tells content to the chunk callback, if there is one: these bytes from this offset on, with the
+    /// command's error so far. For want of memory it is not called, and nothing has changed.
+    pub(crate) fn hear(
+        &self,
+        desk: &mut Desk,
+        world: &mut K::World,
+        bytes: &[u8],
+        offset: u64,
+        error: u32,
+    ) -> Result<Option<Heard>, NoMemory>
+        requires { IsFirstLive self.now.first desk.old.log }
+        ensures heard { IfOk result (λ heard. is_some heard ≡ is_some self.now.first) }
+        ensures counted { IfOk result IsCounted }
+        ensures world { IfOk result (λ heard. K.steps world.old (chunk_calls self.now.first (Framed (Data offset bytes.now) true) heard error) world.new) }
+        ensures log { IfOk result (λ heard. desk.new.log ≡ record desk.old.log { notes = desk.old.log.notes ++ chunk_notes self.now.first (Framed (Data offset bytes.now) true) heard error }) }
+        ensures err_world { OnErr result (world.new ≡ world.old) }
+        ensures err_desk { OnErr result (desk.new ≡ desk.old) }
+    {
+        match &self.first {
+            None => Ok(None),
+            Some(slot) => match slot.chunk(desk, world, bytes, offset, 1, error) {
+                Ok(heard) => Ok(Some(heard)),
+                Err(fault) => Err(fault),
+            },
+        }
+    }
+}

@@ -1,0 +1,19 @@
+//! The commands of one handle that are not retired, with their callbacks: issuing one, filing a reply
+//! under it, losing all of them at death, and closing. It joins the table of rows, the desk and what a
+//! simple reply does. No bytes of the wire, no negotiation and no waiting parts are known here.
+#![tactic(auto)]
+
+mod close;
+mod commands;
+mod flight;
+mod issue;
+mod results;
+mod row;
+mod rows;
+
+pub use close::Closed;
+pub use commands::Commands;
+pub use row::{Asked, Waiting};
+
+#[cfg(test)]
+mod tests;

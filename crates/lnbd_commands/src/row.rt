@@ -1,0 +1,388 @@
+//! The row of one command: what was asked, its callbacks while it is in flight, its buffer, and what
+//! was kept of it. How rows change is not said here.
+
+ghost use Rattle.std.specs.Prelude.{◌≡◌, ℕ, List, [], true, Some, None, is_some, length, vec_len, IfOk, OnErr};
+ghost use Rattle.std.specs.Option.{option_map};
+ghost use Rattle.lnbd_history.specs.Commands.{is_read};
+ghost use Rattle.lnbd_history.specs.Arrivals.{Waiting as Known, simple_content};
+ghost use Rattle.lnbd_history.specs.Entries.{Framed, buffer, heard_error, or_else, told_error};
+ghost use Rattle.lnbd_commands.specs.Flights.{flight_count};
+ghost use Rattle.lnbd_commands.specs.Lands.{Hears, lost};
+ghost use Rattle.lnbd_commands.specs.Seen.{seen_waiting};
+
+use crate::flight::Flight;
+use lnbd_callbacks::{Caller, Desk, Heard};
+use lnbd_history::Completed;
+use lnbd_model::{Bytes, ENOTCONN, Kind, NoMemory};
+use lnbd_simple::{Settled, settle};
+use std::alloc::Global;
+use std::marker::Model;
+use std::mem::replace;
+
+/// What a caller asks for. A read's buffer is to be filled, a write's is to be sent; both have the
+/// asked length. Other commands have an empty one.
+#[derive(Drop)]
+pub struct Asked<K> {
+    pub kind: Kind,
+    /// Command flags (NBD protocol, "Command flags").
+    pub flags: u32,
+    /// In bytes.
+    pub offset: u64,
+    /// In bytes.
+    pub length: u64,
+    pub buf: Vec<u8>,
+    /// The chunk or extents callback.
+    pub first: Option<K>,
+    /// The completion callback.
+    pub done: K,
+}
+
+/// What is known of a command in flight.
+#[derive(Clone, Copy, Debug, PartialEq, Eq)]
+pub struct Waiting {
+    pub kind: Kind,
+    /// In bytes.
+    pub offset: u64,
+    /// In bytes.
+    pub length: u64,
+}
+
+/// What the completion callback kept: an error, 0 for none, and the bytes.
+#[derive(Debug, Drop)]
+pub(crate) struct Kept {
+    pub(crate) error: u32,
+    pub(crate) bytes: Bytes,
+}
+
+impl Model for Kept {
+    ghost use Rattle.lnbd_history.specs.Entries.{Kept as Seen};
+
+    ghost Value = { Seen };
+
+    ghost view = { λ kept. record { error = kept.error; bytes = kept.bytes } };
+}
+
+/// What a command in flight came to: its callbacks, what its chunk callback answered last, its error and
+/// its bytes.
+pub(crate) struct Landed<K> {
+    pub(crate) flight: Flight<K>,
+    pub(crate) heard: Option<Heard>,
+    pub(crate) error: u32,
+    pub(crate) bytes: Bytes,
+}
+
+impl<K> Model for Landed<K> {
+    ghost use Rattle.lnbd_commands.specs.Lands.{Landing};
+
+    ghost Value = { Landing K };
+
+    ghost view = { λ landed. record { flight = landed.flight; heard = landed.heard; error = landed.error; bytes = landed.bytes } };
+}
+
+impl<K> Landed<K> {
+    /// How many callbacks the command has.
+    pub(crate) fn count(&self) -> u64
+        ensures { result ≡ flight_count self.now.flight }
+    {
+        self.flight.count()
+    }
+}
+
+/// The row of a command that is not retired.
+pub(crate) struct Row<K> {
+    kind: Kind,
+    flags: u32,
+    offset: u64,
+    length: u64,
+    flight: Option<Flight<K>>,
+    // of a command in flight
+    buf: Vec<u8>,
+    error: u32,
+    kept: Option<Kept>,
+}
+
+impl<K> Model for Row<K> {
+    ghost use Rattle.lnbd_machine.specs.Machine.{Row as Seen};
+    ghost use Rattle.lnbd_commands.specs.Rows.{seen_bytes, HasBuffer};
+
+    ghost Value = { Seen K };
+
+    ghost view = { λ row. record { kind = row.kind; flags = row.flags; offset = row.offset; length = row.length; flight = row.flight; bytes = seen_bytes row.kept row.kind row.length row.buf.items; error = row.error; kept = row.kept } };
+
+    ghost invariant = { λ row. HasBuffer row.kept row.kind row.length row.buf.items };
+}
+
+impl<K> Row<K> {
+    ghost use Rattle.lnbd_machine.specs.Machine.{waiting_row, hearing, result_bytes};
+    ghost use Rattle.lnbd_commands.specs.Rows.{unflown, flown, landed, keeping};
+
+    /// The row of a command whose callbacks are not admitted yet.
+    pub(crate) fn new(kind: Kind, flags: u32, offset: u64, length: u64, buf: Vec<u8>) -> Row<K>
+        requires { is_read kind ≡ true → vec_len buf ≡ length }
+        ensures { result ≡ unflown kind flags offset length buf.items }
+    {
+        Row {
+            kind,
+            flags,
+            offset,
+            length,
+            flight: None,
+            buf,
+            error: 0,
+            kept: None,
+        }
+    }
+
+    /// Puts the callbacks into a row that has none.
+    pub(crate) fn fly(&mut self, flight: Flight<K>)
+        requires { self.old.flight ≡ None }
+        ensures { self.new ≡ flown flight self.old }
+    {
+        none_left(self.flight.replace(flight));
+    }
+
+    /// What is known of the command, while it is in flight.
+    pub(crate) fn waiting(&self) -> Option<Waiting>
+        ensures { option_map seen_waiting result ≡ waiting_row self.now.flight self.now }
+    {
+        match &self.flight {
+            None => None,
+            Some(_) => Some(Waiting {
+                kind: self.kind,
+                offset: self.offset,
+                length: self.length,
+            }),
+        }
+    }
+
+    /// Keeps this error and these bytes of a command that landed.
+    pub(crate) fn keep(&mut self, error: u32, bytes: Bytes)
+        requires { is_some self.old.kept ≡ true }
+        ensures { self.new ≡ keeping (record { error = error; bytes = bytes }) self.old }
+    {
+        self.kept = Some(Kept { error, bytes });
+    }
+
+    /// Takes the callbacks and the buffer of a command that ends with this error, 0 for none. The bytes of a
+    /// read that is done are this content, those of one that failed are zeroes, and a write has its own.
+    fn land(&mut self, alloc: Global, heard: Option<Heard>, error: u32, content: &[u8]) -> Landed<K>
+        requires flies { is_some self.old.flight ≡ true }
+        requires held { self.old.kept ≡ None }
+        requires sized { is_read self.old.kind ≡ true → error ≡ 0 → length content.now ≡ self.old.length }
+        ensures flight { self.old.flight ≡ Some result.flight }
+        ensures heard { result.heard ≡ heard }
+        ensures error { result.error ≡ error }
+        ensures bytes { result.bytes ≡ buffer self.old.kind self.old.length self.old.bytes error content.now }
+        ensures row { self.new ≡ landed error (record { error = error; bytes = [] }) self.old }
+    {
+        let Some(flight) = self.flight.take() else {
+            unreachable!()
+        };
+        let mut bytes = replace(&mut self.buf, Vec::new(alloc));
+        match self.kind {
+            Kind::Read => {
+                if error == 0 {
+                    bytes.copy_from_slice(content);
+                } else {
+                    bytes.fill(0);
+                }
+            }
+            Kind::Write => {}
+            _ => bytes.clear(),
+        }
+        self.error = error;
+        self.kept = Some(Kept {
+            error,
+            bytes: Bytes::from_vec(Vec::new(alloc)),
+        });
+        Landed {
+            flight,
+            heard,
+            error,
+            bytes: Bytes::from_vec(bytes),
+        }
+    }
+
+    /// Ends the command because the connection died. It takes no memory.
+    pub(crate) fn lose(&mut self, alloc: Global) -> Landed<K>
+        requires flies { is_some self.old.flight ≡ true }
+        requires held { self.old.kept ≡ None }
+        ensures landed { result ≡ lost self.old result.flight }
+        ensures flight { self.old.flight ≡ Some result.flight }
+        ensures row { self.new ≡ landed result.error (record { error = result.error; bytes = [] }) self.old }
+    {
+        let error = first_error(self.error, ENOTCONN);
+        self.land(alloc, None, error, &[])
+    }
+
+    /// Lets a row go that is not in flight.
+    pub(crate) fn let_go(self)
+        requires { self.flight ≡ None }
+    {
+        let Row {
+            kind: _,
+            flags: _,
+            offset: _,
+            length: _,
+            flight,
+            buf: _,
+            error: _,
+            kept: _,
+        } = self;
+        none_left(flight);
+    }
+}
+
+impl<K> Row<K> {
+    ghost use Rattle.lnbd_history.specs.Answers.{completed_of};
+
+    /// Whether something is kept of the command.
+    pub(crate) fn is_kept(&self) -> bool
+        ensures { result ≡ is_some self.now.kept }
+    {
+        self.kept.is_some()
+    }
+
+    /// What the command came to. Its row ends, which is not in flight.
+    pub(crate) fn into_completed(self) -> Completed
+        requires { self.flight ≡ None }
+        ensures { result ≡ completed_of self.kept }
+    {
+        let Row {
+            kind: _,
+            flags: _,
+            offset: _,
+            length: _,
+            flight,
+            buf: _,
+            error: _,
+            kept,
+        } = self;
+        none_left(flight);
+        match kept {
+            None => Completed::NotYet,
+            Some(Kept { error, bytes }) => {
+                if error == 0 {
+                    Completed::Done(bytes)
+                } else {
+                    Completed::Failed { error, buf: bytes }
+                }
+            }
+        }
+    }
+
+    /// The callbacks of the command, where it is in flight. Its row ends.
+    pub(crate) fn into_flight(self) -> Option<Flight<K>>
+        ensures { result ≡ self.flight }
+    {
+        let Row {
+            kind: _,
+            flags: _,
+            offset: _,
+            length: _,
+            flight,
+            buf: _,
+            error: _,
+            kept: _,
+        } = self;
+        flight
+    }
+}
+
+/// Ends a flight that is not there.
+fn none_left<K>(flight: Option<Flight<K>>)
+    requires { flight ≡ None }
+{
+    match flight {
+        None => {}
+        Some(_flight) => unreachable!(),
+    }
+}
+
+impl<K: Caller> Row<K> {
+    ghost use Rattle.lnbd_history.specs.Arrivals.{content_size};
+    ghost use Rattle.lnbd_commands.specs.Rows.{landed};
+    ghost use Rattle.lnbd_commands.specs.Lands.{IsLiveRow, Lands, known_of, reply_item};
+
+    /// Ends the command by a simple reply with this error, as the wire tells it, and these bytes. The
+    /// bytes are copied once. For want of memory nothing has changed.
+    pub(crate) fn answer(
+        &mut self,
+        alloc: Global,
+        desk: &mut Desk,
+        world: &mut K::World,
+        error: u32,
+        bytes: &[u8],
+    ) -> Result<Landed<K>, NoMemory>
+        requires flies { is_some self.old.flight ≡ true }
+        requires held { self.old.kept ≡ None }
+        requires live { IsLiveRow self.old.flight desk.old.log }
+        requires sized { length bytes.now ≡ content_size (known_of self.old) error }
+        ensures lands { IfOk result (λ landed. Lands K.steps self.old (reply_item self.old error bytes.now) landed desk.old.log desk.new.log world.old world.new) }
+        ensures row { IfOk result (λ end. self.new ≡ landed end.error (record { error = end.error; bytes = [] }) self.old) }
+        ensures err_row { OnErr result (self.new ≡ self.old) }
+        ensures err_desk { OnErr result (desk.new ≡ desk.old) }
+        ensures err_world { OnErr result (world.new ≡ world.old) }
+    {
+        let told = told_by(self.kind, error);
+        let heard = match self.hear(desk, world, error, bytes) {
+            Ok(heard) => heard,
+            Err(fault) => return Err(fault),
+        };
+        let error = first_error(first_error(self.error, told), number_of(heard));
+        Ok(self.land(alloc, heard, error, bytes))
+    }
+
+    /// Tells the content of a simple reply, if it has any, to the chunk callback.
+    fn hear(
+        &self,
+        desk: &mut Desk,
+        world: &mut K::World,
+        error: u32,
+        bytes: &[u8],
+    ) -> Result<Option<Heard>, NoMemory>
+        requires live { IsLiveRow self.now.flight desk.old.log }
+        ensures hears { IfOk result (λ heard. Hears K.steps self.now (reply_item self.now error bytes.now) heard desk.old.log desk.new.log world.old world.new) }
+        ensures err_desk { OnErr result (desk.new ≡ desk.old) }
+        ensures err_world { OnErr result (world.new ≡ world.old) }
+    {
+        if error != 0 {
+            return Ok(None);
+        }
+        let Kind::Read = self.kind else {
+            return Ok(None);
+        };
+        match &self.flight {
+            None => Ok(None),
+            Some(flight) => flight.hear(desk, world, bytes, self.offset, self.error),
+        }
+    }
+}
+
+/// The error that a simple reply tells: a block status that is answered without extents is at fault.
+fn told_by(kind: Kind, error: u32) -> u32
+    ensures { (known : Known) (bytes : List ℕ) → known.kind ≡ kind → told_error kind (Framed (simple_content known error bytes) true) ≡ result }
+{
+    match settle(kind, false, error) {
+        Settled::Done => 0,
+        Settled::Failed(number) => number,
+        Settled::Broke(_) => unreachable!(),
+    }
+}
+
+/// The first error of two, 0 being none.
+fn first_error(early: u32, late: u32) -> u32
+    ensures { result ≡ or_else early late }
+{
+    if early == 0 { late } else { early }
+}
+
+/// The error with which a chunk callback failed its command, 0 for none.
+fn number_of(heard: Option<Heard>) -> u32
+    ensures { result ≡ heard_error heard }
+{
+    match heard {
+        None => 0,
+        Some(heard) => heard.number(),
+    }
+}

@@ -1,0 +1,10 @@
+pub mod RunLemmas
+pub mod TurnLemmas
+pub mod DrainLemmas
+pub mod GreetLemmas
+pub mod ArriveLemmas
+pub mod EndLemmas
+pub mod SendLemmas
+pub mod ResultLemmas
+pub mod IssueLemmas
+pub mod HistoryLemmas

@@ -1,0 +1,18 @@
+use Rattle.std.proofs.Common.{◌≤◌, length, take, ◌-◌}
+use Rattle.lnbd_machine.specs.Laws.{IsPartial}
+use Rattle.lnbd_handle.specs.Runs.{Runs}
+use Rattle.lnbd_handle.specs.Seen.{IsSound, machine_of}
+use Rattle.lnbd_handle.specs.Turns.{arriving}
+use Rattle.lnbd_handle.proofs.drain.take_behind.Given as goal
+
+-- what is taken up to here is held, and shows nothing yet
+abbrev pub invariant-loop-used : goal.invariant-loop-used
+invariant-loop-used g l = record {
+  within : l.used ≤ length l.bytes;
+  sound : IsSound l.connection;
+  partial : IsPartial (machine_of l.connection l.pending.items);
+  so_far : Runs g.K.Caller.steps (arriving (take l.used l.bytes)) (machine_of l.fn.connection l.fn.pending.items) (machine_of l.connection l.pending.items) l.fn.world l.world;
+}
+
+abbrev pub decreases-loop-used : goal.decreases-loop-used
+decreases-loop-used g l = length l.bytes - l.used

@@ -1,0 +1,51 @@
+use Rattle.std.proofs.Common.{◌≡◌, length, take, drop, refl, sym, ap, subst, ◌∙◌, arith, nat_le}
+use Rattle.std.proofs.lemmas.List.{length-drop, length-take-le}
+use Rattle.lnbd_keyed.specs.Keyed.{value_at}
+use Rattle.lnbd_model.specs.declared.state.Cause.TheVariants.{Broke}
+use Rattle.lnbd_machine.specs.Machine.{waited}
+use Rattle.lnbd_commands.specs.Takes as takes
+use Rattle.lnbd_handle.specs.Seen.{state_of}
+use Rattle.lnbd_handle.proofs.TurnLemmas.{shown_frame, turn_broken, turn_reply, waited_row, commands_sound}
+use Rattle.lnbd_handle.proofs.turns.turn_frame.Goals as goal
+
+pub split_at-requires : goal.split_at-requires
+split_at-requires g c =
+    let is = c.in-Whole.ensures (waited (state_of c.args.connection.now)) c.waiting_at-waiting.ensures in
+    omega (arith, is.there)
+
+pub split_at-requires-in-Whole : goal.split_at-requires-in-Whole
+split_at-requires-in-Whole g c =
+    let is = c.in-Whole.ensures (waited (state_of c.args.connection.now)) c.waiting_at-waiting.ensures in
+    let back = ap length c.split_at.ensures.back in
+    omega (arith, is.there, back, length-drop 16 c.args.rest.now)
+
+pub reply-requires : goal.reply-requires
+reply-requires g c =
+    let is = c.in-Whole.ensures (waited (state_of c.args.connection.now)) c.waiting_at-waiting.ensures in
+    let row = waited_row (nat_le c.in-Whole.cookie c.args.connection.now.written) (value_at c.in-Whole.cookie c.args.connection.now.commands.rows) is.command is.waits in
+    let there : c.split_at-in-Whole.result.0.now ≡ take c.in-Whole.size (drop 16 c.args.rest.now) = c.split_at-in-Whole.ensures.front ∙ ap (take c.in-Whole.size) c.split_at.ensures.back in
+    subst (λ w. takes.IsReply w c.in-Whole.error c.split_at-in-Whole.result.0.now) (sym row)
+    (ap length there ∙ length-take-le c.in-Whole.size (drop 16 c.args.rest.now) (omega (arith, is.there, length-drop 16 c.args.rest.now)) ∙ is.sized)
+
+pub returns-in-Broken-clause-means : goal.returns-in-Broken-clause-means
+returns-in-Broken-clause-means g c =
+    turn_broken g.K.Caller.steps c.args.connection.now c.args.connection.now c.die.new.connection c.args.world.now c.die.new.world c.args.rest.now c.in-Broken.breach (Broke c.in-Broken.breach) refl
+    (λ answers made. shown_frame c.args.connection.now c.args.rest.now c.structured.result c.requires.speaking c.requires.ready c.structured.ensures answers made ∙ c.in-Broken.ensures (waited (state_of c.args.connection.now)) c.waiting_at-waiting.ensures) refl
+    c.die.ensures.acts c.die.ensures.dead
+
+pub returns-in-Ok-clause-means : goal.returns-in-Ok-clause-means
+returns-in-Ok-clause-means g c =
+    let is = c.in-Whole.ensures (waited (state_of c.args.connection.now)) c.waiting_at-waiting.ensures in
+    let there : c.split_at-in-Whole.result.0.now ≡ take c.in-Whole.size (drop 16 c.args.rest.now) = c.split_at-in-Whole.ensures.front ∙ ap (take c.in-Whole.size) c.split_at.ensures.back in (
+      omega arith,
+      is.there,
+      (turn_reply g.K.Caller.steps c.args.connection.now c.reply.new.self c.args.world.now c.reply.new.world c.args.rest.now c.structured.result c.in-Whole.cookie c.in-Whole.error c.in-Whole.size c.split_at-in-Whole.result.0.now
+          c.requires.speaking c.requires.ready c.structured.ensures is there c.in-Ok.ensures.ok).0,
+    )
+
+pub returns-in-Ok-clause-sound : goal.returns-in-Ok-clause-sound
+returns-in-Ok-clause-sound g c =
+    let is = c.in-Whole.ensures (waited (state_of c.args.connection.now)) c.waiting_at-waiting.ensures in
+    let there : c.split_at-in-Whole.result.0.now ≡ take c.in-Whole.size (drop 16 c.args.rest.now) = c.split_at-in-Whole.ensures.front ∙ ap (take c.in-Whole.size) c.split_at.ensures.back in
+    commands_sound c.args.connection.now c.reply.new.self (turn_reply g.K.Caller.steps c.args.connection.now c.reply.new.self c.args.world.now c.reply.new.world c.args.rest.now c.structured.result c.in-Whole.cookie c.in-Whole.error c.in-Whole.size c.split_at-in-Whole.result.0.now
+    c.requires.speaking c.requires.ready c.structured.ensures is there c.in-Ok.ensures.ok).1 c.requires.sound

@@ -1,0 +1,55 @@
+-- What a connection's fields stand for, and what holds of them.
+use Rattle.std.specs.Prelude.{◌≡◌, ℕ, ◌+◌, ◌≤◌, Bool, false, List, [], ◌∷◌}
+use Rattle.lnbd_history.specs.declared.kinds.Phase.{Phase}
+use Rattle.lnbd_history.specs.declared.kinds.Phase.TheVariants as phase
+use Rattle.lnbd_history.specs.declared.kinds.Stage.{Stage}
+use Rattle.lnbd_history.specs.declared.kinds.Stage.TheVariants.{Created, Open, Disconnecting, Aborting, Closed, Dead}
+use Rattle.lnbd_history.specs.Outgoing.{Part, one_if}
+use Rattle.lnbd_machine.specs.Machine.{State, Machine}
+use Rattle.lnbd_outgoing.specs.Pieces.{Writes}
+use Rattle.lnbd_outgoing.specs.Queue.{waits, AllFit}
+use Rattle.lnbd_handle.specs.declared.connection.Connection.{Connection}
+
+-- no command has bytes of its own to send
+abbrev pub no_writes : Writes
+no_writes cookie = []
+
+-- how many commands end with these parts
+abbrev pub ends_in : List Part → ℕ
+ends_in [] = 0
+ends_in (part ∷ parts) = one_if part.ends + ends_in parts
+
+-- Where the last piece was queued, DISC was asked, which may be asked where commands may be issued.
+abbrev pub Stands : Stage → Phase → (ended : Bool) → Type 0
+Stands Created at ended = ended ≡ false
+Stands Open at ended = ended ≡ false
+Stands Disconnecting at ended = at ≡ phase.Ready
+Stands Aborting at ended = ⊥
+Stands Closed at ended = Unit {0}
+Stands (Dead cause) at ended = Unit {0}
+
+module _ {K : Type 0} where
+  -- the machine's state
+  abbrev pub state_of : Connection K → State K
+  state_of c = record {
+    stage = c.stage;
+    flags = c.flags;
+    talk = c.talk;
+    passed = 0;
+    waits = waits no_writes c.queue;
+    written = c.written;
+    issued = c.commands.issued;
+    rows = c.commands.rows;
+    done = c.commands.done;
+    notes = c.commands.log.notes;
+    admitted = c.commands.log.admitted;
+    freed = c.commands.freed;
+  }
+
+  abbrev pub machine_of : Connection K → List ℕ → Machine K
+  machine_of c pending = record { known = state_of c; pending = pending }
+
+  pub record IsSound (c : Connection K) : Type 0 where
+    pub fits : AllFit no_writes c.queue.pieces
+    pub stands : Stands c.stage c.talk.phase c.queue.ended
+    pub counted : c.written + ends_in (waits no_writes c.queue) ≤ c.commands.issued

@@ -1,0 +1,54 @@
+//! How many bytes a record lacks of which some are held: so many are held and no more, and what follows
+//! is taken from where it arrived. What a handle answers does not hang on it, only what is copied.
+
+ghost use Rattle.std.specs.Prelude.{◌≡◌, ◌+◌, ◌<◌, if◌then◌else◌, length, nat_lt};
+ghost use Rattle.lnbd_records.specs.Numbers.{number_at};
+
+use crate::connection::Connection;
+use crate::turns::{by_name_size, has_no_zeroes, waiting_at};
+use lnbd_arrivals::content_size;
+use lnbd_commands::Waiting;
+use lnbd_history::Phase;
+use lnbd_records::u32_at;
+
+/// How many bytes an option reply has, as far as these show.
+fn option_size(bytes: &[u8]) -> usize
+    ensures { result ≡ (if nat_lt (length bytes.now) 20 then 20 else 20 + number_at 16 4 bytes.now) }
+{
+    if bytes.len() < 20 {
+        20
+    } else {
+        20 + u32_at(bytes, 16) as usize
+    }
+}
+
+/// How many bytes a simple reply has, as far as these show.
+fn frame_size(waiting: Option<Waiting>, bytes: &[u8]) -> usize {
+    if bytes.len() < 16 {
+        return 16;
+    }
+    match waiting {
+        None => 16,
+        Some(command) => (content_size(&command, u32_at(bytes, 4)) as usize).saturating_add(16),
+    }
+}
+
+/// How many bytes the record at the front has in this phase, as far as these show.
+fn size_at<K>(connection: &Connection<K>, phase: Phase, bytes: &[u8]) -> usize {
+    match phase {
+        Phase::Greeting => 18,
+        Phase::Asked(_) => option_size(bytes),
+        Phase::OptMode => option_size(bytes),
+        Phase::AskedByName => by_name_size(has_no_zeroes(connection.flags)),
+        Phase::Ready => frame_size(waiting_at(connection, bytes), bytes),
+        Phase::Refused(_) => 0,
+    }
+}
+
+/// How many bytes the record that these begin still lacks, as far as they show, and one at least.
+pub(crate) fn lacking<K>(connection: &Connection<K>, bytes: &[u8]) -> usize
+    ensures { 0 < result }
+{
+    let size = size_at(connection, connection.talk.phase(), bytes);
+    size.saturating_sub(bytes.len()).max(1)
+}

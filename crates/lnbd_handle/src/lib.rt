@@ -1,0 +1,26 @@
+//! The handle: one connection from create to close, with its negotiation, its commands and the bytes
+//! that wait to go out. Each call does to the table machine what its event does. It knows no socket.
+#![tactic(auto)]
+
+mod connection;
+mod deaths;
+mod drain;
+mod greet;
+mod handle;
+mod issue;
+mod kinds;
+mod lacking;
+mod refusals;
+mod results;
+mod sending;
+mod standing;
+mod turns;
+
+pub use handle::Handle;
+pub use issue::IssueFault;
+pub use kinds::{SetFault, Short};
+pub use lnbd_commands::Closed;
+pub use lnbd_history::{Completed, Peeked};
+
+#[cfg(test)]
+mod tests;

@@ -1,0 +1,57 @@
+//! What goes out: how bytes that went out are counted, and DISC.
+
+ghost use Rattle.std.specs.Prelude.{◌≡◌, ◌≤◌, ◌+◌, ◌++◌, ◌∷◌, [], length};
+ghost use Rattle.lnbd_history.specs.declared.kinds.Phase.TheVariants.{Ready};
+ghost use Rattle.lnbd_history.specs.declared.kinds.Stage.TheVariants as stage;
+ghost use Rattle.lnbd_history.specs.Outgoing.{disconnect_part, out};
+ghost use Rattle.lnbd_machine.specs.Machine.{asking, writing};
+ghost use Rattle.lnbd_machine.specs.Now.{out_now};
+ghost use Rattle.lnbd_outgoing.specs.Queue.{waits};
+ghost use Rattle.lnbd_handle.specs.Seen.{IsSound, no_writes, state_of};
+
+use crate::connection::Connection;
+use lnbd_history::Stage;
+use lnbd_outgoing::Piece;
+use lnbd_wire::put_disconnect;
+
+/// The bytes that are offered: the rest of the first part that waits.
+pub(crate) fn offered<K>(connection: &Connection<K>) -> &[u8]
+    requires { IsSound connection.now }
+    ensures { result.now ≡ out_now (state_of connection.now) }
+{
+    connection.queue.out(&[])
+}
+
+/// So many of the bytes that are offered have gone out.
+pub(crate) fn count_written<K>(connection: &mut Connection<K>, n: usize)
+    requires sound { IsSound connection.old }
+    requires within { n ≤ length (out (waits no_writes connection.old.queue)) }
+    ensures state { state_of connection.new ≡ writing n (state_of connection.old) }
+    ensures sound { IsSound connection.new }
+{
+    let _issued = connection.commands.issued();
+    if connection.queue.wrote(n) {
+        connection.written += 1;
+    }
+}
+
+/// The request that ends a session.
+fn disconnect() -> [u8; 28]
+    ensures { result ≡ disconnect_part.bytes }
+{
+    let mut head = [0; 28];
+    put_disconnect(&mut head);
+    head
+}
+
+/// Queues DISC, for which there is always room.
+pub(crate) fn say_goodbye<K>(connection: &mut Connection<K>)
+    requires sound { IsSound connection.old }
+    requires open { connection.old.stage ≡ stage.Open }
+    requires ready { connection.old.talk.phase ≡ Ready }
+    ensures state { state_of connection.new ≡ asking (disconnect_part ∷ []) (record (state_of connection.old) { stage = stage.Disconnecting }) }
+    ensures sound { IsSound connection.new }
+{
+    connection.stage = Stage::Disconnecting;
+    connection.queue.push_last(Piece::Head(disconnect()));
+}

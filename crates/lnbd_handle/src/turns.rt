@@ -1,0 +1,201 @@
+//! One turn: what is done with the record at the front of the bytes that arrived, at each phase.
+
+ghost use Rattle.std.specs.Prelude.{◌≡◌, ◌≤◌, if◌then◌else◌, true, length};
+ghost use Rattle.std.specs.Option.{option_map};
+ghost use Rattle.lnbd_records.specs.Numbers.{number_at};
+ghost use Rattle.lnbd_history.specs.declared.kinds.Phase.TheVariants.{Greeting, AskedByName, Ready};
+ghost use Rattle.lnbd_history.specs.declared.kinds.Stage.TheVariants.{Open};
+ghost use Rattle.lnbd_history.specs.Arrivals.{has_bit};
+ghost use Rattle.lnbd_machine.specs.Machine.{waited};
+ghost use Rattle.lnbd_commands.specs.Seen.{seen_waiting};
+ghost use Rattle.lnbd_handle.specs.Seen.{IsSound, state_of};
+ghost use Rattle.lnbd_handle.specs.Turns.{TurnMeans, is_speaking, takes_options};
+
+use crate::connection::Connection;
+use crate::deaths::die;
+use crate::greet::{greet, take_reply};
+use crate::kinds::Turn;
+use lnbd_arrivals::{Seen as Frame, cookie_in, look_frame};
+use lnbd_callbacks::Caller;
+use lnbd_commands::Waiting;
+use lnbd_history::{Phase, Stage};
+use lnbd_model::Cause;
+use lnbd_negotiate::{Greeted, Seen, TalkFault, look, look_by_name, look_hello};
+
+fn turn_hello<K: Caller>(connection: &mut Connection<K>, world: &mut K::World, rest: &[u8]) -> Turn
+    requires sound { IsSound connection.old }
+    requires open { connection.old.stage ≡ Open }
+    requires greeting { connection.old.talk.phase ≡ Greeting }
+    ensures means { TurnMeans K.steps connection.old world.old rest.now result connection.new world.new }
+    ensures sound { IsSound connection.new }
+{
+    match look_hello(rest) {
+        Greeted::Nothing => Turn::Nothing,
+        Greeted::Broken(breach) => {
+            die(connection, world, Cause::Broke(breach));
+            Turn::All
+        }
+        Greeted::Whole(flags) => match greet(connection, flags) {
+            Ok(()) => Turn::Took(18),
+            Err(TalkFault::NoMemory) => Turn::Short,
+            Err(TalkFault::Cause(cause)) => {
+                die(connection, world, cause);
+                Turn::All
+            }
+        },
+    }
+}
+
+fn turn_option<K: Caller>(connection: &mut Connection<K>, world: &mut K::World, rest: &[u8]) -> Turn
+    requires sound { IsSound connection.old }
+    requires open { connection.old.stage ≡ Open }
+    requires options { takes_options connection.old.talk.phase ≡ true }
+    ensures means { TurnMeans K.steps connection.old world.old rest.now result connection.new world.new }
+    ensures sound { IsSound connection.new }
+{
+    match look(connection.talk.phase(), rest) {
+        Seen::Nothing => Turn::Nothing,
+        Seen::Broken(breach) => {
+            die(connection, world, Cause::Broke(breach));
+            Turn::All
+        }
+        Seen::Whole(head) => {
+            let size = head.length as usize;
+            let (_, body) = rest.split_at(20);
+            let (body, _) = body.split_at(size);
+            match take_reply(connection, &head, body) {
+                Ok(()) => Turn::Took(20 + size),
+                Err(TalkFault::NoMemory) => Turn::Short,
+                Err(TalkFault::Cause(cause)) => {
+                    die(connection, world, cause);
+                    Turn::All
+                }
+            }
+        }
+    }
+}
+
+/// Whether the server's handshake flags offer NO_ZEROES.
+pub(crate) fn has_no_zeroes(flags: u16) -> bool
+    ensures { result ≡ has_bit 2 flags }
+{
+    flags & 2 != 0
+}
+
+/// How many bytes the reply to EXPORT_NAME has.
+pub(crate) fn by_name_size(no_zeroes: bool) -> usize
+    ensures { result ≡ (if no_zeroes then 10 else 134) }
+{
+    if no_zeroes { 10 } else { 134 }
+}
+
+fn turn_by_name<K: Caller>(
+    connection: &mut Connection<K>,
+    world: &mut K::World,
+    rest: &[u8],
+) -> Turn
+    requires sound { IsSound connection.old }
+    requires open { connection.old.stage ≡ Open }
+    requires by_name { connection.old.talk.phase ≡ AskedByName }
+    ensures means { TurnMeans K.steps connection.old world.old rest.now result connection.new world.new }
+    ensures sound { IsSound connection.new }
+{
+    let no_zeroes = has_no_zeroes(connection.flags);
+    match look_by_name(no_zeroes, rest) {
+        None => Turn::Nothing,
+        Some((size, flags)) => match connection.talk.export_told(size, flags) {
+            Ok(_) => Turn::Took(by_name_size(no_zeroes)),
+            Err(TalkFault::NoMemory) => Turn::Short,
+            Err(TalkFault::Cause(cause)) => {
+                die(connection, world, cause);
+                Turn::All
+            }
+        },
+    }
+}
+
+/// What is known of the command that waits for this cookie: it is wholly written and in flight.
+fn waiting_for<K>(connection: &Connection<K>, cookie: u64) -> Option<Waiting>
+    ensures { option_map seen_waiting result ≡ waited (state_of connection.now) cookie }
+{
+    if cookie <= connection.written {
+        connection.commands.waiting(cookie)
+    } else {
+        None
+    }
+}
+
+/// The same for the cookie of a reply, where its head is whole.
+pub(crate) fn waiting_at<K>(connection: &Connection<K>, rest: &[u8]) -> Option<Waiting>
+    ensures { 16 ≤ length rest.now → waited (state_of connection.now) (number_at 8 8 rest.now) ≡ option_map seen_waiting result }
+{
+    match cookie_in(rest) {
+        Some(cookie) => waiting_for(connection, cookie),
+        None => None,
+    }
+}
+
+fn turn_frame<K: Caller>(connection: &mut Connection<K>, world: &mut K::World, rest: &[u8]) -> Turn
+    requires sound { IsSound connection.old }
+    requires speaking { is_speaking connection.old.stage ≡ true }
+    requires ready { connection.old.talk.phase ≡ Ready }
+    ensures means { TurnMeans K.steps connection.old world.old rest.now result connection.new world.new }
+    ensures sound { IsSound connection.new }
+{
+    let waiting = waiting_at(connection, rest);
+    match look_frame(connection.talk.structured(), waiting, rest) {
+        Frame::Nothing => Turn::Nothing,
+        Frame::Broken(breach) => {
+            die(connection, world, Cause::Broke(breach));
+            Turn::All
+        }
+        Frame::Whole {
+            cookie,
+            error,
+            size,
+        } => {
+            let (_, data) = rest.split_at(16);
+            let (data, _) = data.split_at(size);
+            match connection.commands.reply(world, cookie, error, data) {
+                Ok(()) => Turn::Took(16 + size),
+                Err(_) => Turn::Short,
+            }
+        }
+    }
+}
+
+fn turn_open<K: Caller>(connection: &mut Connection<K>, world: &mut K::World, rest: &[u8]) -> Turn
+    requires sound { IsSound connection.old }
+    requires open { connection.old.stage ≡ Open }
+    ensures means { TurnMeans K.steps connection.old world.old rest.now result connection.new world.new }
+    ensures sound { IsSound connection.new }
+{
+    match connection.talk.phase() {
+        Phase::Greeting => turn_hello(connection, world, rest),
+        Phase::Asked(_) => turn_option(connection, world, rest),
+        Phase::OptMode => turn_option(connection, world, rest),
+        Phase::AskedByName => turn_by_name(connection, world, rest),
+        Phase::Ready => turn_frame(connection, world, rest),
+        Phase::Refused(_) => Turn::All,
+    }
+}
+
+/// Takes the record at the front of the bytes.
+pub(crate) fn turn<K: Caller>(
+    connection: &mut Connection<K>,
+    world: &mut K::World,
+    rest: &[u8],
+) -> Turn
+    requires { IsSound connection.old }
+    ensures means { TurnMeans K.steps connection.old world.old rest.now result connection.new world.new }
+    ensures sound { IsSound connection.new }
+{
+    match connection.stage {
+        Stage::Open => turn_open(connection, world, rest),
+        Stage::Disconnecting => turn_frame(connection, world, rest),
+        Stage::Aborting => Turn::All,
+        Stage::Created => Turn::All,
+        Stage::Closed => Turn::All,
+        Stage::Dead(_) => Turn::All,
+    }
+}

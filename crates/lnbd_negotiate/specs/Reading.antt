@@ -1,0 +1,53 @@
+-- What an option reply at the front of some bytes shows, and what its data tells.
+use Rattle.std.specs.Prelude.{◌^◌, nat_lt, if◌then◌else◌, ◌≡◌, ℕ, ◌+◌, ◌≤◌, Bool, true, ◌&&◌, List, length, take, drop, Option, Some, None, nat_le}
+use Rattle.lnbd_model.specs.declared.breach.Breach.TheVariants.{NotFixed, SizeTooBig}
+use Rattle.lnbd_records.specs.Numbers.{number_at}
+use Rattle.lnbd_stream.specs.Grammar.{wants}
+use Rattle.lnbd_history.specs.declared.kinds.Phase.{Phase}
+use Rattle.lnbd_history.specs.Arrivals.{Shown, Hello, ExportReply, shows_hello, shows_by_name, has_bit, OptionReply, Broken, Sight, shows_option, reply_verdict, is_asked, counts, limit}
+use Rattle.lnbd_negotiate.specs.declared.front.Seen.{Seen}
+use Rattle.lnbd_negotiate.specs.declared.front.Seen.TheVariants as seen
+use Rattle.lnbd_negotiate.specs.declared.greeting.Greeted.{Greeted}
+use Rattle.lnbd_negotiate.specs.declared.greeting.Greeted.TheVariants as greeted
+use Rattle.lnbd_negotiate.specs.declared.judge.Ruling.{Ruling}
+use Rattle.lnbd_negotiate.specs.declared.judge.Ruling.TheVariants as ruling
+use Rattle.lnbd_negotiate.specs.Told.{told_of}
+
+-- What was seen is what the bytes show; of a whole reply the data is still to be read.
+abbrev pub SeenAs : Sight → List ℕ → Seen → Type 0
+SeenAs sight bytes seen.Nothing = shows_option sight bytes ≡ None
+SeenAs sight bytes (seen.Broken breach) = shows_option sight bytes ≡ Some (Broken breach)
+SeenAs sight bytes (seen.Whole head) =
+    (head.length ≡ number_at 16 4 bytes)
+    × (20 + head.length ≤ length bytes)
+    × (shows_option sight bytes ≡ reply_verdict sight head.option head.kind head.length (take head.length (drop 20 bytes)))
+
+-- more replies of this type to this option don't count
+abbrev pub is_over : ℕ → ℕ → ℕ → Bool
+is_over option type count = counts type && nat_le (limit option) count
+
+-- What a whole reply tells, or does wrong.
+abbrev pub JudgedAs : Option Shown → Ruling → Type 0
+JudgedAs verdict ruling.NoMemory = Unit {0}
+JudgedAs verdict (ruling.Broken breach) = verdict ≡ Some (Broken breach)
+JudgedAs verdict (ruling.Told told) = verdict ≡ Some (OptionReply (told_of told))
+
+-- What is told is told to the option that is unanswered.
+abbrev pub IsToldTo : ℕ → Phase → Ruling → Type 0
+IsToldTo option phase ruling.NoMemory = Unit {0}
+IsToldTo option phase (ruling.Broken breach) = Unit {0}
+IsToldTo option phase (ruling.Told told) = is_asked option phase ≡ true
+
+-- What was seen is what the bytes show of the server's hello; of a whole one the flags are still to be judged.
+abbrev pub GreetedAs : List ℕ → Greeted → Type 0
+GreetedAs bytes greeted.Nothing = shows_hello bytes ≡ None
+GreetedAs bytes (greeted.Broken breach) = shows_hello bytes ≡ Some (Broken breach)
+GreetedAs bytes (greeted.Whole flags) =
+    (18 ≤ length bytes) × (shows_hello bytes ≡ wants (has_bit 1 flags) (Broken NotFixed) (Some (Hello flags)))
+
+-- What was seen is what the bytes show of the reply to EXPORT_NAME, whose size is still to be judged.
+abbrev pub NamedAs : Bool → List ℕ → Option (ℕ × ℕ) → Type 0
+NamedAs no_zeroes bytes None = shows_by_name no_zeroes bytes ≡ None
+NamedAs no_zeroes bytes (Some told) =
+    ((if no_zeroes then 10 else 134) ≤ length bytes)
+    × (shows_by_name no_zeroes bytes ≡ wants (nat_lt told.0 (2 ^ 63)) (Broken SizeTooBig) (Some (ExportReply told.0 told.1)))

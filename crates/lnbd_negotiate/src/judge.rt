@@ -1,0 +1,100 @@
+//! What a whole option reply tells, or does wrong.
+
+ghost use Rattle.std.specs.Prelude.{◌≡◌, is_none, not};
+ghost use Rattle.lnbd_history.specs.Arrivals.{Sight, limit, is_too_big, is_ack, reply_verdict};
+ghost use Rattle.lnbd_negotiate.specs.Told.{told_of};
+ghost use Rattle.lnbd_negotiate.specs.Reading.{JudgedAs, IsToldTo, is_over};
+
+use crate::front::{LIMIT, is_asked, is_info, is_named};
+use crate::told::{Told, read_told};
+use lnbd_history::Phase;
+use lnbd_model::Breach;
+use lnbd_options::{OptionFault, OptionHead};
+use std::alloc::Global;
+
+#[derive(Debug, Drop)]
+pub enum Ruling {
+    NoMemory,
+    Broken(Breach),
+    Told(Told),
+}
+
+/// How many replies that neither acknowledge nor refuse an option may have.
+fn limit(option: u32) -> u32
+    ensures { result ≡ limit option }
+{
+    if option == 3 { 10000 } else { 1024 }
+}
+
+fn is_over(option: u32, kind: u32, count: u32) -> bool
+    ensures { result ≡ is_over option kind count }
+{
+    !(kind >= 0x80000000 || kind == 1) && count >= limit(option)
+}
+
+fn is_ack(told: &Told) -> bool
+    ensures { result ≡ is_ack (told_of told.now) }
+{
+    match told {
+        Told::Ack => true,
+        _ => false,
+    }
+}
+
+fn is_too_big(told: &Told) -> bool
+    ensures { result ≡ is_too_big (told_of told.now) }
+{
+    match told {
+        Told::Export(size) => size.size >= 0x8000000000000000,
+        _ => false,
+    }
+}
+
+/// Judges a whole reply, where negotiation stands at this phase, so many replies came to the option
+/// before, and a size was told by them or wasn't. Of two faults the one with the lower number counts.
+#[tactic(auto, unfolding(lnbd_history::specs::Arrivals::reply_verdict, lnbd_stream::specs::Grammar::wants))]
+pub fn judge(
+    alloc: Global,
+    phase: Phase,
+    count: u32,
+    sized: bool,
+    head: &OptionHead,
+    body: &[u8],
+) -> Ruling
+    ensures verdict { (sight : Sight) → sight.phase ≡ phase → sight.count ≡ count → not (is_none sight.size) ≡ sized
+        → JudgedAs (reply_verdict sight head.now.option head.now.kind head.now.length body.now) result }
+    ensures asked { IsToldTo head.now.option phase result }
+{
+    if !is_asked(head.option, phase) {
+        return Ruling::Broken(Breach::WrongOption);
+    }
+    if head.length > LIMIT {
+        return Ruling::Broken(Breach::BadOptionLength);
+    }
+    if !is_named(head.option, head.kind) {
+        return Ruling::Broken(Breach::UnexpectedReply);
+    }
+    let over = is_over(head.option, head.kind, count);
+    match read_told(alloc, head.kind, body) {
+        Err(OptionFault::NoMemory) => Ruling::NoMemory,
+        Err(OptionFault::BadOptionLength) => Ruling::Broken(Breach::BadOptionLength),
+        Err(OptionFault::BadText) => {
+            if over {
+                Ruling::Broken(Breach::TooManyReplies)
+            } else {
+                Ruling::Broken(Breach::BadText)
+            }
+        }
+        Ok(told) => {
+            if over {
+                Ruling::Broken(Breach::TooManyReplies)
+            } else if is_ack(&told) && is_info(head.option) && !sized {
+                Ruling::Broken(Breach::NoExportInfo)
+            } else if is_too_big(&told) {
+                Ruling::Broken(Breach::SizeTooBig)
+            } else {
+                Ruling::Told(told)
+            }
+        }
+    }
+}
