@@ -1,0 +1,292 @@
+-- What the status of a run tells of its end.
+use Rattle.std.proofs.Common.{◌≡◌, ◌⊎◌, inl, inr, ◌<◌, ◌≤◌, ℕ, true, false, List, [], ◌∷◌, length, get_or, Option, Some, Result, Ok, Err, refl, sym, ◌∙◌, ap, subst, arith, String}
+use Rattle.std.proofs.lemmas.Bool.{false≢true}
+use Rattle.std.proofs.lemmas.List.{append-nil}
+use Rattle.std.specs.declared.alloc.Global.{Global}
+use Rattle.lnbd_link.specs.Call.{Call}
+use Rattle.lnbd_link.specs.Count.{Rises}
+use Rattle.lnbd_lines.specs.declared.line.Line.{Line}
+use Rattle.lnbd_lines.specs.Scripts.{IsScript}
+use Rattle.lnbd_script.specs.declared.event.Event.{Event}
+use Rattle.lnbd_script.specs.declared.event.PlayFault.{PlayFault}
+use Rattle.lnbd_script.specs.declared.event.PlayFault.TheVariants as play
+use Rattle.lnbd_script.specs.Plays.{How, Finished, Silent, HasPlayed, HasPlayedPart, first_fault, is_cut, is_played}
+use Rattle.lnbd_cli.specs.declared.fault.Fault.{Fault}
+use Rattle.lnbd_cli.specs.declared.fault.Fault.TheVariants as fault
+use Rattle.lnbd_cli.specs.declared.input.Unread.{Unread}
+use Rattle.lnbd_cli.specs.declared.input.Unread.TheVariants as unread
+use Rattle.lnbd_cli.specs.Inputs.{HasCause, ReadsScript, fault_of}
+use Rattle.lnbd_cli.specs.Runs.{Ends, IsBad, IsCalls, IsLawful, IsOneOf, Ran}
+use Rattle.lnbd_cli.specs.Statuses.{end_line, end_of, fault_line, is_bad, is_whole, line_of_end, status_of, status_of_end}
+
+abbrev pub End : Type 0
+End = Result (Unit {0}) Fault
+
+pub only_silent : (end : End) → status_of_end end ≡ 7 → end ≡ Err (fault.Played play.Silent)
+only_silent (Ok done) e = absurd (omega (arith, e))
+only_silent (Err fault.Usage) e = absurd (omega (arith, e))
+only_silent (Err (fault.Line number)) e = absurd (omega (arith, e))
+only_silent (Err fault.Input) e = absurd (omega (arith, e))
+only_silent (Err fault.NoMemory) e = absurd (omega (arith, e))
+only_silent (Err (fault.Played play.Link)) e = absurd (omega (arith, e))
+only_silent (Err (fault.Played (play.Broke broken))) e = absurd (omega (arith, e))
+only_silent (Err (fault.Played (play.Peer option code))) e = absurd (omega (arith, e))
+only_silent (Err (fault.Played play.Silent)) e = refl
+only_silent (Err (fault.Played play.Output)) e = absurd (omega (arith, e))
+only_silent (Err (fault.Played play.NoMemory)) e = absurd (omega (arith, e))
+
+pub only_output : (end : End) → status_of_end end ≡ 8 → end ≡ Err (fault.Played play.Output)
+only_output (Ok done) e = absurd (omega (arith, e))
+only_output (Err fault.Usage) e = absurd (omega (arith, e))
+only_output (Err (fault.Line number)) e = absurd (omega (arith, e))
+only_output (Err fault.Input) e = absurd (omega (arith, e))
+only_output (Err fault.NoMemory) e = absurd (omega (arith, e))
+only_output (Err (fault.Played play.Link)) e = absurd (omega (arith, e))
+only_output (Err (fault.Played (play.Broke broken))) e = absurd (omega (arith, e))
+only_output (Err (fault.Played (play.Peer option code))) e = absurd (omega (arith, e))
+only_output (Err (fault.Played play.Silent)) e = absurd (omega (arith, e))
+only_output (Err (fault.Played play.Output)) e = refl
+only_output (Err (fault.Played play.NoMemory)) e = absurd (omega (arith, e))
+
+pub only_link : (end : End) → status_of_end end ≡ 5 → end ≡ Err (fault.Played play.Link)
+only_link (Ok done) e = absurd (omega (arith, e))
+only_link (Err fault.Usage) e = absurd (omega (arith, e))
+only_link (Err (fault.Line number)) e = absurd (omega (arith, e))
+only_link (Err fault.Input) e = absurd (omega (arith, e))
+only_link (Err fault.NoMemory) e = absurd (omega (arith, e))
+only_link (Err (fault.Played play.Link)) e = refl
+only_link (Err (fault.Played (play.Broke broken))) e = absurd (omega (arith, e))
+only_link (Err (fault.Played (play.Peer option code))) e = absurd (omega (arith, e))
+only_link (Err (fault.Played play.Silent)) e = absurd (omega (arith, e))
+only_link (Err (fault.Played play.Output)) e = absurd (omega (arith, e))
+only_link (Err (fault.Played play.NoMemory)) e = absurd (omega (arith, e))
+
+pub only_input : (end : End) → status_of_end end ≡ 10 → end ≡ Err fault.Input
+only_input (Ok done) e = absurd (omega (arith, e))
+only_input (Err fault.Usage) e = absurd (omega (arith, e))
+only_input (Err (fault.Line number)) e = absurd (omega (arith, e))
+only_input (Err fault.Input) e = refl
+only_input (Err fault.NoMemory) e = absurd (omega (arith, e))
+only_input (Err (fault.Played play.Link)) e = absurd (omega (arith, e))
+only_input (Err (fault.Played (play.Broke broken))) e = absurd (omega (arith, e))
+only_input (Err (fault.Played (play.Peer option code))) e = absurd (omega (arith, e))
+only_input (Err (fault.Played play.Silent)) e = absurd (omega (arith, e))
+only_input (Err (fault.Played play.Output)) e = absurd (omega (arith, e))
+only_input (Err (fault.Played play.NoMemory)) e = absurd (omega (arith, e))
+
+only_bad : (end : End) → status_of_end end ≡ 1 → (end ≡ Err fault.Usage) ⊎ ((number : ℕ) × (end ≡ Err (fault.Line number)))
+only_bad (Ok done) e = absurd (omega (arith, e))
+only_bad (Err fault.Usage) e = inl refl
+only_bad (Err (fault.Line number)) e = inr (number, refl)
+only_bad (Err fault.Input) e = absurd (omega (arith, e))
+only_bad (Err fault.NoMemory) e = absurd (omega (arith, e))
+only_bad (Err (fault.Played play.Link)) e = absurd (omega (arith, e))
+only_bad (Err (fault.Played (play.Broke broken))) e = absurd (omega (arith, e))
+only_bad (Err (fault.Played (play.Peer option code))) e = absurd (omega (arith, e))
+only_bad (Err (fault.Played play.Silent)) e = absurd (omega (arith, e))
+only_bad (Err (fault.Played play.Output)) e = absurd (omega (arith, e))
+only_bad (Err (fault.Played play.NoMemory)) e = absurd (omega (arith, e))
+
+memory_text : (end : End) → status_of_end end ≡ 9 → line_of_end end ≡ fault_line fault.NoMemory
+memory_text (Ok done) e = absurd (omega (arith, e))
+memory_text (Err fault.Usage) e = absurd (omega (arith, e))
+memory_text (Err (fault.Line number)) e = absurd (omega (arith, e))
+memory_text (Err fault.Input) e = absurd (omega (arith, e))
+memory_text (Err fault.NoMemory) e = refl
+memory_text (Err (fault.Played play.Link)) e = absurd (omega (arith, e))
+memory_text (Err (fault.Played (play.Broke broken))) e = absurd (omega (arith, e))
+memory_text (Err (fault.Played (play.Peer option code))) e = absurd (omega (arith, e))
+memory_text (Err (fault.Played play.Silent)) e = absurd (omega (arith, e))
+memory_text (Err (fault.Played play.Output)) e = absurd (omega (arith, e))
+memory_text (Err (fault.Played play.NoMemory)) e = refl
+
+status_is : (p : Result (Unit {0}) PlayFault) → status_of_end (end_of p) ≡ status_of p
+status_is (Ok done) = refl
+status_is (Err play) = refl
+
+line_is : (p : Result (Unit {0}) PlayFault) → line_of_end (end_of p) ≡ end_line p
+line_is (Ok done) = refl
+line_is (Err play) = refl
+
+-- the same run by another fact of its first event
+played_as : (lines : List Line) (old new : Option (List Call)) (before after : Option (List ℕ)) (how : How) (P Q : Option Event → Type 0) → ((first : Option Event) → P first → Q first) → HasPlayed lines old new before after how P → HasPlayed lines old new before after how Q
+played_as lines old new before after how P Q f h = record {
+  calls = h.calls;
+  text = h.text;
+  end = h.end;
+  grown = h.grown;
+  taken = h.taken;
+  plays = h.plays;
+  first = f h.end.first h.first;
+  closed = h.closed;
+  freed = h.freed;
+}
+
+part_of : (lines : List Line) (old new : Option (List Call)) (before after : Option (List ℕ)) (how : How) (P : Option Event → Type 0) → HasPlayed lines old new before after how P → HasPlayedPart lines old new before after
+part_of lines old new before after how P h = record {
+  calls = h.calls;
+  text = h.text;
+  how = how;
+  end = h.end;
+  grown = h.grown;
+  taken = record { front = h.text; rest = []; split = sym (append-nil h.text); taken = h.taken };
+  plays = h.plays;
+  closed = h.closed;
+  freed = h.freed;
+}
+
+ran_as : (words : List (String Global)) (left left' : Option (List ℕ)) (P Q : List Line → Type 0) → ((lines : List Line) → P lines → Q lines) → Ran words left left' P → Ran words left left' Q
+ran_as words left left' P Q f r = record { calls = r.calls; lines = r.lines; script = r.script; read = r.read; played = f r.lines r.played }
+
+-- All that is known where a run ends so.
+abbrev pub EndsSo : End → List (String Global) → Option (List ℕ) → Option (List ℕ) → Option (List Call) → Option (List Call) → Option (List ℕ) → Option (List ℕ) → Type 0 → Type 0
+EndsSo end words left left' old new before after None_ =
+    Ends end words left left' (λ lines how IsFirst. HasPlayed lines old new before after how IsFirst) (λ lines. HasPlayedPart lines old new before after) None_
+
+-- the status and what is printed
+abbrev pub Printed : ℕ → End → (List ℕ → Type 0) → Type 0
+Printed s end P = ((s ≡ status_of_end end) × P (line_of_end end)) ⊎ ((s ≡ 9) × P (fault_line fault.NoMemory))
+
+whole_end : (end : End) (words : List (String Global)) (left left' : Option (List ℕ)) (old new : Option (List Call)) (before after : Option (List ℕ)) (None_ : Type 0) → is_whole (status_of_end end) ≡ true → EndsSo end words left left' old new before after None_
+    → (p : Result (Unit {0}) PlayFault) × (end ≡ end_of p) × Ran words left left' (λ lines. HasPlayed lines old new before after Finished (λ first. p ≡ first_fault first))
+whole_end (Ok done) words left left' old new before after None_ h e = (Ok tt, refl, e)
+whole_end (Err fault.Usage) words left left' old new before after None_ h e = absurd (false≢true h)
+whole_end (Err (fault.Line number)) words left left' old new before after None_ h e = absurd (false≢true h)
+whole_end (Err fault.Input) words left left' old new before after None_ h e = absurd (false≢true h)
+whole_end (Err fault.NoMemory) words left left' old new before after None_ h e = absurd (false≢true h)
+whole_end (Err (fault.Played play.Link)) words left left' old new before after None_ h e = (Err play.Link, refl, e)
+whole_end (Err (fault.Played (play.Broke broken))) words left left' old new before after None_ h e = (Err (play.Broke broken), refl, e)
+whole_end (Err (fault.Played (play.Peer option code))) words left left' old new before after None_ h e = (Err (play.Peer option code), refl, e)
+whole_end (Err (fault.Played play.Silent)) words left left' old new before after None_ h e = absurd (false≢true h)
+whole_end (Err (fault.Played play.Output)) words left left' old new before after None_ h e = absurd (false≢true h)
+whole_end (Err (fault.Played play.NoMemory)) words left left' old new before after None_ h e = absurd (false≢true h)
+
+weaken : (end : End) (words : List (String Global)) (left left' : Option (List ℕ)) (old new : Option (List Call)) (before after : Option (List ℕ)) (None_ : Type 0) → EndsSo end words left left' old new before after None_
+    → Ran words left left' (λ lines. HasPlayedPart lines old new before after) ⊎ None_
+weaken (Ok done) words left left' old new before after None_ e = inl (ran_as words left left' _ _ (λ lines h. part_of lines old new before after Finished _ h) e)
+weaken (Err fault.Usage) words left left' old new before after None_ e = inr e.1
+weaken (Err (fault.Line number)) words left left' old new before after None_ e = inr e.2
+weaken (Err fault.Input) words left left' old new before after None_ e = inr e
+weaken (Err fault.NoMemory) words left left' old new before after None_ e = inr e
+weaken (Err (fault.Played play.Link)) words left left' old new before after None_ e = inl (ran_as words left left' _ _ (λ lines h. part_of lines old new before after Finished _ h) e)
+weaken (Err (fault.Played (play.Broke broken))) words left left' old new before after None_ e = inl (ran_as words left left' _ _ (λ lines h. part_of lines old new before after Finished _ h) e)
+weaken (Err (fault.Played (play.Peer option code))) words left left' old new before after None_ e = inl (ran_as words left left' _ _ (λ lines h. part_of lines old new before after Finished _ h) e)
+weaken (Err (fault.Played play.Silent)) words left left' old new before after None_ e = inl (ran_as words left left' _ _ (λ lines h. part_of lines old new before after Silent _ h) e)
+weaken (Err (fault.Played play.Output)) words left left' old new before after None_ e = inl e
+weaken (Err (fault.Played play.NoMemory)) words left left' old new before after None_ e = inl e
+
+-- The clauses.
+
+pub played : (s : ℕ) (end : End) (words : List (String Global)) (left left' : Option (List ℕ)) (old new : Option (List Call)) (before after : Option (List ℕ)) (None_ : Type 0) (P : List ℕ → Type 0) → EndsSo end words left left' old new before after None_ → Printed s end P → is_whole s ≡ true
+    → Ran words left left' (λ lines. HasPlayed lines old new before after Finished (λ first. (s ≡ status_of (first_fault first)) × P (end_line (first_fault first))))
+played s end words left left' old new before after None_ P e (inl printed) h =
+    let w = whole_end end words left left' old new before after None_ (ap is_whole (sym printed.0) ∙ h) e in
+    let status : s ≡ status_of w.0 = printed.0 ∙ ap status_of_end w.1 ∙ status_is w.0 in
+    let line : P (end_line w.0) = subst P (ap line_of_end w.1 ∙ line_is w.0) printed.1 in
+    ran_as words left left' _ _ (λ lines g. played_as lines old new before after Finished _ _ (λ first is. (status ∙ ap status_of is, subst (λ (p : Result (Unit {0}) PlayFault). P (end_line p)) is line)) g) w.2
+played s end words left left' old new before after None_ P e (inr printed) h = absurd (false≢true (sym (ap is_whole printed.0) ∙ h))
+
+other_9 : (s k : ℕ) → s ≡ 9 → s ≡ k → k ≡ 9
+other_9 s k p q = sym q ∙ p
+
+pub waited : (s : ℕ) (end : End) (words : List (String Global)) (left left' : Option (List ℕ)) (old new : Option (List Call)) (before after : Option (List ℕ)) (None_ : Type 0) (P : List ℕ → Type 0) → EndsSo end words left left' old new before after None_ → Printed s end P → s ≡ 7 → Ran words left left' (λ lines. HasPlayed lines old new before after Silent (λ first. Unit {0}))
+waited s end words left left' old new before after None_ P e (inl printed) h = subst (λ (x : End). EndsSo x words left left' old new before after None_) (only_silent end (sym printed.0 ∙ h)) e
+waited s end words left left' old new before after None_ P e (inr printed) h = absurd (omega (arith, printed.0, h))
+
+pub cut : (s : ℕ) (end : End) (words : List (String Global)) (left left' : Option (List ℕ)) (old new : Option (List Call)) (before after : Option (List ℕ)) (None_ : Type 0) (P : List ℕ → Type 0) → EndsSo end words left left' old new before after None_ → Printed s end P → s ≡ 8 → Ran words left left' (λ lines. HasPlayedPart lines old new before after)
+cut s end words left left' old new before after None_ P e (inl printed) h = subst (λ (x : End). EndsSo x words left left' old new before after None_) (only_output end (sym printed.0 ∙ h)) e
+cut s end words left left' old new before after None_ P e (inr printed) h = absurd (omega (arith, printed.0, h))
+
+pub short : (s : ℕ) (end : End) (words : List (String Global)) (left left' : Option (List ℕ)) (old new : Option (List Call)) (before after : Option (List ℕ)) (None_ : Type 0) (P : List ℕ → Type 0) → EndsSo end words left left' old new before after None_ → Printed s end P → s ≡ 9 → Ran words left left' (λ lines. HasPlayedPart lines old new before after) ⊎ None_
+short s end words left left' old new before after None_ P e printed h = weaken end words left left' old new before after None_ e
+
+bad_as : (end : End) (words : List (String Global)) (left left' : Option (List ℕ)) (old new : Option (List Call)) (before after : Option (List ℕ)) (None_ : Type 0) (P : List ℕ → Type 0) → EndsSo end words left left' old new before after None_ → P (line_of_end end)
+    → (end ≡ Err fault.Usage) ⊎ ((number : ℕ) × (end ≡ Err (fault.Line number))) → IsBad words left (λ f. P (fault_line f)) × None_
+bad_as end words left left' old new before after None_ P e line (inl is) =
+    let u = subst (λ (x : End). EndsSo x words left left' old new before after None_) is e in
+    (inl (u.0, subst (λ (x : End). P (line_of_end x)) is line), u.1)
+bad_as end words left left' old new before after None_ P e line (inr (number, is)) =
+    let u = subst (λ (x : End). EndsSo x words left left' old new before after None_) is e in
+    (inr (number, u.0, u.1, subst (λ (x : End). P (line_of_end x)) is line), u.2)
+
+pub bad : (s : ℕ) (end : End) (words : List (String Global)) (left left' : Option (List ℕ)) (old new : Option (List Call)) (before after : Option (List ℕ)) (None_ : Type 0) (P : List ℕ → Type 0) → EndsSo end words left left' old new before after None_ → Printed s end P → s ≡ 1 → IsBad words left (λ f. P (fault_line f)) × None_
+bad s end words left left' old new before after None_ P e (inl printed) h = bad_as end words left left' old new before after None_ P e printed.1 (only_bad end (sym printed.0 ∙ h))
+bad s end words left left' old new before after None_ P e (inr printed) h = absurd (omega (arith, printed.0, h))
+
+pub unread_alone : (s : ℕ) (end : End) (words : List (String Global)) (left left' : Option (List ℕ)) (old new : Option (List Call)) (before after : Option (List ℕ)) (None_ : Type 0) (P : List ℕ → Type 0) → EndsSo end words left left' old new before after None_ → Printed s end P → s ≡ 10 → None_
+unread_alone s end words left left' old new before after None_ P e (inl printed) h = subst (λ (x : End). EndsSo x words left left' old new before after None_) (only_input end (sym printed.0 ∙ h)) e
+unread_alone s end words left left' old new before after None_ P e (inr printed) h = absurd (omega (arith, printed.0, h))
+
+-- a fact of the end that has this status alone
+pub of_end : (s k : ℕ) (end : End) (P : List ℕ → Type 0) (Q : Type 0) → Printed s end P → s ≡ k → ¬ (k ≡ 9) → (status_of_end end ≡ k → Q) → Q
+of_end s k end P Q (inl printed) h other f = f (sym printed.0 ∙ h)
+of_end s k end P Q (inr printed) h other f = absurd (other (sym h ∙ printed.0))
+
+pub line_of : (s k : ℕ) (end other : End) (P : List ℕ → Type 0) → Printed s end P → s ≡ k → ¬ (k ≡ 9) → (status_of_end end ≡ k → end ≡ other) → P (line_of_end other)
+line_of s k end other P (inl printed) h not_9 f = subst (λ (x : End). P (line_of_end x)) (f (sym printed.0 ∙ h)) printed.1
+line_of s k end other P (inr printed) h not_9 f = absurd (not_9 (sym h ∙ printed.0))
+
+pub memory_line : (s : ℕ) (end : End) (P : List ℕ → Type 0) → Printed s end P → s ≡ 9 → P (fault_line fault.NoMemory)
+memory_line s end P (inl printed) h = subst P (memory_text end (sym printed.0 ∙ h)) printed.1
+memory_line s end P (inr printed) h = printed.1
+
+one_of : (end : End) → is_bad end ≡ false → ¬ (end ≡ Err fault.Input) → ¬ (end ≡ Err (fault.Played play.Link)) → ¬ (end ≡ Err (fault.Played play.Silent)) → ¬ (end ≡ Err (fault.Played play.Output)) → IsOneOf (status_of_end end)
+one_of (Ok done) good input link silent output = inl refl
+one_of (Err fault.Usage) good input link silent output = absurd (false≢true (sym good))
+one_of (Err (fault.Line number)) good input link silent output = absurd (false≢true (sym good))
+one_of (Err fault.Input) good input link silent output = absurd (input refl)
+one_of (Err fault.NoMemory) good input link silent output = inr (inr (inr refl))
+one_of (Err (fault.Played play.Link)) good input link silent output = absurd (link refl)
+one_of (Err (fault.Played (play.Broke broken))) good input link silent output = inr (inr (inl refl))
+one_of (Err (fault.Played (play.Peer option code))) good input link silent output = inr (inl refl)
+one_of (Err (fault.Played play.Silent)) good input link silent output = absurd (silent refl)
+one_of (Err (fault.Played play.Output)) good input link silent output = absurd (output refl)
+one_of (Err (fault.Played play.NoMemory)) good input link silent output = inr (inr (inr refl))
+
+pub complete : (s : ℕ) (end : End) (P : List ℕ → Type 0) → Printed s end P → is_bad end ≡ false → ¬ (end ≡ Err fault.Input) → ¬ (end ≡ Err (fault.Played play.Link)) → ¬ (end ≡ Err (fault.Played play.Silent)) → ¬ (end ≡ Err (fault.Played play.Output)) → IsOneOf s
+complete s end P (inl printed) good input link silent output = subst IsOneOf (sym printed.0) (one_of end good input link silent output)
+complete s end P (inr printed) good input link silent output = inr (inr (inr printed.0))
+
+-- The end of a play.
+
+pub ended_by : (answer : Result (Unit {0}) PlayFault) (words : List (String Global)) (left left' : Option (List ℕ)) (lines : List Line) (old new : Option (List Call)) (before after : Option (List ℕ)) (None_ : Type 0)
+    → IsCalls words → ((bytes : List ℕ) → left ≡ Some bytes → IsScript bytes lines × (left' ≡ Some []))
+    → (is_played answer ≡ true → HasPlayed lines old new before after Finished (λ first. answer ≡ first_fault first))
+    → (answer ≡ Err play.Silent → HasPlayed lines old new before after Silent (λ first. Unit {0}))
+    → (is_cut answer ≡ true → HasPlayedPart lines old new before after)
+    → EndsSo (end_of answer) words left left' old new before after None_
+ended_by (Ok done) words left left' lines old new before after None_ calls reads p w c = record { calls = calls; lines = lines; script = λ bytes is. (reads bytes is).0; read = λ bytes is. (reads bytes is).1; played = p refl }
+ended_by (Err play.Link) words left left' lines old new before after None_ calls reads p w c = record { calls = calls; lines = lines; script = λ bytes is. (reads bytes is).0; read = λ bytes is. (reads bytes is).1; played = p refl }
+ended_by (Err (play.Broke broken)) words left left' lines old new before after None_ calls reads p w c = record { calls = calls; lines = lines; script = λ bytes is. (reads bytes is).0; read = λ bytes is. (reads bytes is).1; played = p refl }
+ended_by (Err (play.Peer option code)) words left left' lines old new before after None_ calls reads p w c = record { calls = calls; lines = lines; script = λ bytes is. (reads bytes is).0; read = λ bytes is. (reads bytes is).1; played = p refl }
+ended_by (Err play.Silent) words left left' lines old new before after None_ calls reads p w c = record { calls = calls; lines = lines; script = λ bytes is. (reads bytes is).0; read = λ bytes is. (reads bytes is).1; played = w refl }
+ended_by (Err play.Output) words left left' lines old new before after None_ calls reads p w c = record { calls = calls; lines = lines; script = λ bytes is. (reads bytes is).0; read = λ bytes is. (reads bytes is).1; played = c refl }
+ended_by (Err play.NoMemory) words left left' lines old new before after None_ calls reads p w c = record { calls = calls; lines = lines; script = λ bytes is. (reads bytes is).0; read = λ bytes is. (reads bytes is).1; played = c refl }
+
+-- No script was read.
+
+pub unread_ends : (u : Unread) (words : List (String Global)) (left left' : Option (List ℕ)) (old new : Option (List Call)) (before after : Option (List ℕ)) (None_ : Type 0)
+    → IsCalls words → None_ → ((all : List ℕ) → left ≡ Some all → ReadsScript (Err u) all left') → EndsSo (Err (fault_of u)) words left left' old new before after None_
+unread_ends (unread.Line number) words left left' old new before after None_ calls none reads = (calls, λ bytes is. (reads bytes is).0, none)
+unread_ends unread.Failed words left left' old new before after None_ calls none reads = none
+unread_ends unread.NoMemory words left left' old new before after None_ calls none reads = none
+
+pub unread_accepts : (u : Unread) (words : List (String Global)) (left left' : Option (List ℕ)) → ((all : List ℕ) → left ≡ Some all → ReadsScript (Err u) all left') → IsLawful words left → is_bad (Err (fault_of u)) ≡ false
+unread_accepts (unread.Line number) words left left' reads l = absurd ((reads l.bytes l.held).1 l.lines l.script)
+unread_accepts unread.Failed words left left' reads l = refl
+unread_accepts unread.NoMemory words left left' reads l = refl
+
+pub unread_cause : (u : Unread) (f f' : ℕ) → HasCause u f f' → ◌≡◌ {A = End} (Err (fault_of u)) (Err fault.Input) → Rises 1 f f'
+unread_cause (unread.Line number) f f' cause is = absurd (cc is)
+unread_cause unread.Failed f f' cause is = cause
+unread_cause unread.NoMemory f f' cause is = absurd (cc is)
+
+pub unread_not : (u : Unread) (p : PlayFault) → ◌≡◌ {A = End} (Err (fault_of u)) (Err (fault.Played p)) → ⊥
+unread_not (unread.Line number) p is = absurd (cc is)
+unread_not unread.Failed p is = absurd (cc is)
+unread_not unread.NoMemory p is = absurd (cc is)
+
+pub one_word : (words : List (String Global)) (word : String Global) → 1 ≤ length words → length words < 2 → word ≡ get_or words 0 word → words ≡ word ∷ []
+one_word [] word a b is = absurd (omega (arith, a))
+one_word (x ∷ []) word a b is = ap (λ (w : String Global). w ∷ []) (sym is)
+one_word (x ∷ y ∷ more) word a b is = absurd (omega (arith, b))

@@ -1,0 +1,33 @@
+use Rattle.std.proofs.Common.{ℕ, List, Err, arith}
+use Rattle.lnbd_script.specs.declared.event.PlayFault.TheVariants as play
+use Rattle.lnbd_cli.specs.declared.fault.Fault.TheVariants as fault
+use Rattle.lnbd_cli.specs.Runs.{Prints}
+use Rattle.lnbd_cli.proofs.RunLemmas.{bad, cut, line_of, memory_line, only_input, only_output, only_silent, played, short, waited}
+use Rattle.lnbd_cli.proofs.top.run.Goals as goal
+
+pub returns-clause-played : goal.returns-clause-played
+returns-clause-played g c = played c.print_end.result c.tool-end.result _ _ _ _ _ _ _ _ (λ (t : List ℕ). Prints (g.E.Sink.taken c.args.err.now) (g.E.Sink.taken c.print_end.new.err) (g.E.Sink.faults c.args.err.now) (g.E.Sink.faults c.print_end.new.err) t) c.tool-end.ensures.ends c.print_end.ensures
+
+pub returns-clause-waited : goal.returns-clause-waited
+returns-clause-waited g c = waited c.print_end.result c.tool-end.result _ _ _ _ _ _ _ _ (λ (t : List ℕ). Prints (g.E.Sink.taken c.args.err.now) (g.E.Sink.taken c.print_end.new.err) (g.E.Sink.faults c.args.err.now) (g.E.Sink.faults c.print_end.new.err) t) c.tool-end.ensures.ends c.print_end.ensures
+
+pub returns-clause-cut : goal.returns-clause-cut
+returns-clause-cut g c = cut c.print_end.result c.tool-end.result _ _ _ _ _ _ _ _ (λ (t : List ℕ). Prints (g.E.Sink.taken c.args.err.now) (g.E.Sink.taken c.print_end.new.err) (g.E.Sink.faults c.args.err.now) (g.E.Sink.faults c.print_end.new.err) t) c.tool-end.ensures.ends c.print_end.ensures
+
+pub returns-clause-short : goal.returns-clause-short
+returns-clause-short g c = short c.print_end.result c.tool-end.result _ _ _ _ _ _ _ _ (λ (t : List ℕ). Prints (g.E.Sink.taken c.args.err.now) (g.E.Sink.taken c.print_end.new.err) (g.E.Sink.faults c.args.err.now) (g.E.Sink.faults c.print_end.new.err) t) c.tool-end.ensures.ends c.print_end.ensures
+
+pub returns-clause-bad : goal.returns-clause-bad
+returns-clause-bad g c h = (bad c.print_end.result c.tool-end.result _ _ _ _ _ _ _ _ (λ (t : List ℕ). Prints (g.E.Sink.taken c.args.err.now) (g.E.Sink.taken c.print_end.new.err) (g.E.Sink.faults c.args.err.now) (g.E.Sink.faults c.print_end.new.err) t) c.tool-end.ensures.ends c.print_end.ensures h).0
+
+pub returns-clause-silent_line : goal.returns-clause-silent_line
+returns-clause-silent_line g c h = line_of c.print_end.result 7 c.tool-end.result (Err (fault.Played play.Silent)) (λ (t : List ℕ). Prints (g.E.Sink.taken c.args.err.now) (g.E.Sink.taken c.print_end.new.err) (g.E.Sink.faults c.args.err.now) (g.E.Sink.faults c.print_end.new.err) t) c.print_end.ensures h (λ e. absurd (omega (arith, e))) (only_silent c.tool-end.result)
+
+pub returns-clause-output_line : goal.returns-clause-output_line
+returns-clause-output_line g c h = line_of c.print_end.result 8 c.tool-end.result (Err (fault.Played play.Output)) (λ (t : List ℕ). Prints (g.E.Sink.taken c.args.err.now) (g.E.Sink.taken c.print_end.new.err) (g.E.Sink.faults c.args.err.now) (g.E.Sink.faults c.print_end.new.err) t) c.print_end.ensures h (λ e. absurd (omega (arith, e))) (only_output c.tool-end.result)
+
+pub returns-clause-input_line : goal.returns-clause-input_line
+returns-clause-input_line g c h = line_of c.print_end.result 10 c.tool-end.result (Err fault.Input) (λ (t : List ℕ). Prints (g.E.Sink.taken c.args.err.now) (g.E.Sink.taken c.print_end.new.err) (g.E.Sink.faults c.args.err.now) (g.E.Sink.faults c.print_end.new.err) t) c.print_end.ensures h (λ e. absurd (omega (arith, e))) (only_input c.tool-end.result)
+
+pub returns-clause-memory_line : goal.returns-clause-memory_line
+returns-clause-memory_line g c = memory_line c.print_end.result c.tool-end.result (λ (t : List ℕ). Prints (g.E.Sink.taken c.args.err.now) (g.E.Sink.taken c.print_end.new.err) (g.E.Sink.faults c.args.err.now) (g.E.Sink.faults c.print_end.new.err) t) c.print_end.ensures

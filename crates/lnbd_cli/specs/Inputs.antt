@@ -1,0 +1,26 @@
+-- What a read of a script comes to.
+use Rattle.std.specs.Prelude.{◌≡◌, ℕ, List, [], Option, Some, Result, Ok, Err}
+use Rattle.lnbd_link.specs.Count.{Rises}
+use Rattle.lnbd_lines.specs.declared.line.Line.{Line}
+use Rattle.lnbd_lines.specs.Scripts.{IsFault, IsScript}
+use Rattle.lnbd_cli.specs.declared.fault.Fault.{Fault}
+use Rattle.lnbd_cli.specs.declared.fault.Fault.TheVariants as fault
+use Rattle.lnbd_cli.specs.declared.input.Unread.{Unread}
+use Rattle.lnbd_cli.specs.declared.input.Unread.TheVariants as unread
+
+-- All that the input held is this script, or has this fault, which no script has.
+abbrev pub ReadsScript : Result (List Line) Unread → List ℕ → Option (List ℕ) → Type 0
+ReadsScript (Ok lines) all left = IsScript all lines × (left ≡ Some [])
+ReadsScript (Err (unread.Line number)) all left = IsFault all number × ((lines : List Line) → ¬ IsScript all lines)
+ReadsScript (Err unread.Failed) all left = Unit {0}
+ReadsScript (Err unread.NoMemory) all left = Unit {0}
+
+abbrev pub HasCause : Unread → ℕ → ℕ → Type 0
+HasCause (unread.Line number) faults faults' = Unit {0}
+HasCause unread.Failed faults faults' = Rises 1 faults faults'
+HasCause unread.NoMemory faults faults' = Unit {0}
+
+abbrev pub fault_of : Unread → Fault
+fault_of (unread.Line number) = fault.Line number
+fault_of unread.Failed = fault.Input
+fault_of unread.NoMemory = fault.NoMemory

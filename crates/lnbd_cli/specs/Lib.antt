@@ -1,0 +1,3 @@
+pub mod Statuses
+pub mod Inputs
+pub mod Runs

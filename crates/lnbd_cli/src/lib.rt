@@ -1,0 +1,9 @@
+//! The program's tools, as one call over the outside: which tool the words name, what it does there, and
+//! the status that it ends with. Nothing is read or written but through the traits of the outside.
+#![tactic(auto)]
+
+mod fault;
+mod input;
+mod top;
+
+pub use top::run;

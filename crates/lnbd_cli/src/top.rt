@@ -1,0 +1,158 @@
+//! The top call: which tool the words name, and the status of its run.
+
+ghost use Rattle.std.specs.Prelude.{◌≡◌, ◌⊎◌, ◌++◌, Err, OnOk, true, false, string_bytes};
+ghost use Rattle.lnbd_link.specs.Count.{Rises};
+ghost use Rattle.lnbd_script.specs.Plays.{Finished, HasPlayed, HasPlayedPart, Silent, first_fault};
+ghost use Rattle.lnbd_cli.specs.Inputs.{fault_of};
+ghost use Rattle.lnbd_cli.specs.Runs.{Ends, IsBad, IsCalls, IsLawful, IsOneOf, Nothing, Prints, Ran};
+ghost use Rattle.lnbd_cli.specs.Statuses.{end_line, end_of, fault_line, is_bad, is_whole, line_of_end, status_of, status_of_end};
+ghost use Rattle.lnbd_cli.specs.declared.fault.Fault.TheVariants as fault;
+ghost use Rattle.lnbd_script.specs.declared.event.PlayFault.TheVariants as play;
+
+use crate::fault::Fault;
+use crate::input::{Unread, read_script};
+use lnbd_link::{Sink, Source, Wires};
+use lnbd_script::{PlayFault, play, put};
+use std::alloc::{AllocError, Global};
+
+/// Runs the tool that the words name over this outside, and tells the status that it ends with.
+///
+/// 0: all is done. 1: words or a script are in no grammar. 3: the peer answered an option or a command by an error. 4: it broke
+/// the protocol, or ended before the run was done. 5: a link failed. 7: the wires were idle for too long. 8: `out` failed.
+/// 9: memory ran out. 10: `input` failed. Every status but 0 prints its line on `err`.
+pub fn run<W: Wires, I: Source, O: Sink, E: Sink>(
+    alloc: Global,
+    words: &[String],
+    input: &mut I,
+    wires: &mut W,
+    out: &mut O,
+    err: &mut E,
+) -> u8
+    // On 0, 3, 4 and 5 the whole script was played, by its first event: out took all its lines, and err the line of the event.
+    ensures played { is_whole result ≡ true → Ran words.now (I.left input.old) (I.left input.new) (λ lines. HasPlayed lines (W.told wires.old) (W.told wires.new) (O.taken out.old) (O.taken out.new) Finished (λ first. (result ≡ status_of (first_fault first)) × Prints (E.taken err.old) (E.taken err.new) (E.faults err.old) (E.faults err.new) (end_line (first_fault first)))) }
+
+    // On 7 a line waited for too long: out took those before it.
+    ensures waited { result ≡ 7 → Ran words.now (I.left input.old) (I.left input.new) (λ lines. HasPlayed lines (W.told wires.old) (W.told wires.new) (O.taken out.old) (O.taken out.new) Silent (λ first. Unit {0})) }
+
+    // On 8 and 9 out took a front of the lines; on 9 perhaps nothing was begun.
+    ensures cut { result ≡ 8 → Ran words.now (I.left input.old) (I.left input.new) (λ lines. HasPlayedPart lines (W.told wires.old) (W.told wires.new) (O.taken out.old) (O.taken out.new)) }
+    ensures short { result ≡ 9 → Ran words.now (I.left input.old) (I.left input.new) (λ lines. HasPlayedPart lines (W.told wires.old) (W.told wires.new) (O.taken out.old) (O.taken out.new)) ⊎ Nothing wires.old wires.new out.old out.new }
+
+    // On 1 the words or the script are in no grammar, and on 10 the input failed: nothing was begun.
+    ensures bad { result ≡ 1 → IsBad words.now (I.left input.old) (λ fault. Prints (E.taken err.old) (E.taken err.new) (E.faults err.old) (E.faults err.new) (fault_line fault)) }
+    ensures bad_alone { result ≡ 1 → Nothing wires.old wires.new out.old out.new }
+    ensures unread { result ≡ 10 → Rises 1 (I.faults input.old) (I.faults input.new) }
+    ensures unread_alone { result ≡ 10 → Nothing wires.old wires.new out.old out.new }
+
+    // The lines of the others, and the counts that rose.
+    ensures silent_line { result ≡ 7 → Prints (E.taken err.old) (E.taken err.new) (E.faults err.old) (E.faults err.new) (fault_line (fault.Played play.Silent)) }
+    ensures output_line { result ≡ 8 → Prints (E.taken err.old) (E.taken err.new) (E.faults err.old) (E.faults err.new) (fault_line (fault.Played play.Output)) }
+    ensures memory_line { result ≡ 9 → Prints (E.taken err.old) (E.taken err.new) (E.faults err.old) (E.faults err.new) (fault_line fault.NoMemory) }
+    ensures input_line { result ≡ 10 → Prints (E.taken err.old) (E.taken err.new) (E.faults err.old) (E.faults err.new) (fault_line fault.Input) }
+    ensures link_cause { result ≡ 5 → Rises 1 (W.faults wires.old) (W.faults wires.new) }
+    ensures silent_cause { result ≡ 7 → Rises 1000000000 (W.idles wires.old) (W.idles wires.new) }
+    ensures output_cause { result ≡ 8 → Rises 1 (O.faults out.old) (O.faults out.new) }
+
+    // Where words and script are lawful and no count rose, the script is played to its end, or memory runs out.
+    ensures complete { IsLawful words.now (I.left input.old) → (¬ Rises 1 (W.faults wires.old) (W.faults wires.new)) → (¬ Rises 1000000000 (W.idles wires.old) (W.idles wires.new)) → (¬ Rises 1 (O.faults out.old) (O.faults out.new)) → (¬ Rises 1 (I.faults input.old) (I.faults input.new)) → IsOneOf result }
+{
+    let end = tool(alloc, words, input, wires, out);
+    print_end(alloc, end, err)
+}
+
+/// Prints the line of a run's end, and tells its status. Where the line finds no memory, that is the end.
+fn print_end<E: Sink>(alloc: Global, end: Result<(), Fault>, err: &mut E) -> u8
+    ensures { ((result ≡ status_of_end end) × Prints (E.taken err.old) (E.taken err.new) (E.faults err.old) (E.faults err.new) (line_of_end end)) ⊎ ((result ≡ 9) × Prints (E.taken err.old) (E.taken err.new) (E.faults err.old) (E.faults err.new) (fault_line fault.NoMemory)) }
+{
+    let mut text = String::new(alloc);
+    match push_end(&mut text, end) {
+        Ok(()) => {
+            print(err, text.as_bytes());
+            status_of_end(end)
+        }
+        Err(_) => {
+            print(err, b"lnbd: no memory\n");
+            9
+        }
+    }
+}
+
+/// Prints a text as far as the stream takes it.
+fn print<E: Sink>(err: &mut E, text: &[u8])
+    ensures { Prints (E.taken err.old) (E.taken err.new) (E.faults err.old) (E.faults err.new) text.now }
+{
+    let _ = put(err, text);
+}
+
+fn push_end(text: &mut String, end: Result<(), Fault>) -> Result<(), AllocError>
+    ensures { OnOk result (string_bytes text.new ≡ string_bytes text.old ++ line_of_end end) }
+{
+    match end {
+        Ok(()) => Ok(()),
+        Err(fault) => fault.push_line(text),
+    }
+}
+
+fn status_of_end(end: Result<(), Fault>) -> u8
+    ensures { result ≡ status_of_end end }
+{
+    match end {
+        Ok(()) => 0,
+        Err(fault) => fault.status(),
+    }
+}
+
+/// Whether the words name the tool that plays a script.
+fn names_calls(words: &[String]) -> bool
+    ensures yes { result ≡ true → IsCalls words.now }
+    ensures no { result ≡ false → ¬ IsCalls words.now }
+{
+    match words {
+        [word] => word.as_str() == "nbdcalls",
+        _ => false,
+    }
+}
+
+fn fault_of(unread: Unread) -> Fault
+    ensures { result ≡ fault_of unread }
+{
+    match unread {
+        Unread::Line(number) => Fault::Line(number),
+        Unread::Failed => Fault::Input,
+        Unread::NoMemory => Fault::NoMemory,
+    }
+}
+
+fn end_of(played: Result<(), PlayFault>) -> Result<(), Fault>
+    ensures { result ≡ end_of played }
+{
+    match played {
+        Ok(()) => Ok(()),
+        Err(fault) => Err(Fault::Played(fault)),
+    }
+}
+
+/// Plays the script that the input holds, where the words name that tool.
+fn tool<W: Wires, I: Source, O: Sink>(
+    alloc: Global,
+    words: &[String],
+    input: &mut I,
+    wires: &mut W,
+    out: &mut O,
+) -> Result<(), Fault>
+    ensures ends { Ends result words.now (I.left input.old) (I.left input.new) (λ lines how IsFirst. HasPlayed lines (W.told wires.old) (W.told wires.new) (O.taken out.old) (O.taken out.new) how IsFirst) (λ lines. HasPlayedPart lines (W.told wires.old) (W.told wires.new) (O.taken out.old) (O.taken out.new)) (Nothing wires.old wires.new out.old out.new) }
+    ensures accepts { IsLawful words.now (I.left input.old) → is_bad result ≡ false }
+    ensures input_cause { result ≡ Err fault.Input → Rises 1 (I.faults input.old) (I.faults input.new) }
+    ensures link_cause { result ≡ Err (fault.Played play.Link) → Rises 1 (W.faults wires.old) (W.faults wires.new) }
+    ensures silent_cause { result ≡ Err (fault.Played play.Silent) → Rises 1000000000 (W.idles wires.old) (W.idles wires.new) }
+    ensures output_cause { result ≡ Err (fault.Played play.Output) → Rises 1 (O.faults out.old) (O.faults out.new) }
+{
+    if !names_calls(words) {
+        return Err(Fault::Usage);
+    }
+    let script = match read_script(alloc, input) {
+        Ok(script) => script,
+        Err(unread) => return Err(fault_of(unread)),
+    };
+    end_of(play(alloc, &script, wires, out))
+}

@@ -1,0 +1,42 @@
+//! What a line of a script asks for. How it is spelled stands in `specs/Grammar.antt`.
+
+use lnbd_model::{Target, Text};
+
+/// One call on a handle, or a question about it.
+#[derive(Debug, Drop)]
+pub enum Line {
+    /// `connect tcp HOST PORT` or `connect unix PATH`: connect, and start the handshake
+    /// (nbd_connect_tcp(3), nbd_connect_unix(3)). The host and the path have 1 to 4,096 bytes.
+    Connect(Target),
+    /// `pread LEN OFF`: issue a read of so many bytes, at most 67,108,864, from this offset on
+    /// (nbd_aio_pread(3)).
+    Pread { length: u32, offset: u64 },
+    /// `settle`: take turns until nothing is in flight and nothing waits to go out.
+    Settle,
+    /// `log`: show the notes.
+    Log,
+    /// `clear-log`: forget the notes.
+    ClearLog,
+    /// `done C`: whether the command of this cookie is completed (nbd_aio_command_completed(3)).
+    Done { cookie: u64 },
+    /// `peek`: the cookie of a command that is completed (nbd_aio_peek_command_completed(3)).
+    Peek,
+    /// `in-flight`: how many commands are in flight (nbd_aio_in_flight(3)).
+    InFlight,
+    /// `direction`: what the handle waits for (nbd_aio_get_direction(3)).
+    Direction,
+    /// `state`: the state of the handle.
+    State,
+    /// `info`: what the server told of the export.
+    Info,
+    /// `export TEXT`: set the name of the export, 4,096 bytes at most (nbd_set_export_name(3)).
+    Export { name: Text },
+    /// `read`: take what the server sent (nbd_aio_notify_read(3)).
+    Read,
+    /// `write`: send what waits to go out (nbd_aio_notify_write(3)).
+    Write,
+    /// `disconnect`: issue the disconnection (nbd_aio_disconnect(3)).
+    Disconnect,
+    /// `close`: close the handle and shut its link.
+    Close,
+}

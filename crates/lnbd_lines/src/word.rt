@@ -1,0 +1,25 @@
+//! Words of a line, separated by one space.
+
+ghost use Rattle.std.specs.Prelude.{◌≡◌, ◌≤◌, ◌<◌, MatchOption, IfOk, List, length, ℕ};
+ghost use Rattle.lnbd_lines.specs.Grammar.{IsCut};
+
+use lnbd_model::{NoMemory, Text, TextFault};
+use std::alloc::Global;
+
+/// The first word, and what stands behind the space that ends it.
+pub(crate) fn cut(text: &str) -> Option<(&str, &str)>
+    ensures { MatchOption result ((word rest : List ℕ) → ¬ IsCut text.now word rest) (λ parts. IsCut text.now parts.0.now parts.1.now) }
+{
+    text.split_once(' ')
+}
+
+/// The text, where it has at most 4,096 bytes.
+pub(crate) fn short(alloc: Global, text: &str) -> Result<Option<Text>, NoMemory>
+    ensures { IfOk result (λ short. MatchOption short (4096 < length text.now) (λ short. (short ≡ text.now) × (length text.now ≤ 4096))) }
+{
+    match Text::from_bytes(alloc, text.as_bytes()) {
+        Ok(text) => Ok(Some(text)),
+        Err(TextFault::NoMemory) => Err(NoMemory),
+        Err(_) => Ok(None),
+    }
+}

@@ -1,0 +1,11 @@
+//! Whole sessions of the program over links, an input and outputs in memory: what the peer sends and what the
+//! script asks, and for them all that is printed, the status and, where it tells something, all that goes out.
+//! Tests alone. What they expect was read off the protocol and the grammar of scripts by hand.
+#![tactic(auto)]
+
+#[cfg(test)]
+mod overheard;
+#[cfg(test)]
+mod session;
+#[cfg(test)]
+mod tests;

@@ -1,0 +1,188 @@
+//! A session as data, and its play.
+
+use crate::overheard::Overheard;
+use lnbd_cli::run;
+use lnbd_link::{ListLink, ListSink, ListSource, ListWires, ReadAnswer, Wires, WriteAnswer};
+use lnbd_model::Bytes;
+use std::alloc::Global;
+use std::process::Abort;
+use std::str::from_utf8;
+use std::test::Fail;
+
+/// What a read of the link answers. Bytes are written as hexadecimal digits and runs, as `00ff ab*512`.
+#[derive(Clone, Copy)]
+pub enum Told<'a> {
+    /// These bytes.
+    Bytes(&'a str),
+    /// These bytes, each by a read of its own.
+    ByteByByte(&'a str),
+    /// No byte yet.
+    Nothing,
+    /// The link is of no use.
+    Failure,
+}
+
+/// What the peer and the outside do, what is asked, and what comes of it.
+#[derive(Clone, Copy)]
+pub struct Session<'a> {
+    /// What the session shows.
+    pub shows: &'a str,
+    pub words: &'a [&'a str],
+    /// Whether the connect fails.
+    pub unreachable: bool,
+    /// What the reads of the link answer, and `End` after these.
+    pub reads: &'a [Told<'a>],
+    /// What its writes answer; after these each takes all.
+    pub writes: &'a [WriteAnswer],
+    /// By how much a pause raises the count of waiting.
+    pub pause: u64,
+    /// The call of the input, and that of the output, which fails.
+    pub input_fails_at: Option<usize>,
+    pub output_fails_at: Option<usize>,
+    /// How many bytes the output takes.
+    pub output_room: usize,
+    /// The lines of the script, each with its answer; with none where the run ended before.
+    pub talk: &'a [(&'a str, &'a str)],
+    /// The last line, which no line of the script asks for.
+    pub last: &'a str,
+    pub err: &'a str,
+    pub status: u8,
+    /// All that went out over the link, where it is to be compared.
+    pub written: Option<&'a str>,
+    /// The count of waiting at the end.
+    pub waited: u64,
+}
+
+/// An empty script over a link whose peer ends it at once.
+pub const SESSION: Session<'static> = Session {
+    shows: "",
+    words: &["nbdcalls"],
+    unreachable: false,
+    reads: &[],
+    writes: &[],
+    pause: 1,
+    input_fails_at: None,
+    output_fails_at: None,
+    output_room: 4096,
+    talk: &[],
+    last: "",
+    err: "",
+    status: 0,
+    written: None,
+    waited: 0,
+};
+
+/// Appends the bytes of a word: digits, or digits, `*` and how often they come.
+fn push_word(alloc: Global, bytes: &mut Vec<u8>, word: &str) -> Result<(), Fail> {
+    let (digits, count) = match word.split_once('*') {
+        Some((digits, count)) => (digits, count.parse::<usize>()?),
+        None => (word, 1),
+    };
+    let part = hex::decode(alloc, digits)?;
+    for _ in 0..count {
+        bytes.extend_from_slice(part.as_slice())?;
+    }
+    Ok(())
+}
+
+/// The bytes of digits and runs, which spaces separate.
+fn bytes_of(alloc: Global, text: &str) -> Result<Vec<u8>, Fail> {
+    let mut bytes = Vec::new(alloc);
+    for word in text.split(' ') {
+        push_word(alloc, &mut bytes, word)?;
+    }
+    Ok(bytes)
+}
+
+fn push_told(alloc: Global, reads: &mut Vec<ReadAnswer>, told: Told) -> Result<(), Fail> {
+    match told {
+        Told::Bytes(text) => {
+            let bytes = bytes_of(alloc, text)?;
+            reads.push(ReadAnswer::Bytes(Bytes::from_vec(bytes)))?;
+        }
+        Told::ByteByByte(text) => {
+            for byte in bytes_of(alloc, text)? {
+                let bytes = Vec::from_elem(alloc, byte, 1)?;
+                reads.push(ReadAnswer::Bytes(Bytes::from_vec(bytes)))?;
+            }
+        }
+        Told::Nothing => reads.push(ReadAnswer::NotReady)?,
+        Told::Failure => reads.push(ReadAnswer::Failed)?,
+    }
+    Ok(())
+}
+
+/// The one link of a session.
+fn link(alloc: Global, session: &Session) -> Result<ListLink, Fail> {
+    let mut reads = Vec::new(alloc);
+    for told in session.reads {
+        push_told(alloc, &mut reads, *told)?;
+    }
+    Ok(ListLink {
+        fails: session.unreachable,
+        reads,
+        writes: Vec::from_slice(alloc, session.writes)?,
+    })
+}
+
+/// Appends a line, where it isn't empty.
+fn push_line(text: &mut String, line: &str) -> Result<(), Fail> {
+    if !line.is_empty() {
+        text.push_str(line)?;
+        text.push_str("\n")?;
+    }
+    Ok(())
+}
+
+/// The script, and all that is to be printed.
+fn texts(alloc: Global, session: &Session) -> Result<(String, String), Fail> {
+    let mut script = String::new(alloc);
+    let mut answers = String::new(alloc);
+    for (line, answer) in session.talk {
+        push_line(&mut script, line)?;
+        push_line(&mut answers, answer)?;
+    }
+    push_line(&mut answers, session.last)?;
+    Ok((script, answers))
+}
+
+fn words_of(alloc: Global, words: &[&str]) -> Result<Vec<String>, Fail> {
+    let mut owned = Vec::new(alloc);
+    for word in words {
+        owned.push(String::from_str(alloc, word)?)?;
+    }
+    Ok(owned)
+}
+
+/// Plays a session, and compares all that comes of it.
+fn play(rt: &impl Abort, alloc: Global, session: &Session) -> Result<(), Fail> {
+    let shows = session.shows;
+    let words = words_of(alloc, session.words)?;
+    let (script, answers) = texts(alloc, session)?;
+    let links = vec![in alloc; link(alloc, session)?]?;
+    let mut wires = Overheard {
+        wires: ListWires::new(alloc, links, 4096, session.pause.max(1))?,
+        written: Vec::new(alloc),
+    };
+    let mut input = ListSource::new(script.into_bytes(), session.input_fails_at);
+    let mut out = ListSink::new(alloc, session.output_room, session.output_fails_at)?;
+    let mut err = ListSink::new(alloc, 4096, None)?;
+    let status = run(alloc, &words, &mut input, &mut wires, &mut out, &mut err);
+    assert_eq!(rt; from_utf8(out.bytes())?, answers.as_str(), "{shows}");
+    assert_eq!(rt; from_utf8(err.bytes())?, session.err, "{shows}");
+    assert_eq!(rt; status, session.status, "{shows}");
+    assert_eq!(rt; wires.idles(), session.waited, "{shows}");
+    if let Some(written) = session.written {
+        let written = bytes_of(alloc, written)?;
+        assert_eq!(rt; wires.written.as_slice(), written.as_slice(), "{shows}");
+    }
+    Ok(())
+}
+
+/// Plays each session.
+pub fn play_all(rt: &impl Abort, alloc: Global, sessions: &[Session]) -> Result<(), Fail> {
+    for session in sessions {
+        play(rt, alloc, session)?;
+    }
+    Ok(())
+}

@@ -1,0 +1,508 @@
+//! The sessions, by subject.
+
+use crate::session::{SESSION, Session, Told, play_all};
+use lnbd_link::WriteAnswer;
+use std::test::Fail;
+
+/// NBDMAGIC, IHAVEOPT and the flags FIXED_NEWSTYLE and NO_ZEROES.
+const HELLO: Told<'static> = Told::Bytes("4e42444d41474943 49484156454f5054 0003");
+
+/// GO's reply for an export of 1 MiB with the flags 1, and its ACK.
+const GO: Told<'static> = Told::Bytes(
+    "0003e889045565a9 00000007 00000003 0000000c 0000 0000000000100000 0001 \
+     0003e889045565a9 00000007 00000001 00000000",
+);
+
+const CONNECT: (&str, &str) = ("connect tcp localhost 10809", "connected");
+
+const SETTLE: (&str, &str) = ("settle", "settled");
+
+static READS: [Session<'static>; 4] = [
+    Session {
+        shows: "a read and the end",
+        reads: &[
+            HELLO,
+            GO,
+            Told::Bytes("67446698 00000000 0000000000000001 ab*512"),
+        ],
+        talk: &[
+            CONNECT,
+            SETTLE,
+            ("state", "ready"),
+            ("pread 512 0", "cookie 1"),
+            SETTLE,
+            ("log", "completed 1 0\nfreed 1\nend"),
+            ("done 1", "done 512 ab*512"),
+            ("disconnect", "ok"),
+            SETTLE,
+        ],
+        last: "opened 1 freed 1",
+        // The client's flags, GO for the empty name with three types of information, the read, and DISC.
+        written: Some(
+            "00000003 \
+             49484156454f5054 00000007 0000000c 00000000 0003 0001 0002 0003 \
+             25609513 0000 0000 0000000000000001 0000000000000000 00000200 \
+             25609513 0000 0002 0000000000000000 0000000000000000 00000000",
+        ),
+        ..SESSION
+    },
+    Session {
+        shows: "a read of nothing is refused and its callback freed",
+        reads: &[HELLO, GO],
+        talk: &[
+            CONNECT,
+            SETTLE,
+            ("pread 0 0", "refused zero-size"),
+            ("log", "freed 1\nend"),
+        ],
+        last: "opened 1 freed 1",
+        ..SESSION
+    },
+    Session {
+        shows: "replies come in any order, byte by byte",
+        reads: &[
+            HELLO,
+            GO,
+            Told::ByteByByte(
+                "67446698 00000000 0000000000000003 33 \
+                 67446698 00000000 0000000000000001 11 \
+                 67446698 00000000 0000000000000002 22",
+            ),
+        ],
+        talk: &[
+            CONNECT,
+            SETTLE,
+            ("pread 1 0", "cookie 1"),
+            ("pread 1 1", "cookie 2"),
+            ("pread 1 2", "cookie 3"),
+            SETTLE,
+            ("peek", "cookie 3"),
+            ("done 1", "done 1 11*1"),
+            ("done 2", "done 1 22*1"),
+            ("done 3", "done 1 33*1"),
+            ("peek", "none-left"),
+        ],
+        last: "opened 3 freed 3",
+        ..SESSION
+    },
+    Session {
+        shows: "an error of the peer fails its command alone",
+        reads: &[
+            HELLO,
+            GO,
+            Told::Bytes(
+                "67446698 00000005 0000000000000001 \
+                 67446698 00000000 0000000000000002 ab*2 cd",
+            ),
+        ],
+        talk: &[
+            CONNECT,
+            SETTLE,
+            ("pread 512 0", "cookie 1"),
+            ("pread 3 512", "cookie 2"),
+            SETTLE,
+            ("state", "ready"),
+            ("log", "completed 1 5\nfreed 1\ncompleted 2 0\nfreed 2\nend"),
+            ("done 1", "failed 5 512 00*512"),
+            ("done 2", "done 3 ab*2 cd*1"),
+        ],
+        last: "opened 2 freed 2",
+        err: "lnbd: peer error command 5\n",
+        status: 3,
+        ..SESSION
+    },
+];
+
+#[test]
+fn reads_are_answered_by_their_cookies(rt: HostRuntime) -> Result<(), Fail> {
+    play_all(&rt, rt.alloc(), &READS)
+}
+
+static STATES: [Session<'static>; 2] = [
+    Session {
+        shows: "each line has its answer in each state",
+        reads: &[HELLO, GO],
+        talk: &[
+            ("read", "idle"),
+            ("write", "idle"),
+            ("settle", "settled"),
+            ("direction", "0"),
+            ("in-flight", "0"),
+            ("peek", "none-left"),
+            ("info", "info none"),
+            ("export blue", "ok"),
+            ("disconnect", "refused not-ready created"),
+            ("pread 1 0", "refused not-ready created"),
+            ("log", "freed 1\nend"),
+            ("clear-log", "ok"),
+            ("log", "end"),
+            ("done 1", "no-such-cookie"),
+            CONNECT,
+            ("connect unix /socket", "refused state negotiating"),
+            ("export red", "refused state negotiating"),
+            ("direction", "1"),
+            SETTLE,
+            ("pread 1 0", "cookie 1"),
+            ("direction", "3"),
+            ("in-flight", "1"),
+            ("peek", "none-done"),
+            ("done 1", "not-yet"),
+            ("info", "info 1048576 1 - - - false\nend"),
+            ("disconnect", "ok"),
+            ("disconnect", "refused closing"),
+            ("pread 1 0", "refused closing"),
+            ("state", "closing"),
+        ],
+        last: "opened 3 freed 3",
+        // The client's flags, and GO for the export that was named before the connect.
+        written: Some(
+            "00000003 \
+             49484156454f5054 00000007 00000010 00000004 626c7565 0003 0001 0002 0003",
+        ),
+        ..SESSION
+    },
+    Session {
+        shows: "a close frees what is in flight and completes none",
+        reads: &[HELLO, GO],
+        talk: &[
+            CONNECT,
+            SETTLE,
+            ("pread 1 0", "cookie 1"),
+            ("close", "closed 1 1"),
+            ("log", "gone"),
+            ("settle", "gone"),
+        ],
+        last: "opened 1 freed 1",
+        ..SESSION
+    },
+];
+
+#[test]
+fn lines_are_answered_in_each_state(rt: HostRuntime) -> Result<(), Fail> {
+    play_all(&rt, rt.alloc(), &STATES)
+}
+
+static HANDSHAKES: [Session<'static>; 4] = [
+    Session {
+        shows: "an oldstyle server is refused before its flags",
+        reads: &[Told::Bytes("4e42444d41474943 0000420281861253")],
+        talk: &[CONNECT, SETTLE, ("state", "dead broke OldStyle")],
+        last: "opened 0 freed 0",
+        err: "lnbd: peer broke OldStyle\n",
+        status: 4,
+        written: Some(""),
+        ..SESSION
+    },
+    Session {
+        shows: "a server without fixed newstyle is refused",
+        reads: &[Told::Bytes("4e42444d41474943 49484156454f5054 0000")],
+        talk: &[CONNECT, SETTLE, ("state", "dead broke NotFixed")],
+        last: "opened 0 freed 0",
+        err: "lnbd: peer broke NotFixed\n",
+        status: 4,
+        written: Some(""),
+        ..SESSION
+    },
+    Session {
+        shows: "where GO is not known the export is asked by its name",
+        reads: &[
+            Told::Bytes("4e42444d41474943 49484156454f5054 0001"),
+            // UNSUP, then the size, the flags and 124 zero bytes in two reads.
+            Told::Bytes("0003e889045565a9 00000007 80000001 00000000"),
+            Told::Bytes("0000000000001000 0001 00*100"),
+            Told::Bytes("00*24"),
+        ],
+        talk: &[
+            CONNECT,
+            ("read", "moved 18"),
+            ("write", "moved 4"),
+            ("write", "moved 28"),
+            ("read", "moved 20"),
+            ("write", "moved 16"),
+            ("read", "moved 110"),
+            ("state", "negotiating"),
+            ("read", "moved 24"),
+            ("state", "ready"),
+            ("info", "info 4096 1 - - - false\nend"),
+        ],
+        last: "opened 0 freed 0",
+        written: Some(
+            "00000001 \
+             49484156454f5054 00000007 0000000c 00000000 0003 0001 0002 0003 \
+             49484156454f5054 00000001 00000000",
+        ),
+        ..SESSION
+    },
+    Session {
+        shows: "a server that wants TLS ends the handshake",
+        reads: &[
+            Told::Bytes("4e42444d41474943 49484156454f5054 0001"),
+            Told::Bytes("0003e889045565a9 00000007 80000005 00000000"),
+        ],
+        talk: &[
+            CONNECT,
+            ("read", "moved 18"),
+            ("write", "moved 4"),
+            ("write", "moved 28"),
+            ("read", "moved 20"),
+            ("state", "dead refused 7 5"),
+        ],
+        last: "opened 0 freed 0",
+        err: "lnbd: peer error option 7 code 5\n",
+        status: 3,
+        ..SESSION
+    },
+];
+
+#[test]
+fn the_handshake_is_judged(rt: HostRuntime) -> Result<(), Fail> {
+    play_all(&rt, rt.alloc(), &HANDSHAKES)
+}
+
+static DEATHS: [Session<'static>; 3] = [
+    Session {
+        shows: "an end fails all that were left",
+        reads: &[HELLO, GO],
+        // The client's flags, GO and three requests go out whole, and ten bytes of the next.
+        writes: &[
+            WriteAnswer::AtMost(99),
+            WriteAnswer::AtMost(99),
+            WriteAnswer::AtMost(99),
+            WriteAnswer::AtMost(99),
+            WriteAnswer::AtMost(99),
+            WriteAnswer::AtMost(10),
+        ],
+        talk: &[
+            CONNECT,
+            SETTLE,
+            ("pread 512 0", "cookie 1"),
+            ("pread 512 0", "cookie 2"),
+            ("pread 512 0", "cookie 3"),
+            ("pread 512 0", "cookie 4"),
+            ("pread 512 0", "cookie 5"),
+            ("write", "moved 28"),
+            ("write", "moved 28"),
+            ("write", "moved 28"),
+            ("write", "moved 10"),
+            ("read", "ended"),
+            ("state", "dead ended"),
+            (
+                "log",
+                "completed 1 107\nfreed 1\ncompleted 2 107\nfreed 2\ncompleted 3 107\nfreed 3\n\
+                 completed 4 107\nfreed 4\ncompleted 5 107\nfreed 5\nend",
+            ),
+            ("done 5", "failed 107 512 00*512"),
+            ("pread 1 0", "refused dead ended"),
+        ],
+        last: "opened 6 freed 6",
+        err: "lnbd: peer broke Ended\n",
+        status: 4,
+        ..SESSION
+    },
+    Session {
+        shows: "a reply to no command breaks the protocol",
+        reads: &[HELLO, GO, Told::Bytes("67446698 00000000 0000000000000063")],
+        talk: &[
+            CONNECT,
+            SETTLE,
+            ("pread 512 0", "cookie 1"),
+            SETTLE,
+            ("state", "dead broke UnknownCookie"),
+            ("done 1", "failed 107 512 00*512"),
+            ("read", "idle"),
+        ],
+        last: "opened 1 freed 1",
+        err: "lnbd: peer broke UnknownCookie\n",
+        status: 4,
+        ..SESSION
+    },
+    Session {
+        shows: "a link that fails fails its command",
+        reads: &[HELLO, GO, Told::Failure],
+        talk: &[
+            CONNECT,
+            SETTLE,
+            ("pread 512 0", "cookie 1"),
+            ("read", "failed"),
+            ("state", "dead link-failed"),
+            ("done 1", "failed 107 512 00*512"),
+            ("write", "idle"),
+        ],
+        last: "opened 1 freed 1",
+        err: "lnbd: link fault\n",
+        status: 5,
+        ..SESSION
+    },
+];
+
+#[test]
+fn a_death_fails_all_that_were_left(rt: HostRuntime) -> Result<(), Fail> {
+    play_all(&rt, rt.alloc(), &DEATHS)
+}
+
+static FIRST_EVENTS: [Session<'static>; 3] = [
+    Session {
+        shows: "of an error and a later end the error decides",
+        reads: &[HELLO, GO, Told::Bytes("67446698 00000005 0000000000000001")],
+        talk: &[
+            CONNECT,
+            SETTLE,
+            ("pread 1 0", "cookie 1"),
+            ("pread 1 0", "cookie 2"),
+            SETTLE,
+            ("state", "dead ended"),
+            ("done 1", "failed 5 1 00*1"),
+            ("done 2", "failed 107 1 00*1"),
+        ],
+        last: "opened 2 freed 2",
+        err: "lnbd: peer error command 5\n",
+        status: 3,
+        ..SESSION
+    },
+    Session {
+        shows: "of an error and a breach in one read the breach decides",
+        reads: &[
+            HELLO,
+            GO,
+            Told::Bytes(
+                "67446698 00000005 0000000000000001 \
+                 67446698 00000000 0000000000000063",
+            ),
+        ],
+        talk: &[
+            CONNECT,
+            SETTLE,
+            ("pread 1 0", "cookie 1"),
+            SETTLE,
+            ("state", "dead broke UnknownCookie"),
+            ("done 1", "failed 5 1 00*1"),
+        ],
+        last: "opened 1 freed 1",
+        err: "lnbd: peer broke UnknownCookie\n",
+        status: 4,
+        ..SESSION
+    },
+    Session {
+        shows: "silence decides over an earlier error",
+        reads: &[
+            HELLO,
+            GO,
+            Told::Bytes("67446698 00000005 0000000000000001"),
+            // One for the turn that writes, one for the turn in which nothing moves.
+            Told::Nothing,
+            Told::Nothing,
+        ],
+        pause: 1_000_000_000,
+        talk: &[
+            CONNECT,
+            SETTLE,
+            ("pread 1 0", "cookie 1"),
+            SETTLE,
+            ("pread 1 0", "cookie 2"),
+            ("settle", ""),
+            ("state", ""),
+        ],
+        err: "lnbd: peer silent\n",
+        status: 7,
+        waited: 1_000_000_000,
+        ..SESSION
+    },
+];
+
+#[test]
+fn the_first_event_decides(rt: HostRuntime) -> Result<(), Fail> {
+    play_all(&rt, rt.alloc(), &FIRST_EVENTS)
+}
+
+static OUTSIDES: [Session<'static>; 6] = [
+    Session {
+        shows: "a connect that fails leaves the handle as it was created",
+        unreachable: true,
+        talk: &[
+            ("connect tcp localhost 10809", "connect failed"),
+            ("state", "created"),
+        ],
+        last: "opened 0 freed 0",
+        err: "lnbd: link fault\n",
+        status: 5,
+        ..SESSION
+    },
+    Session {
+        shows: "a peer that is silent for two pauses of 500,000,000 ends the run",
+        reads: &[Told::Nothing, Told::Nothing, HELLO],
+        pause: 500_000_000,
+        talk: &[CONNECT, ("settle", ""), ("state", "")],
+        err: "lnbd: peer silent\n",
+        status: 7,
+        waited: 1_000_000_000,
+        ..SESSION
+    },
+    Session {
+        shows: "an input that fails at once",
+        talk: &[("state", "")],
+        input_fails_at: Some(0),
+        err: "lnbd: input fault\n",
+        status: 10,
+        ..SESSION
+    },
+    Session {
+        shows: "an input that fails behind the script: no line of it is played",
+        reads: &[HELLO],
+        talk: &[("connect tcp localhost 10809", ""), ("read", "")],
+        input_fails_at: Some(1),
+        err: "lnbd: input fault\n",
+        status: 10,
+        ..SESSION
+    },
+    Session {
+        shows: "an output that fails at once",
+        talk: &[("state", "")],
+        output_fails_at: Some(0),
+        err: "lnbd: output fault\n",
+        status: 8,
+        ..SESSION
+    },
+    Session {
+        shows: "an output that is full after the first line",
+        reads: &[HELLO],
+        output_room: 10,
+        talk: &[CONNECT, ("state", "")],
+        err: "lnbd: output fault\n",
+        status: 8,
+        ..SESSION
+    },
+];
+
+#[test]
+fn each_fault_of_the_outside_has_its_status(rt: HostRuntime) -> Result<(), Fail> {
+    play_all(&rt, rt.alloc(), &OUTSIDES)
+}
+
+static SCRIPTS: [Session<'static>; 3] = [
+    Session {
+        shows: "an empty script opens nothing",
+        last: "opened 0 freed 0",
+        ..SESSION
+    },
+    Session {
+        shows: "of a script with a faulty line no line is played",
+        reads: &[HELLO],
+        talk: &[("connect tcp localhost 10809", ""), ("preed 1 0", "")],
+        err: "lnbd: script line 2\n",
+        status: 1,
+        ..SESSION
+    },
+    Session {
+        shows: "the tool takes no further word",
+        words: &["nbdcalls", "state"],
+        talk: &[("state", "")],
+        err: "lnbd: usage\n",
+        status: 1,
+        ..SESSION
+    },
+];
+
+#[test]
+fn scripts_and_words_are_judged_first(rt: HostRuntime) -> Result<(), Fail> {
+    play_all(&rt, rt.alloc(), &SCRIPTS)
+}

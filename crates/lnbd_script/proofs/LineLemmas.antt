@@ -1,0 +1,381 @@
+-- What a line leaves, from what the handle and the wires answered.
+use Rattle.std.proofs.Common.{arith, ◌≡◌, ◌==◌, inl, inr, ◌<◌, ◌≤◌, ◌≢◌, ℕ, Bool, true, false, List, [], ◌∷◌, length, take, replicate, Option, Some, None, Result, Ok, Err, OnOk, IfOk, IfErr, OnErr, refl, sym, ◌∙◌, ap, subst}
+use Rattle.std.proofs.lemmas.Bool.{false≢true}
+use Rattle.std.proofs.lemmas.List.{length-take-le, length-replicate}
+use Rattle.lnbd_model.specs.declared.refusal.Why.{Why}
+use Rattle.lnbd_model.specs.declared.state.State.{State}
+use Rattle.lnbd_model.specs.declared.state.State.TheVariants as state
+use Rattle.lnbd_model.specs.declared.target.Target.{Target}
+use Rattle.lnbd_history.specs.declared.kinds.Completed.{Completed}
+use Rattle.lnbd_history.specs.declared.kinds.Completed.TheVariants as completed
+use Rattle.lnbd_history.specs.declared.kinds.Phase.{Phase}
+use Rattle.lnbd_history.specs.declared.kinds.Phase.TheVariants as phase
+use Rattle.lnbd_history.specs.declared.kinds.Stage.{Stage}
+use Rattle.lnbd_history.specs.declared.kinds.Stage.TheVariants as stage
+use Rattle.lnbd_history.specs.Commands.{Command}
+use Rattle.lnbd_history.specs.Events.{Event as Happening, Start, Set, Name, Issue, Refuse, Disconnect, Wrote, Retire}
+use Rattle.lnbd_history.specs.Answers.{state_after, completed_after, out_after, state_at}
+use Rattle.lnbd_history.specs.Laws.{may_name}
+use Rattle.lnbd_history.specs.Refusals.{by_state, refusal_after}
+use Rattle.lnbd_machine.specs.Does.{Does}
+use Rattle.lnbd_machine.specs.Machine.{Machine, step, calls}
+use Rattle.lnbd_machine.specs.Now.{direction_now, state_now, out_now, completed_now, refusal_now}
+use Rattle.lnbd_standing.specs.Standing.{is_result}
+use Rattle.lnbd_model.specs.declared.fault.NoMemory.{NoMemory}
+use Rattle.lnbd_model.specs.declared.kind.Kind.TheVariants as kind
+use Rattle.lnbd_handle.specs.Completing.{completing}
+use Rattle.lnbd_handle.specs.Issues as issues
+use Rattle.lnbd_handle.specs.declared.issue.IssueFault.{IssueFault}
+use Rattle.lnbd_handle.specs.declared.issue.IssueFault.TheVariants as fault
+use Rattle.lnbd_lines.specs.declared.line.Line.{Line}
+use Rattle.lnbd_lines.specs.declared.line.Line.TheVariants as line
+use Rattle.lnbd_handle.specs.declared.kinds.SetFault.{SetFault}
+use Rattle.lnbd_handle.specs.declared.kinds.SetFault.TheVariants as set
+use Rattle.lnbd_link.specs.Call.{Call, Connect}
+use Rattle.lnbd_link.specs.Part.{Adds as Grows_by}
+use Rattle.lnbd_link.proofs.Parts.{grows_none}
+use Rattle.lnbd_script.specs.declared.keeper.Keeper.{Keeper}
+use Rattle.lnbd_script.specs.declared.keeper.Heeded.{Heeded}
+use Rattle.lnbd_script.specs.declared.session.Session.{Session}
+use Rattle.lnbd_script.specs.declared.told.Halt.{Halt}
+use Rattle.lnbd_script.specs.declared.told.Halt.TheVariants as halt
+use Rattle.lnbd_script.specs.declared.told.Moved.{Moved as Transfer}
+use Rattle.lnbd_script.specs.declared.told.Moved.TheVariants as moved
+use Rattle.lnbd_script.specs.declared.told.Told.{Told}
+use Rattle.lnbd_script.specs.declared.told.Told.TheVariants as told
+use Rattle.lnbd_script.specs.Kept.{Heeds, or_first}
+use Rattle.lnbd_script.specs.KeptLaws.{heeds_none}
+use Rattle.lnbd_script.specs.Seen.{Seen, IsAt, Went, Goes, Follows, adding}
+use Rattle.lnbd_script.specs.Turns.{is_reading, is_waiting, Settles}
+use Rattle.lnbd_script.specs.Lines.{Adds, Connects, Disconnects, Does as Line_does, Issues, LineEnd, Names, ReadsOn, SettlesOn, WritesOn, connected, is_created, read_of, taking, told_link}
+use Rattle.lnbd_script.specs.Steps.{Becomes, ReadsOnce, ReadsOnceShort, WritesOnce, halted, settled_end}
+use Rattle.lnbd_script.proofs.SeenLemmas.{add, follow, met_by}
+use Rattle.lnbd_script.proofs.TurnLemmas.{answers_at, waits_false, waits_true}
+
+-- a session whose handle is as before
+pub same_at : (seen : Seen) (old : Session) (handle : Machine Keeper) → IsAt seen old → handle ≡ old.handle → IsAt seen (record { handle = handle; link = old.link; heeded = old.heeded; first = old.first })
+same_at seen old handle at is = subst (λ (m : Machine Keeper). IsAt seen (record { handle = m; link = old.link; heeded = old.heeded; first = old.first })) (sym is) at
+
+-- a call on the handle that calls no callback
+pub quiet : (old handle : Machine Keeper) (heeded : Heeded) (happening : Happening Keeper) → handle ≡ step old happening → calls old happening ≡ [] → Does Heeds happening old handle heeded heeded
+quiet old handle heeded happening is none = record { machine = is; world = subst (λ cs. Heeds heeded cs heeded) (sym none) (heeds_none heeded) }
+
+-- Bytes that went out.
+
+take_take : (n : ℕ) (out : List ℕ) → n ≤ length out → take n out ≡ take (length (take n out)) out
+take_take n out h = ap (λ (k : ℕ). take k out) (sym (length-take-le n out h))
+
+pub counted : (seen : Seen) (old new : Session) (handle : Machine Keeper) (n : ℕ) → IsAt seen old → n ≤ length (out_now old.handle.known) → handle ≡ step old.handle (Wrote n)
+    → new ≡ record { handle = handle; link = old.link; heeded = old.heeded; first = or_first old.first (or_first None (met_by handle old.heeded)) }
+    → 0 < n → (x : Seen) × ((0 < length (take n (out_now old.handle.known))) × (take n (out_now old.handle.known) ≡ take (length (take n (out_now old.handle.known))) (out_after seen.history)) × Follows (Wrote (length (take n (out_now old.handle.known)))) None seen x) × IsAt x new
+counted seen old new handle n at within is new_is some =
+    let size : length (take n (out_now old.handle.known)) ≡ n = length-take-le n (out_now old.handle.known) within in
+    let f = follow seen old new handle old.heeded (Wrote n) None at within refl (quiet old.handle handle old.heeded (Wrote n) is refl) new_is in (
+      f.0,
+      (
+        omega (arith, size, some),
+        take_take n (out_now old.handle.known) within ∙ ap (λ (o : List ℕ). take (length (take n (out_now old.handle.known))) o) (answers_at seen old at).out,
+        subst (λ (k : ℕ). Follows (Wrote k) None seen f.0) (sym size) f.1,
+      ),
+      f.2,
+    )
+
+-- A handle that stands at the beginning was not started.
+stage_created : (s : Stage) (p : Phase) → state_at s p ≡ state.Created → s ≡ stage.Created
+stage_created stage.Created p e = refl
+stage_created stage.Open phase.Greeting e = absurd (cc e)
+stage_created stage.Open (phase.Asked option) e = absurd (cc e)
+stage_created stage.Open phase.AskedByName e = absurd (cc e)
+stage_created stage.Open phase.OptMode e = absurd (cc e)
+stage_created stage.Open phase.Ready e = absurd (cc e)
+stage_created stage.Open (phase.Refused code) e = absurd (cc e)
+stage_created stage.Disconnecting p e = absurd (cc e)
+stage_created stage.Aborting p e = absurd (cc e)
+stage_created stage.Closed p e = absurd (cc e)
+stage_created (stage.Dead cause) p e = absurd (cc e)
+
+pub is_stage_created : (m : Machine Keeper) → state_now m.known ≡ state.Created → m.known.stage ≡ stage.Created
+is_stage_created m e = stage_created m.known.stage m.known.talk.phase e
+
+pub is_started : (old new : Machine Keeper) (answer : Result (Unit {0}) SetFault) → state_now old.known ≡ state.Created → OnOk answer (new ≡ step old Start)
+    → IfErr answer (λ fault. (old.known.stage ≢ stage.Created) × (fault ≡ set.State (state_now old.known))) → new ≡ step old Start
+is_started old new (Ok done) created ok refused = ok
+is_started old new (Err fault) created ok refused = absurd (refused.0 (is_stage_created old created))
+
+created_is : (s : State) → is_created s ≡ true → s ≡ state.Created
+created_is state.Created e = refl
+created_is state.Negotiating e = absurd (false≢true e)
+created_is state.OptMode e = absurd (false≢true e)
+created_is state.Ready e = absurd (false≢true e)
+created_is state.Closing e = absurd (false≢true e)
+created_is state.Closed e = absurd (false≢true e)
+created_is (state.Dead cause) e = absurd (false≢true e)
+
+pub at_start : (m : Machine Keeper) → is_created (state_now m.known) ≡ true → state_now m.known ≡ state.Created
+at_start m e = created_is (state_now m.known) e
+
+pub started : (seen : Seen) (old : Session) (handle : Machine Keeper) (link : ℕ) → IsAt seen old → state_now old.handle.known ≡ state.Created → handle ≡ step old.handle Start
+    → (x : Seen) × (x ≡ record { history = Start ∷ seen.history; link = Some link; first = seen.first }) × IsAt x (record { handle = handle; link = Some link; heeded = old.heeded; first = old.first })
+started seen old handle link at created is =
+    let on = add seen old (record { handle = handle; link = old.link; heeded = old.heeded; first = old.first }) handle old.heeded Start at (is_stage_created old.handle created) refl (quiet old.handle handle old.heeded Start is refl) refl in
+    (record { history = Start ∷ seen.history; link = Some link; first = seen.first }, refl, record { stands = on.stands; link = refl; first = on.first; kept = on.kept; heeded = on.heeded })
+
+-- A name, and the end.
+
+pub named : (seen : Seen) (old : Session) (handle : Machine Keeper) (name given : List ℕ) → IsAt seen old → given ≡ name → may_name (state_now old.handle.known) ≡ true → handle ≡ step old.handle (Set (Name given))
+    → (x : Seen) × Names (may_name (state_after seen.history)) name seen [] x (Ok told.Done) × IsAt x (record { handle = handle; link = old.link; heeded = old.heeded; first = old.first })
+named seen old handle name given at same may is =
+    let may' : may_name (state_after seen.history) ≡ true = ap may_name (sym (answers_at seen old at).state) ∙ may in
+    let is' : handle ≡ step old.handle (Set (Name name)) = is ∙ ap (λ (t : List ℕ). step old.handle (Set (Name t))) same in (
+      adding (Set (Name name)) seen,
+      subst (λ (b : Bool). Names b name seen [] (adding (Set (Name name)) seen) (Ok told.Done)) (sym may') (refl, refl, refl),
+      add seen old _ handle old.heeded (Set (Name name)) at may refl (quiet old.handle handle old.heeded (Set (Name name)) is' refl) refl,
+    )
+
+pub not_named : (seen : Seen) (old : Session) (handle : Machine Keeper) (name : List ℕ) (s : State) → IsAt seen old → may_name (state_now old.handle.known) ≡ false → s ≡ state_now old.handle.known → handle ≡ old.handle
+    → (x : Seen) × Names (may_name (state_after seen.history)) name seen [] x (Ok (told.RefusedState s)) × IsAt x (record { handle = handle; link = old.link; heeded = old.heeded; first = old.first })
+not_named seen old handle name s at may is same =
+    let right = answers_at seen old at in
+    let may' : may_name (state_after seen.history) ≡ false = ap may_name (sym right.state) ∙ may in (
+      seen,
+      subst (λ (b : Bool). Names b name seen [] seen (Ok (told.RefusedState s))) (sym may') (refl, refl, ap (λ (t : State). Ok (told.RefusedState t)) (is ∙ right.state)),
+      same_at seen old handle at same,
+    )
+
+pub disconnected : (seen : Seen) (old : Session) (handle : Machine Keeper) → IsAt seen old → state_now old.handle.known ≡ state.Ready → handle ≡ step old.handle Disconnect
+    → (x : Seen) × Disconnects (by_state (state_after seen.history) None) seen [] x (Ok told.Done) × IsAt x (record { handle = handle; link = old.link; heeded = old.heeded; first = old.first })
+disconnected seen old handle at ready is =
+    let may : by_state (state_now old.handle.known) None ≡ None = ap (λ (s : State). by_state s None) ready in
+    let why : by_state (state_after seen.history) None ≡ None = ap (λ (s : State). by_state s None) (sym (answers_at seen old at).state) ∙ may in (
+      adding Disconnect seen,
+      subst (λ (w : Option Why). Disconnects w seen [] (adding Disconnect seen) (Ok told.Done)) (sym why) (refl, refl, refl),
+      add seen old _ handle old.heeded Disconnect at may refl (quiet old.handle handle old.heeded Disconnect is refl) refl,
+    )
+
+pub not_disconnected : (seen : Seen) (old : Session) (handle : Machine Keeper) (why : Why) → IsAt seen old → by_state (state_now old.handle.known) None ≡ Some why → handle ≡ old.handle
+    → (x : Seen) × Disconnects (by_state (state_after seen.history) None) seen [] x (Ok (told.Refused why)) × IsAt x (record { handle = handle; link = old.link; heeded = old.heeded; first = old.first })
+not_disconnected seen old handle why at refused same =
+    let why' : by_state (state_after seen.history) None ≡ Some why = ap (λ (s : State). by_state s None) (sym (answers_at seen old at).state) ∙ refused in (
+      seen,
+      subst (λ (w : Option Why). Disconnects w seen [] seen (Ok (told.Refused why))) (sym why') (refl, refl, refl),
+      same_at seen old handle at same,
+    )
+
+-- A result.
+
+taken : (seen : Seen) (old : Session) (handle : Machine Keeper) (cookie : ℕ) (answer : Completed) → IsAt seen old → answer ≡ completed_now old.handle.known cookie → handle ≡ completing answer cookie old.handle
+    → IsAt (taking answer cookie seen) (record { handle = handle; link = old.link; heeded = old.heeded; first = old.first })
+taken seen old handle cookie (completed.Done bytes) at is done = add seen old _ handle old.heeded (Retire cookie) at (ap is_result (sym is)) refl (quiet old.handle handle old.heeded (Retire cookie) done refl) refl
+taken seen old handle cookie (completed.Failed error bytes) at is done = add seen old _ handle old.heeded (Retire cookie) at (ap is_result (sym is)) refl (quiet old.handle handle old.heeded (Retire cookie) done refl) refl
+taken seen old handle cookie completed.NotYet at is done = same_at seen old handle at done
+taken seen old handle cookie completed.NoSuchCookie at is done = same_at seen old handle at done
+
+pub result_taken : (seen : Seen) (old : Session) (handle : Machine Keeper) (cookie : ℕ) (answer : Completed) → IsAt seen old → answer ≡ completed_now old.handle.known cookie → handle ≡ completing answer cookie old.handle
+    → (x : Seen) × Adds (taking (completed_after seen.history cookie) cookie seen) [] x (Ok (told.Result answer)) (told.Result (completed_after seen.history cookie)) × IsAt x (record { handle = handle; link = old.link; heeded = old.heeded; first = old.first })
+result_taken seen old handle cookie answer at is done =
+    let same : answer ≡ completed_after seen.history cookie = is ∙ (answers_at seen old at).completed cookie in (
+      taking answer cookie seen,
+      (refl, ap (λ (c : Completed). taking c cookie seen) same, ap (λ (c : Completed). Ok (told.Result c)) same),
+      taken seen old handle cookie answer at is done,
+    )
+
+-- A read that is issued or refused.
+
+pub issued : (seen : Seen) (old : Session) (handle : Machine Keeper) (heeded : Heeded) (command : Command Keeper) (cookie : ℕ) → heeded ≡ old.heeded → IsAt seen old → refusal_now 1024 old.handle.known command ≡ None → handle ≡ step old.handle (Issue command) → cookie ≡ handle.known.issued
+    → (x : Seen) × Issues (refusal_after 1024 seen.history command) command seen [] x (Ok (told.Cookie cookie)) × IsAt x (record { handle = handle; link = old.link; heeded = heeded; first = old.first })
+issued seen old handle heeded command cookie same at may is number =
+    let right = answers_at seen old at in
+    let may' : refusal_after 1024 seen.history command ≡ None = sym (right.refusal 1024 command) ∙ may in
+    let on = add seen old _ handle old.heeded (Issue command) at may refl (quiet old.handle handle old.heeded (Issue command) is refl) refl in
+    let number' = number ∙ (answers_at (adding (Issue command) seen) (record { handle = handle; link = old.link; heeded = old.heeded; first = old.first }) on).issued in (
+      adding (Issue command) seen,
+      subst (λ (w : Option Why). Issues w command seen [] (adding (Issue command) seen) (Ok (told.Cookie cookie))) (sym may') (refl, refl, ap (λ (n : ℕ). Ok (told.Cookie n)) number'),
+      subst (λ (h : Heeded). IsAt (adding (Issue command) seen) (record { handle = handle; link = old.link; heeded = h; first = old.first })) (sym same) on,
+    )
+
+pub refused : (seen : Seen) (old : Session) (handle : Machine Keeper) (heeded : Heeded) (command : Command Keeper) (why : Why) → IsAt seen old → refusal_now 1024 old.handle.known command ≡ Some why → Does Heeds (Refuse command why) old.handle handle old.heeded heeded
+    → (x : Seen) × Issues (refusal_after 1024 seen.history command) command seen [] x (Ok (told.Refused why)) × IsAt x (record { handle = handle; link = old.link; heeded = heeded; first = old.first })
+refused seen old handle heeded command why at may does =
+    let right = answers_at seen old at in
+    let may' : refusal_after 1024 seen.history command ≡ Some why = sym (right.refusal 1024 command) ∙ may in (
+      adding (Refuse command why) seen,
+      subst (λ (w : Option Why). Issues w command seen [] (adding (Refuse command why) seen) (Ok (told.Refused why))) (sym may') (refl, refl, refl),
+      add seen old _ handle heeded (Refuse command why) at may refl does refl,
+    )
+
+pub refused_by : (command : Command Keeper) (told : IssueFault Keeper) (why : Why) (buf : List ℕ) (old new : Machine Keeper) (before after : Heeded) → told ≡ fault.Refused why buf → issues.Faults Heeds command told old new before after
+    → issues.Faults Heeds command (fault.Refused why buf) old new before after
+refused_by command told why buf old new before after is h = subst (λ (f : IssueFault Keeper). issues.Faults Heeds command f old new before after) is h
+
+-- Connects.
+
+pub connect_refused : (seen : Seen) (old : Session) (to : Target) (calls : Option (List Call)) (s : State) → IsAt seen old → s ≡ state_now old.handle.known → is_created s ≡ false
+    → Went calls calls old (λ own after. Connects (is_created (state_after seen.history)) to seen own after (Ok (told.RefusedState s)))
+connect_refused seen old to calls s at is off =
+    let not_created : is_created (state_now old.handle.known) ≡ false = ap is_created (sym is) ∙ off in
+    let right = answers_at seen old at in
+    let no : is_created (state_after seen.history) ≡ false = ap is_created (sym right.state) ∙ not_created in
+    record {
+      calls = [];
+      after = seen;
+      grown = grows_none calls;
+      leads = subst (λ (b : Bool). Connects b to seen [] seen (Ok (told.RefusedState s))) (sym no) (refl, refl, ap (λ (t : State). Ok (told.RefusedState t)) (is ∙ right.state));
+      at = at;
+    }
+
+pub connect_answered : (seen : Seen) (old new : Session) (to : Target) (before after : Option (List Call)) (link : Option ℕ) → IsAt seen old → state_now old.handle.known ≡ state.Created → Grows_by before after (Connect to link)
+    → ((x : Seen) × (x ≡ connected link seen) × IsAt x new)
+    → Went before after new (λ own later. Connects (is_created (state_after seen.history)) to seen own later (Ok (told_link link)))
+connect_answered seen old new to before after link at created grown reached =
+    let yes : is_created (state_after seen.history) ≡ true = ap is_created (sym (answers_at seen old at).state ∙ created) in
+    record {
+      calls = Connect to link ∷ [];
+      after = reached.0;
+      grown = grown;
+      leads = subst (λ (b : Bool). Connects b to seen (Connect to link ∷ []) reached.0 (Ok (told_link link))) (sym yes) (link, refl, reached.1, refl);
+      at = reached.2;
+    }
+
+-- Reads and writes.
+
+reads_off : (b : Bool) (link : Option ℕ) (seen : Seen) → b ≡ false → ReadsOn b link seen [] seen (Ok (told.Moved moved.Idle))
+reads_off b link seen is = subst (λ (c : Bool). ReadsOn c link seen [] seen (Ok (told.Moved moved.Idle))) (sym is) (refl, refl, refl)
+
+reads_none : (b : Bool) (link : Option ℕ) (seen : Seen) → link ≡ None → ReadsOn b link seen [] seen (Ok (told.Moved moved.Idle))
+reads_none true link seen is = subst (λ (l : Option ℕ). ReadsOn true l seen [] seen (Ok (told.Moved moved.Idle))) (sym is) (refl, refl, refl)
+reads_none false link seen is = (refl, refl, refl)
+
+pub idle_unlinked : (seen : Seen) (old : Session) (calls : Option (List Call)) → IsAt seen old → old.link ≡ None
+    → Went calls calls old (λ own after. ReadsOn (is_reading seen.history) seen.link seen own after (Ok (told.Moved moved.Idle)))
+idle_unlinked seen old calls at none = record { calls = []; after = seen; grown = grows_none calls; leads = reads_none (is_reading seen.history) seen.link seen (sym at.link ∙ none); at = at }
+
+pub idle_unread : (seen : Seen) (old : Session) (calls : Option (List Call)) → IsAt seen old → is_reading seen.history ≡ false
+    → Went calls calls old (λ own after. ReadsOn (is_reading seen.history) seen.link seen own after (Ok (told.Moved moved.Idle)))
+idle_unread seen old calls at off = record { calls = []; after = seen; grown = grows_none calls; leads = reads_off (is_reading seen.history) seen.link seen off; at = at }
+
+pub read_on : (seen : Seen) (old new : Session) (before after : Option (List Call)) (link : ℕ) (m : Transfer) → IsAt seen old → old.link ≡ Some link → is_reading seen.history ≡ true
+    → Goes before after old new (λ s calls later. ReadsOnce link m s calls later)
+    → Went before after new (λ calls later. ReadsOn (is_reading seen.history) seen.link seen calls later (Ok (told.Moved m)))
+read_on seen old new before after link m at linked on goes =
+    let w = goes seen at in
+    let whole : ReadsOn true (Some link) seen w.calls w.after (Ok (told.Moved m)) = (w.leads.read, w.leads.calls_are, inl (ap (λ (t : Told). Ok t) w.leads.tells, w.leads.reads)) in
+    record {
+      calls = w.calls;
+      after = w.after;
+      grown = w.grown;
+      leads = subst (λ (b : Bool). ReadsOn b seen.link seen w.calls w.after (Ok (told.Moved m))) (sym on) (subst (λ (l : Option ℕ). ReadsOn true l seen w.calls w.after (Ok (told.Moved m))) (sym linked ∙ at.link) whole);
+      at = w.at;
+    }
+
+pub read_short : (seen : Seen) (old new : Session) (before after : Option (List Call)) (link : ℕ) → IsAt seen old → old.link ≡ Some link → is_reading seen.history ≡ true
+    → Goes before after old new (λ s calls later. ReadsOnceShort link s calls later)
+    → Went before after new (λ calls later. ReadsOn (is_reading seen.history) seen.link seen calls later (Err halt.NoMemory))
+read_short seen old new before after link at linked on goes =
+    let w = goes seen at in
+    let whole : ReadsOn true (Some link) seen w.calls w.after (Err halt.NoMemory) = (w.leads.read, w.leads.calls_are, inr (refl, w.leads.reads)) in
+    record {
+      calls = w.calls;
+      after = w.after;
+      grown = w.grown;
+      leads = subst (λ (b : Bool). ReadsOn b seen.link seen w.calls w.after (Err halt.NoMemory)) (sym on) (subst (λ (l : Option ℕ). ReadsOn true l seen w.calls w.after (Err halt.NoMemory)) (sym linked ∙ at.link) whole);
+      at = w.at;
+    }
+
+writes_off : (b : Bool) (link : Option ℕ) (seen : Seen) → b ≡ false → WritesOn b link seen [] seen (Ok (told.Moved moved.Idle))
+writes_off b link seen is = subst (λ (c : Bool). WritesOn c link seen [] seen (Ok (told.Moved moved.Idle))) (sym is) (refl, refl, refl)
+
+writes_none : (b : Bool) (link : Option ℕ) (seen : Seen) → link ≡ None → WritesOn b link seen [] seen (Ok (told.Moved moved.Idle))
+writes_none true link seen is = subst (λ (l : Option ℕ). WritesOn true l seen [] seen (Ok (told.Moved moved.Idle))) (sym is) (refl, refl, refl)
+writes_none false link seen is = (refl, refl, refl)
+
+pub write_unlinked : (seen : Seen) (old : Session) (calls : Option (List Call)) → IsAt seen old → old.link ≡ None
+    → Went calls calls old (λ own after. WritesOn (is_waiting seen.history) seen.link seen own after (Ok (told.Moved moved.Idle)))
+write_unlinked seen old calls at none = record { calls = []; after = seen; grown = grows_none calls; leads = writes_none (is_waiting seen.history) seen.link seen (sym at.link ∙ none); at = at }
+
+pub write_nothing : (seen : Seen) (old : Session) (calls : Option (List Call)) → IsAt seen old → (direction_now old.handle.known == 3) ≡ false
+    → Went calls calls old (λ own after. WritesOn (is_waiting seen.history) seen.link seen own after (Ok (told.Moved moved.Idle)))
+write_nothing seen old calls at none = record { calls = []; after = seen; grown = grows_none calls; leads = writes_off (is_waiting seen.history) seen.link seen (waits_false seen old at none); at = at }
+
+pub write_on : (seen : Seen) (old new : Session) (before after : Option (List Call)) (link : ℕ) (m : Transfer) → IsAt seen old → old.link ≡ Some link → (direction_now old.handle.known == 3) ≡ true
+    → Goes before after old new (λ s calls later. WritesOnce link m s calls later)
+    → Went before after new (λ calls later. WritesOn (is_waiting seen.history) seen.link seen calls later (Ok (told.Moved m)))
+write_on seen old new before after link m at linked some goes =
+    let w = goes seen at in
+    let on = waits_true seen old at some in
+    let whole : WritesOn true (Some link) seen w.calls w.after (Ok (told.Moved m)) = (w.leads.write, w.leads.calls_are, ap (λ (t : Told). Ok t) w.leads.tells, w.leads.writes) in
+    record {
+      calls = w.calls;
+      after = w.after;
+      grown = w.grown;
+      leads = subst (λ (b : Bool). WritesOn b seen.link seen w.calls w.after (Ok (told.Moved m))) (sym on) (subst (λ (l : Option ℕ). WritesOn true l seen w.calls w.after (Ok (told.Moved m))) (sym linked ∙ at.link) whole);
+      at = w.at;
+    }
+
+-- Settles.
+
+settles_to : (link : ℕ) (seen after : Seen) (calls : List Call) (end : Result (Unit {0}) Halt) → Settles link seen calls after end → SettlesOn (Some link) seen calls after (settled_end end)
+settles_to link seen after calls (Ok done) s = (refl, s)
+settles_to link seen after calls (Err halt) s = s
+
+pub settle_unlinked : (seen : Seen) (old : Session) (calls : Option (List Call)) → IsAt seen old → old.link ≡ None
+    → Went calls calls old (λ own after. SettlesOn seen.link seen own after (Ok told.Settled))
+settle_unlinked seen old calls at none = record {
+  calls = [];
+  after = seen;
+  grown = grows_none calls;
+  leads = subst (λ (l : Option ℕ). SettlesOn l seen [] seen (Ok told.Settled)) (sym none ∙ at.link) (refl, refl, refl);
+  at = at;
+}
+
+pub settle_on : (seen : Seen) (old new : Session) (before after : Option (List Call)) (link : ℕ) (end : Result (Unit {0}) Halt) → IsAt seen old → old.link ≡ Some link
+    → Goes before after old new (λ s calls later. Settles link s calls later end)
+    → Went before after new (λ calls later. SettlesOn seen.link seen calls later (settled_end end))
+settle_on seen old new before after link end at linked goes =
+    let w = goes seen at in
+    record {
+      calls = w.calls;
+      after = w.after;
+      grown = w.grown;
+      leads = subst (λ (l : Option ℕ). SettlesOn l seen w.calls w.after (settled_end end)) (sym linked ∙ at.link) (settles_to link seen w.after w.calls end w.leads);
+      at = w.at;
+    }
+
+-- A read that may want memory.
+
+pub read_command : (size offset : ℕ) (bytes : List ℕ) → bytes ≡ replicate size 0 → issues.read_of bytes offset (record {}) 0 ≡ read_of size offset
+read_command size offset bytes is =
+    ap (λ (b : List ℕ). issues.read_of b offset (record {}) 0) is ∙ ap (λ (n : ℕ). record { kind = kind.Read; flags = 0; offset = offset; length = n; payload = replicate size 0; first = None; done = record {} }) (length-replicate size 0)
+
+pub pread_done : (line' : Line) (size offset : ℕ) → line' ≡ line.Pread size offset → (old new : Session) (answer : Result Told NoMemory)
+    → IfOk answer (λ tells. Becomes old new (λ before after. Issues (refusal_after 1024 before.history (read_of size offset)) (read_of size offset) before [] after (Ok tells)))
+    → OnErr answer (Becomes old new (λ before after. after ≡ before))
+    → Becomes old new (λ before after. Line_does line' before [] after (halted answer))
+pread_done line' size offset is old new answer ok lacks = subst (λ (l : Line). Becomes old new (λ before after. Line_does l before [] after (halted answer))) (sym is) (go answer ok lacks)
+  where
+    go : (answer : Result Told NoMemory) → IfOk answer (λ tells. Becomes old new (λ before after. Issues (refusal_after 1024 before.history (read_of size offset)) (read_of size offset) before [] after (Ok tells)))
+        → OnErr answer (Becomes old new (λ before after. after ≡ before)) → Becomes old new (λ before after. Line_does (line.Pread size offset) before [] after (halted answer))
+    go (Ok tells) ok lacks seen at = let b = ok seen at in (b.0, inl b.1, b.2)
+    go (Err fault) ok lacks seen at = let b = lacks seen at in (b.0, inr (refl, b.1, refl), b.2)
+
+pub export_done : (line' : Line) (name : List ℕ) → line' ≡ line.Export name → (old new : Session) (answer : Result Told NoMemory)
+    → IfOk answer (λ tells. Becomes old new (λ before after. Names (may_name (state_after before.history)) name before [] after (Ok tells)))
+    → OnErr answer (Becomes old new (λ before after. after ≡ before))
+    → Becomes old new (λ before after. Line_does line' before [] after (halted answer))
+export_done line' name is old new answer ok lacks = subst (λ (l : Line). Becomes old new (λ before after. Line_does l before [] after (halted answer))) (sym is) (go answer ok lacks)
+  where
+    go : (answer : Result Told NoMemory) → IfOk answer (λ tells. Becomes old new (λ before after. Names (may_name (state_after before.history)) name before [] after (Ok tells)))
+        → OnErr answer (Becomes old new (λ before after. after ≡ before)) → Becomes old new (λ before after. Line_does (line.Export name) before [] after (halted answer))
+    go (Ok tells) ok lacks seen at = let b = ok seen at in (b.0, inl b.1, b.2)
+    go (Err fault) ok lacks seen at = let b = lacks seen at in (b.0, inr (refl, b.1, refl), b.2)
+
+-- a line that makes no call on the wires
+pub went_alone : (line : Line) (old new : Session) (end : LineEnd) (calls : Option (List Call)) → Becomes old new (λ before after. Line_does line before [] after end) → Goes calls calls old new (λ before own after. Line_does line before own after end)
+went_alone line old new end calls becomes seen at =
+    let b = becomes seen at in
+    record { calls = []; after = b.0; grown = grows_none calls; leads = b.1; at = b.2 }
+
+-- the same by the line and the end that these are
+pub act_as : (line given : Line) (end told : LineEnd) (seen : Seen) (a b : Option (List Call)) (session : Session) → line ≡ given → end ≡ told → Went a b session (λ calls after. Line_does given seen calls after told)
+    → Went a b session (λ calls after. Line_does line seen calls after end)
+act_as line given end told seen a b session is same went =
+    subst (λ (l : Line). Went a b session (λ calls after. Line_does l seen calls after end)) (sym is) (subst (λ (e : LineEnd). Went a b session (λ calls after. Line_does given seen calls after e)) (sym same) went)

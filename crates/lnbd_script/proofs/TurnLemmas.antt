@@ -1,0 +1,416 @@
+-- One call on the wires after another, in turns.
+use Rattle.std.proofs.Common.{◌≡◌, ◌<◌, ◌≤◌, ℕ, Bool, true, false, not, ◌||◌, ◌==◌, List, [], ◌∷◌, ◌++◌, length, Option, Result, Ok, Err, refl, sym, ◌∙◌, ap, subst, append_assoc, arith}
+use Rattle.std.proofs.lemmas.Bool.{false≢true}
+use Rattle.std.proofs.lemmas.List.{append-nil, length-take-le}
+use Rattle.std.proofs.lemmas.List.Folds.{list_any-append}
+use Rattle.std.specs.List.{list_any}
+use Rattle.lnbd_history.specs.Answers.{out_after, state_after, in_flight_after}
+use Rattle.lnbd_machine.specs.Now.{out_now, direction_now, in_flight_now}
+use Rattle.lnbd_standing.specs.Standing.{AnswersAs}
+use Rattle.lnbd_standing.proofs.Standing.{stands_right}
+use Rattle.lnbd_link.specs.Answers.{IfMoved, IfSent}
+use Rattle.lnbd_link.specs.Call.{Call, Read, Write, Pause, ReadTold, WriteTold, Moved, Unready, Ended, ReadFault, Sent, Full, WriteFault, read_told, write_told}
+use Rattle.lnbd_link.specs.Part.{Grows, Adds}
+use Rattle.lnbd_link.specs.declared.wires.Got.{Got}
+use Rattle.lnbd_link.specs.declared.wires.Got.TheVariants as got
+use Rattle.lnbd_link.specs.declared.wires.Took.{Took}
+use Rattle.lnbd_link.specs.declared.wires.Took.TheVariants as took
+use Rattle.lnbd_link.specs.Count.{Rises}
+use Rattle.lnbd_link.proofs.Parts.{grows_none, grows_on, rises_earlier, rises_later}
+use Rattle.lnbd_script.specs.declared.event.Event.{Event}
+use Rattle.lnbd_script.specs.declared.session.Session.{Session}
+use Rattle.lnbd_script.specs.declared.told.Halt.{Halt}
+use Rattle.lnbd_script.specs.declared.told.Halt.TheVariants as halt
+use Rattle.lnbd_script.specs.declared.told.Moved.{Moved as Transfer}
+use Rattle.lnbd_script.specs.declared.told.Moved.TheVariants as moved
+use Rattle.lnbd_script.specs.declared.told.Told.TheVariants as told
+use Rattle.lnbd_script.specs.Seen.{Counts, Seen, IsAt, Went, Goes, is_link}
+use Rattle.lnbd_script.specs.Turns.{Reads, ReadsShort, Writes, WritesAll, Nothing_waits, Takes_nothing, Fails, Takes_some, ReadsIf, TurnsShort, Settles, At_rest, Stirs, Is_still, Is_silent, Runs_short, is_busy, is_negotiating, is_reading, is_waiting, read_call, write_call, stirs, wants}
+use Rattle.lnbd_script.specs.Lines.{told_read, told_write}
+use Rattle.lnbd_script.specs.Steps.{Becomes, ReadsOnce, ReadsOnceShort, WritesOnce, TurnsOnce, got_moved, took_moved, is_busy_now, is_bytes, is_stirring, wants_now}
+
+-- What a session's handle answers is what the history says.
+pub answers_at : (seen : Seen) (session : Session) → IsAt seen session → AnswersAs seen.history session.handle
+answers_at seen session at = stands_right 1024 seen.history session.handle at.stands
+
+-- Counts.
+
+pub counts_none : (first : Option Event) (f i : ℕ) → Counts first first f f i i
+counts_none first f i = record { faults_later = omega arith; idles_later = omega arith; cause = λ off on. absurd (false≢true (sym off ∙ on)) }
+
+pub counts_on : (a b c : Option Event) (f g h i j k : ℕ) → Counts a b f g i j → Counts b c g h j k → Counts a c f h i k
+counts_on a b c f g h i j k one two = record {
+  faults_later = omega (arith, one.faults_later, two.faults_later);
+  idles_later = omega (arith, one.idles_later, two.idles_later);
+  cause = λ off on. go (is_link b) refl off on;
+}
+  where
+    go : (x : Bool) → is_link b ≡ x → is_link a ≡ false → is_link c ≡ true → Rises 1 f h
+    go true is off on = rises_later 1 f g h (one.cause off is) two.faults_later
+    go false is off on = rises_earlier 1 f g h one.faults_later (two.cause is on)
+
+pub counts_wait : (a : Option Event) (f g i j : ℕ) → f ≤ g → i ≤ j → Counts a a f g i j
+counts_wait a f g i j p q = record { faults_later = p; idles_later = q; cause = λ off on. absurd (false≢true (sym off ∙ on)) }
+
+-- One call.
+
+got_is : (g : Got) (into : List ℕ) → IfMoved g (λ n. (0 < n) × (n ≤ length into)) → told.Moved (got_moved g) ≡ told_read (read_told g into)
+got_is (got.Bytes n) into h = ap (λ (k : ℕ). told.Moved (moved.Bytes k)) (sym (length-take-le n into h.1))
+got_is got.NotReady into h = refl
+got_is got.End into h = refl
+got_is got.Failed into h = refl
+
+took_is : (t : Took) (from : List ℕ) → IfSent t (λ n. (0 < n) × (n ≤ length from)) → told.Moved (took_moved t) ≡ told_write (write_told t from)
+took_is (took.Bytes n) from h = ap (λ (k : ℕ). told.Moved (moved.Bytes k)) (sym (length-take-le n from h.1))
+took_is took.NotReady from h = refl
+took_is took.Failed from h = refl
+
+pub read_went : (old new : Option (List Call)) (session after : Session) (link n : ℕ) (g : Got) (into : List ℕ)
+    → n ≡ 65536 → length into ≡ n → Adds old new (Read link n (read_told g into)) → IfMoved g (λ k. (0 < k) × (k ≤ n))
+    → Becomes session after (λ before later. Reads before (read_told g into) later)
+    → Goes old new session after (λ before calls later. ReadsOnce link (got_moved g) before calls later)
+read_went old new session after link n g into is size grown count becomes seen at =
+    let b = becomes seen at in
+    let count' = subst (λ (m : ℕ). IfMoved g (λ k. (0 < k) × (k ≤ m))) (sym size) count in
+    record {
+      calls = read_call link (read_told g into) ∷ [];
+      after = b.0;
+      grown = subst (λ (m : ℕ). Adds old new (Read link m (read_told g into))) is grown;
+      leads = record { read = read_told g into; calls_are = refl; reads = b.1; tells = got_is g into count' };
+      at = b.2;
+    }
+
+pub read_went_short : (old new : Option (List Call)) (session after : Session) (link n : ℕ) (g : Got) (into : List ℕ)
+    → n ≡ 65536 → Adds old new (Read link n (read_told g into))
+    → Becomes session after (λ before later. ReadsShort before (read_told g into) later)
+    → Goes old new session after (λ before calls later. ReadsOnceShort link before calls later)
+read_went_short old new session after link n g into is grown becomes seen at =
+    let b = becomes seen at in
+    record {
+      calls = read_call link (read_told g into) ∷ [];
+      after = b.0;
+      grown = subst (λ (m : ℕ). Adds old new (Read link m (read_told g into))) is grown;
+      leads = record { read = read_told g into; calls_are = refl; reads = b.1 };
+      at = b.2;
+    }
+
+pub write_went : (old new : Option (List Call)) (session after : Session) (link : ℕ) (t : Took) (out : List ℕ)
+    → out ≡ out_now session.handle.known → Adds old new (Write link (length out) (write_told t out)) → IfSent t (λ k. (0 < k) × (k ≤ length out))
+    → Becomes session after (λ before later. Writes before (write_told t (out_now session.handle.known)) later)
+    → Goes old new session after (λ before calls later. WritesOnce link (took_moved t) before calls later)
+write_went old new session after link t out is grown count becomes seen at =
+    let b = becomes seen at in
+    let same : out ≡ out_after seen.history = is ∙ (answers_at seen session at).out in
+    record {
+      calls = write_call link seen.history (write_told t out) ∷ [];
+      after = b.0;
+      grown = subst (λ (o : List ℕ). Adds old new (Write link (length o) (write_told t out))) same grown;
+      leads = record {
+        write = write_told t out;
+        calls_are = refl;
+        writes = subst (λ (o : List ℕ). Writes seen (write_told t o) b.0) (sym is) b.1;
+        tells = took_is t out count;
+      };
+      at = b.2;
+    }
+
+-- Bytes wait exactly where the handle's direction says so.
+pub waits_true : (seen : Seen) (session : Session) → IsAt seen session → (direction_now session.handle.known == 3) ≡ true → is_waiting seen.history ≡ true
+waits_true seen session at h = ap (λ (d : ℕ). d == 3) (sym (answers_at seen session at).direction) ∙ h
+
+pub waits_false : (seen : Seen) (session : Session) → IsAt seen session → (direction_now session.handle.known == 3) ≡ false → is_waiting seen.history ≡ false
+waits_false seen session at h = ap (λ (d : ℕ). d == 3) (sym (answers_at seen session at).direction) ∙ h
+
+-- The writes of a turn so far: whatever the others do goes on from here.
+pub record Writing (old new : Option (List Call)) (session : Session) (link : ℕ) (stirred : Bool) (seen : Seen) : Type 0 where
+  pub calls : List Call
+  pub now : Seen
+  pub grown : Grows old new calls
+  pub at : IsAt now session
+  pub stirred_is : stirred ≡ list_any stirs calls
+  pub goes_on : (c : List Call) (after : Seen) → WritesAll link now c after → WritesAll link seen (calls ++ c) after
+
+pub writing_none : (old : Option (List Call)) (session : Session) (link : ℕ) (seen : Seen) → IsAt seen session → Writing old old session link false seen
+writing_none old session link seen at = record { calls = []; now = seen; grown = grows_none old; at = at; stirred_is = refl; goes_on = λ c after w. w }
+
+any_on : (xs ys : List Call) (a b : Bool) → a ≡ list_any stirs xs → b ≡ list_any stirs ys → (a || b) ≡ list_any stirs (xs ++ ys)
+any_on xs ys a b p q = ap (λ (x : Bool). x || b) p ∙ ap (λ (y : Bool). list_any stirs xs || y) q ∙ sym (list_any-append stirs xs ys)
+
+or_true : (a : Bool) → (a || true) ≡ true
+or_true true = refl
+or_true false = refl
+
+-- a write that took some
+takes_some : (link : ℕ) (m : Transfer) (seen middle after : Seen) (own c : List Call) → is_bytes m ≡ true → is_waiting seen.history ≡ true → WritesOnce link m seen own middle → WritesAll link middle c after
+    → WritesAll link seen (own ++ c) after
+takes_some link m seen middle after own c some waiting once rest = go once.write once.calls_are once.writes once.tells
+  where
+    go : (write : WriteTold) → own ≡ write_call link seen.history write ∷ [] → Writes seen write middle → told.Moved m ≡ told_write write → WritesAll link seen (own ++ c) after
+    go (Sent bytes) is writes tells = Takes_some seen (own ++ c) after bytes middle c waiting writes rest (ap (λ (l : List Call). l ++ c) is)
+    go Full is writes tells = let same : m ≡ moved.NotReady = cc tells in absurd (false≢true (ap is_bytes (sym same) ∙ some))
+    go WriteFault is writes tells = let same : m ≡ moved.Failed = cc tells in absurd (false≢true (ap is_bytes (sym same) ∙ some))
+
+own_stirs : (link : ℕ) (m : Transfer) (before middle : Seen) (own : List Call) → is_bytes m ≡ true → WritesOnce link m before own middle → list_any stirs own ≡ true
+own_stirs link m before middle own some once = go once.write once.calls_are once.tells
+  where
+    go : (write : WriteTold) → own ≡ write_call link before.history write ∷ [] → told.Moved m ≡ told_write write → list_any stirs own ≡ true
+    go (Sent bytes) is tells = ap (list_any stirs) is
+    go Full is tells = let same : m ≡ moved.NotReady = cc tells in absurd (false≢true (ap is_bytes (sym same) ∙ some))
+    go WriteFault is tells = let same : m ≡ moved.Failed = cc tells in absurd (false≢true (ap is_bytes (sym same) ∙ some))
+
+pub writing_on : (a b c : Option (List Call)) (session session' : Session) (link : ℕ) (m : Transfer) (stirred : Bool) (seen : Seen) → is_bytes m ≡ true → Writing a b session link stirred seen → (direction_now session.handle.known == 3) ≡ true
+    → Goes b c session session' (λ before calls after. WritesOnce link m before calls after) → Writing a c session' link true seen
+writing_on a b c session session' link m stirred seen bytes w some goes =
+    let went = goes w.now w.at in
+    let waiting = waits_true w.now session w.at some in
+    record {
+      calls = w.calls ++ went.calls;
+      now = went.after;
+      grown = grows_on a b c w.calls went.calls w.grown went.grown;
+      at = went.at;
+      stirred_is = sym (or_true stirred) ∙ any_on w.calls went.calls stirred true w.stirred_is (sym (own_stirs link m w.now went.after went.calls bytes went.leads));
+      goes_on = λ x after r. subst (λ (l : List Call). WritesAll link seen l after) (sym (append_assoc w.calls went.calls x))
+          (w.goes_on (went.calls ++ x) after (takes_some link m w.now went.after after went.calls x bytes waiting went.leads r));
+    }
+
+pub writing_done : (a b : Option (List Call)) (session : Session) (link : ℕ) (stirred : Bool) (seen : Seen) → Writing a b session link stirred seen → (direction_now session.handle.known == 3) ≡ false
+    → Went a b session (λ calls after. WritesAll link seen calls after × (stirred ≡ list_any stirs calls))
+writing_done a b session link stirred seen w none = record {
+  calls = w.calls;
+  after = w.now;
+  grown = w.grown;
+  leads = (subst (λ (l : List Call). WritesAll link seen l w.now) (append-nil w.calls) (w.goes_on [] w.now (Nothing_waits w.now [] w.now (waits_false w.now session w.at none) refl refl)), w.stirred_is);
+  at = w.at;
+}
+
+-- a write that took none
+takes_none : (link : ℕ) (m : Transfer) (seen after : Seen) (own : List Call) → is_waiting seen.history ≡ true → is_bytes m ≡ false → WritesOnce link m seen own after
+    → WritesAll link seen own after × (is_stirring m ≡ list_any stirs own)
+takes_none link m seen after own waiting none once = go m once.write none once.calls_are once.writes once.tells
+  where
+    go : (m : Transfer) (write : WriteTold) → is_bytes m ≡ false → own ≡ write_call link seen.history write ∷ [] → Writes seen write after → told.Moved m ≡ told_write write → WritesAll link seen own after × (is_stirring m ≡ list_any stirs own)
+    go m (Sent bytes) none is writes tells =
+        let same : m ≡ moved.Bytes (length bytes) = cc tells in
+        absurd (false≢true (sym none ∙ ap is_bytes same))
+    go m Full none is writes tells =
+        let same : m ≡ moved.NotReady = cc tells in
+        (Takes_nothing seen own after waiting is writes, ap is_stirring same ∙ sym (ap (list_any stirs) is))
+    go m WriteFault none is writes tells =
+        let same : m ≡ moved.Failed = cc tells in
+        (Fails seen own after waiting is writes, ap is_stirring same ∙ sym (ap (list_any stirs) is))
+
+pub writing_ends : (a b c : Option (List Call)) (session session' : Session) (link : ℕ) (m : Transfer) (stirred both : Bool) (seen : Seen) → is_bytes m ≡ false → both ≡ (stirred || is_stirring m)
+    → Writing a b session link stirred seen → (direction_now session.handle.known == 3) ≡ true → Goes b c session session' (λ before calls after. WritesOnce link m before calls after)
+    → Went a c session' (λ calls after. WritesAll link seen calls after × (both ≡ list_any stirs calls))
+writing_ends a b c session session' link m stirred both seen none is w some goes =
+    let went = goes w.now w.at in
+    let last = takes_none link m w.now went.after went.calls (waits_true w.now session w.at some) none went.leads in
+    record {
+      calls = w.calls ++ went.calls;
+      after = went.after;
+      grown = grows_on a b c w.calls went.calls w.grown went.grown;
+      leads = (w.goes_on went.calls went.after last.0, is ∙ any_on w.calls went.calls stirred (is_stirring m) w.stirred_is last.1);
+      at = went.at;
+    }
+
+-- One turn.
+
+reads_true : (seen : Seen) (session : Session) → IsAt seen session → (direction_now session.handle.known == 0) ≡ false → is_reading seen.history ≡ true
+reads_true seen session at h = ap not (ap (λ (d : ℕ). d == 0) (sym (answers_at seen session at).direction) ∙ h)
+
+reads_false : (seen : Seen) (session : Session) → IsAt seen session → (direction_now session.handle.known == 0) ≡ true → is_reading seen.history ≡ false
+reads_false seen session at h = ap not (ap (λ (d : ℕ). d == 0) (sym (answers_at seen session at).direction) ∙ h)
+
+pub is_reading_true : (seen : Seen) (session : Session) → IsAt seen session → (direction_now session.handle.known == 0) ≡ false → is_reading seen.history ≡ true
+is_reading_true seen session at h = reads_true seen session at h
+
+pub is_reading_false : (seen : Seen) (session : Session) → IsAt seen session → (direction_now session.handle.known == 0) ≡ true → is_reading seen.history ≡ false
+is_reading_false seen session at h = reads_false seen session at h
+
+pub turned_unread : (a b : Option (List Call)) (session session' : Session) (link : ℕ) (wrote : Bool) → (direction_now session'.handle.known == 0) ≡ true
+    → Goes a b session session' (λ before calls after. WritesAll link before calls after × (wrote ≡ list_any stirs calls))
+    → Goes a b session session' (λ before calls after. TurnsOnce link wrote before calls after)
+turned_unread a b session session' link wrote none goes seen at =
+    let went = goes seen at in
+    record {
+      calls = went.calls;
+      after = went.after;
+      grown = went.grown;
+      leads = record {
+        turns = record {
+          middle = went.after;
+          written = went.calls;
+          writes = went.leads.0;
+          read = [];
+          reads = subst (λ (t : Bool). ReadsIf t link went.after [] went.after) (sym (reads_false went.after session' went.at none)) (refl, refl);
+          calls_are = sym (append-nil went.calls);
+        };
+        stirring = went.leads.1;
+      };
+      at = went.at;
+    }
+
+read_stirs : (link : ℕ) (m : Transfer) (before after : Seen) (own : List Call) → ReadsOnce link m before own after → is_stirring m ≡ list_any stirs own
+read_stirs link m before after own once = go m once.read once.calls_are once.tells
+  where
+    go : (m : Transfer) (read : ReadTold) → own ≡ read_call link read ∷ [] → told.Moved m ≡ told_read read → is_stirring m ≡ list_any stirs own
+    go m (Moved bytes) is tells =
+        let same : m ≡ moved.Bytes (length bytes) = cc tells in
+        ap is_stirring same ∙ sym (ap (list_any stirs) is)
+    go m Unready is tells =
+        let same : m ≡ moved.NotReady = cc tells in
+        ap is_stirring same ∙ sym (ap (list_any stirs) is)
+    go m Ended is tells =
+        let same : m ≡ moved.Ended = cc tells in
+        ap is_stirring same ∙ sym (ap (list_any stirs) is)
+    go m ReadFault is tells =
+        let same : m ≡ moved.Failed = cc tells in
+        ap is_stirring same ∙ sym (ap (list_any stirs) is)
+
+pub turned : (a b c : Option (List Call)) (session middle session' : Session) (link : ℕ) (wrote both : Bool) (m : Transfer) → (direction_now middle.handle.known == 0) ≡ false → both ≡ (wrote || is_stirring m)
+    → Goes a b session middle (λ before calls after. WritesAll link before calls after × (wrote ≡ list_any stirs calls))
+    → Goes b c middle session' (λ before calls after. ReadsOnce link m before calls after)
+    → Goes a c session session' (λ before calls after. TurnsOnce link both before calls after)
+turned a b c session middle session' link wrote both m reads is goes then seen at =
+    let first = goes seen at in
+    let second = then first.after first.at in
+    record {
+      calls = first.calls ++ second.calls;
+      after = second.after;
+      grown = grows_on a b c first.calls second.calls first.grown second.grown;
+      leads = record {
+        turns = record {
+          middle = first.after;
+          written = first.calls;
+          writes = first.leads.0;
+          read = second.calls;
+          reads = subst (λ (t : Bool). ReadsIf t link first.after second.calls second.after) (sym (is_reading_true first.after middle first.at reads)) (second.leads.read, second.leads.calls_are, second.leads.reads);
+          calls_are = refl;
+        };
+        stirring = is ∙ any_on first.calls second.calls wrote (is_stirring m) first.leads.1 (read_stirs link m first.after second.after second.calls second.leads);
+      };
+      at = second.at;
+    }
+
+pub turned_short : (a b c : Option (List Call)) (session middle session' : Session) (link : ℕ) (wrote : Bool) → (direction_now middle.handle.known == 0) ≡ false
+    → Goes a b session middle (λ before calls after. WritesAll link before calls after × (wrote ≡ list_any stirs calls))
+    → Goes b c middle session' (λ before calls after. ReadsOnceShort link before calls after)
+    → Goes a c session session' (λ before calls after. TurnsShort link before calls after)
+turned_short a b c session middle session' link wrote reads goes then seen at =
+    let first = goes seen at in
+    let second = then first.after first.at in
+    record {
+      calls = first.calls ++ second.calls;
+      after = second.after;
+      grown = grows_on a b c first.calls second.calls first.grown second.grown;
+      leads = record {
+        middle = first.after;
+        written = first.calls;
+        writes = first.leads.0;
+        told = second.leads.read;
+        reading = is_reading_true first.after middle first.at reads;
+        reads = second.leads.reads;
+        calls_are = ap (λ (l : List Call). first.calls ++ l) second.leads.calls_are;
+      };
+      at = second.at;
+    }
+
+-- Turn after turn.
+
+pub busy_is : (seen : Seen) (session : Session) → IsAt seen session → is_busy_now session.handle ≡ is_busy seen.history
+busy_is seen session at =
+    let right = answers_at seen session at in
+    ap (λ s. is_negotiating s || (not (in_flight_now session.handle.known == 0) || (direction_now session.handle.known == 3))) right.state
+    ∙ ap (λ (n : ℕ). is_negotiating (state_after seen.history) || (not (n == 0) || (direction_now session.handle.known == 3))) right.in_flight
+    ∙ ap (λ (d : ℕ). is_negotiating (state_after seen.history) || (not (in_flight_after seen.history == 0) || (d == 3))) right.direction
+
+-- The turns of a settle so far: whatever the others do goes on from here.
+pub record Settling (old new : Option (List Call)) (session : Session) (link : ℕ) (seen : Seen) : Type 0 where
+  pub calls : List Call
+  pub now : Seen
+  pub grown : Grows old new calls
+  pub at : IsAt now session
+  pub goes_on : (c : List Call) (after : Seen) (end : Result (Unit {0}) Halt) → Settles link now c after end → Settles link seen (calls ++ c) after end
+
+pub settling_none : (old : Option (List Call)) (session : Session) (link : ℕ) (seen : Seen) → IsAt seen session → Settling old old session link seen
+settling_none old session link seen at = record { calls = []; now = seen; grown = grows_none old; at = at; goes_on = λ c after end s. s }
+
+-- a turn in which something happened
+pub settling_on : (a b c : Option (List Call)) (session session' : Session) (link : ℕ) (seen : Seen) (stirred : Bool) → stirred ≡ true → is_busy_now session.handle ≡ true
+    → Settling a b session link seen → Goes b c session session' (λ before calls after. TurnsOnce link stirred before calls after) → Settling a c session' link seen
+settling_on a b c session session' link seen stirred is busy s goes =
+    let went = goes s.now s.at in
+    let stirs_is = sym went.leads.stirring ∙ is in
+    let busy' = sym (busy_is s.now session s.at) ∙ busy in
+    record {
+      calls = s.calls ++ went.calls;
+      now = went.after;
+      grown = grows_on a b c s.calls went.calls s.grown went.grown;
+      at = went.at;
+      goes_on = λ x after end r. subst (λ (l : List Call). Settles link seen l after end) (sym (append_assoc s.calls went.calls x))
+          (s.goes_on (went.calls ++ x) after end (Stirs s.now (went.calls ++ x) after end went.calls went.after x busy' went.leads.turns stirs_is r refl));
+    }
+
+-- a turn in which nothing happened, and a pause
+pub settling_still : (a b c d : Option (List Call)) (session session' : Session) (link : ℕ) (seen : Seen) (stirred : Bool) → stirred ≡ false → is_busy_now session.handle ≡ true
+    → Settling a b session link seen → Goes b c session session' (λ before calls after. TurnsOnce link stirred before calls after) → Adds c d (Pause (wants_now link session')) → Settling a d session' link seen
+settling_still a b c d session session' link seen stirred is busy s goes paused =
+    let went = goes s.now s.at in
+    let stirs_is = sym went.leads.stirring ∙ is in
+    let busy' = sym (busy_is s.now session s.at) ∙ busy in
+    let wanted : wants_now link session' ≡ wants link went.after.history = ap (λ (n : ℕ). record { link = link; direction = n } ∷ []) (answers_at went.after session' went.at).direction in
+    let pause = subst (λ ws. Adds c d (Pause ws)) wanted paused in
+    let own = went.calls ++ Pause (wants link went.after.history) ∷ [] in
+    record {
+      calls = s.calls ++ own;
+      now = went.after;
+      grown = grows_on a b d s.calls own s.grown (grows_on b c d went.calls (Pause (wants link went.after.history) ∷ []) went.grown pause);
+      at = went.at;
+      goes_on = λ x after end r. subst (λ (l : List Call). Settles link seen l after end) (sym (append_assoc s.calls own x))
+          (s.goes_on (own ++ x) after end (Is_still s.now (own ++ x) after end went.calls went.after x busy' went.leads.turns stirs_is r (append_assoc went.calls (Pause (wants link went.after.history) ∷ []) x)));
+    }
+
+pub settling_silent : (a b c d : Option (List Call)) (session session' : Session) (link : ℕ) (seen : Seen) (stirred : Bool) → stirred ≡ false → is_busy_now session.handle ≡ true
+    → Settling a b session link seen → Goes b c session session' (λ before calls after. TurnsOnce link stirred before calls after) → Adds c d (Pause (wants_now link session'))
+    → Went a d session' (λ calls after. Settles link seen calls after (Err halt.Silent))
+settling_silent a b c d session session' link seen stirred is busy s goes paused =
+    let went = goes s.now s.at in
+    let stirs_is = sym went.leads.stirring ∙ is in
+    let busy' = sym (busy_is s.now session s.at) ∙ busy in
+    let wanted : wants_now link session' ≡ wants link went.after.history = ap (λ (n : ℕ). record { link = link; direction = n } ∷ []) (answers_at went.after session' went.at).direction in
+    let pause = subst (λ ws. Adds c d (Pause ws)) wanted paused in
+    let own = went.calls ++ Pause (wants link went.after.history) ∷ [] in
+    record {
+      calls = s.calls ++ own;
+      after = went.after;
+      grown = grows_on a b d s.calls own s.grown (grows_on b c d went.calls (Pause (wants link went.after.history) ∷ []) went.grown pause);
+      leads = s.goes_on own went.after (Err halt.Silent) (Is_silent s.now own went.after (Err halt.Silent) went.calls busy' went.leads.turns stirs_is refl refl);
+      at = went.at;
+    }
+
+pub settling_short : (a b c : Option (List Call)) (session session' : Session) (link : ℕ) (seen : Seen) → is_busy_now session.handle ≡ true
+    → Settling a b session link seen → Goes b c session session' (λ before calls after. TurnsShort link before calls after)
+    → Went a c session' (λ calls after. Settles link seen calls after (Err halt.NoMemory))
+settling_short a b c session session' link seen busy s goes =
+    let went = goes s.now s.at in
+    let busy' = sym (busy_is s.now session s.at) ∙ busy in
+    record {
+      calls = s.calls ++ went.calls;
+      after = went.after;
+      grown = grows_on a b c s.calls went.calls s.grown went.grown;
+      leads = s.goes_on went.calls went.after (Err halt.NoMemory) (Runs_short s.now went.calls went.after (Err halt.NoMemory) busy' went.leads refl);
+      at = went.at;
+    }
+
+-- nothing is left to do, or the turns are too many
+pub settling_done : (a b : Option (List Call)) (session : Session) (link : ℕ) (seen : Seen) → is_busy_now session.handle ≡ false → Settling a b session link seen
+    → Went a b session (λ calls after. Settles link seen calls after (Ok tt))
+settling_done a b session link seen rests s =
+    let rests' = sym (busy_is s.now session s.at) ∙ rests in
+    record {
+      calls = s.calls;
+      after = s.now;
+      grown = s.grown;
+      leads = subst (λ (l : List Call). Settles link seen l s.now (Ok tt)) (append-nil s.calls) (s.goes_on [] s.now (Ok tt) (At_rest s.now [] s.now (Ok tt) rests' refl refl refl));
+      at = s.at;
+    }

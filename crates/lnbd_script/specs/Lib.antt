@@ -1,0 +1,9 @@
+pub mod Kept
+pub mod KeptLaws
+pub mod Seen
+pub mod Turns
+pub mod Lines
+pub mod Texts
+pub mod Streams
+pub mod Plays
+pub mod Steps

@@ -1,0 +1,166 @@
+-- What one line of a script does: the calls that it makes on the wires, what then has happened, and what it tells.
+use Rattle.std.specs.Prelude.{◌≡◌, ◌⊎◌, ◌+◌, ℕ, Bool, true, false, List, [], ◌∷◌, length, replicate, Option, Some, None, Result, Ok, Err}
+use Rattle.lnbd_model.specs.declared.kind.Kind.TheVariants as kind
+use Rattle.lnbd_model.specs.declared.refusal.Why.{Why}
+use Rattle.lnbd_model.specs.declared.state.State.{State}
+use Rattle.lnbd_model.specs.declared.state.State.TheVariants as state
+use Rattle.lnbd_model.specs.declared.target.Target.{Target}
+use Rattle.lnbd_history.specs.declared.kinds.Completed.{Completed}
+use Rattle.lnbd_history.specs.declared.kinds.Completed.TheVariants as completed
+use Rattle.lnbd_history.specs.Commands.{Command}
+use Rattle.lnbd_history.specs.Events.{Start, Set, Name, Issue, Refuse, Disconnect, Retire, ClearLog, Close}
+use Rattle.lnbd_history.specs.History.{asked}
+use Rattle.lnbd_history.specs.Answers.{state_after, completed_after}
+use Rattle.lnbd_history.specs.Laws.{is_closed, may_name}
+use Rattle.lnbd_history.specs.Refusals.{refusal_after, by_state}
+use Rattle.lnbd_link.specs.Call.{Call, Connect, Shut, ReadTold, WriteTold, Moved, Unready, Ended, ReadFault, Sent, Full, WriteFault}
+use Rattle.lnbd_lines.specs.declared.line.Line.{Line}
+use Rattle.lnbd_lines.specs.declared.line.Line.TheVariants as line
+use Rattle.lnbd_script.specs.declared.event.Event.TheVariants.{Link}
+use Rattle.lnbd_script.specs.declared.keeper.Keeper.{Keeper}
+use Rattle.lnbd_script.specs.declared.told.Halt.{Halt}
+use Rattle.lnbd_script.specs.declared.told.Halt.TheVariants as halt
+use Rattle.lnbd_script.specs.declared.told.Moved.TheVariants as moved
+use Rattle.lnbd_script.specs.declared.told.Told.{Told}
+use Rattle.lnbd_script.specs.declared.told.Told.TheVariants as told
+use Rattle.lnbd_script.specs.Kept.{or_first}
+use Rattle.lnbd_script.specs.Seen.{Seen, adding}
+use Rattle.lnbd_script.specs.Turns.{Reads, ReadsShort, Writes, Settles, is_reading, is_waiting, read_call, write_call}
+
+-- what a line tells, or what ends the script in it
+abbrev pub LineEnd : Type 0
+LineEnd = Result Told Halt
+
+-- the line makes no call on the wires
+abbrev pub Stays : Seen → List Call → Seen → LineEnd → Told → Type 0
+Stays before calls after end tells = (calls ≡ []) × (after ≡ before) × (end ≡ Ok tells)
+
+-- The same of a line that has the handle do something.
+abbrev pub Adds : Seen → List Call → Seen → LineEnd → Told → Type 0
+Adds expected calls after end tells = (calls ≡ []) × (after ≡ expected) × (end ≡ Ok tells)
+
+-- memory ran out before anything was done
+abbrev pub Lacks : Seen → List Call → Seen → LineEnd → Type 0
+Lacks before calls after end = (calls ≡ []) × (after ≡ before) × (end ≡ Err halt.NoMemory)
+
+abbrev pub is_created : State → Bool
+is_created state.Created = true
+is_created state.Negotiating = false
+is_created state.OptMode = false
+is_created state.Ready = false
+is_created state.Closing = false
+is_created state.Closed = false
+is_created (state.Dead cause) = false
+
+-- after a connect that gave this link, if any: the handle is started, or the failed call is an event
+abbrev pub connected : Option ℕ → Seen → Seen
+connected (Some link) before = record { history = Start ∷ before.history; link = Some link; first = before.first }
+connected None before = record { history = before.history; link = before.link; first = or_first before.first (Some Link) }
+
+abbrev pub told_link : Option ℕ → Told
+told_link (Some link) = told.Connected
+told_link None = told.NotConnected
+
+-- A handle that was started is not connected again.
+abbrev pub Connects : Bool → Target → Seen → List Call → Seen → LineEnd → Type 0
+Connects true to before calls after end = (link : Option ℕ) × (calls ≡ Connect to link ∷ []) × (after ≡ connected link before) × (end ≡ Ok (told_link link))
+Connects false to before calls after end = Stays before calls after end (told.RefusedState (state_after before.history))
+
+-- a read into a buffer of zeroes
+abbrev pub read_of : ℕ → ℕ → Command Keeper
+read_of size offset = record {
+  kind = kind.Read;
+  flags = 0;
+  offset = offset;
+  length = size;
+  payload = replicate size 0;
+  first = None;
+  done = record {};
+}
+
+-- A command is issued under the next cookie, or refused for this reason.
+abbrev pub Issues : Option Why → Command Keeper → Seen → List Call → Seen → LineEnd → Type 0
+Issues None command before calls after end = Adds (adding (Issue command) before) calls after end (told.Cookie ((asked before.history).issued + 1))
+Issues (Some why) command before calls after end = Adds (adding (Refuse command why) before) calls after end (told.Refused why)
+
+-- A handle without a link has nothing to do.
+abbrev pub SettlesOn : Option ℕ → Seen → List Call → Seen → LineEnd → Type 0
+SettlesOn None before calls after end = Stays before calls after end told.Settled
+SettlesOn (Some link) before calls after (Ok tells) = (tells ≡ told.Settled) × Settles link before calls after (Ok tt)
+SettlesOn (Some link) before calls after (Err halt) = Settles link before calls after (Err halt)
+
+-- what a read and a write tell
+abbrev pub told_read : ReadTold → Told
+told_read (Moved bytes) = told.Moved (moved.Bytes (length bytes))
+told_read Unready = told.Moved moved.NotReady
+told_read Ended = told.Moved moved.Ended
+told_read ReadFault = told.Moved moved.Failed
+
+abbrev pub told_write : WriteTold → Told
+told_write (Sent bytes) = told.Moved (moved.Bytes (length bytes))
+told_write Full = told.Moved moved.NotReady
+told_write WriteFault = told.Moved moved.Failed
+
+-- One read, where the handle has a link and reads.
+abbrev pub ReadsOn : Bool → Option ℕ → Seen → List Call → Seen → LineEnd → Type 0
+ReadsOn true (Some link) before calls after end =
+    (read : ReadTold) × (calls ≡ read_call link read ∷ []) × (((end ≡ Ok (told_read read)) × Reads before read after) ⊎ ((end ≡ Err halt.NoMemory) × ReadsShort before read after))
+ReadsOn true None before calls after end = Stays before calls after end (told.Moved moved.Idle)
+ReadsOn false link before calls after end = Stays before calls after end (told.Moved moved.Idle)
+
+-- One write, where the handle has a link and bytes wait.
+abbrev pub WritesOn : Bool → Option ℕ → Seen → List Call → Seen → LineEnd → Type 0
+WritesOn true (Some link) before calls after end = (write : WriteTold) × (calls ≡ write_call link before.history write ∷ []) × (end ≡ Ok (told_write write)) × Writes before write after
+WritesOn true None before calls after end = Stays before calls after end (told.Moved moved.Idle)
+WritesOn false link before calls after end = Stays before calls after end (told.Moved moved.Idle)
+
+-- A name is set before the start and in opt mode.
+abbrev pub Names : Bool → List ℕ → Seen → List Call → Seen → LineEnd → Type 0
+Names true name before calls after end = Adds (adding (Set (Name name)) before) calls after end told.Done
+Names false name before calls after end = Stays before calls after end (told.RefusedState (state_after before.history))
+
+abbrev pub Disconnects : Option Why → Seen → List Call → Seen → LineEnd → Type 0
+Disconnects None before calls after end = Adds (adding Disconnect before) calls after end told.Done
+Disconnects (Some why) before calls after end = Stays before calls after end (told.Refused why)
+
+-- A result that is handed out retires its command.
+abbrev pub taking : Completed → ℕ → Seen → Seen
+taking (completed.Done bytes) cookie before = adding (Retire cookie) before
+taking (completed.Failed error bytes) cookie before = adding (Retire cookie) before
+taking completed.NotYet cookie before = before
+taking completed.NoSuchCookie cookie before = before
+
+-- A close shuts the link.
+abbrev pub shut_calls : Option ℕ → List Call
+shut_calls None = []
+shut_calls (Some link) = Shut link ∷ []
+
+abbrev pub closing : Seen → Seen
+closing before = record { history = Close ∷ before.history; link = None; first = before.first }
+
+-- what a line does on a handle that is not closed
+abbrev pub Does : Line → Seen → List Call → Seen → LineEnd → Type 0
+Does (line.Connect to) before calls after end = Connects (is_created (state_after before.history)) to before calls after end
+Does (line.Pread size offset) before calls after end = Issues (refusal_after 1024 before.history (read_of size offset)) (read_of size offset) before calls after end ⊎ Lacks before calls after end
+Does line.Settle before calls after end = SettlesOn before.link before calls after end
+Does line.Read before calls after end = ReadsOn (is_reading before.history) before.link before calls after end
+Does line.Write before calls after end = WritesOn (is_waiting before.history) before.link before calls after end
+Does (line.Export name) before calls after end = Names (may_name (state_after before.history)) name before calls after end ⊎ Lacks before calls after end
+Does line.Disconnect before calls after end = Disconnects (by_state (state_after before.history) None) before calls after end
+Does (line.Done cookie) before calls after end = Adds (taking (completed_after before.history cookie) cookie before) calls after end (told.Result (completed_after before.history cookie))
+Does line.ClearLog before calls after end = Adds (adding ClearLog before) calls after end told.Done
+Does line.Close before calls after end = (calls ≡ shut_calls before.link) × (after ≡ closing before) × (end ≡ Ok (told.Closed (asked before.history).admitted (asked before.history).admitted))
+Does line.Log before calls after end = Stays before calls after end told.Log
+Does line.Peek before calls after end = Stays before calls after end told.Peek
+Does line.InFlight before calls after end = Stays before calls after end told.InFlight
+Does line.Direction before calls after end = Stays before calls after end told.Direction
+Does line.State before calls after end = Stays before calls after end told.State
+Does line.Info before calls after end = Stays before calls after end told.Info
+
+-- A closed handle is gone.
+abbrev pub DoesIf : Bool → Line → Seen → List Call → Seen → LineEnd → Type 0
+DoesIf true line before calls after end = Stays before calls after end told.Gone
+DoesIf false line before calls after end = Does line before calls after end
+
+abbrev pub Answers : Line → Seen → List Call → Seen → LineEnd → Type 0
+Answers line before calls after end = DoesIf (is_closed before.history) line before calls after end

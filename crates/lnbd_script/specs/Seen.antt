@@ -1,0 +1,115 @@
+-- Where a script stands: what has happened on its handle, its link, and the first event that counts for how the run ends.
+use Rattle.std.specs.Prelude.{◌≡◌, ◌≤◌, ℕ, Bool, true, false, List, ◌∷◌, All, Option, Some, None}
+use Rattle.lnbd_model.specs.declared.state.State.{State}
+use Rattle.lnbd_model.specs.declared.state.State.TheVariants as state
+use Rattle.lnbd_model.specs.declared.state.Cause.{Cause}
+use Rattle.lnbd_model.specs.declared.state.Cause.TheVariants as cause
+use Rattle.lnbd_callbacks.specs.Calls.{Call}
+use Rattle.lnbd_history.specs.Events.{Event as Happening, History}
+use Rattle.lnbd_history.specs.Entries.{calls}
+use Rattle.lnbd_history.specs.History.{reading}
+use Rattle.lnbd_history.specs.Answers.{state_after}
+use Rattle.lnbd_machine.specs.Now.{state_now}
+use Rattle.lnbd_standing.specs.Standing.{StandsFor}
+use Rattle.lnbd_link.specs.Count.{Rises}
+use Rattle.lnbd_link.specs.Part.{Grows}
+use Rattle.lnbd_link.specs.Call as wire
+use Rattle.lnbd_script.specs.declared.keeper.Keeper.{Keeper}
+use Rattle.lnbd_script.specs.declared.event.Event.{Event}
+use Rattle.lnbd_script.specs.declared.event.Event.TheVariants.{Link, Broke, Peer}
+use Rattle.lnbd_script.specs.declared.event.Broken.TheVariants as broken
+use Rattle.lnbd_script.specs.declared.session.Session.{Session}
+use Rattle.lnbd_script.specs.Kept.{IsAsHanded, first_error, or_first}
+
+pub record Seen : Type 0 where
+  -- the latest happening first
+  pub history : History Keeper
+  pub link : Option ℕ
+  pub first : Option Event
+
+-- all calls on the callbacks of the commands
+abbrev pub callbacks_of : History Keeper → List (Call Keeper)
+callbacks_of history = calls (reading history).known.entries
+
+-- Events.
+
+-- the event of a death, but for a failed link, which the failed call tells
+abbrev pub death_of : Cause → Option Event
+death_of (cause.Broke breach) = Some (Broke (broken.Breach breach))
+death_of (cause.Refused option code) = Some (Peer (Some option) code)
+death_of cause.Ended = Some (Broke broken.Ended)
+death_of cause.LinkFailed = None
+
+abbrev pub death_in : State → Option Event
+death_in state.Created = None
+death_in state.Negotiating = None
+death_in state.OptMode = None
+death_in state.Ready = None
+death_in state.Closing = None
+death_in state.Closed = None
+death_in (state.Dead cause) = death_of cause
+
+-- the error that the peer told a command
+abbrev pub event_of_error : Option ℕ → Option Event
+event_of_error None = None
+event_of_error (Some code) = Some (Peer None code)
+
+-- what has happened on the handle that counts: a death comes before an error of a command
+abbrev pub met : History Keeper → Option Event
+met history = or_first (death_in (state_after history)) (event_of_error (first_error (callbacks_of history)))
+
+-- How it goes on.
+
+-- This happened, by a call on the wires that failed or not: the first event stays, a failed call comes before what the handle met.
+abbrev pub noting : Option Event → Happening Keeper → Seen → Seen
+noting fault happening seen = record {
+  history = happening ∷ seen.history;
+  link = seen.link;
+  first = or_first seen.first (or_first fault (met (happening ∷ seen.history)));
+}
+
+-- This happened, and the callbacks that it called kept what was handed to them.
+pub record Follows (happening : Happening Keeper) (fault : Option Event) (before after : Seen) : Type 0 where
+  pub is : after ≡ noting fault happening before
+  pub kept : All IsAsHanded (callbacks_of (happening ∷ before.history))
+
+-- this happened by a call on the handle alone
+abbrev pub adding : Happening Keeper → Seen → Seen
+adding happening seen = record { history = happening ∷ seen.history; link = seen.link; first = seen.first }
+
+-- The session of a script stands where the script does.
+pub record IsAt (seen : Seen) (session : Session) : Type 0 where
+  pub stands : StandsFor 1024 seen.history session.handle
+  pub link : session.link ≡ seen.link
+  pub first : session.first ≡ seen.first
+  pub kept : All IsAsHanded (callbacks_of seen.history)
+  pub heeded : session.heeded.error ≡ first_error (callbacks_of seen.history)
+
+-- From where the script stands, these calls were made, and it then stands where they lead.
+pub record Went (old new : Option (List wire.Call)) (session : Session) (Leads : List wire.Call → Seen → Type 0) : Type 0 where
+  pub calls : List wire.Call
+  pub after : Seen
+  pub grown : Grows old new calls
+  pub leads : Leads calls after
+  pub at : IsAt after session
+
+abbrev pub Goes : Option (List wire.Call) → Option (List wire.Call) → Session → Session → (Seen → List wire.Call → Seen → Type 0) → Type 0
+Goes old new session session' Leads = (seen : Seen) → IsAt seen session → Went old new session' (Leads seen)
+
+-- Counts.
+
+abbrev pub is_link : Option Event → Bool
+is_link None = false
+is_link (Some Link) = true
+is_link (Some (Broke broken)) = false
+is_link (Some (Peer option code)) = false
+
+-- The counts of the wires never fall, and a link is blamed only where the count of faults rose.
+pub record Counts (first first' : Option Event) (faults faults' idles idles' : ℕ) : Type 0 where
+  pub faults_later : faults ≤ faults'
+  pub idles_later : idles ≤ idles'
+  pub cause : is_link first ≡ false → is_link first' ≡ true → Rises 1 faults faults'
+
+-- what the session notes where a call failed or not
+abbrev pub met_now : Session → Option Event
+met_now session = or_first (death_in (state_now session.handle.known)) (event_of_error session.heeded.error)

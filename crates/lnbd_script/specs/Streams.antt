@@ -1,0 +1,10 @@
+-- What whole writes leave.
+use Rattle.std.specs.Prelude.{◌≡◌, ℕ, List, ◌++◌, Option}
+use Rattle.lnbd_link.specs.Part.{Takes}
+
+-- some front of the bytes was taken
+pub record TakesFront (old new : Option (List ℕ)) (bytes : List ℕ) : Type 0 where
+  pub front : List ℕ
+  pub rest : List ℕ
+  pub split : bytes ≡ front ++ rest
+  pub taken : Takes old new front

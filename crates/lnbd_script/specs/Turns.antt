@@ -1,0 +1,149 @@
+-- What one read, one write and the turns of a settle do, call by call.
+use Rattle.std.specs.Prelude.{◌≡◌, ◌≤◌, ◌<◌, ℕ, Bool, true, false, not, ◌||◌, ◌==◌, List, [], ◌∷◌, ◌++◌, length, take, Some, None, Result, Ok, Err}
+use Rattle.std.specs.List.{list_any}
+use Rattle.lnbd_model.specs.declared.state.State.{State}
+use Rattle.lnbd_model.specs.declared.state.State.TheVariants as state
+use Rattle.lnbd_history.specs.Events.{Answer, History, Arrived, End, LinkFailed, Wrote}
+use Rattle.lnbd_history.specs.Answers.{state_after, in_flight_after, out_after, direction_after}
+use Rattle.lnbd_link.specs.Call.{Call, Connect, Listen, Accept, Read, Write, Pause, Shut, ReadTold, WriteTold, Moved, Unready, Ended, ReadFault, Sent, Full, WriteFault}
+use Rattle.lnbd_link.specs.declared.wires.Want.{Want}
+use Rattle.lnbd_script.specs.declared.event.Event.TheVariants.{Link}
+use Rattle.lnbd_script.specs.declared.keeper.Keeper.{Keeper}
+use Rattle.lnbd_script.specs.declared.told.Halt.{Halt}
+use Rattle.lnbd_script.specs.declared.told.Halt.TheVariants as halt
+use Rattle.lnbd_script.specs.Seen.{Seen, Follows}
+
+-- What a handle wants.
+
+-- It reads, unless it was not started, is closed or dead.
+abbrev pub is_reading : History Keeper → Bool
+is_reading history = not (direction_after history == 0)
+
+-- It writes: bytes wait to go out.
+abbrev pub is_waiting : History Keeper → Bool
+is_waiting history = direction_after history == 3
+
+abbrev pub is_negotiating : State → Bool
+is_negotiating state.Created = false
+is_negotiating state.Negotiating = true
+is_negotiating state.OptMode = false
+is_negotiating state.Ready = false
+is_negotiating state.Closing = false
+is_negotiating state.Closed = false
+is_negotiating (state.Dead cause) = false
+
+-- It negotiates, has a command in flight, or bytes that wait to go out.
+abbrev pub is_busy : History Keeper → Bool
+is_busy history = is_negotiating (state_after history) || (not (in_flight_after history == 0) || is_waiting history)
+
+-- a pause waits for the link, in the handle's direction
+abbrev pub wants : ℕ → History Keeper → List Want
+wants link history = record { link = link; direction = direction_after history } ∷ []
+
+-- One call.
+
+-- The link failed, and the handle is told.
+abbrev pub Loses : Seen → Seen → Type 0
+Loses before after = (answers : List Answer) × Follows (LinkFailed answers) (Some Link) before after
+
+-- a read of at most 65,536 bytes that answers so
+abbrev pub read_call : ℕ → ReadTold → Call
+read_call link told = Read link 65536 told
+
+-- A read's bytes arrive; where the peer ended or the link failed the handle is told.
+abbrev pub Reads : Seen → ReadTold → Seen → Type 0
+Reads before (Moved bytes) after = (0 < length bytes) × (answers : List Answer) × Follows (Arrived bytes answers) None before after
+Reads before Unready after = after ≡ before
+Reads before Ended after = (answers : List Answer) × Follows (End answers) None before after
+Reads before ReadFault after = Loses before after
+
+-- Memory ran out at the bytes of a read: only the first of them arrived.
+abbrev pub ReadsShort : Seen → ReadTold → Seen → Type 0
+ReadsShort before (Moved bytes) after = (n : ℕ) × (answers : List Answer) × (n ≤ length bytes) × Follows (Arrived (take n bytes) answers) None before after
+ReadsShort before Unready after = ⊥
+ReadsShort before Ended after = ⊥
+ReadsShort before ReadFault after = ⊥
+
+-- a write that offers what the handle offers, and answers so
+abbrev pub write_call : ℕ → History Keeper → WriteTold → Call
+write_call link history told = Write link (length (out_after history)) told
+
+-- What a write took has gone out, and is a front of what was offered; where the link failed the handle is told.
+abbrev pub Writes : Seen → WriteTold → Seen → Type 0
+Writes before (Sent bytes) after = (0 < length bytes) × (bytes ≡ take (length bytes) (out_after before.history)) × Follows (Wrote (length bytes)) None before after
+Writes before Full after = after ≡ before
+Writes before WriteFault after = Loses before after
+
+-- Turns.
+
+-- A turn writes until nothing waits or a write takes nothing.
+pub data WritesAll (link : ℕ) : Seen → List Call → Seen → Type 0 where
+  Nothing_waits : (seen : Seen) (calls : List Call) (after : Seen)
+      → is_waiting seen.history ≡ false → calls ≡ [] → after ≡ seen
+      → WritesAll link seen calls after
+  Takes_nothing : (seen : Seen) (calls : List Call) (after : Seen)
+      → is_waiting seen.history ≡ true → calls ≡ write_call link seen.history Full ∷ [] → after ≡ seen
+      → WritesAll link seen calls after
+  Fails : (seen : Seen) (calls : List Call) (after : Seen)
+      → is_waiting seen.history ≡ true → calls ≡ write_call link seen.history WriteFault ∷ [] → Writes seen WriteFault after
+      → WritesAll link seen calls after
+  Takes_some : (seen : Seen) (calls : List Call) (after : Seen) (bytes : List ℕ) (middle : Seen) (other : List Call)
+      → is_waiting seen.history ≡ true → Writes seen (Sent bytes) middle → WritesAll link middle other after → calls ≡ write_call link seen.history (Sent bytes) ∷ other
+      → WritesAll link seen calls after
+
+-- Then it reads once, where the handle reads.
+abbrev pub ReadsIf : Bool → ℕ → Seen → List Call → Seen → Type 0
+ReadsIf false link before calls after = (calls ≡ []) × (after ≡ before)
+ReadsIf true link before calls after = (told : ReadTold) × (calls ≡ read_call link told ∷ []) × Reads before told after
+
+pub record Turns (link : ℕ) (before : Seen) (calls : List Call) (after : Seen) : Type 0 where
+  pub middle : Seen
+  pub written : List Call
+  pub writes : WritesAll link before written middle
+  pub read : List Call
+  pub reads : ReadsIf (is_reading middle.history) link middle read after
+  pub calls_are : calls ≡ written ++ read
+
+-- a turn at whose read memory ran out
+pub record TurnsShort (link : ℕ) (before : Seen) (calls : List Call) (after : Seen) : Type 0 where
+  pub middle : Seen
+  pub written : List Call
+  pub writes : WritesAll link before written middle
+  pub told : ReadTold
+  pub reading : is_reading middle.history ≡ true
+  pub reads : ReadsShort middle told after
+  pub calls_are : calls ≡ written ++ read_call link told ∷ []
+
+-- In a call something happened: bytes moved, the peer ended, or the link failed.
+abbrev pub stirs : Call → Bool
+stirs (Connect to link) = true
+stirs (Listen at listener) = true
+stirs (Accept listener answer) = true
+stirs (Read link room (Moved bytes)) = true
+stirs (Read link room Unready) = false
+stirs (Read link room Ended) = true
+stirs (Read link room ReadFault) = true
+stirs (Write link offered (Sent bytes)) = true
+stirs (Write link offered Full) = false
+stirs (Write link offered WriteFault) = true
+stirs (Pause wants) = true
+stirs (Shut link) = true
+
+-- A settle takes turns until the handle is not busy, with a pause after each in which nothing happened. It ends at once where the
+-- wires were idle for too long, or memory ran out.
+pub data Settles (link : ℕ) : Seen → List Call → Seen → Result (Unit {0}) Halt → Type 0 where
+  At_rest : (seen : Seen) (calls : List Call) (after : Seen) (end : Result (Unit {0}) Halt)
+      → is_busy seen.history ≡ false → calls ≡ [] → after ≡ seen → end ≡ Ok tt
+      → Settles link seen calls after end
+  Stirs : (seen : Seen) (calls : List Call) (after : Seen) (end : Result (Unit {0}) Halt) (own : List Call) (middle : Seen) (other : List Call)
+      → is_busy seen.history ≡ true → Turns link seen own middle → list_any stirs own ≡ true → Settles link middle other after end → calls ≡ own ++ other
+      → Settles link seen calls after end
+  Is_still : (seen : Seen) (calls : List Call) (after : Seen) (end : Result (Unit {0}) Halt) (own : List Call) (middle : Seen) (other : List Call)
+      → is_busy seen.history ≡ true → Turns link seen own middle → list_any stirs own ≡ false → Settles link middle other after end → calls ≡ own ++ Pause (wants link middle.history) ∷ other
+      → Settles link seen calls after end
+  Is_silent : (seen : Seen) (calls : List Call) (after : Seen) (end : Result (Unit {0}) Halt) (own : List Call)
+      → is_busy seen.history ≡ true → Turns link seen own after → list_any stirs own ≡ false → calls ≡ own ++ Pause (wants link after.history) ∷ [] → end ≡ Err halt.Silent
+      → Settles link seen calls after end
+  Runs_short : (seen : Seen) (calls : List Call) (after : Seen) (end : Result (Unit {0}) Halt)
+      → is_busy seen.history ≡ true → TurnsShort link seen calls after → end ≡ Err halt.NoMemory
+      → Settles link seen calls after end

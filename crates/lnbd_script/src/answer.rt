@@ -1,0 +1,268 @@
+//! What each line does on a handle that is not closed. No text is made here.
+
+ghost use Rattle.std.specs.Prelude.{◌≡◌, IfOk, OnErr, Ok, Err, None, Some, [], true, false};
+ghost use Rattle.lnbd_machine.specs.Now.{state_now};
+ghost use Rattle.lnbd_history.specs.Answers.{state_after, completed_after};
+ghost use Rattle.lnbd_history.specs.Events.{ClearLog};
+ghost use Rattle.lnbd_history.specs.Laws.{may_name};
+ghost use Rattle.lnbd_history.specs.Refusals.{by_state, refusal_after};
+ghost use Rattle.lnbd_link.specs.Count.{Rises};
+ghost use Rattle.lnbd_script.specs.Lines.{Adds, Connects, Disconnects, Does, Issues, Names, ReadsOn, SettlesOn, WritesOn, connected, is_created, read_of, taking};
+ghost use Rattle.lnbd_script.specs.Seen.{Counts, Goes, IsAt, Seen, adding};
+ghost use Rattle.lnbd_script.specs.Steps.{Becomes, halted, is_alone, is_close, linked_told, moved_end, settled_end};
+ghost use Rattle.lnbd_script.specs.Turns.{is_reading, is_waiting};
+ghost use Rattle.lnbd_script.specs.declared.told.Halt.TheVariants as halt;
+ghost use Rattle.lnbd_script.specs.declared.told.Told.TheVariants as told;
+
+use crate::event::Event;
+use crate::keeper::Keeper;
+use crate::session::{Session, or_first};
+use crate::told::{Halt, Linked, Moved, Told};
+use crate::turns::settle;
+use lnbd_handle::{IssueFault, SetFault};
+use lnbd_lines::Line;
+use lnbd_link::Wires;
+use lnbd_model::{NoMemory, State, Target, Text};
+use std::alloc::Global;
+
+impl Session {
+    /// Starts the handle on its new link.
+    fn start(&mut self, link: u32)
+        requires created { is_created (state_now self.old.handle.known) ≡ true }
+        ensures started { Becomes self.old self.new (λ before after. after ≡ connected (Some link) before) }
+        ensures first { self.new.first ≡ self.old.first }
+    {
+        self.link = Some(link);
+        let _ = self.handle.start();
+    }
+
+    /// Notes that a connect failed.
+    fn blame(&mut self)
+        ensures noted { Becomes self.old self.new (λ before after. after ≡ connected None before) }
+    {
+        self.first = or_first(self.first, Some(Event::Link));
+    }
+
+    /// Issues a read.
+    fn issue_read(&mut self, alloc: Global, size: u32, offset: u64) -> Result<Told, NoMemory>
+        ensures ok { IfOk result (λ tells. Becomes self.old self.new (λ before after. Issues (refusal_after 1024 before.history (read_of size offset)) (read_of size offset) before [] after (Ok tells))) }
+        ensures lacks { OnErr result (Becomes self.old self.new (λ before after. after ≡ before)) }
+        ensures first { self.new.first ≡ self.old.first }
+    {
+        let buf = Vec::from_elem(alloc, 0, size as usize)?;
+        match self
+            .handle
+            .aio_pread(buf, offset, Keeper, 0, &mut self.heeded)
+        {
+            Ok(cookie) => Ok(Told::Cookie(cookie)),
+            Err(IssueFault::Refused { why, buf: _ }) => Ok(Told::Refused(why)),
+            Err(
+                IssueFault::NoMemory {
+                    buf: _,
+                    first: _,
+                    done: _,
+                },
+            ) => Err(NoMemory),
+        }
+    }
+
+    /// Sets the export's name.
+    fn set_name(&mut self, alloc: Global, name: &Text) -> Result<Told, NoMemory>
+        ensures ok { IfOk result (λ tells. Becomes self.old self.new (λ before after. Names (may_name (state_after before.history)) name.now before [] after (Ok tells))) }
+        ensures lacks { OnErr result (Becomes self.old self.new (λ before after. after ≡ before)) }
+        ensures first { self.new.first ≡ self.old.first }
+    {
+        let name = name.try_clone(alloc)?;
+        match self.handle.set_export_name(name) {
+            Ok(()) => Ok(Told::Done),
+            Err(SetFault::State(state)) => Ok(Told::RefusedState(state)),
+            Err(_) => Err(NoMemory),
+        }
+    }
+
+    /// Asks for the end.
+    fn disconnect(&mut self) -> Told
+        ensures told { Becomes self.old self.new (λ before after. Disconnects (by_state (state_after before.history) None) before [] after (Ok result)) }
+        ensures first { self.new.first ≡ self.old.first }
+    {
+        match self.handle.aio_disconnect() {
+            Ok(()) => Told::Done,
+            Err(why) => Told::Refused(why),
+        }
+    }
+
+    /// Takes the result of a command.
+    fn take_result(&mut self, cookie: u64) -> Told
+        ensures told { Becomes self.old self.new (λ before after. Adds (taking (completed_after before.history cookie) cookie before) [] after (Ok result) (told.Result (completed_after before.history cookie))) }
+        ensures first { self.new.first ≡ self.old.first }
+    {
+        Told::Result(self.handle.command_completed(cookie))
+    }
+
+    /// Drops the notes.
+    fn clear_log(&mut self)
+        ensures cleared { Becomes self.old self.new (λ before after. after ≡ adding ClearLog before) }
+        ensures first { self.new.first ≡ self.old.first }
+    {
+        self.handle.clear_log();
+    }
+}
+
+fn is_created(state: State) -> bool
+    ensures { result ≡ is_created state }
+{
+    matches!(state, State::Created)
+}
+
+/// Connects, and starts the handle on the link that it is given.
+fn dial<W: Wires>(session: &mut Session, wires: &mut W, to: &Target) -> Linked
+    requires created { is_created (state_now session.old.handle.known) ≡ true }
+    ensures told { Goes (W.told wires.old) (W.told wires.new) session.old session.new (λ before calls after. Connects (is_created (state_after before.history)) to.now before calls after (Ok (linked_told result))) }
+    ensures counts { Counts session.old.first session.new.first (W.faults wires.old) (W.faults wires.new) (W.idles wires.old) (W.idles wires.new) }
+{
+    match wires.connect(to) {
+        Ok(link) => {
+            session.start(link);
+            Linked::Connected
+        }
+        Err(_) => {
+            session.blame();
+            Linked::NotConnected
+        }
+    }
+}
+
+/// Connects, where the handle was not started yet.
+fn connect<W: Wires>(session: &mut Session, wires: &mut W, to: &Target) -> Linked
+    ensures told { Goes (W.told wires.old) (W.told wires.new) session.old session.new (λ before calls after. Connects (is_created (state_after before.history)) to.now before calls after (Ok (linked_told result))) }
+    ensures counts { Counts session.old.first session.new.first (W.faults wires.old) (W.faults wires.new) (W.idles wires.old) (W.idles wires.new) }
+{
+    let state = session.handle.state();
+    if !is_created(state) {
+        return Linked::Refused(state);
+    }
+    dial(session, wires, to)
+}
+
+/// Reads once, where the handle reads.
+fn read_linked<W: Wires>(session: &mut Session, wires: &mut W, link: u32) -> Result<Moved, Halt>
+    requires linked { session.old.link ≡ Some link }
+    ensures told { Goes (W.told wires.old) (W.told wires.new) session.old session.new (λ before calls after. ReadsOn (is_reading before.history) before.link before calls after (moved_end result)) }
+    ensures counts { Counts session.old.first session.new.first (W.faults wires.old) (W.faults wires.new) (W.idles wires.old) (W.idles wires.new) }
+    ensures spoken { ¬ (result ≡ Err halt.Silent) }
+{
+    if !session.is_reading() {
+        return Ok(Moved::Idle);
+    }
+    let mut buffer = [0; 65536];
+    match session.read(wires, link, &mut buffer) {
+        Ok(moved) => Ok(moved),
+        Err(_) => Err(Halt::NoMemory),
+    }
+}
+
+/// Reads once, where the handle is connected and reads.
+fn read_once<W: Wires>(session: &mut Session, wires: &mut W) -> Result<Moved, Halt>
+    ensures told { Goes (W.told wires.old) (W.told wires.new) session.old session.new (λ before calls after. ReadsOn (is_reading before.history) before.link before calls after (moved_end result)) }
+    ensures counts { Counts session.old.first session.new.first (W.faults wires.old) (W.faults wires.new) (W.idles wires.old) (W.idles wires.new) }
+    ensures spoken { ¬ (result ≡ Err halt.Silent) }
+{
+    match session.link {
+        None => Ok(Moved::Idle),
+        Some(link) => read_linked(session, wires, link),
+    }
+}
+
+/// Offers once what waits to go out.
+fn write_linked<W: Wires>(session: &mut Session, wires: &mut W, link: u32) -> Moved
+    requires linked { session.old.link ≡ Some link }
+    ensures told { Goes (W.told wires.old) (W.told wires.new) session.old session.new (λ before calls after. WritesOn (is_waiting before.history) before.link before calls after (Ok (told.Moved result))) }
+    ensures counts { Counts session.old.first session.new.first (W.faults wires.old) (W.faults wires.new) (W.idles wires.old) (W.idles wires.new) }
+{
+    if !session.is_waiting() {
+        return Moved::Idle;
+    }
+    session.write(wires, link)
+}
+
+/// Offers once what waits to go out, where the handle is connected.
+fn write_once<W: Wires>(session: &mut Session, wires: &mut W) -> Moved
+    ensures told { Goes (W.told wires.old) (W.told wires.new) session.old session.new (λ before calls after. WritesOn (is_waiting before.history) before.link before calls after (Ok (told.Moved result))) }
+    ensures counts { Counts session.old.first session.new.first (W.faults wires.old) (W.faults wires.new) (W.idles wires.old) (W.idles wires.new) }
+{
+    match session.link {
+        None => Moved::Idle,
+        Some(link) => write_linked(session, wires, link),
+    }
+}
+
+/// Takes turns until nothing is left to do, where the handle is connected.
+fn settle_once<W: Wires>(session: &mut Session, wires: &mut W) -> Result<(), Halt>
+    requires reached { (seen : Seen) × IsAt seen session.old }
+    ensures told { Goes (W.told wires.old) (W.told wires.new) session.old session.new (λ before calls after. SettlesOn before.link before calls after (settled_end result)) }
+    ensures silent { result ≡ Err halt.Silent → Rises 1000000000 (W.idles wires.old) (W.idles wires.new) }
+    ensures counts { Counts session.old.first session.new.first (W.faults wires.old) (W.faults wires.new) (W.idles wires.old) (W.idles wires.new) }
+{
+    match session.link {
+        None => Ok(()),
+        Some(link) => settle(session, wires, link),
+    }
+}
+
+/// What the answer comes to where memory may have run out.
+fn or_halt(told: Result<Told, NoMemory>) -> Result<Told, Halt>
+    ensures { result ≡ halted told }
+{
+    match told {
+        Ok(told) => Ok(told),
+        Err(_) => Err(Halt::NoMemory),
+    }
+}
+
+/// Does what a line asks that makes no call on the wires.
+fn act_alone(alloc: Global, session: &mut Session, line: &Line) -> Result<Told, Halt>
+    requires alone { is_alone line.now ≡ true }
+    ensures told { Becomes session.old session.new (λ before after. Does line.now before [] after result) }
+    ensures first { session.new.first ≡ session.old.first }
+    ensures spoken { ¬ (result ≡ Err halt.Silent) }
+{
+    match line {
+        Line::Pread { length, offset } => or_halt(session.issue_read(alloc, *length, *offset)),
+        Line::Export { name } => or_halt(session.set_name(alloc, name)),
+        Line::Disconnect => Ok(session.disconnect()),
+        Line::Done { cookie } => Ok(session.take_result(*cookie)),
+        Line::ClearLog => {
+            session.clear_log();
+            Ok(Told::Done)
+        }
+        Line::Log => Ok(Told::Log),
+        Line::Peek => Ok(Told::Peek),
+        Line::InFlight => Ok(Told::InFlight),
+        Line::Direction => Ok(Told::Direction),
+        Line::State => Ok(Told::State),
+        Line::Info => Ok(Told::Info),
+        _ => unreachable!(),
+    }
+}
+
+/// Does what a line asks, but for `close`.
+pub(crate) fn act<W: Wires>(
+    alloc: Global,
+    session: &mut Session,
+    wires: &mut W,
+    line: &Line,
+) -> Result<Told, Halt>
+    requires open { is_close line.now ≡ false }
+    requires reached { (seen : Seen) × IsAt seen session.old }
+    ensures told { Goes (W.told wires.old) (W.told wires.new) session.old session.new (λ before calls after. Does line.now before calls after result) }
+    ensures silent { result ≡ Err halt.Silent → Rises 1000000000 (W.idles wires.old) (W.idles wires.new) }
+    ensures counts { Counts session.old.first session.new.first (W.faults wires.old) (W.faults wires.new) (W.idles wires.old) (W.idles wires.new) }
+{
+    match line {
+        Line::Connect(to) => Ok(Told::of_connect(connect(session, wires, to))),
+        Line::Settle => Told::of_settle(settle_once(session, wires)),
+        Line::Read => Told::of_read(read_once(session, wires)),
+        Line::Write => Ok(Told::Moved(write_once(session, wires))),
+        _ => act_alone(alloc, session, line),
+    }
+}

@@ -1,0 +1,18 @@
+//! Scripts of calls: their text, and how one is played over a handle and the wires. Which tool plays them and what its
+//! status is are no matter here.
+#![tactic(auto)]
+
+mod answer;
+mod event;
+mod keeper;
+mod playing;
+mod session;
+mod streams;
+mod texts;
+mod told;
+mod turns;
+
+pub use event::{Broken, Event, PlayFault};
+pub use lnbd_lines::{Line, Script, ScriptFault, parse};
+pub use playing::play;
+pub use streams::put;
