@@ -1,5 +1,5 @@
 # The program plays the first example against a real server, over TCP and over a Unix socket, and each line is
-# compared. A place that is no server is one link fault, and words that name no tool are usage.
+# compared. A place that is no server is one link fault.
 . checks/need.sh
 need nbdkit nbdkit
 
@@ -37,12 +37,4 @@ if [ "$code" -eq 5 ] && [ "$(cat "$dir/err")" = 'lnbd: link fault' ]; then
   echo "ok: no server is a link fault"
 else
   echo "failed: with no server the program ended with $code and wrote '$(cat "$dir/out" "$dir/err")'"
-fi
-
-printf 'state\npreed 1 0\n' | ./lnbd nbdcalls >"$dir/out" 2>"$dir/err"
-code=$?
-if [ "$code" -eq 1 ] && [ ! -s "$dir/out" ] && [ "$(cat "$dir/err")" = 'lnbd: script line 2' ]; then
-  echo "ok: a line outside the grammar is told by its number"
-else
-  echo "failed: on a faulty line the program ended with $code and wrote '$(cat "$dir/out" "$dir/err")'"
 fi

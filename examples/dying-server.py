@@ -1,8 +1,9 @@
-"""An NBD server that dies on purpose: it serves one client, takes two reads, and answers the first of them alone.
+"""An NBD server that dies on purpose: it serves one client, takes two reads, and answers the first of them at most.
 
     dying-server.py HOW PLACE
 
-HOW is `end`, where it then closes the connection, or `cookie`, where it then answers a command that nobody asked for.
+HOW is `end`, where it answers the first and closes the connection, `cookie`, where it answers the first and then a
+command that nobody asked for, or `reset`, where it answers neither and resets the connection, which TCP alone can do.
 PLACE is a port of this machine, or the path of a Unix socket. See death.script.
 """
 
@@ -55,6 +56,10 @@ def serve(client, how):
     negotiate(client)
     cookie, length = take_read(client)
     take_read(client)
+    if how == "reset":
+        # A close that does not wait for what was sent is a reset.
+        client.setsockopt(socket.SOL_SOCKET, socket.SO_LINGER, struct.pack("ii", 1, 0))
+        return
     client.sendall(reply(cookie, b"\xab" * length))
     if how == "cookie":
         client.sendall(reply(99, b""))

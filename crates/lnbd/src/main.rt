@@ -1,15 +1,14 @@
 //! The program. It makes the real outside, hands it to the tool that the words name, and ends with that
-//! tool's status. Nothing is decided here.
+//! tool's status, or with that of words that can't be had. Nothing else is decided here.
 #![tactic(auto)]
 
-use lnbd_cli::run;
+use lnbd_cli::{no_memory, run, usage};
+use lnbd_link::Sink;
 use lnbd_sockets::{PrintSink, ReaderSource, SocketWires};
 use std::alloc::Global;
+use std::io::ErrorKind;
 use std::process::ExitCode;
 use std::{env, io};
-
-/// The status of want of memory.
-const NO_MEMORY: u8 = 9;
 
 /// The words behind the program's name.
 fn words(rt: &HostRuntime, alloc: Global) -> io::Result<Vec<String>> {
@@ -20,18 +19,27 @@ fn words(rt: &HostRuntime, alloc: Global) -> io::Result<Vec<String>> {
     Ok(words)
 }
 
+/// Tells why the command line can't be had as words: one of them is not UTF-8, or memory ran out.
+fn no_words<E: Sink>(error: io::Error, err: &mut E) -> u8 {
+    match error.kind() {
+        ErrorKind::InvalidData => usage(err),
+        _ => no_memory(err),
+    }
+}
+
 fn main(rt: HostRuntime) -> ExitCode {
     let alloc = rt.alloc();
-    let Ok(words) = words(&rt, alloc) else {
-        return ExitCode::from(NO_MEMORY);
+    let err_rt = rt.stderr();
+    let mut err = PrintSink::new(&err_rt);
+    let words = match words(&rt, alloc) {
+        Ok(words) => words,
+        Err(error) => return ExitCode::from(no_words(error, &mut err)),
     };
     let Ok(mut wires) = SocketWires::new(alloc, &rt) else {
-        return ExitCode::from(NO_MEMORY);
+        return ExitCode::from(no_memory(&mut err));
     };
     let mut input = ReaderSource::new(rt.reader());
     let out_rt = rt.stdout();
-    let err_rt = rt.stderr();
     let mut out = PrintSink::new(&out_rt);
-    let mut err = PrintSink::new(&err_rt);
     ExitCode::from(run(alloc, &words, &mut input, &mut wires, &mut out, &mut err))
 }

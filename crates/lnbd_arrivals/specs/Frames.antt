@@ -1,7 +1,9 @@
 -- What is seen at the front of some bytes.
-use Rattle.std.specs.Prelude.{◌≡◌, ℕ, ◌+◌, ◌≤◌, Bool, true, List, length, take, drop, Option, Some, None}
+use Rattle.std.specs.Prelude.{◌≡◌, ℕ, ◌+◌, ◌<◌, ◌≤◌, Bool, true, List, ◌++◌, length, take, drop, Option, Some, None}
 use Rattle.lnbd_records.specs.Numbers.{number_at}
 use Rattle.lnbd_history.specs.Arrivals.{Reply, Broken, Waiting, content_size, simple_content, shows_frame}
+use Rattle.lnbd_records.specs.Transmission.{simple_reply_magic}
+use Rattle.lnbd_arrivals.specs.declared.frame.Announced.{Announced}
 use Rattle.lnbd_arrivals.specs.declared.frame.Seen.{Seen}
 use Rattle.lnbd_arrivals.specs.declared.frame.Seen.TheVariants as seen
 
@@ -20,3 +22,15 @@ abbrev pub SeenAs : Bool → (ℕ → Option Waiting) → List ℕ → Seen → 
 SeenAs structured waited bytes seen.Nothing = shows_frame structured waited bytes ≡ None
 SeenAs structured waited bytes (seen.Broken breach) = shows_frame structured waited bytes ≡ Some (Broken breach)
 SeenAs structured waited bytes (seen.Whole cookie error size) = IsReply structured waited bytes cookie error size
+
+-- the head of a simple reply without error, and nothing else
+pub record IsSuccess (head : List ℕ) : Type 0 where
+  pub sized : length head ≡ 16
+  pub magic : number_at 0 4 head ≡ simple_reply_magic
+  pub error : number_at 4 4 head ≡ 0
+
+-- The head of a reply that brings so many bytes of data: with fewer bytes behind it nothing is shown yet, and with so many the whole reply is there.
+pub record Announces (structured : Bool) (waited : ℕ → Option Waiting) (head : List ℕ) (announced : Announced) : Type 0 where
+  pub sized : length head ≡ 16
+  pub partial : (content : List ℕ) → length content < announced.size → shows_frame structured waited (head ++ content) ≡ None
+  pub whole : (content : List ℕ) → length content ≡ announced.size → IsReply structured waited (head ++ content) announced.cookie 0 announced.size

@@ -1,12 +1,12 @@
 //! A simple reply at the front of some bytes.
 
-ghost use Rattle.std.specs.Prelude.{◌≡◌, ◌≤◌, ◌&&◌, ℕ, Option, Some, None, if◌then◌else◌, nat_lt, length};
+ghost use Rattle.std.specs.Prelude.{◌≡◌, ◌≤◌, ◌&&◌, ℕ, Option, Some, None, IfSome, IsSome, IsTrue, ◌↔◌, true, false, if◌then◌else◌, nat_lt, length};
 ghost use Rattle.std.specs.Option.{option_map};
 ghost use Rattle.lnbd_records.specs.Numbers.{number_at};
 ghost use Rattle.lnbd_history.specs.Arrivals.{Waiting as Known, content_size};
 ghost use Rattle.lnbd_history.specs.Commands.{is_read};
 ghost use Rattle.lnbd_commands.specs.Seen.{seen_waiting};
-ghost use Rattle.lnbd_arrivals.specs.Frames.{SeenAs};
+ghost use Rattle.lnbd_arrivals.specs.Frames.{Announces, IsSuccess, SeenAs};
 
 use lnbd_commands::Waiting;
 use lnbd_model::{Breach, Kind};
@@ -27,6 +27,14 @@ pub enum Seen {
     },
     /// A breach.
     Broken(Breach),
+}
+
+/// A reply without error that brings `size` bytes of data to a read: its head is there, and nothing else.
+#[derive(Clone, Copy, Debug, PartialEq, Eq)]
+pub struct Announced {
+    pub cookie: u64,
+    /// In bytes.
+    pub size: usize,
 }
 
 /// The cookie of the reply, where its head is whole.
@@ -98,6 +106,37 @@ pub fn look_frame(structured: bool, waiting: Option<Waiting>, bytes: &[u8]) -> S
                     size: size as usize,
                 }
             }
+        }
+    }
+}
+
+/// Whether these 16 bytes are the head of a simple reply that tells no error.
+fn is_success(head: &[u8]) -> bool
+    ensures { IsTrue result ↔ IsSuccess head.now }
+{
+    head.len() == 16 && u32_at(head, 0) == MAGIC && u32_at(head, 4) == 0
+}
+
+/// The reply whose head these bytes are, where it brings data to the command that waits for its cookie.
+pub fn look_head(structured: bool, waiting: Option<Waiting>, head: &[u8]) -> Option<Announced>
+    ensures announces { IfSome result (λ announced. (waited : ℕ → Option Known) → (16 ≤ length head.now → waited (number_at 8 8 head.now) ≡ option_map seen_waiting waiting) → Announces structured waited head.now announced) }
+
+    // Each head of a reply without error to a read that waits is told, where structured replies are off.
+    ensures all { (command : Known) → option_map seen_waiting waiting ≡ Some command → is_read command.kind ≡ true → structured ≡ false → IsSuccess head.now → IsSome result }
+{
+    if !is_success(head) {
+        return None;
+    }
+    match waiting {
+        None => None,
+        Some(command) => {
+            if structured || !is_read(command.kind) {
+                return None;
+            }
+            Some(Announced {
+                cookie: u64_at(head, 8),
+                size: command.length as usize,
+            })
         }
     }
 }

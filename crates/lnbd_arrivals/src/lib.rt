@@ -5,4 +5,4 @@
 
 mod frame;
 
-pub use frame::{Seen, content_size, cookie_in, look_frame};
+pub use frame::{Announced, Seen, content_size, cookie_in, look_frame, look_head};

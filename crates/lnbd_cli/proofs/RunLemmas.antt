@@ -15,9 +15,9 @@ use Rattle.lnbd_cli.specs.declared.fault.Fault.{Fault}
 use Rattle.lnbd_cli.specs.declared.fault.Fault.TheVariants as fault
 use Rattle.lnbd_cli.specs.declared.input.Unread.{Unread}
 use Rattle.lnbd_cli.specs.declared.input.Unread.TheVariants as unread
-use Rattle.lnbd_cli.specs.Inputs.{HasCause, ReadsScript, fault_of}
+use Rattle.lnbd_cli.specs.Inputs.{HasCause, ReadUpTo, ReadsScript, fault_of}
 use Rattle.lnbd_cli.specs.Runs.{Ends, IsBad, IsCalls, IsLawful, IsOneOf, Ran}
-use Rattle.lnbd_cli.specs.Statuses.{end_line, end_of, fault_line, is_bad, is_whole, line_of_end, status_of, status_of_end}
+use Rattle.lnbd_cli.specs.Statuses.{end_line, end_of, fault_line, is_bad, is_status, is_whole, line_of_end, status_of, status_of_end}
 
 abbrev pub End : Type 0
 End = Result (Unit {0}) Fault
@@ -86,6 +86,23 @@ only_bad (Err (fault.Played (play.Peer option code))) e = absurd (omega (arith, 
 only_bad (Err (fault.Played play.Silent)) e = absurd (omega (arith, e))
 only_bad (Err (fault.Played play.Output)) e = absurd (omega (arith, e))
 only_bad (Err (fault.Played play.NoMemory)) e = absurd (omega (arith, e))
+
+bad_of : (end : End) → (end ≡ Err fault.Usage) ⊎ ((number : ℕ) × (end ≡ Err (fault.Line number))) → is_bad end ≡ true
+bad_of end (inl is) = ap is_bad is
+bad_of end (inr (number, is)) = ap is_bad is
+
+status_known : (end : End) → is_status (status_of_end end) ≡ true
+status_known (Ok done) = refl
+status_known (Err fault.Usage) = refl
+status_known (Err (fault.Line number)) = refl
+status_known (Err fault.Input) = refl
+status_known (Err fault.NoMemory) = refl
+status_known (Err (fault.Played play.Link)) = refl
+status_known (Err (fault.Played (play.Broke broken))) = refl
+status_known (Err (fault.Played (play.Peer option code))) = refl
+status_known (Err (fault.Played play.Silent)) = refl
+status_known (Err (fault.Played play.Output)) = refl
+status_known (Err (fault.Played play.NoMemory)) = refl
 
 memory_text : (end : End) → status_of_end end ≡ 9 → line_of_end end ≡ fault_line fault.NoMemory
 memory_text (Ok done) e = absurd (omega (arith, e))
@@ -217,6 +234,14 @@ pub unread_alone : (s : ℕ) (end : End) (words : List (String Global)) (left le
 unread_alone s end words left left' old new before after None_ P e (inl printed) h = subst (λ (x : End). EndsSo x words left left' old new before after None_) (only_input end (sym printed.0 ∙ h)) e
 unread_alone s end words left left' old new before after None_ P e (inr printed) h = absurd (omega (arith, printed.0, h))
 
+pub known : (s : ℕ) (end : End) (P : List ℕ → Type 0) → Printed s end P → is_status s ≡ true
+known s end P (inl printed) = ap is_status printed.0 ∙ status_known end
+known s end P (inr printed) = ap is_status printed.0
+
+pub bad_end : (s : ℕ) (end : End) (P : List ℕ → Type 0) → Printed s end P → s ≡ 1 → is_bad end ≡ true
+bad_end s end P (inl printed) h = bad_of end (only_bad end (sym printed.0 ∙ h))
+bad_end s end P (inr printed) h = absurd (omega (arith, printed.0, h))
+
 -- a fact of the end that has this status alone
 pub of_end : (s k : ℕ) (end : End) (P : List ℕ → Type 0) (Q : Type 0) → Printed s end P → s ≡ k → ¬ (k ≡ 9) → (status_of_end end ≡ k → Q) → Q
 of_end s k end P Q (inl printed) h other f = f (sym printed.0 ∙ h)
@@ -270,6 +295,11 @@ pub unread_ends : (u : Unread) (words : List (String Global)) (left left' : Opti
 unread_ends (unread.Line number) words left left' old new before after None_ calls none reads = (calls, λ bytes is. (reads bytes is).0, none)
 unread_ends unread.Failed words left left' old new before after None_ calls none reads = none
 unread_ends unread.NoMemory words left left' old new before after None_ calls none reads = none
+
+pub unread_read : (u : Unread) (left left' : Option (List ℕ)) → ((all : List ℕ) → left ≡ Some all → ReadsScript (Err u) all left') → is_bad (Err (fault_of u)) ≡ true → ReadUpTo 16777217 left left'
+unread_read (unread.Line number) left left' reads bad all is = (reads all is).2
+unread_read unread.Failed left left' reads bad all is = absurd (false≢true bad)
+unread_read unread.NoMemory left left' reads bad all is = absurd (false≢true bad)
 
 pub unread_accepts : (u : Unread) (words : List (String Global)) (left left' : Option (List ℕ)) → ((all : List ℕ) → left ≡ Some all → ReadsScript (Err u) all left') → IsLawful words left → is_bad (Err (fault_of u)) ≡ false
 unread_accepts (unread.Line number) words left left' reads l = absurd ((reads l.bytes l.held).1 l.lines l.script)

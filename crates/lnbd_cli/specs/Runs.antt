@@ -26,7 +26,7 @@ pub record Ran (words : List (String Global)) (left left' : Option (List ℕ)) (
   pub read : (bytes : List ℕ) → left ≡ Some bytes → left' ≡ Some []
   pub played : Played lines
 
--- the words name no tool, or a line of the script is outside the grammar
+-- the words name no tool, or a line of the script is outside the grammar: 0 tells that the script is too long
 abbrev pub IsBad : List (String Global) → Option (List ℕ) → (Fault → Type 0) → Type 0
 IsBad words left Told =
     ((¬ IsCalls words) × Told fault.Usage)

@@ -1,8 +1,8 @@
 -- The status of a run and its line, by what kept it from ending well.
 use Rattle.std.specs.Prelude.{ℕ, Bool, true, false, List, [], ◌++◌, ◌==◌, ◌||◌, Some, None, Result, Ok, Err, codes, decimal}
 use Rattle.lnbd_model.specs.Breach.{name_of}
-use Rattle.lnbd_script.specs.declared.event.Broken.{Broken}
-use Rattle.lnbd_script.specs.declared.event.Broken.TheVariants as broken
+use Rattle.lnbd_model.specs.declared.breach.Broken.{Broken}
+use Rattle.lnbd_model.specs.declared.breach.Broken.TheVariants as broken
 use Rattle.lnbd_script.specs.declared.event.PlayFault.{PlayFault}
 use Rattle.lnbd_script.specs.declared.event.PlayFault.TheVariants as play
 use Rattle.lnbd_cli.specs.declared.fault.Fault.{Fault}
@@ -32,9 +32,15 @@ status_of (Err play) = status_of_play play
 abbrev pub is_whole : ℕ → Bool
 is_whole status = (status == 0) || ((status == 3) || ((status == 4) || (status == 5)))
 
+-- the statuses that a run tells so far
+abbrev pub is_status : ℕ → Bool
+is_status status = is_whole status || ((status == 1) || ((status == 7) || ((status == 8) || ((status == 9) || (status == 10)))))
+
 abbrev pub broken_text : Broken → List ℕ
 broken_text (broken.Breach breach) = name_of breach
+broken_text broken.Content = codes "Content"
 broken_text broken.Ended = codes "Ended"
+broken_text broken.Differs = codes "Differs"
 
 abbrev pub play_text : PlayFault → List ℕ
 play_text (play.Peer (Some option) code) = codes "peer error option " ++ decimal option ++ codes " code " ++ decimal code

@@ -39,7 +39,9 @@ fn push_broken(text: &mut String, broken: Broken) -> Result<(), AllocError>
 {
     match broken {
         Broken::Breach(breach) => text.push_str(breach.name()),
+        Broken::Content => text.push_str("Content"),
         Broken::Ended => text.push_str("Ended"),
+        Broken::Differs => text.push_str("Differs"),
     }
 }
 

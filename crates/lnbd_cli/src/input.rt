@@ -1,10 +1,10 @@
 //! The script that an input holds.
 
-ghost use Rattle.std.specs.Prelude.{◌≡◌, ◌<◌, ◌≤◌, IfOk, IsErrOf, IfErr, List, ℕ, Some, [], length, vec_len};
+ghost use Rattle.std.specs.Prelude.{◌≡◌, ◌<◌, ◌≤◌, IfOk, OnOk, IsErrOf, IfErr, List, ℕ, Some, length, take};
 ghost use Rattle.lnbd_link.specs.Count.{Rises};
 ghost use Rattle.lnbd_lines.specs.Scripts.{IsFault, IsScript};
 ghost use Rattle.lnbd_lines.specs.declared.line.Line.{Line};
-ghost use Rattle.lnbd_cli.specs.Inputs.{HasCause, ReadsScript};
+ghost use Rattle.lnbd_cli.specs.Inputs.{HasCause, ReadAtMost, ReadUpTo, ReadsScript};
 
 use lnbd_link::{Source, SourceGot};
 use lnbd_script::{Script, ScriptFault, parse};
@@ -32,8 +32,9 @@ enum Short {
 
 /// Reads an input to its end, or to one byte more than a script has at most.
 fn read_all<I: Source>(alloc: Global, input: &mut I) -> Result<Vec<u8>, Short>
-    ensures whole { IfOk result (λ v. vec_len v < 16777217 → (all : List ℕ) → I.left input.old ≡ Some all → (v.items ≡ all) × (I.left input.new ≡ Some [])) }
-    ensures long { IfOk result (λ v. 16777217 ≤ vec_len v → (all : List ℕ) → I.left input.old ≡ Some all → 16777216 < length all) }
+    ensures came { IfOk result (λ v. (all : List ℕ) → I.left input.old ≡ Some all → v.items ≡ take 16777217 all) }
+    ensures left { OnOk result (ReadUpTo 16777217 (I.left input.old) (I.left input.new)) }
+    ensures most { ReadAtMost 16777217 (I.left input.old) (I.left input.new) }
     ensures later { I.faults input.old ≤ I.faults input.new }
     ensures failed { IsErrOf result Short.Failed → Rises 1 (I.faults input.old) (I.faults input.new) }
 {
@@ -57,6 +58,7 @@ fn read_all<I: Source>(alloc: Global, input: &mut I) -> Result<Vec<u8>, Short>
 /// Reads the script that the input holds.
 pub(crate) fn read_script<I: Source>(alloc: Global, input: &mut I) -> Result<Script, Unread>
     ensures reads { (all : List ℕ) → I.left input.old ≡ Some all → ReadsScript result all (I.left input.new) }
+    ensures most { ReadAtMost 16777217 (I.left input.old) (I.left input.new) }
     ensures cause { IfErr result (λ unread. HasCause unread (I.faults input.old) (I.faults input.new)) }
 {
     let bytes = match read_all(alloc, input) {

@@ -6,4 +6,4 @@ mod fault;
 mod input;
 mod top;
 
-pub use top::run;
+pub use top::{no_memory, run, usage};

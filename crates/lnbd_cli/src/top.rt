@@ -3,9 +3,9 @@
 ghost use Rattle.std.specs.Prelude.{◌≡◌, ◌⊎◌, ◌++◌, Err, OnOk, true, false, string_bytes};
 ghost use Rattle.lnbd_link.specs.Count.{Rises};
 ghost use Rattle.lnbd_script.specs.Plays.{Finished, HasPlayed, HasPlayedPart, Silent, first_fault};
-ghost use Rattle.lnbd_cli.specs.Inputs.{fault_of};
+ghost use Rattle.lnbd_cli.specs.Inputs.{ReadAtMost, ReadUpTo, fault_of};
 ghost use Rattle.lnbd_cli.specs.Runs.{Ends, IsBad, IsCalls, IsLawful, IsOneOf, Nothing, Prints, Ran};
-ghost use Rattle.lnbd_cli.specs.Statuses.{end_line, end_of, fault_line, is_bad, is_whole, line_of_end, status_of, status_of_end};
+ghost use Rattle.lnbd_cli.specs.Statuses.{end_line, end_of, fault_line, is_bad, is_status, is_whole, line_of_end, status_of, status_of_end};
 ghost use Rattle.lnbd_cli.specs.declared.fault.Fault.TheVariants as fault;
 ghost use Rattle.lnbd_script.specs.declared.event.PlayFault.TheVariants as play;
 
@@ -44,6 +44,12 @@ pub fn run<W: Wires, I: Source, O: Sink, E: Sink>(
     ensures unread { result ≡ 10 → Rises 1 (I.faults input.old) (I.faults input.new) }
     ensures unread_alone { result ≡ 10 → Nothing wires.old wires.new out.old out.new }
 
+    // Words that name no tool leave the input as it was. A script that is refused was read to its end, or to one byte
+    // more than the longest one has, and never is more read.
+    ensures unasked { (¬ IsCalls words.now) → input.new ≡ input.old }
+    ensures bad_script { IsCalls words.now → result ≡ 1 → ReadUpTo 16777217 (I.left input.old) (I.left input.new) }
+    ensures most { ReadAtMost 16777217 (I.left input.old) (I.left input.new) }
+
     // The lines of the others, and the counts that rose.
     ensures silent_line { result ≡ 7 → Prints (E.taken err.old) (E.taken err.new) (E.faults err.old) (E.faults err.new) (fault_line (fault.Played play.Silent)) }
     ensures output_line { result ≡ 8 → Prints (E.taken err.old) (E.taken err.new) (E.faults err.old) (E.faults err.new) (fault_line (fault.Played play.Output)) }
@@ -53,11 +59,32 @@ pub fn run<W: Wires, I: Source, O: Sink, E: Sink>(
     ensures silent_cause { result ≡ 7 → Rises 1000000000 (W.idles wires.old) (W.idles wires.new) }
     ensures output_cause { result ≡ 8 → Rises 1 (O.faults out.old) (O.faults out.new) }
 
+    // No other status is told.
+    ensures known { is_status result ≡ true }
+
     // Where words and script are lawful and no count rose, the script is played to its end, or memory runs out.
     ensures complete { IsLawful words.now (I.left input.old) → (¬ Rises 1 (W.faults wires.old) (W.faults wires.new)) → (¬ Rises 1000000000 (W.idles wires.old) (W.idles wires.new)) → (¬ Rises 1 (O.faults out.old) (O.faults out.new)) → (¬ Rises 1 (I.faults input.old) (I.faults input.new)) → IsOneOf result }
 {
     let end = tool(alloc, words, input, wires, out);
     print_end(alloc, end, err)
+}
+
+/// Where a command line can't be words: prints the line of words that name no tool, and tells its status.
+pub fn usage<E: Sink>(err: &mut E) -> u8
+    ensures status { result ≡ 1 }
+    ensures line { Prints (E.taken err.old) (E.taken err.new) (E.faults err.old) (E.faults err.new) (fault_line fault.Usage) }
+{
+    print(err, b"lnbd: usage\n");
+    1
+}
+
+/// Where memory runs out, before a run begins too: prints its line, and tells its status. It takes no memory.
+pub fn no_memory<E: Sink>(err: &mut E) -> u8
+    ensures status { result ≡ 9 }
+    ensures line { Prints (E.taken err.old) (E.taken err.new) (E.faults err.old) (E.faults err.new) (fault_line fault.NoMemory) }
+{
+    print(err, b"lnbd: no memory\n");
+    9
 }
 
 /// Prints the line of a run's end, and tells its status. Where the line finds no memory, that is the end.
@@ -70,10 +97,7 @@ fn print_end<E: Sink>(alloc: Global, end: Result<(), Fault>, err: &mut E) -> u8
             print(err, text.as_bytes());
             status_of_end(end)
         }
-        Err(_) => {
-            print(err, b"lnbd: no memory\n");
-            9
-        }
+        Err(_) => no_memory(err),
     }
 }
 
@@ -142,6 +166,9 @@ fn tool<W: Wires, I: Source, O: Sink>(
 ) -> Result<(), Fault>
     ensures ends { Ends result words.now (I.left input.old) (I.left input.new) (λ lines how IsFirst. HasPlayed lines (W.told wires.old) (W.told wires.new) (O.taken out.old) (O.taken out.new) how IsFirst) (λ lines. HasPlayedPart lines (W.told wires.old) (W.told wires.new) (O.taken out.old) (O.taken out.new)) (Nothing wires.old wires.new out.old out.new) }
     ensures accepts { IsLawful words.now (I.left input.old) → is_bad result ≡ false }
+    ensures unasked { (¬ IsCalls words.now) → input.new ≡ input.old }
+    ensures bad_script { IsCalls words.now → is_bad result ≡ true → ReadUpTo 16777217 (I.left input.old) (I.left input.new) }
+    ensures most { ReadAtMost 16777217 (I.left input.old) (I.left input.new) }
     ensures input_cause { result ≡ Err fault.Input → Rises 1 (I.faults input.old) (I.faults input.new) }
     ensures link_cause { result ≡ Err (fault.Played play.Link) → Rises 1 (W.faults wires.old) (W.faults wires.new) }
     ensures silent_cause { result ≡ Err (fault.Played play.Silent) → Rises 1000000000 (W.idles wires.old) (W.idles wires.new) }

@@ -10,9 +10,11 @@ ghost use Rattle.lnbd_history.specs.Entries.{Dropped, Framed, Lost};
 ghost use Rattle.lnbd_machine.specs.Machine.{Row as SeenRow, file_all, file_in, flying, refused};
 ghost use Rattle.lnbd_machine.specs.Now.{completed_row};
 ghost use Rattle.lnbd_commands.specs.Commands.{Commands as Seen, cleared, issuing, no_commands, retiring, waiting_at};
+ghost use Rattle.lnbd_commands.specs.Contents.{bytes_in};
 ghost use Rattle.lnbd_commands.specs.Seen.{seen_waiting};
 ghost use Rattle.lnbd_commands.specs.Takes.{IsReply, Takes, TakesReply};
 
+use crate::content::Content;
 use crate::row::{Row, Waiting};
 use crate::rows::{answer_in, finish_in, lose_in};
 use lnbd_callbacks::{Caller, Desk};
@@ -149,6 +151,48 @@ impl<K: Caller> Commands<K> {
         ensures err { OnErr result (self.new ≡ self.old) }
         ensures err_world { OnErr result (world.new ≡ world.old) }
     {
+        match self.file(world, cookie, error, Content::Copied(bytes)) {
+            Ok(_) => Ok(()),
+            Err(_) => Err(NoMemory),
+        }
+    }
+
+    /// The same of a reply whose bytes fill a buffer, which is taken over: nothing is copied. A buffer that is not needed
+    /// any more comes back; for want of memory the one that was handed over does, and nothing has changed.
+    pub fn reply_filled(
+        &mut self,
+        world: &mut K::World,
+        cookie: u64,
+        error: u32,
+        buffer: Vec<u8>,
+    ) -> Result<Vec<u8>, Vec<u8>>
+        requires { IsReply (waiting_at cookie self.old) error buffer.items }
+        ensures ok { OnOk result (TakesReply K.steps cookie (waiting_at cookie self.old) error buffer.items self.old self.new world.old world.new) }
+        ensures handed_back { IfErr result (λ back. back.items ≡ buffer.items) }
+        ensures err { OnErr result (self.new ≡ self.old) }
+        ensures err_world { OnErr result (world.new ≡ world.old) }
+    {
+        match self.file(world, cookie, error, Content::Moved(buffer)) {
+            Ok(spare) => Ok(spare),
+            Err(Content::Moved(back)) => Err(back),
+            Err(Content::Copied(_)) => unreachable!(),
+        }
+    }
+
+    /// Files a simple reply. A buffer that is not needed any more comes back, and for want of memory what it brings.
+    fn file<'a>(
+        &mut self,
+        world: &mut K::World,
+        cookie: u64,
+        error: u32,
+        content: Content<'a>,
+    ) -> Result<Vec<u8>, Content<'a>>
+        requires { IsReply (waiting_at cookie self.old) error (bytes_in content) }
+        ensures ok { OnOk result (TakesReply K.steps cookie (waiting_at cookie self.old) error (bytes_in content.entry) self.old self.new world.old world.new) }
+        ensures handed_back { IfErr result (λ back. back ≡ content.entry) }
+        ensures err { OnErr result (self.new ≡ self.old) }
+        ensures err_world { OnErr result (world.new ≡ world.old) }
+    {
         let landed = match answer_in(
             &mut self.table,
             self.alloc,
@@ -156,15 +200,14 @@ impl<K: Caller> Commands<K> {
             world,
             cookie,
             error,
-            bytes,
+            content,
         ) {
             Ok(landed) => landed,
-            Err(fault) => return Err(fault),
+            Err(content) => return Err(content),
         };
         let _admitted = self.desk.admitted();
         self.freed += landed.count();
-        finish_in(&mut self.table, &mut self.desk, world, cookie, landed);
-        Ok(())
+        Ok(finish_in(&mut self.table, &mut self.desk, world, cookie, landed))
     }
 
     /// Fails each command in flight with 107, ENOTCONN, or an earlier error of its own, in order of

@@ -5,6 +5,7 @@
 
 mod close;
 mod commands;
+mod content;
 mod flight;
 mod issue;
 mod results;

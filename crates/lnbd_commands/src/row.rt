@@ -1,15 +1,17 @@
 //! The row of one command: what was asked, its callbacks while it is in flight, its buffer, and what
 //! was kept of it. How rows change is not said here.
 
-ghost use Rattle.std.specs.Prelude.{◌≡◌, ℕ, List, [], true, Some, None, is_some, length, vec_len, IfOk, OnErr};
+ghost use Rattle.std.specs.Prelude.{◌≡◌, ℕ, List, [], true, Some, None, is_some, length, vec_len, IfOk, IfErr, OnErr};
 ghost use Rattle.std.specs.Option.{option_map};
 ghost use Rattle.lnbd_history.specs.Commands.{is_read};
 ghost use Rattle.lnbd_history.specs.Arrivals.{Waiting as Known, simple_content};
 ghost use Rattle.lnbd_history.specs.Entries.{Framed, buffer, heard_error, or_else, told_error};
+ghost use Rattle.lnbd_commands.specs.Contents.{bytes_in};
 ghost use Rattle.lnbd_commands.specs.Flights.{flight_count};
 ghost use Rattle.lnbd_commands.specs.Lands.{Hears, lost};
 ghost use Rattle.lnbd_commands.specs.Seen.{seen_waiting};
 
+use crate::content::Content;
 use crate::flight::Flight;
 use lnbd_callbacks::{Caller, Desk, Heard};
 use lnbd_history::Completed;
@@ -63,12 +65,13 @@ impl Model for Kept {
 }
 
 /// What a command in flight came to: its callbacks, what its chunk callback answered last, its error and
-/// its bytes.
+/// its bytes; and a buffer that is not needed any more.
 pub(crate) struct Landed<K> {
     pub(crate) flight: Flight<K>,
     pub(crate) heard: Option<Heard>,
     pub(crate) error: u32,
     pub(crate) bytes: Bytes,
+    pub(crate) spare: Vec<u8>,
 }
 
 impl<K> Model for Landed<K> {
@@ -165,31 +168,27 @@ impl<K> Row<K> {
 
     /// Takes the callbacks and the buffer of a command that ends with this error, 0 for none. The bytes of a
     /// read that is done are this content, those of one that failed are zeroes, and a write has its own.
-    fn land(&mut self, alloc: Global, heard: Option<Heard>, error: u32, content: &[u8]) -> Landed<K>
+    fn land(
+        &mut self,
+        alloc: Global,
+        heard: Option<Heard>,
+        error: u32,
+        content: Content<'_>,
+    ) -> Landed<K>
         requires flies { is_some self.old.flight ≡ true }
         requires held { self.old.kept ≡ None }
-        requires sized { is_read self.old.kind ≡ true → error ≡ 0 → length content.now ≡ self.old.length }
+        requires sized { is_read self.old.kind ≡ true → error ≡ 0 → length (bytes_in content) ≡ self.old.length }
         ensures flight { self.old.flight ≡ Some result.flight }
         ensures heard { result.heard ≡ heard }
         ensures error { result.error ≡ error }
-        ensures bytes { result.bytes ≡ buffer self.old.kind self.old.length self.old.bytes error content.now }
+        ensures bytes { result.bytes ≡ buffer self.old.kind self.old.length self.old.bytes error (bytes_in content.entry) }
         ensures row { self.new ≡ landed error (record { error = error; bytes = [] }) self.old }
     {
         let Some(flight) = self.flight.take() else {
             unreachable!()
         };
-        let mut bytes = replace(&mut self.buf, Vec::new(alloc));
-        match self.kind {
-            Kind::Read => {
-                if error == 0 {
-                    bytes.copy_from_slice(content);
-                } else {
-                    bytes.fill(0);
-                }
-            }
-            Kind::Write => {}
-            _ => bytes.clear(),
-        }
+        let own = replace(&mut self.buf, Vec::new(alloc));
+        let (bytes, spare) = finish(alloc, self.kind, error, own, content);
         self.error = error;
         self.kept = Some(Kept {
             error,
@@ -200,6 +199,7 @@ impl<K> Row<K> {
             heard,
             error,
             bytes: Bytes::from_vec(bytes),
+            spare,
         }
     }
 
@@ -212,7 +212,7 @@ impl<K> Row<K> {
         ensures row { self.new ≡ landed result.error (record { error = result.error; bytes = [] }) self.old }
     {
         let error = first_error(self.error, ENOTCONN);
-        self.land(alloc, None, error, &[])
+        self.land(alloc, None, error, Content::Copied(&[]))
     }
 
     /// Lets a row go that is not in flight.
@@ -289,6 +289,32 @@ impl<K> Row<K> {
     }
 }
 
+/// The buffer of a command that ends with this error, 0 for none, made of its own one, and one that is not needed any
+/// more.
+fn finish(
+    alloc: Global,
+    kind: Kind,
+    error: u32,
+    own: Vec<u8>,
+    content: Content<'_>,
+) -> (Vec<u8>, Vec<u8>)
+    requires { is_read kind ≡ true → error ≡ 0 → length (bytes_in content) ≡ vec_len own }
+    ensures { result.0.items ≡ buffer kind (vec_len own) own.items error (bytes_in content.entry) }
+{
+    let mut bytes = own;
+    match kind {
+        Kind::Read => {
+            if error == 0 {
+                return content.fill(alloc, bytes);
+            }
+            bytes.fill(0);
+        }
+        Kind::Write => {}
+        _ => bytes.clear(),
+    }
+    (bytes, Vec::new(alloc))
+}
+
 /// Ends a flight that is not there.
 fn none_left<K>(flight: Option<Flight<K>>)
     requires { flight ≡ None }
@@ -304,33 +330,34 @@ impl<K: Caller> Row<K> {
     ghost use Rattle.lnbd_commands.specs.Rows.{landed};
     ghost use Rattle.lnbd_commands.specs.Lands.{IsLiveRow, Lands, known_of, reply_item};
 
-    /// Ends the command by a simple reply with this error, as the wire tells it, and these bytes. The
-    /// bytes are copied once. For want of memory nothing has changed.
-    pub(crate) fn answer(
+    /// Ends the command by a simple reply with this error, as the wire tells it, and these bytes. For want of memory they are
+    /// handed back, and nothing has changed.
+    pub(crate) fn answer<'a>(
         &mut self,
         alloc: Global,
         desk: &mut Desk,
         world: &mut K::World,
         error: u32,
-        bytes: &[u8],
-    ) -> Result<Landed<K>, NoMemory>
+        content: Content<'a>,
+    ) -> Result<Landed<K>, Content<'a>>
         requires flies { is_some self.old.flight ≡ true }
         requires held { self.old.kept ≡ None }
         requires live { IsLiveRow self.old.flight desk.old.log }
-        requires sized { length bytes.now ≡ content_size (known_of self.old) error }
-        ensures lands { IfOk result (λ landed. Lands K.steps self.old (reply_item self.old error bytes.now) landed desk.old.log desk.new.log world.old world.new) }
+        requires sized { length (bytes_in content) ≡ content_size (known_of self.old) error }
+        ensures lands { IfOk result (λ landed. Lands K.steps self.old (reply_item self.old error (bytes_in content.entry)) landed desk.old.log desk.new.log world.old world.new) }
         ensures row { IfOk result (λ end. self.new ≡ landed end.error (record { error = end.error; bytes = [] }) self.old) }
+        ensures handed_back { IfErr result (λ back. back ≡ content.entry) }
         ensures err_row { OnErr result (self.new ≡ self.old) }
         ensures err_desk { OnErr result (desk.new ≡ desk.old) }
         ensures err_world { OnErr result (world.new ≡ world.old) }
     {
         let told = told_by(self.kind, error);
-        let heard = match self.hear(desk, world, error, bytes) {
+        let heard = match self.hear(desk, world, error, content.as_slice()) {
             Ok(heard) => heard,
-            Err(fault) => return Err(fault),
+            Err(_) => return Err(content),
         };
         let error = first_error(first_error(self.error, told), number_of(heard));
-        Ok(self.land(alloc, heard, error, bytes))
+        Ok(self.land(alloc, heard, error, content))
     }
 
     /// Tells the content of a simple reply, if it has any, to the chunk callback.

@@ -1,41 +1,44 @@
 //! Changes of one row of the table, with the callbacks of its command. Which commands there are, and
 //! what holds of all of them, is not said here.
 
-ghost use Rattle.std.specs.Prelude.{◌≡◌, [], true, false, None, IsSome, IfOk, OnErr, is_some};
+ghost use Rattle.std.specs.Prelude.{◌≡◌, [], true, false, None, IsSome, IfOk, IfErr, OnErr, is_some};
 ghost use Rattle.lnbd_keyed.specs.Keyed.{value_at, without};
 ghost use Rattle.lnbd_inflight.specs.Done.{is_done, forgetting};
 ghost use Rattle.lnbd_callbacks.specs.declared.caller.Verdict.{Verdict};
 ghost use Rattle.lnbd_history.specs.Entries.{completion_calls};
+ghost use Rattle.lnbd_commands.specs.Contents.{bytes_in};
 ghost use Rattle.lnbd_commands.specs.Flights.{IsLiveFlight, completing};
 ghost use Rattle.lnbd_commands.specs.Lands.{AnswerableAt, LandsAt, LosableAt, LostAt};
 ghost use Rattle.lnbd_commands.specs.Rows.{changed, ended, flight_of_row, keeping, kept_of_row, landed};
 
+use crate::content::Content;
 use crate::flight::complete;
 use crate::row::{Landed, Row};
 use lnbd_callbacks::{Caller, Desk, Verdict};
 use lnbd_inflight::Table;
-use lnbd_model::{Bytes, NoMemory};
+use lnbd_model::Bytes;
 use std::alloc::Global;
 
 /// Ends the command of a cookie by a simple reply, and takes its callbacks out of its row.
-pub(crate) fn answer_in<K: Caller>(
+pub(crate) fn answer_in<'a, K: Caller>(
     table: &mut Table<Row<K>>,
     alloc: Global,
     desk: &mut Desk,
     world: &mut K::World,
     cookie: u64,
     error: u32,
-    bytes: &[u8],
-) -> Result<Landed<K>, NoMemory>
-    requires { AnswerableAt (value_at cookie table.old.rows) error bytes.now desk.old.log }
-    ensures lands { IfOk result (λ landed. LandsAt K.steps (value_at cookie table.old.rows) error bytes.now landed desk.old.log desk.new.log world.old world.new) }
+    content: Content<'a>,
+) -> Result<Landed<K>, Content<'a>>
+    requires { AnswerableAt (value_at cookie table.old.rows) error (bytes_in content) desk.old.log }
+    ensures lands { IfOk result (λ landed. LandsAt K.steps (value_at cookie table.old.rows) error (bytes_in content.entry) landed desk.old.log desk.new.log world.old world.new) }
     ensures rows { IfOk result (λ end. table.new ≡ record table.old { rows = changed (landed end.error (record { error = end.error; bytes = [] })) cookie table.old.rows }) }
+    ensures handed_back { IfErr result (λ back. back ≡ content.entry) }
     ensures err_table { OnErr result (table.new ≡ table.old) }
     ensures err_desk { OnErr result (desk.new ≡ desk.old) }
     ensures err_world { OnErr result (world.new ≡ world.old) }
 {
     if let Some(row) = table.get_mut(cookie) {
-        row.answer(alloc, desk, world, error, bytes)
+        row.answer(alloc, desk, world, error, content)
     } else {
         unreachable!()
     }
@@ -79,14 +82,15 @@ pub(crate) fn drop_in<K>(table: &mut Table<Row<K>>, cookie: u64)
     }
 }
 
-/// Completes a command that landed, frees its callbacks, and keeps or retires it.
+/// Completes a command that landed, frees its callbacks, and keeps or retires it. A buffer that is not needed any more
+/// comes back.
 pub(crate) fn finish_in<K: Caller>(
     table: &mut Table<Row<K>>,
     desk: &mut Desk,
     world: &mut K::World,
     cookie: u64,
     landed: Landed<K>,
-)
+) -> Vec<u8>
     requires landed { is_some (kept_of_row (value_at cookie table.old.rows)) ≡ true }
     requires empty { flight_of_row (value_at cookie table.old.rows) ≡ None }
     requires undone { is_done cookie table.old.done ≡ false }
@@ -100,6 +104,7 @@ pub(crate) fn finish_in<K: Caller>(
         heard: _,
         error,
         bytes,
+        spare,
     } = landed;
     match complete(flight, desk, world, error, bytes) {
         Verdict::Keep { error, buf } => {
@@ -108,4 +113,5 @@ pub(crate) fn finish_in<K: Caller>(
         }
         Verdict::Retire => drop_in(table, cookie),
     }
+    spare
 }

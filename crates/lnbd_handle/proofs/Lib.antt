@@ -6,5 +6,6 @@ pub mod ArriveLemmas
 pub mod EndLemmas
 pub mod SendLemmas
 pub mod ResultLemmas
+pub mod HeadLemmas
 pub mod IssueLemmas
 pub mod HistoryLemmas

@@ -4,4 +4,5 @@ pub mod Greets
 pub mod Turns
 pub mod Completing
 pub mod Issues
+pub mod Held
 pub mod Histories

@@ -6,6 +6,8 @@ use Rattle.lnbd_history.specs.declared.kinds.Stage.{Stage}
 use Rattle.lnbd_history.specs.declared.kinds.Stage.TheVariants.{Created, Open, Disconnecting, Aborting, Closed, Dead}
 use Rattle.lnbd_history.specs.Arrivals.{shows_at}
 use Rattle.lnbd_machine.specs.Machine.{State, Doing, table_rules, sight, waited}
+use Rattle.lnbd_arrivals.specs.declared.frame.Announced.{Announced}
+use Rattle.lnbd_arrivals.specs.Frames.{Announces}
 use Rattle.lnbd_handle.specs.declared.connection.Connection.{Connection}
 use Rattle.lnbd_handle.specs.declared.kinds.Turn.{Turn}
 use Rattle.lnbd_handle.specs.declared.kinds.Turn.TheVariants as turn
@@ -44,6 +46,12 @@ module _ {K : Type 0} where
   -- these bytes show nothing yet
   abbrev pub ShowsNothing : State K → List ℕ → Type 0
   ShowsNothing state bytes = shows_at state.stage (sight state) (waited state) bytes ≡ None
+
+  -- Where replies may come, these bytes are the head of one that brings data to its command.
+  pub record Brings (c : Connection K) (head : List ℕ) (announced : Announced) : Type 0 where
+    pub speaking : is_speaking c.stage ≡ true
+    pub ready : c.talk.phase ≡ phase.Ready
+    pub announces : Announces c.talk.structured (waited (state_of c)) head announced
 
   -- What one turn does with the bytes in front of it: they show nothing yet; so many are a record, which is taken; all are
   -- taken, since nothing counts any more; or nothing is done, for want of memory.

@@ -18,6 +18,7 @@ use crate::connection::Connection;
 use crate::deaths::{die, end_closing};
 use crate::drain::{take_behind, take_fresh};
 use crate::kinds::{SetFault, Short};
+use crate::pending::Pending;
 use crate::sending::{count_written, offered, say_goodbye};
 use crate::standing::{by_state, direction_of, may_name, state_at};
 use lnbd_callbacks::Caller;
@@ -33,19 +34,20 @@ use std::marker::Model;
 pub struct Handle<K> {
     pub(crate) connection: Connection<K>,
     // the bytes that are no whole record yet
-    pub(crate) pending: Vec<u8>,
+    pub(crate) pending: Pending,
 }
 
 impl<K> Model for Handle<K> {
     ghost use Rattle.lnbd_machine.specs.Machine.{Machine};
     ghost use Rattle.lnbd_machine.specs.Laws.{IsPartial};
+    ghost use Rattle.lnbd_handle.specs.Held.{held_in};
     ghost use Rattle.lnbd_handle.specs.Seen.{machine_of, IsSound};
 
     ghost Value = { Machine K };
 
-    ghost view = { λ h. machine_of h.connection h.pending.items };
+    ghost view = { λ h. machine_of h.connection (held_in h.pending) };
 
-    ghost invariant = { λ h. IsSound h.connection × IsPartial (machine_of h.connection h.pending.items) };
+    ghost invariant = { λ h. IsSound h.connection × IsPartial (machine_of h.connection (held_in h.pending)) };
 }
 
 impl<K> Handle<K> {
@@ -74,7 +76,7 @@ impl<K> Handle<K> {
                 written: 0,
                 commands: Commands::new(alloc),
             },
-            pending: Vec::new(alloc),
+            pending: Pending::new(alloc),
         })
     }
 

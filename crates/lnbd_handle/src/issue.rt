@@ -132,7 +132,7 @@ fn issue_read<K: Caller>(connection: &mut Connection<K>, asked: Asked<K>) -> Res
 
 impl<K: Caller> Handle<K> {
     /// Asks for as many bytes as the buffer has, from this offset on (libnbd, nbd_aio_pread), and tells the
-    /// command's cookie.
+    /// command's cookie. The buffer that comes back with the result has this length, and may be another one.
     pub fn aio_pread(
         &mut self,
         buf: Vec<u8>,

@@ -5,6 +5,8 @@ ghost use Rattle.std.specs.Prelude.{◌≡◌, ◌+◌, ◌<◌, if◌then◌els
 ghost use Rattle.lnbd_records.specs.Numbers.{number_at};
 
 use crate::connection::Connection;
+use crate::heads::announced_in;
+use crate::pending::Pending;
 use crate::turns::{by_name_size, has_no_zeroes, waiting_at};
 use lnbd_arrivals::content_size;
 use lnbd_commands::Waiting;
@@ -46,9 +48,15 @@ fn size_at<K>(connection: &Connection<K>, phase: Phase, bytes: &[u8]) -> usize {
 }
 
 /// How many bytes the record that these begin still lacks, as far as they show, and one at least.
-pub(crate) fn lacking<K>(connection: &Connection<K>, bytes: &[u8]) -> usize
+pub(crate) fn lacking<K>(connection: &Connection<K>, pending: &Pending) -> usize
     ensures { 0 < result }
 {
-    let size = size_at(connection, connection.talk.phase(), bytes);
-    size.saturating_sub(bytes.len()).max(1)
+    let lacks = match announced_in(connection, &pending.head) {
+        Some(announced) => announced.size.saturating_sub(pending.content.len()),
+        None => {
+            let size = size_at(connection, connection.talk.phase(), &pending.head);
+            size.saturating_sub(pending.head.len())
+        }
+    };
+    lacks.max(1)
 }

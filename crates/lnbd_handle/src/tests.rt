@@ -242,6 +242,32 @@ fn replies_come_in_any_order_byte_by_byte(rt: HostRuntime) -> Result<(), Fail> {
 }
 
 #[test]
+fn data_comes_in_pieces(rt: HostRuntime) -> Result<(), Fail> {
+    let mut world = 0;
+    let mut handle = Handle::create(rt.alloc())?;
+    assert!(rt; ready(&mut handle, &mut world));
+    for cookie in 1..3 {
+        assert_eq!(rt;
+            pread(&mut handle, rt.alloc(), &mut world, &[0xff; 4], KEEP),
+            cookie
+        );
+    }
+    for _ in 0..4 {
+        assert!(rt; goes_out(&mut handle));
+    }
+    for (cookie, first, second) in [(2, b"ab", b"cd"), (1, b"ef", b"gh")] {
+        assert!(rt; feed(&mut handle, &mut world, &head(cookie)));
+        assert!(rt; feed(&mut handle, &mut world, first));
+        assert!(rt; feed(&mut handle, &mut world, second));
+    }
+    assert!(rt; came_to(handle.command_completed(2), 0, b"abcd"));
+    assert!(rt; came_to(handle.command_completed(1), 0, b"efgh"));
+    let closed = handle.close(&mut world);
+    assert_eq!(rt; (closed.opened, closed.freed), (2, 2));
+    Ok(())
+}
+
+#[test]
 fn a_piece_ends_one_reply_and_brings_others(rt: HostRuntime) -> Result<(), Fail> {
     let mut world = 0;
     let mut handle = Handle::create(rt.alloc())?;

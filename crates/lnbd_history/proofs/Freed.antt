@@ -33,7 +33,7 @@ only-same n m e = ap (λ (b : Bool). if b then 1 else 0) (eq-eqb m n e)
 only-other : (n m : ℕ) → m ≢ n → only n m ≡ 0
 only-other n m e = ap (λ (b : Bool). if b then 1 else 0) (ne_eqb m n e)
 
-only_above : (n a : ℕ) → a < n → upto (only n) a ≡ 0
+pub only_above : (n a : ℕ) → a < n → upto (only n) a ≡ 0
 unfolding upto
 only_above n zero h = refl
 only_above n (suc a) h =
@@ -41,7 +41,7 @@ only_above n (suc a) h =
     let one = only-other n (suc a) (λ e. absurd (omega (arith, e, h))) in
     omega (arith, rest, one)
 
-only_most : (n a : ℕ) → upto (only n) a ≤ 1
+pub only_most : (n a : ℕ) → upto (only n) a ≤ 1
 unfolding upto
 only_most n zero = omega arith
 only_most n (suc a) = go (cases_eq (suc a) n) (only_most n a)
@@ -50,7 +50,7 @@ only_most n (suc a) = go (cases_eq (suc a) n) (only_most n a)
     go (inl is) ih = let none = only_above n a (omega (arith, is)) in let one = only-same n (suc a) is in omega (arith, none, one)
     go (inr other) ih = let none = only-other n (suc a) other in omega (arith, none, ih)
 
-only_within : (n a : ℕ) → 1 ≤ n → n ≤ a → upto (only n) a ≡ 1
+pub only_within : (n a : ℕ) → 1 ≤ n → n ≤ a → upto (only n) a ≡ 1
 unfolding upto
 only_within n zero low high = absurd (omega (arith, low, high))
 only_within n (suc a) low high = go (cases_eq (suc a) n) (only_within n a low)
@@ -85,19 +85,19 @@ module _ {K : Type 0} where
 
   -- The balance.
 
-  weigh_asks : (ℕ → ℕ) → Option (Request K) → ℕ
+  unfoldable pub weigh_asks : (ℕ → ℕ) → Option (Request K) → ℕ
   weigh_asks w None = 0
   weigh_asks w (Some q) = weigh_flight w q.flight
 
-  flies : (ℕ → Option (Request K)) → List (Entry K) → ℕ → Bool
+  unfoldable pub flies : (ℕ → Option (Request K)) → List (Entry K) → ℕ → Bool
   flies asks entries c = is_some (asks c) && not (is_ended (own c entries))
 
-  live : (ℕ → Option (Request K)) → List (Entry K) → (ℕ → ℕ) → ℕ → ℕ
+  unfoldable pub live : (ℕ → Option (Request K)) → List (Entry K) → (ℕ → ℕ) → ℕ → ℕ
   live asks entries w c = if flies asks entries c then weigh_asks w (asks c) else 0
 
   -- What was freed and what is in flight is what was admitted. Nothing is filed under what was not asked. Nothing follows a free.
-  record Sound (issued admitted : ℕ) (asks : ℕ → Option (Request K)) (entries : List (Entry K)) : Type 0 where
-    balance : (w : ℕ → ℕ) → weigh w (notes entries) + upto (live asks entries w) issued ≡ upto w admitted
+  pub record Sound (issued admitted : ℕ) (asks : ℕ → Option (Request K)) (entries : List (Entry K)) : Type 0 where
+    pub balance : (w : ℕ → ℕ) → weigh w (notes entries) + upto (live asks entries w) issued ≡ upto w admitted
     past : (c : ℕ) → asks c ≡ None → own c entries ≡ []
     last : (n : ℕ) → FreeIsLast (notes_by n (notes entries))
     fewer : (n : ℕ) → Fewer n (notes entries)
@@ -281,7 +281,7 @@ module _ {K : Type 0} where
 
   -- Histories.
 
-  IsSound : History K → Known K → Type 0
+  unfoldable pub IsSound : History K → Known K → Type 0
   IsSound before known = Sound (asked before).issued (asked before).admitted (request before) known.entries
 
   module _ (before : History K) where
@@ -374,7 +374,7 @@ module _ {K : Type 0} where
   unfolding upto Fewer
   nothing_sound = record { balance = λ w. refl; past = λ c none. refl; last = λ n. tt; fewer = λ n. omega arith }
 
-  is_sound : (history : History K) → IsSound history (reading history).known
+  pub is_sound : (history : History K) → IsSound history (reading history).known
   unfolding IsSound
   is_sound [] = nothing_sound
   is_sound (Set setting ∷ before) = is_sound before

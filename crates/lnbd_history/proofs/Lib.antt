@@ -1,5 +1,6 @@
 pub mod Bytes
 mod Rows
+mod LiveRows
 pub mod PartLaws
 pub mod Agree
 pub mod Cuts
@@ -9,3 +10,6 @@ pub mod Flies
 pub mod Weights
 pub mod Freed
 pub mod Steady
+pub mod ByName
+pub mod Filled
+pub mod Live

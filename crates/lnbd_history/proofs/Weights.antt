@@ -35,10 +35,10 @@ weigh-append w (note.Freed slot ∷ xs) ys = omega (arith, weigh-append w xs ys)
 abbrev pub only : ℕ → ℕ → ℕ
 only n m = if m == n then 1 else 0
 
-only-same : (n m : ℕ) → (m == n) ≡ true → only n m ≡ 1
+pub only-same : (n m : ℕ) → (m == n) ≡ true → only n m ≡ 1
 only-same n m e = ap (λ (b : Bool). if b then 1 else 0) e
 
-only-other : (n m : ℕ) → (m == n) ≡ false → only n m ≡ 0
+pub only-other : (n m : ℕ) → (m == n) ≡ false → only n m ≡ 0
 only-other n m e = ap (λ (b : Bool). if b then 1 else 0) e
 
 only-none : (n m : ℕ) → only n m ≡ 0 → (m == n) ≡ false

@@ -8,4 +8,6 @@ pub mod History
 pub mod Answers
 pub mod Refusals
 pub mod Talk
+pub mod Filled
 pub mod Laws
+pub mod Live

@@ -1,6 +1,7 @@
 //! Laws of what histories mean. Each is the contract of a function that does nothing.
 
 ghost use Rattle.lnbd_history.specs.Laws.{CutsDoNotMatter, CallbacksAreCalledOnce, CloseFreesAll};
+ghost use Rattle.lnbd_history.specs.Filled.{ExportIsAwaited, ExportIsTold, ExportIsTooBig, ContentIsShown, PayloadIsFilled};
 ghost use Rattle.lnbd_history.specs.Talk.{ComesToAgreed};
 
 /// Negotiation that keeps no list, taken one turn at a time, comes to what all turns agree on.
@@ -23,4 +24,18 @@ pub fn callbacks_are_called_once<K>()
 /// After a close each callback that was admitted was freed exactly once.
 pub fn close_frees_all<K>()
     ensures { CloseFreesAll K }
+{}
+
+/// The reply to EXPORT_NAME is taken when it is there whole, and tells the size and the flags that its bytes spell.
+pub fn export_name_reply_is_filled()
+    ensures awaited { ExportIsAwaited }
+    ensures told { ExportIsTold }
+    ensures too_big { ExportIsTooBig }
+{}
+
+/// The content of a reply is what stands behind its head, as many bytes as the read asked, and the read's
+/// buffer holds just these.
+pub fn payload_is_filled<K>()
+    ensures shown { ContentIsShown }
+    ensures filled { PayloadIsFilled K }
 {}

@@ -48,6 +48,19 @@ pub enum Breach {
     TooManyErrors,
 }
 
+/// How a peer kept a run from being done.
+#[derive(Clone, Copy, Debug, PartialEq, Eq)]
+pub enum Broken {
+    /// It broke the protocol.
+    Breach(Breach),
+    /// It told faulty content.
+    Content,
+    /// It ended the connection before the run was done.
+    Ended,
+    /// What it told differs from what it told before.
+    Differs,
+}
+
 impl Breach {
     ghost use Rattle.lnbd_model.specs.declared.breach.Breach.{Breach};
 

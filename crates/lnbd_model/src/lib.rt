@@ -15,7 +15,7 @@ mod state;
 mod target;
 mod text;
 
-pub use breach::Breach;
+pub use breach::{Breach, Broken};
 pub use errors::{
     EINVAL, EIO, ENOMEM, ENOSPC, ENOTCONN, ENOTSUP, EOVERFLOW, EPERM, EPROTO, ESHUTDOWN, told_error,
 };

@@ -58,10 +58,7 @@ pub fn read_asked(alloc: Global, option: u32, bytes: &[u8]) -> Result<Request, O
 fn name(alloc: Global, bytes: &[u8]) -> Result<Request, OptionFault>
     ensures { AskedAs (Some (asked.Name bytes.now)) result }
 {
-    match text(alloc, bytes) {
-        Ok(name) => Ok(Request::Name(name)),
-        Err(fault) => Err(fault),
-    }
+    Ok(Request::Name(text(alloc, bytes)?))
 }
 
 fn info(alloc: Global, bytes: &[u8]) -> Result<Request, OptionFault>
@@ -88,10 +85,7 @@ fn info_of(alloc: Global, name: &[u8], types: &[u8], count: usize) -> Result<Req
     requires { length types.now ≡ 2 * count }
     ensures { AskedAs (Some (asked.Info name.now (types_in count types.now))) result }
 {
-    let name = match text(alloc, name) {
-        Ok(name) => name,
-        Err(fault) => return Err(fault),
-    };
+    let name = text(alloc, name)?;
     let wants_name = has_type(types, count, NAME);
     let wants_description = has_type(types, count, DESCRIPTION);
     Ok(Request::Info {
@@ -139,14 +133,9 @@ fn meta_of(alloc: Global, name: &[u8], queries: &[u8], count: u32) -> Result<Req
     requires { is_some (texts_in count queries.now) ≡ true }
     ensures { AskedAs (asked.with_name name.now (texts_in count queries.now)) result }
 {
-    let name = match text(alloc, name) {
-        Ok(name) => name,
-        Err(fault) => return Err(fault),
-    };
-    match texts(alloc, queries, count) {
-        Ok(queries) => Ok(Request::Meta { name, queries }),
-        Err(fault) => Err(fault),
-    }
+    let name = text(alloc, name)?;
+    let queries = texts(alloc, queries, count)?;
+    Ok(Request::Meta { name, queries })
 }
 
 /// Whether so many texts, each behind its length, are all that stands there.
@@ -180,10 +169,7 @@ fn texts(alloc: Global, bytes: &[u8], count: u32) -> Result<Texts, OptionFault>
         let (_, behind) = rest.split_at(4 + size);
         let (_, part) = rest.split_at(4);
         let (part, _) = part.split_at(size);
-        let one = match text(alloc, part) {
-            Ok(one) => one,
-            Err(fault) => return Err(fault),
-        };
+        let one = text(alloc, part)?;
         list.push(one)?;
         rest = behind;
     }

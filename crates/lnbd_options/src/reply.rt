@@ -101,19 +101,13 @@ fn info_of(alloc: Global, kind: u16, bytes: &[u8]) -> Result<Info, OptionFault>
 fn name(alloc: Global, bytes: &[u8]) -> Result<Info, OptionFault>
     ensures { ReadAs info_told (Some (record { told = told.Name bytes.now; texts = is_text bytes.now })) result }
 {
-    match text(alloc, bytes) {
-        Ok(name) => Ok(Info::Name(name)),
-        Err(fault) => Err(fault),
-    }
+    Ok(Info::Name(text(alloc, bytes)?))
 }
 
 fn description(alloc: Global, bytes: &[u8]) -> Result<Info, OptionFault>
     ensures { ReadAs info_told (Some (record { told = told.Description bytes.now; texts = is_text bytes.now })) result }
 {
-    match text(alloc, bytes) {
-        Ok(description) => Ok(Info::Description(description)),
-        Err(fault) => Err(fault),
-    }
+    Ok(Info::Description(text(alloc, bytes)?))
 }
 
 /// Whether told sizes of blocks meet the test.
@@ -148,14 +142,8 @@ fn listed(alloc: Global, name: &[u8], description: &[u8]) -> Result<Listed, Opti
       texts = is_text name.now && is_text description.now;
     })) result }
 {
-    let name = match text(alloc, name) {
-        Ok(name) => name,
-        Err(fault) => return Err(fault),
-    };
-    let description = match text(alloc, description) {
-        Ok(description) => description,
-        Err(fault) => return Err(fault),
-    };
+    let name = text(alloc, name)?;
+    let description = text(alloc, description)?;
     Ok(Listed { name, description })
 }
 
@@ -165,8 +153,6 @@ fn context(alloc: Global, id: u32, name: &[u8]) -> Result<Context, OptionFault>
       texts = is_text name.now;
     })) result }
 {
-    match text(alloc, name) {
-        Ok(name) => Ok(Context { id, name }),
-        Err(fault) => Err(fault),
-    }
+    let name = text(alloc, name)?;
+    Ok(Context { id, name })
 }

@@ -93,34 +93,86 @@ fn requests_are_refused(rt: HostRuntime) -> Result<(), Fail> {
     Ok(())
 }
 
-// The heads of an INFO reply and of an UNSUP to GO, and parts of them.
+// Requests without a body: EXPORT_NAME for the empty name, LIST and STRUCTURED_REPLY.
 #[test]
-fn heads_are_read(rt: HostRuntime) {
-    let info = b"\x00\x03\xe8\x89\x04\x55\x65\xa9\x00\x00\x00\x07\x00\x00\x00\x03\x00\x00\x00\x0c";
-    let unsup = b"\x00\x03\xe8\x89\x04\x55\x65\xa9\x00\x00\x00\x07\x80\x00\x00\x01\x00\x00\x00\x00";
-    let head = OptionHead {
-        option: 7,
-        kind: 3,
-        length: 12,
-    };
-    let refused = OptionHead {
-        option: 7,
-        kind: 0x80000001,
-        length: 0,
-    };
+fn requests_without_a_body_are_put(rt: HostRuntime) -> Result<(), Fail> {
     let cases = [
-        (&info[..], Read64::Value(head)),
-        (&unsup[..], Read64::Value(refused)),
-        (&info[..19], Read64::NeedMore),
-        (&info[..7], Read64::NeedMore),
-        (&b"IHAVEOPT"[..], Read64::BadMagic(0x49484156454f5054)),
+        (1, b"IHAVEOPT\0\0\0\x01\0\0\0\0"),
+        (3, b"IHAVEOPT\0\0\0\x03\0\0\0\0"),
+        (8, b"IHAVEOPT\0\0\0\x08\0\0\0\0"),
     ];
-    for (bytes, read) in cases {
-        assert_eq!(rt; read_head(bytes), read);
+    for (option, request) in cases {
+        let mut out = Vec::new(rt.alloc());
+        put_option(rt.alloc(), option, &[], &mut out)?;
+        assert_eq!(rt; out.as_slice(), request.as_slice());
     }
+    Ok(())
 }
 
-// An export of 1 MiB with the flags 1; block sizes that count, and such that do not.
+// INFO and ACK to GO, UNSUP and TLS_REQD to GO, ACK to STRUCTURED_REPLY, SERVER to LIST, UNKNOWN to INFO.
+#[test]
+fn heads_are_read(rt: HostRuntime) {
+    let heads = [
+        (
+            7,
+            3,
+            12,
+            b"\0\x03\xe8\x89\x04\x55\x65\xa9\0\0\0\x07\0\0\0\x03\0\0\0\x0c",
+        ),
+        (
+            7,
+            1,
+            0,
+            b"\0\x03\xe8\x89\x04\x55\x65\xa9\0\0\0\x07\0\0\0\x01\0\0\0\0",
+        ),
+        (
+            7,
+            0x80000001,
+            0,
+            b"\0\x03\xe8\x89\x04\x55\x65\xa9\0\0\0\x07\x80\0\0\x01\0\0\0\0",
+        ),
+        (
+            7,
+            0x80000005,
+            0,
+            b"\0\x03\xe8\x89\x04\x55\x65\xa9\0\0\0\x07\x80\0\0\x05\0\0\0\0",
+        ),
+        (
+            8,
+            1,
+            0,
+            b"\0\x03\xe8\x89\x04\x55\x65\xa9\0\0\0\x08\0\0\0\x01\0\0\0\0",
+        ),
+        (
+            3,
+            2,
+            6,
+            b"\0\x03\xe8\x89\x04\x55\x65\xa9\0\0\0\x03\0\0\0\x02\0\0\0\x06",
+        ),
+        (
+            6,
+            0x80000006,
+            0,
+            b"\0\x03\xe8\x89\x04\x55\x65\xa9\0\0\0\x06\x80\0\0\x06\0\0\0\0",
+        ),
+    ];
+    for (option, kind, length, bytes) in heads {
+        let head = OptionHead {
+            option,
+            kind,
+            length,
+        };
+        assert_eq!(rt; read_head(&bytes[..]), Read64::Value(head));
+        assert_eq!(rt; read_head(&bytes[..19]), Read64::NeedMore);
+        assert_eq!(rt; read_head(&bytes[..7]), Read64::NeedMore);
+    }
+    assert_eq!(rt;
+        read_head(b"IHAVEOPT"),
+        Read64::BadMagic(0x49484156454f5054)
+    );
+}
+
+// An export of 1 MiB and one of 2^63 - 1 bytes, with the flags 1; block sizes that count, and such that do not.
 #[test]
 fn information_is_read(rt: HostRuntime) -> Result<(), Fail> {
     let export = read_info(
@@ -132,6 +184,16 @@ fn information_is_read(rt: HostRuntime) -> Result<(), Fail> {
             export,
             Info::Export {
                 size: 1048576,
+                flags: 1
+            }
+        )
+    );
+    let huge = read_info(rt.alloc(), b"\0\0\x7f\xff\xff\xff\xff\xff\xff\xff\0\x01")?;
+    assert!(rt;
+        matches!(
+            huge,
+            Info::Export {
+                size: 0x7fffffffffffffff,
                 flags: 1
             }
         )

@@ -1,1 +1,4 @@
-pub mod Plain
+pub mod Shown
+pub mod Standing
+pub mod Walked
+pub mod Laws

@@ -17,3 +17,16 @@ fn numbers_stand_highest_byte_first(rt: HostRuntime) -> Result<(), Fail> {
     assert_eq!(rt; out.as_slice(), b"NBDMAGICIHAVEOPT".as_slice());
     Ok(())
 }
+
+// The reply to EXPORT_NAME for an export of 4,096 bytes with the flags 1.
+#[test]
+fn fields_stand_one_after_another(rt: HostRuntime) -> Result<(), Fail> {
+    let reply = b"\0\0\0\0\0\0\x10\0\0\x01";
+    assert_eq!(rt; u64_at(reply, 0), 4096);
+    assert_eq!(rt; u16_at(reply, 8), 1);
+    let mut out = Vec::new(rt.alloc());
+    push_u64(&mut out, 4096)?;
+    push_u16(&mut out, 1)?;
+    assert_eq!(rt; out.as_slice(), reply.as_slice());
+    Ok(())
+}

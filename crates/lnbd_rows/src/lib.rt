@@ -1,5 +1,5 @@
 //! Whole sessions of the program over links, an input and outputs in memory: what the peer sends and what the
-//! script asks, and for them all that is printed, the status and, where it tells something, all that goes out.
+//! script asks, and for them all that is printed, the status and all that goes out over the link.
 //! Tests alone. What they expect was read off the protocol and the grammar of scripts by hand.
 #![tactic(auto)]
 

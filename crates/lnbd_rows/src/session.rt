@@ -47,8 +47,8 @@ pub struct Session<'a> {
     pub last: &'a str,
     pub err: &'a str,
     pub status: u8,
-    /// All that went out over the link, where it is to be compared.
-    pub written: Option<&'a str>,
+    /// All that goes out over the link, one part behind the other.
+    pub written: &'a [&'a str],
     /// The count of waiting at the end.
     pub waited: u64,
 }
@@ -68,7 +68,7 @@ pub const SESSION: Session<'static> = Session {
     last: "",
     err: "",
     status: 0,
-    written: None,
+    written: &[],
     waited: 0,
 };
 
@@ -90,6 +90,15 @@ fn bytes_of(alloc: Global, text: &str) -> Result<Vec<u8>, Fail> {
     let mut bytes = Vec::new(alloc);
     for word in text.split(' ') {
         push_word(alloc, &mut bytes, word)?;
+    }
+    Ok(bytes)
+}
+
+/// The bytes of several parts.
+fn all_of(alloc: Global, parts: &[&str]) -> Result<Vec<u8>, Fail> {
+    let mut bytes = Vec::new(alloc);
+    for part in parts {
+        bytes.extend_from_slice(bytes_of(alloc, part)?.as_slice())?;
     }
     Ok(bytes)
 }
@@ -172,10 +181,8 @@ fn play(rt: &impl Abort, alloc: Global, session: &Session) -> Result<(), Fail> {
     assert_eq!(rt; from_utf8(err.bytes())?, session.err, "{shows}");
     assert_eq!(rt; status, session.status, "{shows}");
     assert_eq!(rt; wires.idles(), session.waited, "{shows}");
-    if let Some(written) = session.written {
-        let written = bytes_of(alloc, written)?;
-        assert_eq!(rt; wires.written.as_slice(), written.as_slice(), "{shows}");
-    }
+    let written = all_of(alloc, session.written)?;
+    assert_eq!(rt; wires.written.as_slice(), written.as_slice(), "{shows}");
     Ok(())
 }
 

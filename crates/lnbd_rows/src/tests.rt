@@ -13,6 +13,9 @@ const GO: Told<'static> = Told::Bytes(
      0003e889045565a9 00000007 00000001 00000000",
 );
 
+/// The client's flags FIXED_NEWSTYLE and NO_ZEROES, and GO for the empty name with NAME, DESCRIPTION and BLOCK_SIZE.
+const HANDSHAKE: &str = "00000003 49484156454f5054 00000007 0000000c 00000000 0003 0001 0002 0003";
+
 const CONNECT: (&str, &str) = ("connect tcp localhost 10809", "connected");
 
 const SETTLE: (&str, &str) = ("settle", "settled");
@@ -37,13 +40,12 @@ static READS: [Session<'static>; 4] = [
             SETTLE,
         ],
         last: "opened 1 freed 1",
-        // The client's flags, GO for the empty name with three types of information, the read, and DISC.
-        written: Some(
-            "00000003 \
-             49484156454f5054 00000007 0000000c 00000000 0003 0001 0002 0003 \
-             25609513 0000 0000 0000000000000001 0000000000000000 00000200 \
-             25609513 0000 0002 0000000000000000 0000000000000000 00000000",
-        ),
+        // The read, and DISC.
+        written: &[
+            HANDSHAKE,
+            "25609513 0000 0000 0000000000000001 0000000000000000 00000200",
+            "25609513 0000 0002 0000000000000000 0000000000000000 00000000",
+        ],
         ..SESSION
     },
     Session {
@@ -56,6 +58,7 @@ static READS: [Session<'static>; 4] = [
             ("log", "freed 1\nend"),
         ],
         last: "opened 1 freed 1",
+        written: &[HANDSHAKE],
         ..SESSION
     },
     Session {
@@ -83,6 +86,12 @@ static READS: [Session<'static>; 4] = [
             ("peek", "none-left"),
         ],
         last: "opened 3 freed 3",
+        written: &[
+            HANDSHAKE,
+            "25609513 0000 0000 0000000000000001 0000000000000000 00000001",
+            "25609513 0000 0000 0000000000000002 0000000000000001 00000001",
+            "25609513 0000 0000 0000000000000003 0000000000000002 00000001",
+        ],
         ..SESSION
     },
     Session {
@@ -109,6 +118,11 @@ static READS: [Session<'static>; 4] = [
         last: "opened 2 freed 2",
         err: "lnbd: peer error command 5\n",
         status: 3,
+        written: &[
+            HANDSHAKE,
+            "25609513 0000 0000 0000000000000001 0000000000000000 00000200",
+            "25609513 0000 0000 0000000000000002 0000000000000200 00000003",
+        ],
         ..SESSION
     },
 ];
@@ -155,10 +169,10 @@ static STATES: [Session<'static>; 2] = [
         ],
         last: "opened 3 freed 3",
         // The client's flags, and GO for the export that was named before the connect.
-        written: Some(
-            "00000003 \
-             49484156454f5054 00000007 00000010 00000004 626c7565 0003 0001 0002 0003",
-        ),
+        written: &[
+            "00000003",
+            "49484156454f5054 00000007 00000010 00000004 626c7565 0003 0001 0002 0003",
+        ],
         ..SESSION
     },
     Session {
@@ -173,6 +187,7 @@ static STATES: [Session<'static>; 2] = [
             ("settle", "gone"),
         ],
         last: "opened 1 freed 1",
+        written: &[HANDSHAKE],
         ..SESSION
     },
 ];
@@ -190,7 +205,6 @@ static HANDSHAKES: [Session<'static>; 4] = [
         last: "opened 0 freed 0",
         err: "lnbd: peer broke OldStyle\n",
         status: 4,
-        written: Some(""),
         ..SESSION
     },
     Session {
@@ -200,7 +214,6 @@ static HANDSHAKES: [Session<'static>; 4] = [
         last: "opened 0 freed 0",
         err: "lnbd: peer broke NotFixed\n",
         status: 4,
-        written: Some(""),
         ..SESSION
     },
     Session {
@@ -226,11 +239,12 @@ static HANDSHAKES: [Session<'static>; 4] = [
             ("info", "info 4096 1 - - - false\nend"),
         ],
         last: "opened 0 freed 0",
-        written: Some(
-            "00000001 \
-             49484156454f5054 00000007 0000000c 00000000 0003 0001 0002 0003 \
-             49484156454f5054 00000001 00000000",
-        ),
+        // The client's flags, GO, and EXPORT_NAME for the empty name.
+        written: &[
+            "00000001",
+            "49484156454f5054 00000007 0000000c 00000000 0003 0001 0002 0003",
+            "49484156454f5054 00000001 00000000",
+        ],
         ..SESSION
     },
     Session {
@@ -250,6 +264,10 @@ static HANDSHAKES: [Session<'static>; 4] = [
         last: "opened 0 freed 0",
         err: "lnbd: peer error option 7 code 5\n",
         status: 3,
+        written: &[
+            "00000001",
+            "49484156454f5054 00000007 0000000c 00000000 0003 0001 0002 0003",
+        ],
         ..SESSION
     },
 ];
@@ -297,6 +315,13 @@ static DEATHS: [Session<'static>; 3] = [
         last: "opened 6 freed 6",
         err: "lnbd: peer broke Ended\n",
         status: 4,
+        written: &[
+            HANDSHAKE,
+            "25609513 0000 0000 0000000000000001 0000000000000000 00000200",
+            "25609513 0000 0000 0000000000000002 0000000000000000 00000200",
+            "25609513 0000 0000 0000000000000003 0000000000000000 00000200",
+            "25609513 0000 0000 0000",
+        ],
         ..SESSION
     },
     Session {
@@ -314,6 +339,10 @@ static DEATHS: [Session<'static>; 3] = [
         last: "opened 1 freed 1",
         err: "lnbd: peer broke UnknownCookie\n",
         status: 4,
+        written: &[
+            HANDSHAKE,
+            "25609513 0000 0000 0000000000000001 0000000000000000 00000200",
+        ],
         ..SESSION
     },
     Session {
@@ -331,6 +360,7 @@ static DEATHS: [Session<'static>; 3] = [
         last: "opened 1 freed 1",
         err: "lnbd: link fault\n",
         status: 5,
+        written: &[HANDSHAKE],
         ..SESSION
     },
 ];
@@ -357,6 +387,11 @@ static FIRST_EVENTS: [Session<'static>; 3] = [
         last: "opened 2 freed 2",
         err: "lnbd: peer error command 5\n",
         status: 3,
+        written: &[
+            HANDSHAKE,
+            "25609513 0000 0000 0000000000000001 0000000000000000 00000001",
+            "25609513 0000 0000 0000000000000002 0000000000000000 00000001",
+        ],
         ..SESSION
     },
     Session {
@@ -380,6 +415,10 @@ static FIRST_EVENTS: [Session<'static>; 3] = [
         last: "opened 1 freed 1",
         err: "lnbd: peer broke UnknownCookie\n",
         status: 4,
+        written: &[
+            HANDSHAKE,
+            "25609513 0000 0000 0000000000000001 0000000000000000 00000001",
+        ],
         ..SESSION
     },
     Session {
@@ -405,6 +444,11 @@ static FIRST_EVENTS: [Session<'static>; 3] = [
         err: "lnbd: peer silent\n",
         status: 7,
         waited: 1_000_000_000,
+        written: &[
+            HANDSHAKE,
+            "25609513 0000 0000 0000000000000001 0000000000000000 00000001",
+            "25609513 0000 0000 0000000000000002 0000000000000000 00000001",
+        ],
         ..SESSION
     },
 ];

@@ -17,7 +17,7 @@ use Rattle.lnbd_link.specs.Call as wire
 use Rattle.lnbd_script.specs.declared.keeper.Keeper.{Keeper}
 use Rattle.lnbd_script.specs.declared.event.Event.{Event}
 use Rattle.lnbd_script.specs.declared.event.Event.TheVariants.{Link, Broke, Peer}
-use Rattle.lnbd_script.specs.declared.event.Broken.TheVariants as broken
+use Rattle.lnbd_model.specs.declared.breach.Broken.TheVariants as broken
 use Rattle.lnbd_script.specs.declared.session.Session.{Session}
 use Rattle.lnbd_script.specs.Kept.{IsAsHanded, first_error, or_first}
 

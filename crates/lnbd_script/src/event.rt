@@ -3,17 +3,8 @@
 ghost use Rattle.std.specs.Prelude.{◌≡◌};
 ghost use Rattle.lnbd_script.specs.Seen.{death_in, death_of, event_of_error};
 
-use lnbd_model::{Breach, Cause, State};
+use lnbd_model::{Broken, Cause, State};
 use thiserror::Error;
-
-/// How the peer broke off.
-#[derive(Clone, Copy, Debug, PartialEq, Eq)]
-pub enum Broken {
-    /// It broke the protocol.
-    Breach(Breach),
-    /// It ended the connection before the run was done.
-    Ended,
-}
 
 /// An event after which a script goes on. The first decides how the run ends.
 #[derive(Clone, Copy, Debug, PartialEq, Eq)]

@@ -12,7 +12,8 @@ mod texts;
 mod told;
 mod turns;
 
-pub use event::{Broken, Event, PlayFault};
+pub use event::{Event, PlayFault};
 pub use lnbd_lines::{Line, Script, ScriptFault, parse};
+pub use lnbd_model::Broken;
 pub use playing::play;
 pub use streams::put;

@@ -4,93 +4,112 @@ use crate::{
 };
 use lnbd_model::Kind;
 
-// A reply without error to the first request, and what is told of its parts and of other bytes.
+// Replies to three requests, an error, and a cookie that nobody asked for; and what is told of other bytes.
 #[test]
-fn a_simple_reply_is_put_and_read(rt: HostRuntime) {
-    let bytes = *b"\x67\x44\x66\x98\x00\x00\x00\x1c\x00\x00\x00\x00\x00\x00\x00\x01";
-    let mut out = [0; 16];
-    put_simple(28, 1, &mut out);
-    assert_eq!(rt; out, bytes);
-    let head = SimpleHead {
-        error: 28,
-        cookie: 1,
-    };
-    let cases = [
-        (&bytes[..], Read::Value(head)),
-        (&bytes[..15], Read::NeedMore),
-        (&bytes[..4], Read::NeedMore),
-        (&bytes[..3], Read::NeedMore),
-        (&[][..], Read::NeedMore),
-        (&bytes[1..5], Read::BadMagic(0x44669800)),
-        (&[0xff; 17][..], Read::BadMagic(0xffffffff)),
+fn simple_replies_are_put_and_read(rt: HostRuntime) {
+    let replies = [
+        (0, 1, *b"\x67\x44\x66\x98\0\0\0\0\0\0\0\0\0\0\0\x01"),
+        (0, 2, *b"\x67\x44\x66\x98\0\0\0\0\0\0\0\0\0\0\0\x02"),
+        (0, 3, *b"\x67\x44\x66\x98\0\0\0\0\0\0\0\0\0\0\0\x03"),
+        (28, 1, *b"\x67\x44\x66\x98\0\0\0\x1c\0\0\0\0\0\0\0\x01"),
+        (0, 99, *b"\x67\x44\x66\x98\0\0\0\0\0\0\0\0\0\0\0\x63"),
     ];
-    for (part, read) in cases {
-        assert_eq!(rt; read_simple(part), read);
+    for (error, cookie, bytes) in replies {
+        let mut out = [0; 16];
+        put_simple(error, cookie, &mut out);
+        assert_eq!(rt; out, bytes);
+        assert_eq!(rt;
+            read_simple(&bytes),
+            Read::Value(SimpleHead { error, cookie })
+        );
+        assert_eq!(rt; read_simple(&bytes[..15]), Read::NeedMore);
+        assert_eq!(rt; read_simple(&bytes[..3]), Read::NeedMore);
+        assert_eq!(rt; read_simple(&bytes[1..]), Read::BadMagic(0x44669800));
     }
+    assert_eq!(rt; read_simple(&[]), Read::NeedMore);
+    assert_eq!(rt; read_simple(&[0xff; 17]), Read::BadMagic(0xffffffff));
 }
 
-// A read of 512 bytes from the export's start, and the end of a session.
+// A read of 512 bytes from the export's start, a write of 4 that is to be on disk, and the end of a session.
 #[test]
-fn a_request_is_put_and_read(rt: HostRuntime) {
-    let bytes =
-        *b"\x25\x60\x95\x13\x00\x00\x00\x00\x00\x00\x00\x00\x00\x00\x00\x01\x00\x00\x00\x00\x00\x00\x00\x00\x00\x00\x02\x00";
+fn requests_are_put_and_read(rt: HostRuntime) {
+    let read = *b"\x25\x60\x95\x13\0\0\0\0\0\0\0\0\0\0\0\x01\0\0\0\0\0\0\0\0\0\0\x02\0";
+    let write = *b"\x25\x60\x95\x13\0\x01\0\x01\0\0\0\0\0\0\0\x01\0\0\0\0\0\0\0\0\0\0\0\x04";
+    let end = *b"\x25\x60\x95\x13\0\0\0\x02\0\0\0\0\0\0\0\0\0\0\0\0\0\0\0\0\0\0\0\0";
     let mut out = [0; 28];
     put_request(Kind::Read, 0, 1, 0, 512, &mut out);
-    assert_eq!(rt; out, bytes);
+    assert_eq!(rt; out, read);
+    put_request(Kind::Write, 1, 1, 0, 4, &mut out);
+    assert_eq!(rt; out, write);
     put_disconnect(&mut out);
-    assert_eq!(rt;
-        out,
-        *b"\x25\x60\x95\x13\x00\x00\x00\x02\x00\x00\x00\x00\x00\x00\x00\x00\x00\x00\x00\x00\x00\x00\x00\x00\x00\x00\x00\x00"
-    );
-    let head = RequestHead {
-        flags: 0,
-        kind: 0,
-        cookie: 1,
-        offset: 0,
-        length: 512,
-    };
-    let cases = [
-        (&bytes[..], Read::Value(head)),
-        (&bytes[..27], Read::NeedMore),
-        (&bytes[..2], Read::NeedMore),
-        (&bytes[4..], Read::BadMagic(0)),
-    ];
-    for (part, read) in cases {
-        assert_eq!(rt; read_request(part), read);
+    assert_eq!(rt; out, end);
+    let heads = [(read, 0, 0, 1, 512), (write, 1, 1, 1, 4), (end, 0, 2, 0, 0)];
+    for (bytes, flags, kind, cookie, length) in heads {
+        let head = RequestHead {
+            flags,
+            kind,
+            cookie,
+            offset: 0,
+            length,
+        };
+        assert_eq!(rt; read_request(&bytes), Read::Value(head));
+        assert_eq!(rt; read_request(&bytes[..27]), Read::NeedMore);
+        assert_eq!(rt; read_request(&bytes[..2]), Read::NeedMore);
     }
+    assert_eq!(rt; read_request(&read[4..]), Read::BadMagic(0));
 }
 
-// The second chunk of a structured read: DONE, OFFSET_DATA, the second request, 16 bytes of payload.
+// Two reads, the first in two chunks, the last of each with DONE.
 #[test]
-fn a_chunk_head_is_put_and_read(rt: HostRuntime) {
-    let bytes =
-        *b"\x66\x8e\x33\xef\x00\x01\x00\x01\x00\x00\x00\x00\x00\x00\x00\x02\x00\x00\x00\x10";
-    let head = ChunkHead {
-        flags: 1,
-        kind: 1,
-        cookie: 2,
-        length: 16,
-    };
-    let mut out = [0; 20];
-    put_chunk_head(&head, &mut out);
-    assert_eq!(rt; out, bytes);
-    let cases = [
-        (&bytes[..], Read::Value(head)),
-        (&bytes[..19], Read::NeedMore),
-        (&bytes[..1], Read::NeedMore),
-        (&b"\x67\x44\x66\x98"[..], Read::BadMagic(0x67446698)),
+fn chunk_heads_are_put_and_read(rt: HostRuntime) {
+    let heads = [
+        (
+            0,
+            1,
+            12,
+            *b"\x66\x8e\x33\xef\0\0\0\x01\0\0\0\0\0\0\0\x01\0\0\0\x0c",
+        ),
+        (
+            1,
+            2,
+            16,
+            *b"\x66\x8e\x33\xef\0\x01\0\x01\0\0\0\0\0\0\0\x02\0\0\0\x10",
+        ),
+        (
+            1,
+            1,
+            12,
+            *b"\x66\x8e\x33\xef\0\x01\0\x01\0\0\0\0\0\0\0\x01\0\0\0\x0c",
+        ),
     ];
-    for (part, read) in cases {
-        assert_eq!(rt; read_chunk_head(part), read);
+    for (flags, cookie, length, bytes) in heads {
+        let head = ChunkHead {
+            flags,
+            kind: 1,
+            cookie,
+            length,
+        };
+        let mut out = [0; 20];
+        put_chunk_head(&head, &mut out);
+        assert_eq!(rt; out, bytes);
+        assert_eq!(rt; read_chunk_head(&bytes), Read::Value(head));
+        assert_eq!(rt; read_chunk_head(&bytes[..19]), Read::NeedMore);
+        assert_eq!(rt; read_chunk_head(&bytes[..1]), Read::NeedMore);
     }
+    assert_eq!(rt;
+        read_chunk_head(b"\x67\x44\x66\x98"),
+        Read::BadMagic(0x67446698)
+    );
 }
 
-// The hello with both flags; the oldstyle negotiation's second number.
+// The hello with both flags, with the first alone and with none; the oldstyle negotiation's second number.
 #[test]
 fn a_hello_is_read(rt: HostRuntime) {
     let bytes = *b"NBDMAGICIHAVEOPT\x00\x03";
     let cases = [
         (&bytes[..], HelloRead::Value(3)),
+        (&b"NBDMAGICIHAVEOPT\0\x01"[..], HelloRead::Value(1)),
+        (&b"NBDMAGICIHAVEOPT\0\0"[..], HelloRead::Value(0)),
         (&bytes[..17], HelloRead::NeedMore),
         (&bytes[..9], HelloRead::NeedMore),
         (&bytes[..7], HelloRead::NeedMore),

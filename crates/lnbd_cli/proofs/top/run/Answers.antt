@@ -2,7 +2,7 @@ use Rattle.std.proofs.Common.{ℕ, List, Err, arith}
 use Rattle.lnbd_script.specs.declared.event.PlayFault.TheVariants as play
 use Rattle.lnbd_cli.specs.declared.fault.Fault.TheVariants as fault
 use Rattle.lnbd_cli.specs.Runs.{Prints}
-use Rattle.lnbd_cli.proofs.RunLemmas.{bad, cut, line_of, memory_line, only_input, only_output, only_silent, played, short, waited}
+use Rattle.lnbd_cli.proofs.RunLemmas.{bad, bad_end, cut, known, line_of, memory_line, only_input, only_output, only_silent, played, short, waited}
 use Rattle.lnbd_cli.proofs.top.run.Goals as goal
 
 pub returns-clause-played : goal.returns-clause-played
@@ -31,3 +31,9 @@ returns-clause-input_line g c h = line_of c.print_end.result 10 c.tool-end.resul
 
 pub returns-clause-memory_line : goal.returns-clause-memory_line
 returns-clause-memory_line g c = memory_line c.print_end.result c.tool-end.result (λ (t : List ℕ). Prints (g.E.Sink.taken c.args.err.now) (g.E.Sink.taken c.print_end.new.err) (g.E.Sink.faults c.args.err.now) (g.E.Sink.faults c.print_end.new.err) t) c.print_end.ensures
+
+pub returns-clause-bad_script : goal.returns-clause-bad_script
+returns-clause-bad_script g c calls h = c.tool-end.ensures.bad_script calls (bad_end c.print_end.result c.tool-end.result (λ (t : List ℕ). Prints (g.E.Sink.taken c.args.err.now) (g.E.Sink.taken c.print_end.new.err) (g.E.Sink.faults c.args.err.now) (g.E.Sink.faults c.print_end.new.err) t) c.print_end.ensures h)
+
+pub returns-clause-known : goal.returns-clause-known
+returns-clause-known g c = known c.print_end.result c.tool-end.result (λ (t : List ℕ). Prints (g.E.Sink.taken c.args.err.now) (g.E.Sink.taken c.print_end.new.err) (g.E.Sink.faults c.args.err.now) (g.E.Sink.faults c.print_end.new.err) t) c.print_end.ensures

@@ -1,5 +1,6 @@
 use Rattle.std.proofs.Common.{◌≤◌, length, take, ◌-◌}
 use Rattle.lnbd_machine.specs.Laws.{IsPartial}
+use Rattle.lnbd_handle.specs.Held.{held_in}
 use Rattle.lnbd_handle.specs.Runs.{Runs}
 use Rattle.lnbd_handle.specs.Seen.{IsSound, machine_of}
 use Rattle.lnbd_handle.specs.Turns.{arriving}
@@ -10,8 +11,8 @@ abbrev pub invariant-loop-used : goal.invariant-loop-used
 invariant-loop-used g l = record {
   within : l.used ≤ length l.bytes;
   sound : IsSound l.connection;
-  partial : IsPartial (machine_of l.connection l.pending.items);
-  so_far : Runs g.K.Caller.steps (arriving (take l.used l.bytes)) (machine_of l.fn.connection l.fn.pending.items) (machine_of l.connection l.pending.items) l.fn.world l.world;
+  partial : IsPartial (machine_of l.connection (held_in l.pending));
+  so_far : Runs g.K.Caller.steps (arriving (take l.used l.bytes)) (machine_of l.fn.connection (held_in l.fn.pending)) (machine_of l.connection (held_in l.pending)) l.fn.world l.world;
 }
 
 abbrev pub decreases-loop-used : goal.decreases-loop-used

@@ -1,5 +1,6 @@
 use Rattle.std.proofs.Common.{take, OnOk, IfErr, subst}
 use Rattle.lnbd_history.specs.Events.{Arrived}
+use Rattle.lnbd_handle.specs.Held.{held_in}
 use Rattle.lnbd_handle.specs.Runs.{Answered}
 use Rattle.lnbd_handle.specs.Seen.{machine_of}
 use Rattle.lnbd_handle.proofs.ArriveLemmas.{arrives_partial, arrives_ok, arrives_short}
@@ -9,49 +10,49 @@ use Rattle.lnbd_handle.proofs.handle.Handle.arrive.Goals as goal
 pub invariant_of-self : goal.invariant_of-self
 invariant_of-self g c = (
   c.take_fresh.ensures.sound,
-  arrives_partial g.K.Caller.steps c.self.inside.connection c.take_fresh.new.connection c.self.inside.pending.items c.take_fresh.new.pending.items c.args.bytes.now c.args.world.now c.take_fresh.new.world c.take_fresh.result
+  arrives_partial g.K.Caller.steps c.self.inside.connection c.take_fresh.new.connection (held_in c.self.inside.pending) (held_in c.take_fresh.new.pending) c.args.bytes.now c.args.world.now c.take_fresh.new.world c.take_fresh.result
       c.take_fresh.ensures.arrives c.self.invariant.1,
 )
 
 pub invariant_of-self-else-is_empty : goal.invariant_of-self-else-is_empty
 invariant_of-self-else-is_empty g c = (
   c.take_behind.ensures.sound,
-  arrives_partial g.K.Caller.steps c.self.inside.connection c.take_behind.new.connection c.self.inside.pending.items c.take_behind.new.pending.items c.args.bytes.now c.args.world.now c.take_behind.new.world c.take_behind.result
+  arrives_partial g.K.Caller.steps c.self.inside.connection c.take_behind.new.connection (held_in c.self.inside.pending) (held_in c.take_behind.new.pending) c.args.bytes.now c.args.world.now c.take_behind.new.world c.take_behind.result
       c.take_behind.ensures.arrives c.self.invariant.1,
 )
 
 pub returns-then-is_empty-clause-ok : goal.returns-then-is_empty-clause-ok
 returns-then-is_empty-clause-ok g c =
-    subst (λ m. OnOk c.take_fresh.result (Answered g.K.Caller.steps (Arrived c.args.bytes.now) m (machine_of c.take_fresh.new.connection c.take_fresh.new.pending.items) c.args.world.now c.take_fresh.new.world)) c.self.view_is
-    (arrives_ok g.K.Caller.steps c.self.inside.connection c.take_fresh.new.connection c.self.inside.pending.items c.take_fresh.new.pending.items c.args.bytes.now c.args.world.now c.take_fresh.new.world c.take_fresh.result c.take_fresh.ensures.arrives)
+    subst (λ m. OnOk c.take_fresh.result (Answered g.K.Caller.steps (Arrived c.args.bytes.now) m (machine_of c.take_fresh.new.connection (held_in c.take_fresh.new.pending)) c.args.world.now c.take_fresh.new.world)) c.self.view_is
+    (arrives_ok g.K.Caller.steps c.self.inside.connection c.take_fresh.new.connection (held_in c.self.inside.pending) (held_in c.take_fresh.new.pending) c.args.bytes.now c.args.world.now c.take_fresh.new.world c.take_fresh.result c.take_fresh.ensures.arrives)
 
 pub returns-then-is_empty-clause-short : goal.returns-then-is_empty-clause-short
 returns-then-is_empty-clause-short g c =
-    subst (λ m. IfErr c.take_fresh.result (λ short. Answered g.K.Caller.steps (Arrived (take short.taken c.args.bytes.now)) m (machine_of c.take_fresh.new.connection c.take_fresh.new.pending.items) c.args.world.now c.take_fresh.new.world)) c.self.view_is
-    (arrives_short g.K.Caller.steps c.self.inside.connection c.take_fresh.new.connection c.self.inside.pending.items c.take_fresh.new.pending.items c.args.bytes.now c.args.world.now c.take_fresh.new.world c.take_fresh.result c.take_fresh.ensures.arrives)
+    subst (λ m. IfErr c.take_fresh.result (λ short. Answered g.K.Caller.steps (Arrived (take short.taken c.args.bytes.now)) m (machine_of c.take_fresh.new.connection (held_in c.take_fresh.new.pending)) c.args.world.now c.take_fresh.new.world)) c.self.view_is
+    (arrives_short g.K.Caller.steps c.self.inside.connection c.take_fresh.new.connection (held_in c.self.inside.pending) (held_in c.take_fresh.new.pending) c.args.bytes.now c.args.world.now c.take_fresh.new.world c.take_fresh.result c.take_fresh.ensures.arrives)
 
 pub returns-else-is_empty-clause-ok : goal.returns-else-is_empty-clause-ok
 returns-else-is_empty-clause-ok g c =
-    subst (λ m. OnOk c.take_behind.result (Answered g.K.Caller.steps (Arrived c.args.bytes.now) m (machine_of c.take_behind.new.connection c.take_behind.new.pending.items) c.args.world.now c.take_behind.new.world)) c.self.view_is
-    (arrives_ok g.K.Caller.steps c.self.inside.connection c.take_behind.new.connection c.self.inside.pending.items c.take_behind.new.pending.items c.args.bytes.now c.args.world.now c.take_behind.new.world c.take_behind.result c.take_behind.ensures.arrives)
+    subst (λ m. OnOk c.take_behind.result (Answered g.K.Caller.steps (Arrived c.args.bytes.now) m (machine_of c.take_behind.new.connection (held_in c.take_behind.new.pending)) c.args.world.now c.take_behind.new.world)) c.self.view_is
+    (arrives_ok g.K.Caller.steps c.self.inside.connection c.take_behind.new.connection (held_in c.self.inside.pending) (held_in c.take_behind.new.pending) c.args.bytes.now c.args.world.now c.take_behind.new.world c.take_behind.result c.take_behind.ensures.arrives)
 
 pub returns-else-is_empty-clause-short : goal.returns-else-is_empty-clause-short
 returns-else-is_empty-clause-short g c =
-    subst (λ m. IfErr c.take_behind.result (λ short. Answered g.K.Caller.steps (Arrived (take short.taken c.args.bytes.now)) m (machine_of c.take_behind.new.connection c.take_behind.new.pending.items) c.args.world.now c.take_behind.new.world)) c.self.view_is
-    (arrives_short g.K.Caller.steps c.self.inside.connection c.take_behind.new.connection c.self.inside.pending.items c.take_behind.new.pending.items c.args.bytes.now c.args.world.now c.take_behind.new.world c.take_behind.result c.take_behind.ensures.arrives)
+    subst (λ m. IfErr c.take_behind.result (λ short. Answered g.K.Caller.steps (Arrived (take short.taken c.args.bytes.now)) m (machine_of c.take_behind.new.connection (held_in c.take_behind.new.pending)) c.args.world.now c.take_behind.new.world)) c.self.view_is
+    (arrives_short g.K.Caller.steps c.self.inside.connection c.take_behind.new.connection (held_in c.self.inside.pending) (held_in c.take_behind.new.pending) c.args.bytes.now c.args.world.now c.take_behind.new.world c.take_behind.result c.take_behind.ensures.arrives)
 
 pub returns-then-is_empty-clause-stands : goal.returns-then-is_empty-clause-stands
 returns-then-is_empty-clause-stands g c =
-    arrived_adds g.K.Caller.steps c.args.self.now (machine_of c.take_fresh.new.connection c.take_fresh.new.pending.items) c.args.bytes.now c.args.world.now c.take_fresh.new.world c.requires c.take_fresh.result (returns-then-is_empty-clause-ok g c)
+    arrived_adds g.K.Caller.steps c.args.self.now (machine_of c.take_fresh.new.connection (held_in c.take_fresh.new.pending)) c.args.bytes.now c.args.world.now c.take_fresh.new.world c.requires c.take_fresh.result (returns-then-is_empty-clause-ok g c)
 
 pub returns-then-is_empty-clause-short_stands : goal.returns-then-is_empty-clause-short_stands
 returns-then-is_empty-clause-short_stands g c =
-    short_adds g.K.Caller.steps c.args.self.now (machine_of c.take_fresh.new.connection c.take_fresh.new.pending.items) c.args.bytes.now c.args.world.now c.take_fresh.new.world c.requires c.take_fresh.result (returns-then-is_empty-clause-short g c)
+    short_adds g.K.Caller.steps c.args.self.now (machine_of c.take_fresh.new.connection (held_in c.take_fresh.new.pending)) c.args.bytes.now c.args.world.now c.take_fresh.new.world c.requires c.take_fresh.result (returns-then-is_empty-clause-short g c)
 
 pub returns-else-is_empty-clause-stands : goal.returns-else-is_empty-clause-stands
 returns-else-is_empty-clause-stands g c =
-    arrived_adds g.K.Caller.steps c.args.self.now (machine_of c.take_behind.new.connection c.take_behind.new.pending.items) c.args.bytes.now c.args.world.now c.take_behind.new.world c.requires c.take_behind.result (returns-else-is_empty-clause-ok g c)
+    arrived_adds g.K.Caller.steps c.args.self.now (machine_of c.take_behind.new.connection (held_in c.take_behind.new.pending)) c.args.bytes.now c.args.world.now c.take_behind.new.world c.requires c.take_behind.result (returns-else-is_empty-clause-ok g c)
 
 pub returns-else-is_empty-clause-short_stands : goal.returns-else-is_empty-clause-short_stands
 returns-else-is_empty-clause-short_stands g c =
-    short_adds g.K.Caller.steps c.args.self.now (machine_of c.take_behind.new.connection c.take_behind.new.pending.items) c.args.bytes.now c.args.world.now c.take_behind.new.world c.requires c.take_behind.result (returns-else-is_empty-clause-short g c)
+    short_adds g.K.Caller.steps c.args.self.now (machine_of c.take_behind.new.connection (held_in c.take_behind.new.pending)) c.args.bytes.now c.args.world.now c.take_behind.new.world c.requires c.take_behind.result (returns-else-is_empty-clause-short g c)

@@ -1,15 +1,16 @@
 use Rattle.std.proofs.Common.{rules}
+use Rattle.lnbd_handle.specs.Held.{held_in}
 use Rattle.lnbd_handle.specs.Seen.{machine_of}
 use Rattle.lnbd_handle.proofs.ResultLemmas.{took_result}
 use Rattle.lnbd_handle.proofs.HistoryLemmas.{adds_result, completed_told}
 use Rattle.lnbd_handle.proofs.handle.Handle.command_completed.Goals as goal
 
 pub invariant_of-self : goal.invariant_of-self
-invariant_of-self g c = (took_result c.take_completed.result c.args.cookie c.self.inside.connection c.self.inside.pending.items c.take_completed.new.self c.take_completed.ensures.sound c.take_completed.ensures.completed c.take_completed.ensures.taken c.self.invariant).1
+invariant_of-self g c = (took_result c.take_completed.result c.args.cookie c.self.inside.connection (held_in c.self.inside.pending) c.take_completed.new.self c.take_completed.ensures.sound c.take_completed.ensures.completed c.take_completed.ensures.taken c.self.invariant).1
 
 pub returns-clause-stands : goal.returns-clause-stands
 returns-clause-stands g c =
-    adds_result c.take_completed.result c.args.cookie c.args.self.now (machine_of (record c.self.inside.connection { commands = c.take_completed.new.self }) c.self.inside.pending.items) (search rules) (search rules)
+    adds_result c.take_completed.result c.args.cookie c.args.self.now (machine_of (record c.self.inside.connection { commands = c.take_completed.new.self }) (held_in c.self.inside.pending)) (search rules) (search rules)
 
 pub returns-clause-told : goal.returns-clause-told
 returns-clause-told g c = completed_told c.args.self.now c.args.cookie c.take_completed.result (search rules)

@@ -11,5 +11,5 @@ invariant_of-result g c = (
     stands = ap (λ q. q.ended) c.in_ok-queue.ensures;
     counted = let n : ends_in (waits no_writes c.in_ok-queue.queue) ≡ 0 = ap (λ q. ends_in (waits no_writes q)) c.in_ok-queue.ensures in omega (arith, n);
   },
-  ap shows_ignored c.new-4.ensures.items,
+  ap shows_ignored c.new-4.ensures,
 )

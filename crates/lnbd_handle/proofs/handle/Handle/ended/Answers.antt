@@ -2,6 +2,7 @@ use Rattle.std.proofs.Common.{rules, refl, ap, subst}
 use Rattle.lnbd_model.specs.declared.state.Cause.TheVariants as cause
 use Rattle.lnbd_history.specs.Events.{End}
 use Rattle.lnbd_machine.specs.Machine.{ended_at, ended_closing, flying, kill}
+use Rattle.lnbd_handle.specs.Held.{held_in}
 use Rattle.lnbd_handle.specs.Runs.{under, Answered}
 use Rattle.lnbd_handle.specs.Seen.{machine_of}
 use Rattle.lnbd_handle.proofs.RunLemmas.{answered}
@@ -12,34 +13,34 @@ use Rattle.lnbd_handle.proofs.handle.Handle.ended.Goals as goal
 pub invariant_of-self-in-Disconnecting : goal.invariant_of-self-in-Disconnecting
 invariant_of-self-in-Disconnecting g c = (
   c.end_closing.ensures.sound,
-  partial_none c.end_closing.new.connection c.clear-in-Disconnecting.new.self.items c.clear-in-Disconnecting.ensures.items,
+  partial_none c.end_closing.new.connection (held_in c.clear-in-Disconnecting.new.self) c.clear-in-Disconnecting.ensures,
 )
 
 pub returns-in-Open-clause-answered : goal.returns-in-Open-clause-answered
 returns-in-Open-clause-answered g c =
-    let old = machine_of c.self.inside.connection c.self.inside.pending.items in
-    let new = machine_of c.die.new.connection c.clear.new.self.items in
+    let old = machine_of c.self.inside.connection (held_in c.self.inside.pending) in
+    let new = machine_of c.die.new.connection (held_in c.clear.new.self) in
     subst (λ m. Answered g.K.Caller.steps End m new c.args.world.now c.die.new.world) c.self.view_is
     (answered g.K.Caller.steps End (ended_at c.self.inside.connection.stage) old new c.args.world.now c.die.new.world (λ answers. refl)
     (runs_finish g.K.Caller.steps (kill cause.Ended) (ended_at c.self.inside.connection.stage) old new c.args.world.now c.die.new.world
-    (λ answers made. ap (λ s. ended_at s (under old answers made)) c.in-Open.is) c.clear.ensures.items c.die.ensures.acts))
+    (λ answers made. ap (λ s. ended_at s (under old answers made)) c.in-Open.is) c.clear.ensures c.die.ensures.acts))
 
 pub returns-in-Disconnecting-clause-answered : goal.returns-in-Disconnecting-clause-answered
 returns-in-Disconnecting-clause-answered g c =
-    let old = machine_of c.self.inside.connection c.self.inside.pending.items in
-    let new = machine_of c.end_closing.new.connection c.clear-in-Disconnecting.new.self.items in
+    let old = machine_of c.self.inside.connection (held_in c.self.inside.pending) in
+    let new = machine_of c.end_closing.new.connection (held_in c.clear-in-Disconnecting.new.self) in
     subst (λ m. Answered g.K.Caller.steps End m new c.args.world.now c.end_closing.new.world) c.self.view_is
     (answered g.K.Caller.steps End (ended_at c.self.inside.connection.stage) old new c.args.world.now c.end_closing.new.world (λ answers. refl)
     (runs_finish g.K.Caller.steps (ended_closing (flying c.self.inside.connection.commands.rows)) (ended_at c.self.inside.connection.stage) old new c.args.world.now c.end_closing.new.world
-    (λ answers made. ap (λ s. ended_at s (under old answers made)) c.in-Disconnecting.is) c.clear-in-Disconnecting.ensures.items c.end_closing.ensures.acts))
+    (λ answers made. ap (λ s. ended_at s (under old answers made)) c.in-Disconnecting.is) c.clear-in-Disconnecting.ensures c.end_closing.ensures.acts))
 
 pub returns-in-Open-clause-stands : goal.returns-in-Open-clause-stands
 returns-in-Open-clause-stands g c =
-    adds_answered g.K.Caller.steps c.args.self.now (machine_of c.die.new.connection c.clear.new.self.items) c.args.world.now c.die.new.world End (λ answers history. refl) (λ answers. tt) (returns-in-Open-clause-answered g c)
+    adds_answered g.K.Caller.steps c.args.self.now (machine_of c.die.new.connection (held_in c.clear.new.self)) c.args.world.now c.die.new.world End (λ answers history. refl) (λ answers. tt) (returns-in-Open-clause-answered g c)
 
 pub returns-in-Disconnecting-clause-stands : goal.returns-in-Disconnecting-clause-stands
 returns-in-Disconnecting-clause-stands g c =
-    adds_answered g.K.Caller.steps c.args.self.now (machine_of c.end_closing.new.connection c.clear-in-Disconnecting.new.self.items) c.args.world.now c.end_closing.new.world End (λ answers history. refl) (λ answers. tt) (returns-in-Disconnecting-clause-answered g c)
+    adds_answered g.K.Caller.steps c.args.self.now (machine_of c.end_closing.new.connection (held_in c.clear-in-Disconnecting.new.self)) c.args.world.now c.end_closing.new.world End (λ answers history. refl) (λ answers. tt) (returns-in-Disconnecting-clause-answered g c)
 
 pub returns-in-Aborting-clause-stands : goal.returns-in-Aborting-clause-stands
 returns-in-Aborting-clause-stands g c =

@@ -2,6 +2,7 @@ use Rattle.std.proofs.Common.{rules, refl, ap, subst}
 use Rattle.lnbd_model.specs.declared.state.Cause.TheVariants as cause
 use Rattle.lnbd_history.specs.Events.{LinkFailed}
 use Rattle.lnbd_machine.specs.Machine.{failed_at, kill}
+use Rattle.lnbd_handle.specs.Held.{held_in}
 use Rattle.lnbd_handle.specs.Runs.{under, Answered}
 use Rattle.lnbd_handle.specs.Seen.{machine_of}
 use Rattle.lnbd_handle.proofs.RunLemmas.{answered}
@@ -11,29 +12,29 @@ use Rattle.lnbd_handle.proofs.handle.Handle.link_failed.Goals as goal
 
 pub returns-in-Open-clause-answered : goal.returns-in-Open-clause-answered
 returns-in-Open-clause-answered g c =
-    let old = machine_of c.self.inside.connection c.self.inside.pending.items in
-    let new = machine_of c.die.new.connection c.clear.new.self.items in
+    let old = machine_of c.self.inside.connection (held_in c.self.inside.pending) in
+    let new = machine_of c.die.new.connection (held_in c.clear.new.self) in
     subst (λ m. Answered g.K.Caller.steps LinkFailed m new c.args.world.now c.die.new.world) c.self.view_is
     (answered g.K.Caller.steps LinkFailed (failed_at c.self.inside.connection.stage) old new c.args.world.now c.die.new.world (λ answers. refl)
     (runs_finish g.K.Caller.steps (kill cause.LinkFailed) (failed_at c.self.inside.connection.stage) old new c.args.world.now c.die.new.world
-    (λ answers made. ap (λ s. failed_at s (under old answers made)) c.in-Open.is) c.clear.ensures.items c.die.ensures.acts))
+    (λ answers made. ap (λ s. failed_at s (under old answers made)) c.in-Open.is) c.clear.ensures c.die.ensures.acts))
 
 pub returns-in-Disconnecting-clause-answered : goal.returns-in-Disconnecting-clause-answered
 returns-in-Disconnecting-clause-answered g c =
-    let old = machine_of c.self.inside.connection c.self.inside.pending.items in
-    let new = machine_of c.die-in-Disconnecting.new.connection c.clear-in-Disconnecting.new.self.items in
+    let old = machine_of c.self.inside.connection (held_in c.self.inside.pending) in
+    let new = machine_of c.die-in-Disconnecting.new.connection (held_in c.clear-in-Disconnecting.new.self) in
     subst (λ m. Answered g.K.Caller.steps LinkFailed m new c.args.world.now c.die-in-Disconnecting.new.world) c.self.view_is
     (answered g.K.Caller.steps LinkFailed (failed_at c.self.inside.connection.stage) old new c.args.world.now c.die-in-Disconnecting.new.world (λ answers. refl)
     (runs_finish g.K.Caller.steps (kill cause.LinkFailed) (failed_at c.self.inside.connection.stage) old new c.args.world.now c.die-in-Disconnecting.new.world
-    (λ answers made. ap (λ s. failed_at s (under old answers made)) c.in-Disconnecting.is) c.clear-in-Disconnecting.ensures.items c.die-in-Disconnecting.ensures.acts))
+    (λ answers made. ap (λ s. failed_at s (under old answers made)) c.in-Disconnecting.is) c.clear-in-Disconnecting.ensures c.die-in-Disconnecting.ensures.acts))
 
 pub returns-in-Open-clause-stands : goal.returns-in-Open-clause-stands
 returns-in-Open-clause-stands g c =
-    adds_answered g.K.Caller.steps c.args.self.now (machine_of c.die.new.connection c.clear.new.self.items) c.args.world.now c.die.new.world LinkFailed (λ answers history. refl) (λ answers. tt) (returns-in-Open-clause-answered g c)
+    adds_answered g.K.Caller.steps c.args.self.now (machine_of c.die.new.connection (held_in c.clear.new.self)) c.args.world.now c.die.new.world LinkFailed (λ answers history. refl) (λ answers. tt) (returns-in-Open-clause-answered g c)
 
 pub returns-in-Disconnecting-clause-stands : goal.returns-in-Disconnecting-clause-stands
 returns-in-Disconnecting-clause-stands g c =
-    adds_answered g.K.Caller.steps c.args.self.now (machine_of c.die-in-Disconnecting.new.connection c.clear-in-Disconnecting.new.self.items) c.args.world.now c.die-in-Disconnecting.new.world LinkFailed (λ answers history. refl) (λ answers. tt) (returns-in-Disconnecting-clause-answered g c)
+    adds_answered g.K.Caller.steps c.args.self.now (machine_of c.die-in-Disconnecting.new.connection (held_in c.clear-in-Disconnecting.new.self)) c.args.world.now c.die-in-Disconnecting.new.world LinkFailed (λ answers history. refl) (λ answers. tt) (returns-in-Disconnecting-clause-answered g c)
 
 pub returns-in-Aborting-clause-stands : goal.returns-in-Aborting-clause-stands
 returns-in-Aborting-clause-stands g c =

@@ -2,6 +2,7 @@ use Rattle.std.proofs.Common.{rules, refl, sym, subst}
 use Rattle.lnbd_history.specs.Events.{Wrote}
 use Rattle.lnbd_machine.specs.Laws.{IsPartial}
 use Rattle.lnbd_machine.proofs.Partial.{step_partial}
+use Rattle.lnbd_handle.specs.Held.{held_in}
 use Rattle.lnbd_handle.specs.Seen.{machine_of}
 use Rattle.lnbd_handle.proofs.HistoryLemmas.{adds}
 use Rattle.lnbd_handle.proofs.handle.Handle.wrote.Goals as goal
@@ -9,10 +10,10 @@ use Rattle.lnbd_handle.proofs.handle.Handle.wrote.Goals as goal
 pub invariant_of-self : goal.invariant_of-self
 invariant_of-self g c = (
   c.count_written.ensures.sound,
-  subst (λ s. IsPartial (record { known = s; pending = c.self.inside.pending.items })) (sym c.count_written.ensures.state)
-      (step_partial (Wrote c.args.n) (machine_of c.self.inside.connection c.self.inside.pending.items) tt c.self.invariant.1),
+  subst (λ s. IsPartial (record { known = s; pending = held_in c.self.inside.pending })) (sym c.count_written.ensures.state)
+      (step_partial (Wrote c.args.n) (machine_of c.self.inside.connection (held_in c.self.inside.pending)) tt c.self.invariant.1),
 )
 
 pub returns-clause-stands : goal.returns-clause-stands
 returns-clause-stands g c =
-    adds (Wrote c.args.n) c.args.self.now (machine_of c.count_written.new.connection c.self.inside.pending.items) (λ history. refl) (search rules) (search rules)
+    adds (Wrote c.args.n) c.args.self.now (machine_of c.count_written.new.connection (held_in c.self.inside.pending)) (λ history. refl) (search rules) (search rules)
