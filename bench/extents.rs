@@ -1,6 +1,17 @@
 // The same work in plain Rust: ranges kept in a BTreeMap from start to length, joined where they touch.
+// The words are counts, each with an order and a distance; ranges at a distance of 512 touch.
+// size: 200 x 1000 rising 1024
+// size: 200 x 1000 falling 1024
+// size: 200 x 1000 mixed 1024
+// size: 20 x 20000 rising 1024
+// size: 20000 falling 1024
+// size: 20000 mixed 1024
+// size: 5 x 200000 rising 1024
+// size: 200000 falling 512
+// size: 100000 mixed 512
 // size: 1000000 rising 1024
-// By hand: 1000000 falling 512 · 20000 falling 1024 · 20000 mixed 1024 · 100000 mixed 512
+// size: 1000000 rising 512
+// size: 1000000 falling 512
 use std::collections::BTreeMap;
 use std::env;
 

@@ -1,5 +1,7 @@
 // Puts and reads rounds of 16,384 simple replies; the first word says how many rounds, else one.
+// size: 61
 // size: 610
+// size: 6100
 
 use std::convert::TryInto;
 
