@@ -1,10 +1,7 @@
 # Each fault of the words, the script, the streams and the link has its status and its one line on standard error,
 # and one that can't be written changes no status.
-. checks/need.sh
-
 dir=$(mktemp -d)
-servers=()
-trap 'kill "${servers[@]}" 2>/dev/null; rm -rf "$dir"' EXIT
+trap 'rm -rf "$dir"' EXIT
 
 # told NAME STATUS LINE PRINTED: the run before ended with the status $code and wrote to "$dir/out" and "$dir/err".
 told() {
@@ -62,16 +59,3 @@ program=$(tools/built lnbd) || exit 1
 head -c 16777216 /dev/zero | (ulimit -v 12000 && timeout 60 "$program" nbdcalls) >"$dir/out" 2>"$dir/err"
 code=$?
 told 'a script that memory does not hold is want of memory' 9 'lnbd: no memory' ''
-
-need python3 python3
-python3 examples/dying-server.py reset 10874 2>"$dir/server" &
-servers+=($!)
-sed 's|^connect .*|connect tcp 127.0.0.1 10874|' examples/death.script >"$dir/script"
-# Until the server listens, the connect is a link fault.
-for _ in $(seq 50); do
-  timeout 20 ./lnbd nbdcalls <"$dir/script" >"$dir/out" 2>"$dir/err"
-  code=$?
-  [ "$code" -eq 5 ] || break
-  sleep 0.2
-done
-told 'a server that resets the connection has ended it' 4 'lnbd: peer broke Ended' "$(cat examples/reset.expected)"

@@ -219,17 +219,7 @@ impl<K> Row<K> {
     pub(crate) fn let_go(self)
         requires { self.flight ≡ None }
     {
-        let Row {
-            kind: _,
-            flags: _,
-            offset: _,
-            length: _,
-            flight,
-            buf: _,
-            error: _,
-            kept: _,
-        } = self;
-        none_left(flight);
+        none_left(self.into_flight());
     }
 }
 

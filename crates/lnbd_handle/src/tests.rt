@@ -4,6 +4,7 @@ use crate::{Completed, Handle, IssueFault, Peeked};
 use lnbd_callbacks::{Caller, Heard, Verdict};
 use lnbd_model::{Breach, Bytes, Cause, Extent, Note, State, Why};
 use std::alloc::Global;
+use std::process::Abort;
 use std::test::Fail;
 
 /// The server's hello, GO's reply for an export of 1 MiB with the flags 1, and its ACK.
@@ -66,105 +67,141 @@ impl Caller for Keeper {
     ghost append = { λ a b c first second one two. tt };
 }
 
-/// Hands in bytes, where the handle reads, and once more those that found no memory.
-fn feed(handle: &mut Handle<Keeper>, world: &mut u64, bytes: &[u8]) -> bool {
-    if handle.direction() == 0 {
-        return false;
+/// A handle with the world of its caller.
+struct Session {
+    alloc: Global,
+    world: u64,
+    handle: Handle<Keeper>,
+}
+
+impl Session {
+    /// Starts, and takes the hello and GO's answer.
+    fn begin(rt: &impl Abort, alloc: Global) -> Result<Session, Fail> {
+        let handle = Handle::create(alloc)?;
+        let mut session = Session {
+            alloc,
+            world: 0,
+            handle,
+        };
+        assert!(rt; session.handle.start().is_ok());
+        assert!(rt; session.feed(&HELLO));
+        assert!(rt; session.feed(&GO));
+        Ok(session)
     }
-    match handle.arrive(bytes, world) {
-        Ok(()) => true,
-        Err(short) => {
-            handle.direction() != 0 && handle.arrive(&bytes[short.taken..], world).is_ok()
+
+    /// The same, and issues so many reads at 0 into such a buffer, of which all requests go out.
+    fn reading(
+        rt: &impl Abort,
+        alloc: Global,
+        reads: u8,
+        buf: &[u8],
+        done: Keeper,
+    ) -> Result<Session, Fail> {
+        let mut session = Session::begin(rt, alloc)?;
+        for read in 0..reads {
+            assert_eq!(rt; session.pread(buf, done), u64::from(read) + 1);
+        }
+        // The client's flags and GO go out first.
+        for _ in 0..u64::from(reads) + 2 {
+            assert!(rt; session.goes_out(usize::MAX));
+        }
+        Ok(session)
+    }
+
+    /// Hands in bytes, where the handle reads, and once more those that found no memory.
+    fn feed(&mut self, bytes: &[u8]) -> bool {
+        if self.handle.direction() == 0 {
+            return false;
+        }
+        match self.handle.arrive(bytes, &mut self.world) {
+            Ok(()) => true,
+            Err(short) => {
+                self.handle.direction() != 0
+                    && self
+                        .handle
+                        .arrive(&bytes[short.taken..], &mut self.world)
+                        .is_ok()
+            }
         }
     }
-}
 
-/// Hands in bytes one by one.
-fn feed_by_byte(handle: &mut Handle<Keeper>, world: &mut u64, bytes: &[u8]) -> bool {
-    bytes.iter().all(|byte| feed(handle, world, &[*byte]))
-}
+    /// Hands in bytes one by one.
+    fn feed_by_byte(&mut self, bytes: &[u8]) -> bool {
+        let mut taken = true;
+        for byte in bytes {
+            taken = taken && self.feed(&[*byte]);
+        }
+        taken
+    }
 
-/// Whether this is offered next; it is taken.
-fn writes(handle: &mut Handle<Keeper>, wanted: &[u8]) -> bool {
-    let out = handle.out();
-    let count = out.len();
-    let same = out == wanted;
-    handle.wrote(count);
-    same
-}
+    /// Whether this is offered next; it is taken.
+    fn writes(&mut self, wanted: &[u8]) -> bool {
+        let out = self.handle.out();
+        let count = out.len();
+        let same = out == wanted;
+        self.handle.wrote(count);
+        same
+    }
 
-/// Takes what is offered next, up to so many bytes.
-fn goes_out_to(handle: &mut Handle<Keeper>, most: usize) -> bool {
-    let count = handle.out().len().min(most);
-    handle.wrote(count);
-    count != 0
-}
+    /// Takes what is offered next, up to so many bytes.
+    fn goes_out(&mut self, most: usize) -> bool {
+        let count = self.handle.out().len().min(most);
+        self.handle.wrote(count);
+        count != 0
+    }
 
-/// Takes what is offered next.
-fn goes_out(handle: &mut Handle<Keeper>) -> bool {
-    goes_out_to(handle, usize::MAX)
+    /// Issues a read at 0 into this buffer. 0 where it is refused or there is no memory.
+    fn pread(&mut self, buf: &[u8], done: Keeper) -> u64 {
+        let Ok(buf) = Vec::from_slice(self.alloc, buf) else {
+            return 0;
+        };
+        match self.handle.aio_pread(buf, 0, done, 0, &mut self.world) {
+            Ok(cookie) => cookie,
+            Err(_) => 0,
+        }
+    }
+
+    /// Whether a read at 0 into this buffer is refused for this reason, with the buffer handed back.
+    fn is_refused(&mut self, buf: &[u8], why: Why) -> bool {
+        let Ok(asked) = Vec::from_slice(self.alloc, buf) else {
+            return false;
+        };
+        match self.handle.aio_pread(asked, 0, KEEP, 0, &mut self.world) {
+            Err(
+                IssueFault::Refused {
+                    why: told,
+                    buf: back,
+                },
+            ) => told == why && back.as_slice() == buf,
+            Err(IssueFault::NoMemory { .. }) => false,
+            Ok(_) => false,
+        }
+    }
+
+    /// Whether the command of this cookie came to this error, 0 for none, and these bytes.
+    fn came_to(&mut self, cookie: u64, wanted: u32, bytes: &[u8]) -> bool {
+        match self.handle.command_completed(cookie) {
+            Completed::Done(buf) => wanted == 0 && buf.as_slice() == bytes,
+            Completed::Failed { error, buf } => wanted == error && buf.as_slice() == bytes,
+            Completed::NotYet | Completed::NoSuchCookie => false,
+        }
+    }
+
+    /// Closes, and tells how many callbacks were admitted and freed.
+    fn close(self) -> (u64, u64) {
+        let Session {
+            alloc: _,
+            world,
+            handle,
+        } = self;
+        let mut world = world;
+        let closed = handle.close(&mut world);
+        (closed.opened, closed.freed)
+    }
 }
 
 fn completed(slot: u64, error: u32, kept: bool) -> Note {
     Note::Completed { slot, error, kept }
-}
-
-/// Starts, and takes the hello and GO's answer.
-fn ready(handle: &mut Handle<Keeper>, world: &mut u64) -> bool {
-    handle.start().is_ok() && feed(handle, world, &HELLO) && feed(handle, world, &GO)
-}
-
-/// Issues a read at 0 into this buffer. 0 where it is refused or there is no memory.
-fn pread(
-    handle: &mut Handle<Keeper>,
-    alloc: Global,
-    world: &mut u64,
-    buf: &[u8],
-    done: Keeper,
-) -> u64 {
-    let Ok(buf) = Vec::from_slice(alloc, buf) else {
-        return 0;
-    };
-    match handle.aio_pread(buf, 0, done, 0, world) {
-        Ok(cookie) => cookie,
-        Err(_) => 0,
-    }
-}
-
-/// Whether a read at 0 into this buffer is refused for this reason, with the buffer handed back.
-fn is_refused(
-    handle: &mut Handle<Keeper>,
-    alloc: Global,
-    world: &mut u64,
-    buf: &[u8],
-    why: Why,
-) -> bool {
-    let Ok(asked) = Vec::from_slice(alloc, buf) else {
-        return false;
-    };
-    match handle.aio_pread(asked, 0, KEEP, 0, world) {
-        Err(
-            IssueFault::Refused {
-                why: told,
-                buf: back,
-            },
-        ) => told == why && back.as_slice() == buf,
-        Err(IssueFault::NoMemory { .. }) => false,
-        Ok(_) => false,
-    }
-}
-
-/// Whether this is the result of a command that came to this error, 0 for none, and these bytes.
-fn came_to(completed: Completed, wanted: u32, bytes: &[u8]) -> bool {
-    match completed {
-        Completed::Done(buf) => wanted == 0 && buf.as_slice() == bytes,
-        Completed::Failed { error, buf } => wanted == error && buf.as_slice() == bytes,
-        Completed::NotYet | Completed::NoSuchCookie => false,
-    }
-}
-
-fn is_unknown(completed: Completed) -> bool {
-    matches!(completed, Completed::NoSuchCookie)
 }
 
 /// A simple reply without an error, but for its data.
@@ -176,205 +213,123 @@ fn head(cookie: u8) -> [u8; 16] {
 
 #[test]
 fn a_read_and_the_end(rt: HostRuntime) -> Result<(), Fail> {
-    let mut world = 0;
-    let mut handle = Handle::create(rt.alloc())?;
-    assert!(rt; ready(&mut handle, &mut world));
-    assert!(rt; writes(&mut handle, b"\0\0\0\x03"));
-    assert!(rt; writes(&mut handle, &GO_REQUEST));
-    assert_eq!(rt; handle.state(), State::Ready);
-    assert_eq!(rt;
-        pread(&mut handle, rt.alloc(), &mut world, &[0xff; 512], KEEP),
-        1
-    );
-    assert!(rt; writes(&mut handle, &READ_REQUEST));
-    assert!(rt; feed(&mut handle, &mut world, &head(1)));
-    assert!(rt; feed(&mut handle, &mut world, &[0xab; 512]));
+    let mut session = Session::begin(&rt, rt.alloc())?;
+    assert!(rt; session.writes(b"\0\0\0\x03"));
+    assert!(rt; session.writes(&GO_REQUEST));
+    assert_eq!(rt; session.handle.state(), State::Ready);
+    assert_eq!(rt; session.pread(&[0xff; 512], KEEP), 1);
+    assert!(rt; session.writes(&READ_REQUEST));
+    assert!(rt; session.feed(&head(1)));
+    assert!(rt; session.feed(&[0xab; 512]));
     let wanted = [completed(1, 0, true), Note::Freed { slot: 1 }];
-    assert_eq!(rt; handle.log(), wanted.as_slice());
-    assert!(rt; came_to(handle.command_completed(1), 0, &[0xab; 512]));
-    assert!(rt; handle.aio_disconnect().is_ok());
-    assert!(rt; writes(&mut handle, &DISCONNECT));
-    handle.ended(&mut world);
-    assert_eq!(rt; handle.state(), State::Closed);
-    let closed = handle.close(&mut world);
-    assert_eq!(rt; (closed.opened, closed.freed), (1, 1));
+    assert_eq!(rt; session.handle.log(), wanted.as_slice());
+    assert!(rt; session.came_to(1, 0, &[0xab; 512]));
+    assert!(rt; session.handle.aio_disconnect().is_ok());
+    assert!(rt; session.writes(&DISCONNECT));
+    session.handle.ended(&mut session.world);
+    assert_eq!(rt; session.handle.state(), State::Closed);
+    assert_eq!(rt; session.close(), (1, 1));
     Ok(())
 }
 
 #[test]
 fn a_read_of_nothing_is_refused(rt: HostRuntime) -> Result<(), Fail> {
-    let mut world = 0;
-    let mut handle = Handle::create(rt.alloc())?;
-    assert!(rt; ready(&mut handle, &mut world));
-    assert!(rt; is_refused(&mut handle, rt.alloc(), &mut world, &[], Why::ZeroSize));
-    assert_eq!(rt; handle.log(), [Note::Freed { slot: 1 }].as_slice());
-    let closed = handle.close(&mut world);
-    assert_eq!(rt; (closed.opened, closed.freed), (1, 1));
+    let mut session = Session::begin(&rt, rt.alloc())?;
+    assert!(rt; session.is_refused(&[], Why::ZeroSize));
+    assert_eq!(rt; session.handle.log(), [Note::Freed { slot: 1 }].as_slice());
+    assert_eq!(rt; session.close(), (1, 1));
     Ok(())
 }
 
 #[test]
 fn replies_come_in_any_order_byte_by_byte(rt: HostRuntime) -> Result<(), Fail> {
-    let mut world = 0;
-    let mut handle = Handle::create(rt.alloc())?;
-    assert!(rt; ready(&mut handle, &mut world));
-    for cookie in 1..4 {
-        assert_eq!(rt;
-            pread(&mut handle, rt.alloc(), &mut world, &[0xff], KEEP),
-            cookie
-        );
-    }
-    for _ in 0..5 {
-        assert!(rt; goes_out(&mut handle));
-    }
+    let mut session = Session::reading(&rt, rt.alloc(), 3, &[0xff], KEEP)?;
     for (cookie, byte) in [(3, 0x33), (1, 0x11), (2, 0x22)] {
-        assert!(rt; feed_by_byte(&mut handle, &mut world, &head(cookie)));
-        assert!(rt; feed(&mut handle, &mut world, &[byte]));
+        assert!(rt; session.feed_by_byte(&head(cookie)));
+        assert!(rt; session.feed(&[byte]));
     }
-    assert_eq!(rt; handle.peek(), Peeked::Cookie(3));
+    assert_eq!(rt; session.handle.peek(), Peeked::Cookie(3));
     for (cookie, byte) in [(1, 0x11), (2, 0x22), (3, 0x33)] {
-        assert!(rt; came_to(handle.command_completed(cookie), 0, &[byte]));
+        assert!(rt; session.came_to(cookie, 0, &[byte]));
     }
-    assert_eq!(rt; handle.peek(), Peeked::NoneLeft);
-    let closed = handle.close(&mut world);
-    assert_eq!(rt; (closed.opened, closed.freed), (3, 3));
+    assert_eq!(rt; session.handle.peek(), Peeked::NoneLeft);
+    assert_eq!(rt; session.close(), (3, 3));
     Ok(())
 }
 
 #[test]
 fn data_comes_in_pieces(rt: HostRuntime) -> Result<(), Fail> {
-    let mut world = 0;
-    let mut handle = Handle::create(rt.alloc())?;
-    assert!(rt; ready(&mut handle, &mut world));
-    for cookie in 1..3 {
-        assert_eq!(rt;
-            pread(&mut handle, rt.alloc(), &mut world, &[0xff; 4], KEEP),
-            cookie
-        );
-    }
-    for _ in 0..4 {
-        assert!(rt; goes_out(&mut handle));
-    }
+    let mut session = Session::reading(&rt, rt.alloc(), 2, &[0xff; 4], KEEP)?;
     for (cookie, first, second) in [(2, b"ab", b"cd"), (1, b"ef", b"gh")] {
-        assert!(rt; feed(&mut handle, &mut world, &head(cookie)));
-        assert!(rt; feed(&mut handle, &mut world, first));
-        assert!(rt; feed(&mut handle, &mut world, second));
+        assert!(rt; session.feed(&head(cookie)));
+        assert!(rt; session.feed(first));
+        assert!(rt; session.feed(second));
     }
-    assert!(rt; came_to(handle.command_completed(2), 0, b"abcd"));
-    assert!(rt; came_to(handle.command_completed(1), 0, b"efgh"));
-    let closed = handle.close(&mut world);
-    assert_eq!(rt; (closed.opened, closed.freed), (2, 2));
+    assert!(rt; session.came_to(2, 0, b"abcd"));
+    assert!(rt; session.came_to(1, 0, b"efgh"));
+    assert_eq!(rt; session.close(), (2, 2));
     Ok(())
 }
 
 #[test]
 fn a_piece_ends_one_reply_and_brings_others(rt: HostRuntime) -> Result<(), Fail> {
-    let mut world = 0;
-    let mut handle = Handle::create(rt.alloc())?;
-    assert!(rt; ready(&mut handle, &mut world));
-    for cookie in 1..4 {
-        assert_eq!(rt;
-            pread(&mut handle, rt.alloc(), &mut world, &[0xff], KEEP),
-            cookie
-        );
-    }
-    for _ in 0..5 {
-        assert!(rt; goes_out(&mut handle));
-    }
+    let mut session = Session::reading(&rt, rt.alloc(), 3, &[0xff], KEEP)?;
     // The first piece has a part of the first head, the second ends in the third head.
-    assert!(rt; feed(&mut handle, &mut world, &REPLIES[..5]));
-    assert!(rt; feed(&mut handle, &mut world, &REPLIES[5..40]));
-    assert!(rt; feed(&mut handle, &mut world, &REPLIES[40..]));
+    assert!(rt; session.feed(&REPLIES[..5]));
+    assert!(rt; session.feed(&REPLIES[5..40]));
+    assert!(rt; session.feed(&REPLIES[40..]));
     for (cookie, byte) in [(1, 0x11), (2, 0x22), (3, 0x33)] {
-        assert!(rt; came_to(handle.command_completed(cookie), 0, &[byte]));
+        assert!(rt; session.came_to(cookie, 0, &[byte]));
     }
-    let closed = handle.close(&mut world);
-    assert_eq!(rt; (closed.opened, closed.freed), (3, 3));
+    assert_eq!(rt; session.close(), (3, 3));
     Ok(())
 }
 
 #[test]
 fn a_death_fails_all_that_were_left(rt: HostRuntime) -> Result<(), Fail> {
-    let mut world = 0;
-    let mut handle = Handle::create(rt.alloc())?;
-    assert!(rt; ready(&mut handle, &mut world));
-    for cookie in 1..6 {
-        assert_eq!(rt;
-            pread(&mut handle, rt.alloc(), &mut world, &[0xff; 512], KEEP),
-            cookie
-        );
+    let mut session = Session::reading(&rt, rt.alloc(), 1, &[0xff; 512], KEEP)?;
+    for cookie in 2..6 {
+        assert_eq!(rt; session.pread(&[0xff; 512], KEEP), cookie);
     }
-    // The client's flags, GO and one request go out whole, and ten bytes of the next.
-    for _ in 0..3 {
-        assert!(rt; goes_out(&mut handle));
-    }
-    assert!(rt; goes_out_to(&mut handle, 10));
-    handle.ended(&mut world);
-    assert_eq!(rt; handle.state(), State::Dead(Cause::Ended));
-    let notes = handle.log();
+    // One request went out whole, and ten bytes of the next go out.
+    assert!(rt; session.goes_out(10));
+    session.handle.ended(&mut session.world);
+    assert_eq!(rt; session.handle.state(), State::Dead(Cause::Ended));
+    let notes = session.handle.log();
     assert_eq!(rt; notes.len(), 10);
     for number in 1..6 {
         let at = 2 * (number as usize - 1);
         assert_eq!(rt; notes.get(at), Some(&completed(number, 107, true)));
         assert_eq!(rt; notes.get(at + 1), Some(&Note::Freed { slot: number }));
     }
-    assert!(rt; came_to(handle.command_completed(5), 107, &[0; 512]));
-    assert!(rt;
-        is_refused(
-            &mut handle,
-            rt.alloc(),
-            &mut world,
-            &[0xff],
-            Why::Dead(Cause::Ended)
-        )
-    );
-    let closed = handle.close(&mut world);
-    assert_eq!(rt; (closed.opened, closed.freed), (6, 6));
+    assert!(rt; session.came_to(5, 107, &[0; 512]));
+    assert!(rt; session.is_refused(&[0xff], Why::Dead(Cause::Ended)));
+    assert_eq!(rt; session.close(), (6, 6));
     Ok(())
 }
 
 #[test]
 fn a_callback_retires_its_command(rt: HostRuntime) -> Result<(), Fail> {
-    let mut world = 0;
-    let mut handle = Handle::create(rt.alloc())?;
-    assert!(rt; ready(&mut handle, &mut world));
-    assert_eq!(rt;
-        pread(&mut handle, rt.alloc(), &mut world, &[0xff; 512], RETIRE),
-        1
-    );
-    for _ in 0..3 {
-        assert!(rt; goes_out(&mut handle));
-    }
-    assert!(rt; feed(&mut handle, &mut world, &head(1)));
-    assert!(rt; feed(&mut handle, &mut world, &[0xab; 512]));
-    assert!(rt; is_unknown(handle.command_completed(1)));
+    let mut session = Session::reading(&rt, rt.alloc(), 1, &[0xff; 512], RETIRE)?;
+    assert!(rt; session.feed(&head(1)));
+    assert!(rt; session.feed(&[0xab; 512]));
+    assert!(rt; matches!(session.handle.command_completed(1), Completed::NoSuchCookie));
     let wanted = [completed(1, 0, false), Note::Freed { slot: 1 }];
-    assert_eq!(rt; handle.log(), wanted.as_slice());
-    let closed = handle.close(&mut world);
-    assert_eq!(rt; (closed.opened, closed.freed), (1, 1));
+    assert_eq!(rt; session.handle.log(), wanted.as_slice());
+    assert_eq!(rt; session.close(), (1, 1));
     Ok(())
 }
 
 #[test]
 fn an_unknown_cookie_is_a_breach(rt: HostRuntime) -> Result<(), Fail> {
-    let mut world = 0;
-    let mut handle = Handle::create(rt.alloc())?;
-    assert!(rt; ready(&mut handle, &mut world));
+    let mut session = Session::reading(&rt, rt.alloc(), 1, &[0xff; 512], KEEP)?;
+    assert!(rt; session.feed(&head(99)));
     assert_eq!(rt;
-        pread(&mut handle, rt.alloc(), &mut world, &[0xff; 512], KEEP),
-        1
-    );
-    for _ in 0..3 {
-        assert!(rt; goes_out(&mut handle));
-    }
-    assert!(rt; feed(&mut handle, &mut world, &head(99)));
-    assert_eq!(rt;
-        handle.state(),
+        session.handle.state(),
         State::Dead(Cause::Broke(Breach::UnknownCookie))
     );
-    assert!(rt; came_to(handle.command_completed(1), 107, &[0; 512]));
-    assert_eq!(rt; handle.direction(), 0);
-    let closed = handle.close(&mut world);
-    assert_eq!(rt; (closed.opened, closed.freed), (1, 1));
+    assert!(rt; session.came_to(1, 107, &[0; 512]));
+    assert_eq!(rt; session.handle.direction(), 0);
+    assert_eq!(rt; session.close(), (1, 1));
     Ok(())
 }
