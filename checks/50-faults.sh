@@ -28,7 +28,11 @@ script() {
   told "$@"
 }
 
-words 'no word'
+# Without a word the script ./lnbd prints a page; the program itself has its line.
+program=$(tools/built lnbd) || exit 1
+echo state | timeout 20 "$program" >"$dir/out" 2>"$dir/err"
+code=$?
+told 'no word is a usage fault of the program' 1 'lnbd: usage' ''
 words 'a word that names no tool' anything
 words 'a tool without its words' nbdcopy
 words 'a further word of nbdcalls' nbdcalls state
@@ -55,7 +59,6 @@ code=$?
 told 'a line that standard error does not take changes no status' 1 '' ''
 
 # 12,000 KiB hold the program, and no script of 16 MiB.
-program=$(tools/built lnbd) || exit 1
 head -c 16777216 /dev/zero | (ulimit -v 12000 && timeout 60 "$program" nbdcalls) >"$dir/out" 2>"$dir/err"
 code=$?
 told 'a script that memory does not hold is want of memory' 9 'lnbd: no memory' ''

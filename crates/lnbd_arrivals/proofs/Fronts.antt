@@ -9,8 +9,12 @@ use Rattle.lnbd_stream.specs.Stream.{fresh, settle, feed}
 use Rattle.lnbd_stream.specs.Grammar.{wants, once}
 use Rattle.lnbd_stream.proofs.Grammar.{once_there, once_some}
 use Rattle.lnbd_stream.proofs.Stream.{feed_found}
-use Rattle.lnbd_history.specs.Arrivals.{Shown, Hello, OptionReply, ExportReply, Reply, Broken, Passed, Ignored, Frame, Waiting, Sight, content_size, shows_hello, shows_option, shows_by_name, shows_frame, shows_simple, shows_whole}
-use Rattle.lnbd_history.proofs.Steady.{at_more}
+use Rattle.lnbd_chunks.specs.Chunk.{Waiting}
+use Rattle.lnbd_chunks.specs.Reply.{content_size, shows_simple}
+use Rattle.lnbd_chunks.proofs.Steady.{at_more}
+use Rattle.lnbd_history.specs.Arrivals.{Shown, Hello, OptionReply, ExportReply, Reply, Broken, Passed, Ignored, Frame, Sight, reply, shows_hello, shows_option, shows_by_name, shows_whole}
+use Rattle.lnbd_arrivals.specs.Frames.{shows_plain}
+use Rattle.lnbd_arrivals.proofs.Frames.{plain_is}
 use Rattle.lnbd_machine.specs.Machine.{Doing, enter, sight, waited, table_rules}
 use Rattle.lnbd_machine.proofs.Partial.{table_steady}
 
@@ -82,20 +86,20 @@ option_sized sight bytes told e =
 
 -- Simple replies.
 
-simple_some : (structured : Bool) (command : Waiting) (bytes : List ℕ) → 16 + content_size command (number_at 4 4 bytes) ≤ length bytes → is_some (shows_simple structured (Some command) bytes) ≡ true
+simple_some : (command : Waiting) (bytes : List ℕ) → 16 + content_size command (number_at 4 4 bytes) ≤ length bytes → is_some (shows_simple Broken reply false (Some command) bytes) ≡ true
 unfolding shows_simple
-simple_some structured command bytes h = some_wants _ _ _ (some_once (16 + content_size command (number_at 4 4 bytes)) bytes _ h refl)
+simple_some command bytes h = some_wants _ _ _ (some_once (16 + content_size command (number_at 4 4 bytes)) bytes _ h refl)
 
-frame_there : (structured : Bool) (waited : ℕ → Option Waiting) (bytes : List ℕ) (command : Waiting) → waited (number_at 8 8 bytes) ≡ Some command → 16 + content_size command (number_at 4 4 bytes) ≤ length bytes →
-    is_some (shows_frame structured waited bytes) ≡ true
-unfolding shows_frame
-frame_there structured waited bytes command waits h =
-    some_once 4 bytes _ (omega (arith, h)) (some_wants _ _ _ (some_once 16 bytes _ (omega (arith, h)) (ap (λ w. is_some (shows_simple structured w bytes)) waits ∙ simple_some structured command bytes h)))
+frame_there : (waited : ℕ → Option Waiting) (bytes : List ℕ) (command : Waiting) → waited (number_at 8 8 bytes) ≡ Some command → 16 + content_size command (number_at 4 4 bytes) ≤ length bytes →
+    is_some (shows_plain waited bytes) ≡ true
+frame_there waited bytes command waits h =
+    ap is_some (plain_is waited bytes)
+    ∙ some_once 4 bytes _ (omega (arith, h)) (some_wants _ _ _ (some_once 16 bytes _ (omega (arith, h)) (ap (λ w. is_some (shows_simple Broken reply false w bytes)) waits ∙ simple_some command bytes h)))
 
-simple_sized : (structured : Bool) (w : Option Waiting) (bytes : List ℕ) (frame : Frame) → shows_simple structured w bytes ≡ Some (Reply frame) → (command : Waiting) × (w ≡ Some command) × (16 + content_size command (number_at 4 4 bytes) ≤ length bytes)
+simple_sized : (w : Option Waiting) (bytes : List ℕ) (frame : Frame) → shows_simple Broken reply false w bytes ≡ Some (Reply frame) → (command : Waiting) × (w ≡ Some command) × (16 + content_size command (number_at 4 4 bytes) ≤ length bytes)
 unfolding shows_simple IsGood
-simple_sized structured None bytes frame e = cc
-simple_sized structured (Some command) bytes frame e =
+simple_sized None bytes frame e = cc
+simple_sized (Some command) bytes frame e =
     (command, refl, (once_some (16 + content_size command (number_at 4 4 bytes)) bytes _ (Reply frame) (good _ _ _ (Reply frame) tt e)).0)
 
 record Sized (waited : ℕ → Option Waiting) (bytes : List ℕ) : Type 0 where
@@ -104,12 +108,12 @@ record Sized (waited : ℕ → Option Waiting) (bytes : List ℕ) : Type 0 where
   waits : waited (number_at 8 8 bytes) ≡ Some command
   there : 16 + content_size command (number_at 4 4 bytes) ≤ length bytes
 
-frame_sized : (structured : Bool) (waited : ℕ → Option Waiting) (bytes : List ℕ) (frame : Frame) → shows_frame structured waited bytes ≡ Some (Reply frame) → Sized waited bytes
-unfolding shows_frame IsGood
-frame_sized structured waited bytes frame e =
-    let a = once_some 4 bytes _ (Reply frame) e in
+frame_sized : (waited : ℕ → Option Waiting) (bytes : List ℕ) (frame : Frame) → shows_plain waited bytes ≡ Some (Reply frame) → Sized waited bytes
+unfolding IsGood
+frame_sized waited bytes frame e =
+    let a = once_some 4 bytes _ (Reply frame) (sym (plain_is waited bytes) ∙ e) in
     let b = once_some 16 bytes _ (Reply frame) (good _ _ _ (Reply frame) tt a.1) in
-    let s = simple_sized structured (waited (number_at 8 8 bytes)) bytes frame b.1 in
+    let s = simple_sized (waited (number_at 8 8 bytes)) bytes frame b.1 in
     record { head = b.0; command = s.0; waits = s.1; there = s.2 }
 
 no_more : (more : List ℕ) → length more ≡ 0 → more ≡ []
@@ -183,10 +187,10 @@ module _ {K : Type 0} where
       let equal : size ≡ number_at 16 4 x = sized ∙ ap (number_at 16 4) all ∙ at_more 16 4 x y (omega (arith, enough)) in
       omega (arith, enough, equal))
 
-  pub took_frame : (doing : Doing K) (rest : List ℕ) (structured : Bool) (size error : ℕ) (command : Waiting) (frame : Frame) → ((b : List ℕ) → shows doing b ≡ shows_frame structured (waited doing.state) b) →
+  pub took_frame : (doing : Doing K) (rest : List ℕ) (size error : ℕ) (command : Waiting) (frame : Frame) → ((b : List ℕ) → shows doing b ≡ shows_plain (waited doing.state) b) →
       waited doing.state (number_at 8 8 rest) ≡ Some command → error ≡ number_at 4 4 rest → size ≡ content_size command error → 16 + size ≤ length rest →
-      shows_frame structured (waited doing.state) rest ≡ Some (Reply frame) → feed (table_rules {K = K}) (fresh doing) (take (16 + size) rest) ≡ fresh (enter (Reply frame) doing)
-  took_frame doing rest structured size error command frame same waits err sized fits e =
+      shows_plain (waited doing.state) rest ≡ Some (Reply frame) → feed (table_rules {K = K}) (fresh doing) (take (16 + size) rest) ≡ fresh (enter (Reply frame) doing)
+  took_frame doing rest size error command frame same waits err sized fits e =
       let front = take (16 + size) rest in
       let long : length front ≡ 16 + size = length-take-le (16 + size) rest fits in
       let cookie : number_at 8 8 front ≡ number_at 8 8 rest = first_at 8 8 (16 + size) rest fits (omega arith) in
@@ -194,9 +198,9 @@ module _ {K : Type 0} where
       let here : waited doing.state (number_at 8 8 front) ≡ Some command = ap (waited doing.state) cookie ∙ waits in
       let size_there : content_size command (number_at 4 4 front) ≡ size = ap (content_size command) error_there ∙ sym sized in
       took doing rest (16 + size) (Reply frame) fits (same rest ∙ e)
-      (ap is_some (same front) ∙ frame_there structured (waited doing.state) front command here (omega (arith, long, size_there)))
+      (ap is_some (same front) ∙ frame_there (waited doing.state) front command here (omega (arith, long, size_there)))
       (λ x y all shown.
-      let s = frame_sized structured (waited doing.state) x frame (sym (same x) ∙ shown) in
+      let s = frame_sized (waited doing.state) x frame (sym (same x) ∙ shown) in
       let cookie_x : number_at 8 8 rest ≡ number_at 8 8 x = ap (number_at 8 8) all ∙ at_more 8 8 x y (omega (arith, s.head)) in
       let error_x : number_at 4 4 rest ≡ number_at 4 4 x = ap (number_at 4 4) all ∙ at_more 4 4 x y (omega (arith, s.head)) in
       let one : Some s.command ≡ Some command = sym s.waits ∙ ap (waited doing.state) (sym cookie_x) ∙ waits in

@@ -1,10 +1,12 @@
-//! A simple reply at the front of some bytes.
+//! A simple reply at the front of some bytes, where structured replies and extended headers are off. Of other connections nothing is
+//! said here.
 
 ghost use Rattle.std.specs.Prelude.{◌≡◌, ◌≤◌, ◌&&◌, ℕ, Option, Some, None, IfSome, IsSome, IsTrue, ◌↔◌, true, false, if◌then◌else◌, nat_lt, length};
 ghost use Rattle.std.specs.Option.{option_map};
 ghost use Rattle.lnbd_records.specs.Numbers.{number_at};
-ghost use Rattle.lnbd_history.specs.Arrivals.{Waiting as Known, content_size};
-ghost use Rattle.lnbd_history.specs.Commands.{is_read};
+ghost use Rattle.lnbd_chunks.specs.Chunk.{Waiting as Known};
+ghost use Rattle.lnbd_chunks.specs.Reply.{content_size};
+ghost use Rattle.lnbd_model.specs.Kind.{is_read};
 ghost use Rattle.lnbd_commands.specs.Seen.{seen_waiting};
 ghost use Rattle.lnbd_arrivals.specs.Frames.{Announces, IsSuccess, SeenAs};
 
@@ -66,18 +68,10 @@ pub fn content_size(command: &Waiting, error: u32) -> u64
     }
 }
 
-/// Whether a simple reply may not answer the command: a read where structured replies are on.
-fn is_barred(structured: bool, kind: Kind) -> bool
-    ensures { result ≡ (structured && is_read kind) }
-{
-    structured && is_read(kind)
-}
-
 /// What the bytes at the front show, where the command of their cookie, if it waits, is this one (NBD
 /// protocol, "Simple reply message").
-#[tactic(auto, unfolding(lnbd_history::specs::Arrivals::shows_frame, lnbd_history::specs::Arrivals::shows_simple, lnbd_stream::specs::Grammar::once, lnbd_stream::specs::Grammar::wants))]
-pub fn look_frame(structured: bool, waiting: Option<Waiting>, bytes: &[u8]) -> Seen
-    ensures { (waited : ℕ → Option Known) → (16 ≤ length bytes.now → waited (number_at 8 8 bytes.now) ≡ option_map seen_waiting waiting) → SeenAs structured waited bytes.now result }
+pub fn look_frame(waiting: Option<Waiting>, bytes: &[u8]) -> Seen
+    ensures { (waited : ℕ → Option Known) → (16 ≤ length bytes.now → waited (number_at 8 8 bytes.now) ≡ option_map seen_waiting waiting) → SeenAs waited bytes.now result }
 {
     if bytes.len() < 4 {
         return Seen::Nothing;
@@ -93,9 +87,6 @@ pub fn look_frame(structured: bool, waiting: Option<Waiting>, bytes: &[u8]) -> S
     match waiting {
         None => Seen::Broken(Breach::UnknownCookie),
         Some(command) => {
-            if is_barred(structured, command.kind) {
-                return Seen::Broken(Breach::SimpleForRead);
-            }
             let size = content_size(&command, error);
             if ((bytes.len() - 16) as u64) < size {
                 Seen::Nothing
@@ -118,11 +109,11 @@ fn is_success(head: &[u8]) -> bool
 }
 
 /// The reply whose head these bytes are, where it brings data to the command that waits for its cookie.
-pub fn look_head(structured: bool, waiting: Option<Waiting>, head: &[u8]) -> Option<Announced>
-    ensures announces { IfSome result (λ announced. (waited : ℕ → Option Known) → (16 ≤ length head.now → waited (number_at 8 8 head.now) ≡ option_map seen_waiting waiting) → Announces structured waited head.now announced) }
+pub fn look_head(waiting: Option<Waiting>, head: &[u8]) -> Option<Announced>
+    ensures announces { IfSome result (λ announced. (waited : ℕ → Option Known) → (16 ≤ length head.now → waited (number_at 8 8 head.now) ≡ option_map seen_waiting waiting) → Announces waited head.now announced) }
 
-    // Each head of a reply without error to a read that waits is told, where structured replies are off.
-    ensures all { (command : Known) → option_map seen_waiting waiting ≡ Some command → is_read command.kind ≡ true → structured ≡ false → IsSuccess head.now → IsSome result }
+    // Each head of a reply without error to a read that waits is told.
+    ensures all { (command : Known) → option_map seen_waiting waiting ≡ Some command → is_read command.kind ≡ true → IsSuccess head.now → IsSome result }
 {
     if !is_success(head) {
         return None;
@@ -130,7 +121,7 @@ pub fn look_head(structured: bool, waiting: Option<Waiting>, head: &[u8]) -> Opt
     match waiting {
         None => None,
         Some(command) => {
-            if structured || !is_read(command.kind) {
+            if !is_read(command.kind) {
                 return None;
             }
             Some(Announced {

@@ -1,6 +1,9 @@
 pub mod Seen
 pub mod Costs
+pub mod Sums
+pub mod Owed
 pub mod Rows
 pub mod Filing
 pub mod Refusals
+pub mod Idle
 pub mod Spending

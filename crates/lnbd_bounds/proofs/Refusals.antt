@@ -1,5 +1,5 @@
 -- A handle whose GO was refused doesn't speak.
-use Rattle.std.proofs.Common.{◌≡◌, ℕ, zero, suc, Bool, true, false, List, [], ◌∷◌, None, refl, ap, sym, ◌∙◌}
+use Rattle.std.proofs.Common.{◌≡◌, ℕ, zero, suc, Bool, true, false, List, [], None, refl, ap, sym, ◌∙◌}
 use Rattle.std.proofs.lemmas.Bool.{false≢true}
 use Rattle.lnbd_model.specs.declared.state.Cause.{Cause}
 use Rattle.lnbd_model.specs.declared.state.Cause.TheVariants as cause
@@ -14,12 +14,11 @@ use Rattle.lnbd_history.specs.Agreement.{Replied, after_hello}
 use Rattle.lnbd_history.specs.Answers.{state_at, state_after}
 use Rattle.lnbd_history.specs.Arrivals.{Shown, Hello, OptionReply, ExportReply, Reply, Broken, Passed, Ignored}
 use Rattle.lnbd_history.specs.Entries.{Framed, Dropped}
-use Rattle.lnbd_history.specs.Events.{Setting, Name, Context, Structured, OptMode as OptModeSet, Answer, Event, History, Set, Start, Opt, Abort, Issue, Refuse, Disconnect, Wrote, Arrived, End, LinkFailed, Retire, ClearLog, Close}
-use Rattle.lnbd_history.specs.Laws.{CanFollow, Lawful}
+use Rattle.lnbd_history.specs.Events.{Setting, Name, Context, Structured, Extended, OptMode as OptModeSet, Answer, Event, History, Set, StrictMode, Start, Opt, Abort, Issue, Refuse, Disconnect, Wrote, Arrived, End, LinkFailed, Retire, ClearLog, Close}
+use Rattle.lnbd_history.specs.Laws.{CanFollow}
 use Rattle.lnbd_keyed.specs.Keyed.{keys}
-use Rattle.lnbd_machine.specs.Machine.{State, Machine, Doing, on_state, turned, if_refused, enter, table_rules, begin, step, machine, kill, ended_closing, ended_at, failed_at, flying}
+use Rattle.lnbd_machine.specs.Machine.{State, Machine, Doing, on_state, turned, if_refused, enter, table_rules, begin, step, kill, ended_closing, ended_at, failed_at, flying}
 use Rattle.lnbd_machine.specs.Now.{state_now}
-use Rattle.lnbd_machine.proofs.Right.{machine_is_right}
 use Rattle.lnbd_machine.proofs.Speaking.{created_stage, not_refused_ready}
 use Rattle.lnbd_bounds.proofs.Filing.{file_same, file_all_same, kill_stage}
 
@@ -43,10 +42,11 @@ is_refused (Refused code) = true
 abbrev pub Goes : {K : Type 0} → State K → Type 0
 Goes now = speaks now.stage ≡ true → is_refused now.talk.phase ≡ false
 
-hello_goes : (structured opt : Bool) (wanted : List (List ℕ)) → is_refused (after_hello structured opt wanted) ≡ false
-hello_goes true opt wanted = refl
-hello_goes false true wanted = refl
-hello_goes false false wanted = refl
+hello_goes : (extended structured opt : Bool) (wanted : List (List ℕ)) → is_refused (after_hello extended structured opt wanted) ≡ false
+hello_goes true structured opt wanted = refl
+hello_goes false true opt wanted = refl
+hello_goes false false true wanted = refl
+hello_goes false false false wanted = refl
 
 ready_goes : (s : Stage) (p : Phase) → state_at s p ≡ state.Ready → is_refused p ≡ false
 ready_goes s Greeting e = refl
@@ -65,7 +65,7 @@ ready_goes s (Refused code) e = absurd (go s e)
     go (Dead cause) e = cc
 
 module _ {K : Type 0} where
-  dead_goes : (cause : Cause) (doing : Doing K) → Goes (kill cause doing).state
+  pub dead_goes : (cause : Cause) (doing : Doing K) → Goes (kill cause doing).state
   dead_goes cause doing = λ on. absurd (false≢true (sym (ap speaks (kill_stage cause doing)) ∙ on))
 
   refused_goes : (p : Phase) (doing : Doing K) → doing.state.talk.phase ≡ p → Goes (if_refused p doing).state
@@ -77,7 +77,7 @@ module _ {K : Type 0} where
   refused_goes Ready doing is = λ on. ap is_refused is
 
   enter_goes : (shown : Shown) (doing : Doing K) → Goes doing.state → Goes (enter shown doing).state
-  enter_goes (Hello flags) doing goes = λ on. hello_goes doing.state.talk.asks_structured doing.state.talk.opt_mode doing.state.talk.wanted
+  enter_goes (Hello flags) doing goes = λ on. hello_goes doing.state.talk.asks_extended doing.state.talk.asks_structured doing.state.talk.opt_mode doing.state.talk.wanted
   enter_goes (OptionReply told) doing goes = refused_goes _ (on_state (turned (Replied told)) doing) refl
   enter_goes (ExportReply size flags) doing goes = λ on. refl
   enter_goes (Reply frame) doing goes = λ on.
@@ -117,11 +117,13 @@ module _ {K : Type 0} where
   set_goes (Name name) now goes = goes
   set_goes (Context name) now goes = goes
   set_goes (Structured on) now goes = goes
+  set_goes (Extended on) now goes = goes
   set_goes (OptModeSet on) now goes = goes
 
   -- the stage and phase of a machine by which an event may follow
-  step_goes : (limit : ℕ) (before : History K) (event : Event K) (now : Machine K) → state_now now.known ≡ state_after before → CanFollow limit before event → Goes now.known → Goes (step now event).known
+  pub step_goes : (limit : ℕ) (before : History K) (event : Event K) (now : Machine K) → state_now now.known ≡ state_after before → CanFollow limit before event → Goes now.known → Goes (step now event).known
   step_goes limit before (Set setting) now same can goes = set_goes setting now goes
+  step_goes limit before (StrictMode bits) now same can goes = goes
   step_goes limit before Start now same can goes = λ on. goes (ap speaks (created_stage now.known.stage now.known.talk.phase (same ∙ can)))
   step_goes limit before (Opt option) now same can goes = λ on. refl
   step_goes limit before Abort now same can goes = λ on. absurd (false≢true on)
@@ -135,8 +137,3 @@ module _ {K : Type 0} where
   step_goes limit before (Retire cookie) now same can goes = goes
   step_goes limit before ClearLog now same can goes = goes
   step_goes limit before Close now same can goes = closed_goes now
-
-  pub machine_goes : (limit : ℕ) (history : History K) → Lawful limit history → Goes (machine history).known
-  machine_goes limit [] lawful = λ on. refl
-  machine_goes limit (event ∷ before) lawful =
-      step_goes limit before event (machine before) (machine_is_right limit before lawful.0).state lawful.2 (machine_goes limit before lawful.0)

@@ -1,5 +1,7 @@
 -- How many bytes may still come and go, and be held, without a new call of the caller. It is an upper bound, and a rough one.
 use Rattle.std.specs.Prelude.{◌≡◌, ℕ, ◌+◌, ◌-◌, ◌*◌, ◌<◌, true, List, [], ◌∷◌, length, map, is_some, if◌then◌else◌, ◌==◌}
+use Rattle.lnbd_model.specs.declared.export.Context.{Context as MetaContext}
+use Rattle.lnbd_records.specs.Limits.{max_data}
 use Rattle.lnbd_history.specs.declared.kinds.Phase.{Phase}
 use Rattle.lnbd_history.specs.declared.kinds.Phase.TheVariants.{Greeting, Asked, AskedByName, OptMode, Ready, Refused}
 use Rattle.lnbd_history.specs.declared.kinds.Stage.{Stage}
@@ -8,8 +10,9 @@ use Rattle.lnbd_history.specs.Answers.{is_living}
 use Rattle.lnbd_history.specs.Arrivals.{limit}
 use Rattle.lnbd_history.specs.Events.{Event, History, Wrote, Arrived, End, LinkFailed}
 use Rattle.lnbd_history.specs.Outgoing.{plain, request_at, total}
-use Rattle.lnbd_machine.specs.Machine.{Row, State, Machine, flying, step}
+use Rattle.lnbd_machine.specs.Machine.{Row, State, Machine, query_in, step}
 use Rattle.lnbd_standing.specs.Standing.{StandsFor, May}
+use Rattle.lnbd_bounds.specs.Owed.{owed}
 
 -- The most bytes of the next record, where a reply to a command has at most `frame`. An option reply has a head of 20 bytes,
 -- and at most 65,536 behind it. In opt mode no option is unanswered: a head is a breach.
@@ -22,14 +25,14 @@ most frame Ready = frame
 most frame (Refused code) = 0
 
 -- What may follow the next record. Each phase counts one, its request, its next record, and what may follow that.
-module _ (name : List ℕ) (contexts : List (List ℕ)) (frame commands : ℕ) where
+module _ (name : List ℕ) (contexts : List (List ℕ)) (frame frames : ℕ) where
   -- the request of a phase
   abbrev pub request : Phase → ℕ
   request phase = total (map plain (request_at phase name contexts))
 
-  -- one reply for each command in flight
+  -- the replies that may still come
   abbrev pub replies : ℕ
-  replies = commands * (1 + frame)
+  replies = frames * (1 + frame)
 
   abbrev pub ready : ℕ
   ready = 1 + frame + replies
@@ -43,7 +46,8 @@ module _ (name : List ℕ) (contexts : List (List ℕ)) (frame commands : ℕ) w
   asking option = request (Asked option) + (limit option + 1) * (1 + 20 + 65536)
 
   -- The answer to GO (7) may lead to EXPORT_NAME or to opt mode, that to SET_META_CONTEXT (10) to GO, that to
-  -- STRUCTURED_REPLY (8) to SET_META_CONTEXT, and the hello to STRUCTURED_REPLY.
+  -- STRUCTURED_REPLY (8) to SET_META_CONTEXT, that to EXTENDED_HEADERS (11) to STRUCTURED_REPLY, and the hello to
+  -- EXTENDED_HEADERS.
   unfoldable pub past_go : ℕ
   past_go = 1 + 20 + by_name
 
@@ -53,13 +57,17 @@ module _ (name : List ℕ) (contexts : List (List ℕ)) (frame commands : ℕ) w
   unfoldable pub past_structured : ℕ
   past_structured = asking 10 + past_contexts
 
+  unfoldable pub past_extended : ℕ
+  past_extended = asking 8 + past_structured
+
   unfoldable pub past_hello : ℕ
-  past_hello = asking 8 + past_structured
+  past_hello = asking 11 + past_extended
 
   -- what may follow the answer to an option
   abbrev pub past_option : ℕ → ℕ
   past_option option =
-      if option == 8 then past_structured
+      if option == 11 then past_extended
+      else if option == 8 then past_structured
       else if option == 7 then past_go
       else past_contexts
 
@@ -73,21 +81,35 @@ module _ (name : List ℕ) (contexts : List (List ℕ)) (frame commands : ℕ) w
   later count Ready = replies
   later count (Refused code) = 0
 
-module _ {K : Type 0} where
-  -- the bytes that are asked of the commands in flight
-  abbrev pub asked_of : List (ℕ × Row K) → ℕ
-  asked_of [] = 0
-  asked_of (entry ∷ rows) = (if is_some entry.1.flight then entry.1.length else 0) + asked_of rows
+-- a sum over a map
+abbrev pub total_of : {V : Type 0} → (V → ℕ) → List (ℕ × V) → ℕ
+total_of measure [] = 0
+total_of measure (x ∷ xs) = measure x.1 + total_of measure xs
 
-  -- A reply to a command has a head of 16 bytes, and no more behind it than are asked of all.
+module _ {K : Type 0} where
+  -- the bytes that are asked of a command in flight, and the replies that may still come to it
+  abbrev pub asked_of : Row K → ℕ
+  asked_of row = if is_some row.flight then row.length else 0
+
+  abbrev pub owed_of : List MetaContext → Row K → ℕ
+  owed_of contexts row = if is_some row.flight then owed (query_in row) contexts row.facts else 0
+
+  -- the same of all commands
+  abbrev pub asked_in : State K → ℕ
+  asked_in state = total_of asked_of state.rows
+
+  abbrev pub owed_in : State K → ℕ
+  owed_in state = total_of (owed_of state.talk.contexts) state.rows
+
+  -- A reply to a command has a head of at most 32 bytes, and behind it no more than a chunk may have or are asked of all.
   abbrev pub frame_of : State K → ℕ
-  frame_of state = 16 + asked_of state.rows
+  frame_of state = 32 + (8 + max_data) + asked_in state
 
   abbrev pub record_of : State K → ℕ
   record_of state = most (frame_of state) state.talk.phase
 
   abbrev pub later_of : State K → ℕ
-  later_of state = later state.talk.name state.talk.wanted (frame_of state) (flying state.rows) state.talk.pending.count state.talk.phase
+  later_of state = later state.talk.name state.talk.wanted (frame_of state) (owed_in state) state.talk.pending.count state.talk.phase
 
   -- what may still come in this stage, where so many bytes are held; after an abort 65,536 bytes are passed over
   abbrev pub coming : Stage → State K → ℕ → ℕ

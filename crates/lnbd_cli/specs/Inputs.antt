@@ -8,6 +8,10 @@ use Rattle.lnbd_cli.specs.declared.fault.Fault.TheVariants as fault
 use Rattle.lnbd_cli.specs.declared.input.Unread.{Unread}
 use Rattle.lnbd_cli.specs.declared.input.Unread.TheVariants as unread
 
+-- The most bytes that are read: one more than a script has.
+abbrev pub most_read : ℕ
+most_read = 16777217
+
 -- So many bytes were read of what the input held, or all where it held fewer.
 abbrev pub ReadUpTo : ℕ → Option (List ℕ) → Option (List ℕ) → Type 0
 ReadUpTo n before after = (bytes : List ℕ) → before ≡ Some bytes → after ≡ Some (drop n bytes)
@@ -19,7 +23,7 @@ ReadAtMost most before after = (n : ℕ) × (n ≤ most) × ReadUpTo n before af
 -- All that the input held is this script, or has this fault, which no script has.
 abbrev pub ReadsScript : Result (List Line) Unread → List ℕ → Option (List ℕ) → Type 0
 ReadsScript (Ok lines) all left = IsScript all lines × (left ≡ Some [])
-ReadsScript (Err (unread.Line number)) all left = IsFault all number × ((lines : List Line) → ¬ IsScript all lines) × (left ≡ Some (drop 16777217 all))
+ReadsScript (Err (unread.Line number)) all left = IsFault all number × ((lines : List Line) → ¬ IsScript all lines) × (left ≡ Some (drop most_read all))
 ReadsScript (Err unread.Failed) all left = Unit {0}
 ReadsScript (Err unread.NoMemory) all left = Unit {0}
 

@@ -4,7 +4,7 @@ ghost use Rattle.std.specs.Prelude.{◌≡◌, ◌<◌, ◌≤◌, IfOk, OnOk, I
 ghost use Rattle.lnbd_link.specs.Count.{Rises};
 ghost use Rattle.lnbd_lines.specs.Scripts.{IsFault, IsScript};
 ghost use Rattle.lnbd_lines.specs.declared.line.Line.{Line};
-ghost use Rattle.lnbd_cli.specs.Inputs.{HasCause, ReadAtMost, ReadUpTo, ReadsScript};
+ghost use Rattle.lnbd_cli.specs.Inputs.{HasCause, ReadAtMost, ReadUpTo, ReadsScript, most_read};
 
 use lnbd_link::{Source, SourceGot};
 use lnbd_script::{Script, ScriptFault, parse};
@@ -32,9 +32,9 @@ enum Short {
 
 /// Reads an input to its end, or to one byte more than a script has at most.
 fn read_all<I: Source>(alloc: Global, input: &mut I) -> Result<Vec<u8>, Short>
-    ensures came { IfOk result (λ v. (all : List ℕ) → I.left input.old ≡ Some all → v.items ≡ take 16777217 all) }
-    ensures left { OnOk result (ReadUpTo 16777217 (I.left input.old) (I.left input.new)) }
-    ensures most { ReadAtMost 16777217 (I.left input.old) (I.left input.new) }
+    ensures came { IfOk result (λ v. (all : List ℕ) → I.left input.old ≡ Some all → v.items ≡ take most_read all) }
+    ensures left { OnOk result (ReadUpTo most_read (I.left input.old) (I.left input.new)) }
+    ensures most { ReadAtMost most_read (I.left input.old) (I.left input.new) }
     ensures later { I.faults input.old ≤ I.faults input.new }
     ensures failed { IsErrOf result Short.Failed → Rises 1 (I.faults input.old) (I.faults input.new) }
 {
@@ -58,7 +58,7 @@ fn read_all<I: Source>(alloc: Global, input: &mut I) -> Result<Vec<u8>, Short>
 /// Reads the script that the input holds.
 pub(crate) fn read_script<I: Source>(alloc: Global, input: &mut I) -> Result<Script, Unread>
     ensures reads { (all : List ℕ) → I.left input.old ≡ Some all → ReadsScript result all (I.left input.new) }
-    ensures most { ReadAtMost 16777217 (I.left input.old) (I.left input.new) }
+    ensures most { ReadAtMost most_read (I.left input.old) (I.left input.new) }
     ensures cause { IfErr result (λ unread. HasCause unread (I.faults input.old) (I.faults input.new)) }
 {
     let bytes = match read_all(alloc, input) {

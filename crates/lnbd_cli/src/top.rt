@@ -3,11 +3,12 @@
 ghost use Rattle.std.specs.Prelude.{◌≡◌, ◌⊎◌, ◌++◌, Err, OnOk, true, false, string_bytes};
 ghost use Rattle.lnbd_link.specs.Count.{Rises};
 ghost use Rattle.lnbd_script.specs.Plays.{Finished, HasPlayed, HasPlayedPart, Silent, first_fault};
-ghost use Rattle.lnbd_cli.specs.Inputs.{ReadAtMost, ReadUpTo, fault_of};
+ghost use Rattle.lnbd_cli.specs.Inputs.{ReadAtMost, ReadUpTo, fault_of, most_read};
 ghost use Rattle.lnbd_cli.specs.Runs.{Ends, IsBad, IsCalls, IsLawful, IsOneOf, Nothing, Prints, Ran};
 ghost use Rattle.lnbd_cli.specs.Statuses.{end_line, end_of, fault_line, is_bad, is_status, is_whole, line_of_end, status_of, status_of_end};
 ghost use Rattle.lnbd_cli.specs.declared.fault.Fault.TheVariants as fault;
 ghost use Rattle.lnbd_script.specs.declared.event.PlayFault.TheVariants as play;
+ghost use Rattle.lnbd_script.specs.Seen.{patience};
 
 use crate::fault::Fault;
 use crate::input::{Unread, read_script};
@@ -47,8 +48,8 @@ pub fn run<W: Wires, I: Source, O: Sink, E: Sink>(
     // Words that name no tool leave the input as it was. A script that is refused was read to its end, or to one byte
     // more than the longest one has, and never is more read.
     ensures unasked { (¬ IsCalls words.now) → input.new ≡ input.old }
-    ensures bad_script { IsCalls words.now → result ≡ 1 → ReadUpTo 16777217 (I.left input.old) (I.left input.new) }
-    ensures most { ReadAtMost 16777217 (I.left input.old) (I.left input.new) }
+    ensures bad_script { IsCalls words.now → result ≡ 1 → ReadUpTo most_read (I.left input.old) (I.left input.new) }
+    ensures most { ReadAtMost most_read (I.left input.old) (I.left input.new) }
 
     // The lines of the others, and the counts that rose.
     ensures silent_line { result ≡ 7 → Prints (E.taken err.old) (E.taken err.new) (E.faults err.old) (E.faults err.new) (fault_line (fault.Played play.Silent)) }
@@ -56,14 +57,14 @@ pub fn run<W: Wires, I: Source, O: Sink, E: Sink>(
     ensures memory_line { result ≡ 9 → Prints (E.taken err.old) (E.taken err.new) (E.faults err.old) (E.faults err.new) (fault_line fault.NoMemory) }
     ensures input_line { result ≡ 10 → Prints (E.taken err.old) (E.taken err.new) (E.faults err.old) (E.faults err.new) (fault_line fault.Input) }
     ensures link_cause { result ≡ 5 → Rises 1 (W.faults wires.old) (W.faults wires.new) }
-    ensures silent_cause { result ≡ 7 → Rises 1000000000 (W.idles wires.old) (W.idles wires.new) }
+    ensures silent_cause { result ≡ 7 → Rises patience (W.idles wires.old) (W.idles wires.new) }
     ensures output_cause { result ≡ 8 → Rises 1 (O.faults out.old) (O.faults out.new) }
 
     // No other status is told.
     ensures known { is_status result ≡ true }
 
     // Where words and script are lawful and no count rose, the script is played to its end, or memory runs out.
-    ensures complete { IsLawful words.now (I.left input.old) → (¬ Rises 1 (W.faults wires.old) (W.faults wires.new)) → (¬ Rises 1000000000 (W.idles wires.old) (W.idles wires.new)) → (¬ Rises 1 (O.faults out.old) (O.faults out.new)) → (¬ Rises 1 (I.faults input.old) (I.faults input.new)) → IsOneOf result }
+    ensures complete { IsLawful words.now (I.left input.old) → (¬ Rises 1 (W.faults wires.old) (W.faults wires.new)) → (¬ Rises patience (W.idles wires.old) (W.idles wires.new)) → (¬ Rises 1 (O.faults out.old) (O.faults out.new)) → (¬ Rises 1 (I.faults input.old) (I.faults input.new)) → IsOneOf result }
 {
     let end = tool(alloc, words, input, wires, out);
     print_end(alloc, end, err)
@@ -167,11 +168,11 @@ fn tool<W: Wires, I: Source, O: Sink>(
     ensures ends { Ends result words.now (I.left input.old) (I.left input.new) (λ lines how IsFirst. HasPlayed lines (W.told wires.old) (W.told wires.new) (O.taken out.old) (O.taken out.new) how IsFirst) (λ lines. HasPlayedPart lines (W.told wires.old) (W.told wires.new) (O.taken out.old) (O.taken out.new)) (Nothing wires.old wires.new out.old out.new) }
     ensures accepts { IsLawful words.now (I.left input.old) → is_bad result ≡ false }
     ensures unasked { (¬ IsCalls words.now) → input.new ≡ input.old }
-    ensures bad_script { IsCalls words.now → is_bad result ≡ true → ReadUpTo 16777217 (I.left input.old) (I.left input.new) }
-    ensures most { ReadAtMost 16777217 (I.left input.old) (I.left input.new) }
+    ensures bad_script { IsCalls words.now → is_bad result ≡ true → ReadUpTo most_read (I.left input.old) (I.left input.new) }
+    ensures most { ReadAtMost most_read (I.left input.old) (I.left input.new) }
     ensures input_cause { result ≡ Err fault.Input → Rises 1 (I.faults input.old) (I.faults input.new) }
     ensures link_cause { result ≡ Err (fault.Played play.Link) → Rises 1 (W.faults wires.old) (W.faults wires.new) }
-    ensures silent_cause { result ≡ Err (fault.Played play.Silent) → Rises 1000000000 (W.idles wires.old) (W.idles wires.new) }
+    ensures silent_cause { result ≡ Err (fault.Played play.Silent) → Rises patience (W.idles wires.old) (W.idles wires.new) }
     ensures output_cause { result ≡ Err (fault.Played play.Output) → Rises 1 (O.faults out.old) (O.faults out.new) }
 {
     if !names_calls(words) {

@@ -1,15 +1,14 @@
 -- The close of a handle's commands, row by row.
-use Rattle.std.proofs.Common.{◌≡◌, ℕ, ◌+◌, List, [], ◌∷◌, ◌++◌, Bool, refl, ap, sym, subst, arith, Some, None, Option, length, ◌∙◌, append_assoc, append-nil, length-append}
-use Rattle.lnbd_model.specs.declared.note.Note.{Note}
-use Rattle.lnbd_keyed.specs.Keyed.{keys, IsRising}
+use Rattle.std.proofs.Common.{◌≡◌, ℕ, ◌+◌, List, [], ◌∷◌, ◌++◌, Bool, refl, ap, sym, subst, arith, Some, None, Option, length, ◌∙◌, append_assoc, append-nil, length-append, map}
+use Rattle.lnbd_keyed.specs.Keyed.{keys, without, IsRising}
 use Rattle.lnbd_keyed.proofs.KeyedLemmas.{IsRising_without, IsRising_right, value_at_head, value_at_right, without_head, without_right}
 use Rattle.lnbd_callbacks.specs.Calls.{Call}
 use Rattle.lnbd_callbacks.specs.Desk.{Log}
 use Rattle.lnbd_callbacks.specs.Slot.{Slot}
 use Rattle.lnbd_history.specs.Commands.{Flight}
-use Rattle.lnbd_history.specs.Entries.{Dropped, chunk_calls, chunk_notes, filing_calls, filing_notes, free_calls, free_notes}
+use Rattle.lnbd_history.specs.Entries.{Act, Dropped, first_acts, free_acts, filing_acts, call_of, note_of, frees}
 use Rattle.lnbd_history.specs.Events.{Answer}
-use Rattle.lnbd_machine.specs.Machine.{Row, State, Doing, hearing, result_bytes, file_all, file_in, file_row, file_flight}
+use Rattle.lnbd_machine.specs.Machine.{Row, State, Doing, error_of_row, hearing, result_bytes, file_all, file_in, file_row, file_flight}
 use Rattle.lnbd_commands.specs.Closes.{row_count, row_free_calls, row_freed}
 use Rattle.lnbd_commands.specs.Commands.{Commands, with_commands}
 use Rattle.lnbd_commands.specs.Flights.{flight_numbers}
@@ -60,19 +59,25 @@ module _ {K : Type 0} where
   halfway m front rest log freed = record m { rows = front ++ rest; log = log; freed = freed }
 
   -- where a handle is closed, a command only has its callbacks freed
-  dropped_notes : (f : Flight K) (before error : ℕ) → filing_notes f Dropped None None before error ≡ free_notes f
-  dropped_notes f before error = ap (λ (l : List Note). l ++ free_notes f) (none f.first)
+  dropped_acts : (f : Flight K) (error : ℕ) (bytes : List ℕ) → filing_acts f None Dropped None None error bytes ≡ free_acts f
+  dropped_acts f error bytes = ap (λ (l : List (Act K)). l ++ free_acts f) (none f.first)
     where
-      none : (first : Option (Slot K)) → chunk_notes first Dropped None before ≡ []
+      none : (first : Option (Slot K)) → first_acts first None None ≡ []
       none None = refl
       none (Some slot) = refl
 
-  dropped_calls : (f : Flight K) (before error : ℕ) (bytes : List ℕ) → filing_calls f Dropped None None before error bytes ≡ free_calls f
-  dropped_calls f before error bytes = ap (λ (l : List (Call K)). l ++ free_calls f) (none f.first)
-    where
-      none : (first : Option (Slot K)) → chunk_calls first Dropped None before ≡ []
-      none None = refl
-      none (Some slot) = refl
+  file_dropped : (f : Flight K) (row : Row K) (c : ℕ) (doing : Doing K) → file_flight (Some f) row c Dropped doing
+      ≡ record {
+        state = record doing.state { rows = without c doing.state.rows; notes = doing.state.notes ++ map note_of (free_acts f); freed = doing.state.freed + frees (map note_of (free_acts f)) };
+        answers = doing.answers;
+        calls = doing.calls ++ map call_of (free_acts f);
+      }
+  file_dropped f row c doing =
+      ap (λ (acts : List (Act K)). record {
+        state = record doing.state { rows = without c doing.state.rows; notes = doing.state.notes ++ map note_of acts; freed = doing.state.freed + frees (map note_of acts) };
+        answers = doing.answers;
+        calls = doing.calls ++ map call_of acts;
+      }) (dropped_acts f (error_of_row (hearing row doing.state.talk.contexts Dropped None)) (result_bytes (hearing row doing.state.talk.contexts Dropped None)))
 
   -- what the machine does at the first row that is left
   pub file_first : (m : Commands K) (front xs : List (ℕ × Row K)) (x : ℕ × Row K) (log : Log) (freed : ℕ) (flight : Option (Flight K)) (state : State K) (more : List Answer) (made : List (Call K)) →
@@ -88,7 +93,8 @@ module _ {K : Type 0} where
       let doing : Doing K = record { state = with_commands (halfway m front (x ∷ xs) log freed) state; answers = more; calls = made } in
       ap (λ (o : Option (Row K)). file_row o x.0 Dropped doing) (value_at_right x.0 x.1 front (x ∷ xs) up (value_at_head x.0 x.1 xs))
       ∙ (ap (λ (o : Option (Flight K)). file_flight o x.1 x.0 Dropped doing) is
-      ∙ rw (without_right x.0 x.1 front (x ∷ xs) up (value_at_head x.0 x.1 xs), without_head x.0 x.1 xs, append-nil front, dropped_notes f x.1.error (hearing x.1 Dropped None).error, dropped_calls f x.1.error (hearing x.1 Dropped None).error (result_bytes (hearing x.1 Dropped None)), freeing_notes f log, first_freed_admitted f.first log, frees_flight f) refl)
+      ∙ (file_dropped f x.1 x.0 doing
+      ∙ rw (without_right x.0 x.1 front (x ∷ xs) up (value_at_head x.0 x.1 xs), without_head x.0 x.1 xs, append-nil front, freeing_notes f log, first_freed_admitted f.first log, frees_flight f) refl))
 
   -- Where a close stands: the machine has the rows that stayed and those that are left.
   pub record Closing {W : Type 0} (steps : W → List (Call K) → W → Type 0) (m : Commands K) (before : W) (rest : List (ℕ × Row K)) (log : Log) (freed : ℕ) (world : W) : Type 0 where

@@ -1,5 +1,5 @@
 -- A command that is issued, and one that is refused.
-use Rattle.std.proofs.Common.{◌≡◌, ℕ, ◌+◌, List, [], ◌∷◌, ◌++◌, Bool, true, false, refl, ap, sym, subst, arith, Some, None, Option, IsSome, length, ◌∙◌, append_assoc, append-nil, length-append}
+use Rattle.std.proofs.Common.{◌≡◌, ℕ, ◌+◌, List, [], ◌∷◌, ◌++◌, Bool, true, false, refl, ap, sym, subst, arith, Some, None, Option, IsSome, length, ◌∙◌, append_assoc, append-nil, length-append, map}
 use Rattle.lnbd_model.specs.declared.note.Note.{Note}
 use Rattle.lnbd_model.specs.declared.note.Note.TheVariants as note
 use Rattle.lnbd_keyed.specs.Keyed.{value_at, with_value, without, IsBelow, IsRising}
@@ -11,10 +11,10 @@ use Rattle.lnbd_inflight.specs.Done.{is_done, forgetting}
 use Rattle.lnbd_inflight.specs.Table.{Table}
 use Rattle.lnbd_inflight.proofs.Order.{forgetting_none}
 use Rattle.lnbd_history.specs.Commands.{Command, Flight, callbacks, flight_of, request_of}
-use Rattle.lnbd_history.specs.Entries.{frees, free_calls, free_notes, first_free_notes}
+use Rattle.lnbd_history.specs.Entries.{frees, free_acts, call_of, note_of}
 use Rattle.lnbd_machine.specs.Machine.{Row, new_row, refused}
 use Rattle.lnbd_commands.specs.Commands.{Commands, issuing}
-use Rattle.lnbd_commands.specs.Flights.{IsLiveFlight, admitting, first_freed, freeing, flight_numbers, first_count, flight_count}
+use Rattle.lnbd_commands.specs.Flights.{IsLiveFlight, admitting, freeing, flight_numbers, first_count, flight_count}
 use Rattle.lnbd_commands.specs.Rows.{flight_of_row}
 use Rattle.lnbd_commands.specs.Sound.{IsSound, live_numbers}
 use Rattle.lnbd_commands.specs.Takes.{Takes}
@@ -131,19 +131,17 @@ module _ {K : Type 0} where
         rw (all, same, left) refl
 
   -- The notes and the count of a command that does not complete.
-  pub freeing_notes : (f : Flight K) (log : Log) → (freeing f log).notes ≡ log.notes ++ free_notes f
-  freeing_notes f log =
-      ap (λ (l : List Note). l ++ note.Freed f.done.number ∷ []) (first_notes f.first log)
-      ∙ append_assoc log.notes (first_free_notes f.first) (note.Freed f.done.number ∷ [])
+  pub freeing_notes : (f : Flight K) (log : Log) → (freeing f log).notes ≡ log.notes ++ map note_of (free_acts f)
+  freeing_notes f log = go f.first f.done
     where
-      first_notes : (first : Option (Slot K)) (log : Log) → (first_freed first log).notes ≡ log.notes ++ first_free_notes first
-      first_notes None log = sym (append-nil log.notes)
-      first_notes (Some slot) log = refl
+      go : (first : Option (Slot K)) (done : Slot K) → (freeing (record { first = first; done = done }) log).notes ≡ log.notes ++ map note_of (free_acts (record { first = first; done = done }))
+      go None done = refl
+      go (Some slot) done = append_assoc log.notes (note.Freed slot.number ∷ []) (note.Freed done.number ∷ [])
 
-  pub frees_flight : (f : Flight K) → frees (free_notes f) ≡ flight_count f
+  pub frees_flight : (f : Flight K) → frees (map note_of (free_acts f)) ≡ flight_count f
   frees_flight f = go f.first f.done
     where
-      go : (first : Option (Slot K)) (done : Slot K) → frees (free_notes (record { first = first; done = done })) ≡ first_count first + 1
+      go : (first : Option (Slot K)) (done : Slot K) → frees (map note_of (free_acts (record { first = first; done = done }))) ≡ first_count first + 1
       go None done = refl
       go (Some slot) done = refl
 
@@ -153,7 +151,7 @@ module _ {K : Type 0} where
     pub gone : (freeing f (admitting first m.log)).live ≡ m.log.live
     pub admitted : (freeing f (admitting first m.log)).admitted ≡ m.log.admitted + callbacks first
     pub count : m.log.admitted + flight_count f ≡ m.log.admitted + callbacks first
-    pub notes : (freeing f (admitting first m.log)).notes ≡ m.log.notes ++ free_notes f
+    pub notes : (freeing f (admitting first m.log)).notes ≡ m.log.notes ++ map note_of (free_acts f)
 
   pub refused_now : (m : Commands K) (first : Option K) (done : K) → IsSound m → Refused m first (flight_of m.log.admitted first done)
   refused_now m first done s =
@@ -168,7 +166,7 @@ module _ {K : Type 0} where
         gone = e.closed ∙ append-nil m.log.live;
         admitted = first_freed_admitted f.first log ∙ a.called;
         count = sym a.admitted ∙ a.called;
-        notes = freeing_notes f log ∙ ap (λ (l : List Note). l ++ free_notes f) a.notes;
+        notes = freeing_notes f log ∙ ap (λ (l : List Note). l ++ map note_of (free_acts f)) a.notes;
       }
 
   -- the commands after a refused one
@@ -196,14 +194,14 @@ module _ {K : Type 0} where
       }
 
   pub takes_refused : {W : Type 0} (steps : W → List (Call K) → W → Type 0) (m : Commands K) (first : Option K) (done : K) (before after : W) → IsSound m →
-      steps before (free_calls (flight_of m.log.admitted first done)) after →
+      steps before (map call_of (free_acts (flight_of m.log.admitted first done))) after →
       Takes steps (refused (flight_of m.log.admitted first done) (callbacks first)) m (refusing first done m) before after
   takes_refused steps m first done before after s called =
       let f = flight_of m.log.admitted first done in
       let r = refused_now m first done s in
       record {
         answers = [];
-        calls = free_calls f;
+        calls = map call_of (free_acts f);
         world = called;
         does = λ state more made. rw (r.notes, r.admitted, frees_flight f) refl;
       }

@@ -1,11 +1,15 @@
+pub mod AlikeLemmas
+pub mod BufferLemmas
 pub mod CloseLemmas
 pub mod IssueLemmas
 pub mod LandLemmas
+pub mod LandsLemmas
 pub mod LoseLemmas
 pub mod MarkLemmas
 pub mod NumberLemmas
 pub mod ReplyLemmas
 pub mod ResultLemmas
 pub mod RowLemmas
+pub mod SimpleLemmas
 pub mod SoundLemmas
 pub mod TakesLemmas

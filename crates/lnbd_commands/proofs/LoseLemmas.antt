@@ -1,39 +1,30 @@
 -- All commands in flight, one after another.
-use Rattle.std.proofs.Common.{◌≡◌, ℕ, zero, suc, ◌+◌, ◌<◌, ◌≤◌, List, [], ◌∷◌, ◌++◌, Bool, true, false, cond, refl, ap, sym, subst, arith, Some, None, Option, IsSome, ◌∙◌, append_assoc, append-nil, ◌==◌}
+use Rattle.std.proofs.Common.{◌≡◌, ℕ, zero, suc, ◌+◌, ◌-◌, ◌<◌, ◌≤◌, List, [], ◌∷◌, ◌++◌, Bool, true, false, ◌&&◌, nat_lt, ltb-false, cond, refl, ap, sym, subst, arith, Some, None, Option, IsSome, ◌∙◌, append_assoc, append-nil, ◌==◌}
 use Rattle.std.specs.Prelude.{is_some, is_none, not}
 use Rattle.std.specs.List.{find}
-use Rattle.std.specs.Option.{option_map}
 use Rattle.std.proofs.lemmas.Grind.{common_steps}
-use Rattle.lnbd_keyed.specs.Keyed.{value_at, keys, IsRising, IsAbove, IsBelow}
-use Rattle.lnbd_keyed.proofs.KeyedLemmas.{value_at_above, IsAbove_at, IsBelow_at}
+use Rattle.lnbd_keyed.specs.Keyed.{value_at, keys, IsRising, IsBelow}
+use Rattle.lnbd_keyed.proofs.KeyedLemmas.{value_at_above, IsBelow_at}
 use Rattle.lnbd_callbacks.specs.Calls.{Call}
 use Rattle.lnbd_callbacks.specs.Slot.{Slot}
 use Rattle.lnbd_callbacks.specs.declared.caller.Heard.{Heard}
 use Rattle.lnbd_inflight.specs.Done.{is_done}
 use Rattle.lnbd_history.specs.Commands.{Flight}
-use Rattle.lnbd_history.specs.Entries.{Item, Lost, chunk_calls, chunk_notes}
+use Rattle.lnbd_history.specs.Entries.{Item, first_acts}
 use Rattle.lnbd_history.specs.Events.{Answer}
 use Rattle.lnbd_history.specs.History.{cookies}
-use Rattle.lnbd_machine.specs.Machine.{Row, State, Doing, file_in, file_row, file_flight, file_all}
+use Rattle.lnbd_machine.specs.Machine.{Row, State, Doing, file_in, file_row, file_flight, file_all, created}
 use Rattle.lnbd_machine.proofs.Walk.{walk_keys}
 use Rattle.lnbd_commands.specs.Commands.{Commands, with_commands, waiting_as, waiting_at}
 use Rattle.lnbd_commands.specs.Rows.{flight_of_row}
 use Rattle.lnbd_commands.specs.Sound.{IsSound, AreRows}
 use Rattle.lnbd_commands.specs.Takes.{Takes}
 
-pub is_some-map : {A B : Type 0} (f : A → B) (o : Option A) → is_some (option_map f o) ≡ is_some o
-is_some-map f None = refl
-is_some-map f (Some a) = refl
-
 module _ {K : Type 0} where
-  -- a death is told to no chunk callback
-  pub no_chunk_calls : (first : Option (Slot K)) (heard : Option Heard) (before : ℕ) → chunk_calls first Lost heard before ≡ []
-  no_chunk_calls None heard before = refl
-  no_chunk_calls (Some slot) heard before = refl
-
-  pub no_chunk_notes : (first : Option (Slot K)) (heard : Option Heard) (before : ℕ) → chunk_notes first Lost heard before ≡ []
-  no_chunk_notes None heard before = refl
-  no_chunk_notes (Some slot) heard before = refl
+  -- nothing is told to no chunk callback
+  pub no_first_acts : (first : Option (Slot K)) (heard : Option Heard) → first_acts first None heard ≡ []
+  no_first_acts None heard = refl
+  no_first_acts (Some slot) heard = refl
 
   -- what is filed under a command that is not in flight changes nothing
   pub file_calm : (c : ℕ) (item : Item) (doing : Doing K) → flight_of_row (value_at c doing.state.rows) ≡ None → file_in c item doing ≡ doing
@@ -51,71 +42,69 @@ module _ {K : Type 0} where
   file_all-append item [] b doing = refl
   file_all-append item (c ∷ a) b doing = file_all-append item a b (file_in c item doing)
 
-  pub all_calm : (item : Item) (n : ℕ) (doing : Doing K) → ((c : ℕ) → c ≤ n → flight_of_row (value_at c doing.state.rows) ≡ None) → file_all item (cookies n) doing ≡ doing
-  all_calm item zero doing h = refl
-  all_calm item (suc n) doing h =
-      file_all-append item (cookies n) (suc n ∷ []) doing
-      ∙ (ap (λ (d : Doing K). file_in (suc n) item d) (all_calm item n doing (λ c low. h c (omega arith)))
-      ∙ file_calm (suc n) item doing (h (suc n) (omega arith)))
+  -- Between two that are not done, what is held is done, so it is not in flight.
+  no_flight : (o : Option (Flight K)) → true ≡ is_none o → o ≡ None
+  no_flight None k = refl
+  no_flight (Some f) k = absurd (cc (k))
 
-  -- The first that isn't done: what is below it is not in flight.
-  pub calm_below : (first c : ℕ) (done : List ℕ) (rows : List (ℕ × Row K)) → IsRising rows → AreRows done rows →
-      find (λ cookie. not (is_done cookie done)) (keys rows) ≡ Some first → c < first → flight_of_row (value_at c rows) ≡ None
-  calm_below first c done [] up a h l = refl
-  calm_below first c done (x ∷ xs) up a h l = go (is_done x.0 done) refl h (λ k. calm_below first c done xs up.1 a.1 k l)
+  at_row : (b : Bool) (row : Row K) (o : Option (Row K)) → row.flight ≡ None → flight_of_row o ≡ None → flight_of_row (cond b (Some row) o) ≡ None
+  at_row true row o k r = k
+  at_row false row o k r = r
+
+  -- a cookie above one and below the next that isn't done
+  pub calm_between : (above next c : ℕ) (done : List ℕ) (rows : List (ℕ × Row K)) → IsRising rows → AreRows done rows →
+      find (λ cookie. nat_lt above cookie && not (is_done cookie done)) (keys rows) ≡ Some next → above < c → c < next → flight_of_row (value_at c rows) ≡ None
+  calm_between above next c done [] up a h m l = refl
+  calm_between above next c done (x ∷ xs) up a h m l = go (nat_lt above x.0) refl (is_done x.0 done) refl h (λ k. calm_between above next c done xs up.1 a.1 k m l)
     where
-      settled : is_done x.0 done ≡ true → x.1.flight ≡ None
-      settled e = empty x.1.flight (sym e ∙ a.0.flies)
+      go : (b : Bool) → nat_lt above x.0 ≡ b → (d : Bool) → is_done x.0 done ≡ d → cond (b && not d) (Some x.0) (find (λ cookie. nat_lt above cookie && not (is_done cookie done)) (keys xs)) ≡ Some next →
+          (find (λ cookie. nat_lt above cookie && not (is_done cookie done)) (keys xs) ≡ Some next → flight_of_row (value_at c xs) ≡ None) → flight_of_row (value_at c (x ∷ xs)) ≡ None
+      go b f true e k rest = at_row (c == x.0) x.1 (value_at c xs) (no_flight x.1.flight (sym e ∙ a.0.flies)) (rest (settled b k))
         where
-          empty : (o : Option (Flight K)) → true ≡ is_none o → o ≡ None
-          empty None k = refl
-          empty (Some f) k = absurd (cc (k))
-
-      here : (b : Bool) → (c == x.0) ≡ b → x.1.flight ≡ None → flight_of_row (value_at c xs) ≡ None → flight_of_row (cond b (Some x.1) (value_at c xs)) ≡ None
-      here true e k r = k
-      here false e k r = r
-
-      go : (b : Bool) → is_done x.0 done ≡ b → cond (not b) (Some x.0) (find (λ cookie. not (is_done cookie done)) (keys xs)) ≡ Some first →
-          (find (λ cookie. not (is_done cookie done)) (keys xs) ≡ Some first → flight_of_row (value_at c xs) ≡ None) → flight_of_row (value_at c (x ∷ xs)) ≡ None
-      go true e k rest = here (c == x.0) refl (settled e) (rest k)
-      go false e k rest =
-          let same : x.0 ≡ first = cc in
+          settled : (b : Bool) → cond (b && not true) (Some x.0) (find (λ cookie. nat_lt above cookie && not (is_done cookie done)) (keys xs)) ≡ Some next → find (λ cookie. nat_lt above cookie && not (is_done cookie done)) (keys xs) ≡ Some next
+          settled true k = k
+          settled false k = k
+      go true f false e k rest =
+          let same : x.0 ≡ next = cc in
           let low : c < x.0 = omega arith in
           let none : value_at c xs ≡ None = value_at_above c x.0 xs up.0 (omega arith) in
           let other : (c == x.0) ≡ false = grind (arith, common_steps) in
           rw (other, none) refl
+      go false f false e k rest =
+          let low : x.0 ≤ above = ltb-false above x.0 f in
+          let other : (c == x.0) ≡ false = grind (arith, common_steps) in
+          rw other (rest k)
 
-  pub calm_all : (c : ℕ) (done : List ℕ) (rows : List (ℕ × Row K)) → AreRows done rows → find (λ cookie. not (is_done cookie done)) (keys rows) ≡ None → flight_of_row (value_at c rows) ≡ None
-  calm_all c done [] a h = refl
-  calm_all c done (x ∷ xs) a h = go (is_done x.0 done) refl h (λ k. calm_all c done xs a.1 k)
+  -- above the last that isn't done
+  pub calm_after : (above c : ℕ) (done : List ℕ) (rows : List (ℕ × Row K)) → AreRows done rows →
+      find (λ cookie. nat_lt above cookie && not (is_done cookie done)) (keys rows) ≡ None → above < c → flight_of_row (value_at c rows) ≡ None
+  calm_after above c done [] a h m = refl
+  calm_after above c done (x ∷ xs) a h m = go (nat_lt above x.0) refl (is_done x.0 done) refl h (λ k. calm_after above c done xs a.1 k m)
     where
-      settled : is_done x.0 done ≡ true → x.1.flight ≡ None
-      settled e = empty x.1.flight (sym e ∙ a.0.flies)
+      go : (b : Bool) → nat_lt above x.0 ≡ b → (d : Bool) → is_done x.0 done ≡ d → cond (b && not d) (Some x.0) (find (λ cookie. nat_lt above cookie && not (is_done cookie done)) (keys xs)) ≡ None →
+          (find (λ cookie. nat_lt above cookie && not (is_done cookie done)) (keys xs) ≡ None → flight_of_row (value_at c xs) ≡ None) → flight_of_row (value_at c (x ∷ xs)) ≡ None
+      go b f true e k rest = at_row (c == x.0) x.1 (value_at c xs) (no_flight x.1.flight (sym e ∙ a.0.flies)) (rest (settled b k))
         where
-          empty : (o : Option (Flight K)) → true ≡ is_none o → o ≡ None
-          empty None k = refl
-          empty (Some f) k = absurd (cc (k))
+          settled : (b : Bool) → cond (b && not true) (Some x.0) (find (λ cookie. nat_lt above cookie && not (is_done cookie done)) (keys xs)) ≡ None → find (λ cookie. nat_lt above cookie && not (is_done cookie done)) (keys xs) ≡ None
+          settled true k = k
+          settled false k = k
+      go true f false e k rest = absurd (cc (k))
+      go false f false e k rest =
+          let low : x.0 ≤ above = ltb-false above x.0 f in
+          let other : (c == x.0) ≡ false = grind (arith, common_steps) in
+          rw other (rest k)
 
-      here : (b : Bool) → (c == x.0) ≡ b → x.1.flight ≡ None → flight_of_row (value_at c xs) ≡ None → flight_of_row (cond b (Some x.1) (value_at c xs)) ≡ None
-      here true e k r = k
-      here false e k r = r
-
-      go : (b : Bool) → is_done x.0 done ≡ b → cond (not b) (Some x.0) (find (λ cookie. not (is_done cookie done)) (keys xs)) ≡ None →
-          (find (λ cookie. not (is_done cookie done)) (keys xs) ≡ None → flight_of_row (value_at c xs) ≡ None) → flight_of_row (value_at c (x ∷ xs)) ≡ None
-      go true e k rest = here (c == x.0) refl (settled e) (rest k)
-      go false e k rest = absurd (cc (k))
-
-  -- where nothing waits, nothing is in flight
-  pub calm_here : (c : ℕ) (m : Commands K) → is_some (waiting_at c m) ≡ false → flight_of_row (value_at c m.rows) ≡ None
-  calm_here c m h = go (value_at c m.rows) h
+  -- what is held and not done is in flight
+  pub waits_undone : (c : ℕ) (m : Commands K) → IsSound m → IsSome (value_at c m.rows) → is_done c m.done ≡ false → is_some (waiting_at c m) ≡ true
+  waits_undone c m sound held undone = go (value_at c m.rows) refl held
     where
-      in_row : (row : Row K) (o : Option (Flight K)) → is_some (Rattle.lnbd_machine.specs.Machine.waiting_row o row) ≡ false → o ≡ None
-      in_row row None k = refl
-      in_row row (Some f) k = absurd (cc (k))
+      in_row : (row : Row K) (o : Option (Flight K)) → false ≡ is_none o → is_some (Rattle.lnbd_machine.specs.Machine.waiting_row o row) ≡ true
+      in_row row None k = absurd (cc (k))
+      in_row row (Some f) k = refl
 
-      go : (o : Option (Row K)) → is_some (waiting_as o) ≡ false → flight_of_row o ≡ None
-      go None k = refl
-      go (Some row) k = in_row row row.flight k
+      go : (o : Option (Row K)) → value_at c m.rows ≡ o → IsSome o → is_some (waiting_as o) ≡ true
+      go None e h = absurd (cc (h))
+      go (Some row) e h = in_row row row.flight (sym undone ∙ (Rattle.lnbd_commands.proofs.MarkLemmas.row_of c row m.done m.rows sound.rows e).flies)
 
   -- Parts of an event, one after another.
   pub takes_none : {World : Type 0} (steps : World → List (Call K) → World → Type 0) (part : Doing K → Doing K) (m : Commands K) (w : World) → steps w [] w →
@@ -151,21 +140,44 @@ module _ {K : Type 0} where
   pub one_more_at : (item : Item) (n k : ℕ) (doing : Doing K) → k ≡ suc n → file_all item (cookies k) doing ≡ file_in k item (file_all item (cookies n) doing)
   one_more_at item n k doing e = subst (λ (k : ℕ). file_all item (cookies k) doing ≡ file_in k item (file_all item (cookies n) doing)) (sym e) (one_more item n doing)
 
-  -- the first that is in flight, and that nothing below it is
-  pub below_first : (first : ℕ) (m : Commands K) → IsSound m → find (λ cookie. not (is_done cookie m.done)) (keys m.rows) ≡ Some first → (n : ℕ) → n + 1 ≤ first →
-      (item : Item) (state : State K) (more : List Answer) (made : List (Call K)) →
-      file_all item (cookies n) (record { state = with_commands m state; answers = more; calls = made }) ≡ record { state = with_commands m state; answers = more; calls = made }
-  below_first first m sound h n low item state more made =
-      all_calm item n (record { state = with_commands m state; answers = more; calls = made }) (λ c small. calm_below first c m.done m.rows sound.cookies sound.rows h (omega arith))
+  -- Where no cookie from one to another is in flight, nothing is filed between them.
+  calm_on : {World : Type 0} (steps : World → List (Call K) → World → Type 0) (item : Item) (k n : ℕ) (old new : Commands K) (u w : World) →
+      ((c : ℕ) → n < c → c ≤ n + k → flight_of_row (value_at c new.rows) ≡ None) →
+      Takes steps (file_all item (cookies n)) old new u w → Takes steps (file_all item (cookies (n + k))) old new u w
+  calm_on steps item zero n old new u w calm t = let none : n ≡ n + zero = omega arith in subst (λ (m : ℕ). Takes steps (file_all item (cookies m)) old new u w) none t
+  calm_on steps item (suc k) n old new u w calm t =
+      let before = calm_on steps item k n old new u w (λ c over under. calm c over (omega arith)) t in
+      record {
+        answers = before.answers;
+        calls = before.calls;
+        world = before.world;
+        does = λ state more made.
+            one_more_at item (n + k) (n + suc k) (record { state = with_commands old state; answers = before.answers ++ more; calls = made }) (omega arith)
+            ∙ (ap (λ (d : Doing K). file_in (n + suc k) item d) (before.does state more made)
+            ∙ file_calm (n + suc k) item (record { state = with_commands new state; answers = more; calls = made ++ before.calls }) (calm (n + suc k) (omega arith) (omega arith)));
+      }
 
-  pub none_first : (m : Commands K) → IsSound m → find (λ cookie. not (is_done cookie m.done)) (keys m.rows) ≡ None → (n : ℕ) →
-      (item : Item) (state : State K) (more : List Answer) (made : List (Call K)) →
-      file_all item (cookies n) (record { state = with_commands m state; answers = more; calls = made }) ≡ record { state = with_commands m state; answers = more; calls = made }
-  none_first m sound h n item state more made =
-      all_calm item n (record { state = with_commands m state; answers = more; calls = made }) (λ c small. calm_all c m.done m.rows sound.rows h)
+  pub takes_calm : {World : Type 0} (steps : World → List (Call K) → World → Type 0) (item : Item) (n m : ℕ) (old new : Commands K) (u w : World) → n ≤ m →
+      ((c : ℕ) → n < c → c ≤ m → flight_of_row (value_at c new.rows) ≡ None) →
+      Takes steps (file_all item (cookies n)) old new u w → Takes steps (file_all item (cookies m)) old new u w
+  takes_calm steps item n m old new u w l calm t =
+      let all : n + (m - n) ≡ m = omega arith in
+      subst (λ (j : ℕ). Takes steps (file_all item (cookies j)) old new u w) all (calm_on steps item (m - n) n old new u w (λ c over under. calm c over (omega arith)) t)
 
-  pub held_above : (m c : ℕ) (rows : List (ℕ × Row K)) → IsAbove m rows → IsSome (value_at c rows) → m < c
-  held_above m c rows a h = elim (value_at c rows) as (λ (o : Option (Row K)). value_at c rows ≡ o → IsSome o → m < c) [ None ↦ λ e k. absurd (cc (k)) | Some r ↦ λ e k. IsAbove_at m c r rows a e ] refl h
+  -- filing issues no command
+  issued_flight : (f : Option (Flight K)) (row : Row K) (cookie : ℕ) (item : Item) (d : Doing K) → (file_flight f row cookie item d).state.issued ≡ d.state.issued
+  issued_flight None row cookie item d = refl
+  issued_flight (Some flight) row cookie item d = refl
+
+  issued_row : (r : Option (Row K)) (cookie : ℕ) (item : Item) (d : Doing K) → (file_row r cookie item d).state.issued ≡ d.state.issued
+  issued_row None cookie item d = refl
+  issued_row (Some row) cookie item d = issued_flight row.flight row cookie item d
+
+  pub filed_issued : {World : Type 0} (steps : World → List (Call K) → World → Type 0) (cookie : ℕ) (item : Item) (old new : Commands K) (u w : World) → Takes steps (file_in cookie item) old new u w → new.issued ≡ old.issued
+  filed_issued steps cookie item old new u w t =
+      let any : State K = created.known in
+      let doing : Doing K = record { state = with_commands old any; answers = t.answers ++ []; calls = [] } in
+      sym (ap (λ (d : Doing K). d.state.issued) (t.does any [] [])) ∙ issued_row (value_at cookie old.rows) cookie item doing
 
   pub held_below : (n c : ℕ) (rows : List (ℕ × Row K)) → IsBelow rows n → IsSome (value_at c rows) → c < n
   held_below n c rows a h = elim (value_at c rows) as (λ (o : Option (Row K)). value_at c rows ≡ o → IsSome o → c < n) [ None ↦ λ e k. absurd (cc (k)) | Some r ↦ λ e k. IsBelow_at n c r rows a e ] refl h

@@ -3,7 +3,8 @@ use Rattle.std.proofs.Common.{◌≡◌, ℕ, List, true, false, refl, ap, sym, 
 use Rattle.std.specs.Prelude.{is_some}
 use Rattle.lnbd_keyed.specs.Keyed.{value_at, with_value}
 use Rattle.lnbd_keyed.proofs.KeyedLemmas.{value_at_with}
-use Rattle.lnbd_history.specs.Arrivals.{Waiting}
+use Rattle.lnbd_model.specs.declared.failure.Failure.{Failure}
+use Rattle.lnbd_chunks.specs.Chunk.{Waiting}
 use Rattle.lnbd_history.specs.Commands.{Flight}
 use Rattle.lnbd_history.specs.Entries.{Kept}
 use Rattle.lnbd_machine.specs.Machine.{Row}
@@ -63,8 +64,8 @@ module _ {K : Type 0} where
   losable c m sound f = record { flies = ap is_some f.flies; held = none_of f.row.kept (unkept c f.row f.flight m.done m.rows sound.rows f.at f.flies) }
 
   -- a row that landed
-  pub landed_rows : (c error : ℕ) (kept : Kept) (row : Row K) (rows : List (ℕ × Row K)) → value_at c rows ≡ Some row → changed (landed error kept) c rows ≡ with_value c (landed error kept row) rows
-  landed_rows c error kept row rows at = ap (λ (o : Option (Row K)). changing (landed error kept) c o rows) at
+  pub landed_rows : (c : ℕ) (failure : Option Failure) (kept : Kept) (row : Row K) (rows : List (ℕ × Row K)) → value_at c rows ≡ Some row → changed (landed failure kept) c rows ≡ with_value c (landed failure kept row) rows
+  landed_rows c failure kept row rows at = ap (λ (o : Option (Row K)). changing (landed failure kept) c o rows) at
 
-  pub landed_at : (c error : ℕ) (kept : Kept) (row : Row K) (rows : List (ℕ × Row K)) → value_at c rows ≡ Some row → value_at c (changed (landed error kept) c rows) ≡ Some (landed error kept row)
-  landed_at c error kept row rows at = ap (value_at c) (landed_rows c error kept row rows at) ∙ value_at_with c row (landed error kept row) rows at
+  pub landed_at : (c : ℕ) (failure : Option Failure) (kept : Kept) (row : Row K) (rows : List (ℕ × Row K)) → value_at c rows ≡ Some row → value_at c (changed (landed failure kept) c rows) ≡ Some (landed failure kept row)
+  landed_at c failure kept row rows at = ap (value_at c) (landed_rows c failure kept row rows at) ∙ value_at_with c row (landed failure kept row) rows at

@@ -1,9 +1,9 @@
 -- What the end of a row that does not complete comes to.
-use Rattle.std.specs.Prelude.{ℕ, List, [], Option, Some, None}
+use Rattle.std.specs.Prelude.{ℕ, List, [], Option, Some, None, map}
 use Rattle.lnbd_callbacks.specs.Calls.{Call}
 use Rattle.lnbd_callbacks.specs.Desk.{Log}
 use Rattle.lnbd_history.specs.Commands.{Flight}
-use Rattle.lnbd_history.specs.Entries.{free_calls}
+use Rattle.lnbd_history.specs.Entries.{call_of, free_acts}
 use Rattle.lnbd_commands.specs.Flights.{freeing, flight_count}
 
 module _ {K : Type 0} where
@@ -20,4 +20,4 @@ module _ {K : Type 0} where
   -- and the calls
   abbrev pub row_free_calls : Option (Flight K) → List (Call K)
   row_free_calls None = []
-  row_free_calls (Some flight) = free_calls flight
+  row_free_calls (Some flight) = map call_of (free_acts flight)

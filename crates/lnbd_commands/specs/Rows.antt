@@ -6,7 +6,11 @@ use Rattle.lnbd_callbacks.specs.declared.caller.Verdict.{Verdict}
 use Rattle.lnbd_callbacks.specs.declared.caller.Verdict.TheVariants.{Keep, Retire}
 use Rattle.lnbd_inflight.specs.Table.{Table}
 use Rattle.lnbd_inflight.specs.Done.{forgetting}
-use Rattle.lnbd_history.specs.Commands.{Flight, is_read}
+use Rattle.lnbd_model.specs.Kind.{is_read}
+use Rattle.lnbd_model.specs.declared.failure.Failure.{Failure}
+use Rattle.lnbd_outcome.specs.Facts.{Facts, no_facts}
+use Rattle.lnbd_outcome.specs.Outcome.{error_number}
+use Rattle.lnbd_history.specs.Commands.{Flight}
 use Rattle.lnbd_history.specs.Entries.{Kept}
 use Rattle.lnbd_machine.specs.Machine.{Row, first_bytes}
 
@@ -15,23 +19,35 @@ abbrev pub seen_bytes : Option Kept → Kind → ℕ → List ℕ → List ℕ
 seen_bytes None kind size buf = first_bytes kind size buf
 seen_bytes (Some kept) kind size buf = []
 
--- until then the buffer of a read has the asked length
-abbrev pub HasBuffer : Option Kept → Kind → ℕ → List ℕ → Type 0
-HasBuffer None kind size buf = is_read kind ≡ true → length buf ≡ size
-HasBuffer (Some kept) kind size buf = Unit {0}
+-- Until then the buffer of a read has the asked length, and nothing failed.
+pub record IsOpen (kind : Kind) (size : ℕ) (buf : List ℕ) (failure : Option Failure) : Type 0 where
+  pub buffer : is_read kind ≡ true → length buf ≡ size
+  pub unfailed : failure ≡ None
+
+abbrev pub IsHeld : Option Kept → Kind → ℕ → List ℕ → Option Failure → Type 0
+IsHeld None kind size buf failure = IsOpen kind size buf failure
+IsHeld (Some kept) kind size buf failure = Unit {0}
+
+-- Of what was told of a command only its first error is held.
+abbrev pub seen_facts : Option Failure → Facts
+seen_facts failure = record no_facts { failure = failure }
+
+-- what is kept of a command until its completion callback has answered
+abbrev pub unanswered : Option Failure → Kept
+unanswered failure = record { error = error_number failure; bytes = [] }
 
 module _ {K : Type 0} where
   -- the row of a command whose callbacks are not admitted yet
   abbrev pub unflown : Kind → (flags offset size : ℕ) → List ℕ → Row K
-  unflown kind flags offset size buf = record { kind = kind; flags = flags; offset = offset; length = size; flight = None; bytes = first_bytes kind size buf; error = 0; kept = None }
+  unflown kind flags offset size buf = record { kind = kind; flags = flags; offset = offset; length = size; flight = None; bytes = first_bytes kind size buf; facts = no_facts; kept = None }
 
   -- the row with callbacks
   abbrev pub flown : Flight K → Row K → Row K
   flown flight row = record row { flight = Some flight }
 
-  -- the row whose command came to this error, and then what was kept of it
-  abbrev pub landed : ℕ → Kept → Row K → Row K
-  landed error kept row = record row { flight = None; bytes = []; error = error; kept = Some kept }
+  -- the row whose command came to this error, if any, and then what was kept of it
+  abbrev pub landed : Option Failure → Kept → Row K → Row K
+  landed failure kept row = record row { flight = None; bytes = []; facts = seen_facts failure; kept = Some kept }
 
   abbrev pub keeping : Kept → Row K → Row K
   keeping kept row = record row { kept = Some kept }

@@ -2,7 +2,8 @@
 use Rattle.std.specs.Prelude.{◌≡◌, ℕ, List, ◌++◌, length, true, Option, Some, None}
 use Rattle.lnbd_callbacks.specs.Calls.{Call}
 use Rattle.lnbd_history.specs.Events.{Answer}
-use Rattle.lnbd_history.specs.Arrivals.{Waiting, content_size, simple_content}
+use Rattle.lnbd_chunks.specs.Chunk.{Waiting}
+use Rattle.lnbd_chunks.specs.Reply.{content_size, simple_content}
 use Rattle.lnbd_history.specs.Entries.{Framed}
 use Rattle.lnbd_machine.specs.Machine.{State, Doing, file_in}
 use Rattle.lnbd_commands.specs.Commands.{Commands, with_commands}

@@ -4,7 +4,6 @@ ghost use Rattle.std.specs.Prelude.{◌≡◌, ◌≤◌, ◌+◌, [], ◌∷◌
 ghost use Rattle.std.specs.Option.{option_map};
 ghost use Rattle.lnbd_keyed.specs.Keyed.{value_at, keys};
 ghost use Rattle.lnbd_history.specs.Answers.{peeked_of};
-ghost use Rattle.lnbd_history.specs.Arrivals.{Waiting as Known, simple_content};
 ghost use Rattle.lnbd_history.specs.Commands.{Command, callbacks, flight_of};
 ghost use Rattle.lnbd_history.specs.Entries.{Dropped, Framed, Lost};
 ghost use Rattle.lnbd_machine.specs.Machine.{Row as SeenRow, file_all, file_in, flying, refused};
@@ -213,27 +212,17 @@ impl<K: Caller> Commands<K> {
     /// Fails each command in flight with 107, ENOTCONN, or an earlier error of its own, in order of
     /// cookies: each completes, and its callbacks are freed. It takes no memory.
     ///
-    /// The time grows with the number of cookies from the first in flight to the last that was given out.
+    /// The time grows with the number of commands that are not retired, and each of those in flight adds a binary
+    /// search among them. It does not grow with the number of commands that were issued.
     pub fn lose_all(&mut self, world: &mut K::World)
         ensures { Takes K.steps (file_all Lost (keys self.old.rows)) self.old self.new world.old world.new }
     {
-        let last = self.issued;
-        let mut lost = match self.table.first_undone() {
-            Some(first) => first - 1,
-            None => last,
-        };
-        while lost < last {
-            lost += 1;
-            self.lose_if(world, lost);
-        }
-    }
-
-    /// Fails a command, where it is in flight.
-    fn lose_if(&mut self, world: &mut K::World, cookie: u64)
-        ensures { Takes K.steps (file_in cookie Lost) self.old self.new world.old world.new }
-    {
-        if self.waiting(cookie).is_some() {
+        // Nothing is read here: the proof learns what holds of the commands before the first is lost.
+        let _ = &self.table;
+        let mut lost = 0;
+        while let Some(cookie) = self.table.next_undone(lost) {
             self.lose(world, cookie);
+            lost = cookie;
         }
     }
 

@@ -1,10 +1,10 @@
 //! The callbacks of one command: admitted together, called at its end, and freed together. Which
 //! command they belong to is not known here.
 
-ghost use Rattle.std.specs.Prelude.{◌≡◌, ◌++◌, [], ◌∷◌, true, is_some, IfOk, IfErr, OnOk, OnErr};
+ghost use Rattle.std.specs.Prelude.{◌≡◌, ◌++◌, map, Some, is_some, IfOk, IfErr, OnOk, OnErr};
+ghost use Rattle.lnbd_outcome.specs.Hearing.{Chunk, read_data};
 ghost use Rattle.lnbd_history.specs.Commands.{flight_of};
-ghost use Rattle.lnbd_history.specs.Arrivals.{Data};
-ghost use Rattle.lnbd_history.specs.Entries.{Framed, first_free_calls, free_calls, completion_calls, chunk_calls, chunk_notes};
+ghost use Rattle.lnbd_history.specs.Entries.{call_of, note_of, first_acts, first_free_acts, free_acts, completion_acts};
 ghost use Rattle.lnbd_commands.specs.Lands.{IsCounted};
 ghost use Rattle.lnbd_commands.specs.Flights.{IsFirstLive, IsLiveFlight, first_freed, freeing, completing, admitting, flight_count};
 
@@ -57,7 +57,7 @@ pub(crate) fn admit<K: Caller>(
 /// Frees the chunk or extents callback, if there is one.
 fn free_first<K: Caller>(first: Option<Slot<K>>, desk: &mut Desk, world: &mut K::World)
     requires { IsFirstLive first desk.old.log }
-    ensures world { K.steps world.old (first_free_calls first) world.new }
+    ensures world { K.steps world.old (map call_of (first_free_acts first)) world.new }
     ensures desk { desk.new ≡ record desk.old { log = first_freed first desk.old.log } }
 {
     match first {
@@ -75,7 +75,7 @@ pub(crate) fn complete<K: Caller>(
     bytes: Bytes,
 ) -> Verdict
     requires { IsLiveFlight flight desk.old.log }
-    ensures world { K.steps world.old (completion_calls flight error bytes result) world.new }
+    ensures world { K.steps world.old (map call_of (completion_acts flight error bytes result)) world.new }
     ensures desk { desk.new ≡ record desk.old { log = completing flight error result desk.old.log } }
 {
     let Flight { first, done } = flight;
@@ -89,7 +89,7 @@ pub(crate) fn complete<K: Caller>(
 /// Frees the callbacks of a command that does not complete.
 pub(crate) fn free<K: Caller>(flight: Flight<K>, desk: &mut Desk, world: &mut K::World)
     requires { IsLiveFlight flight desk.old.log }
-    ensures world { K.steps world.old (free_calls flight) world.new }
+    ensures world { K.steps world.old (map call_of (free_acts flight)) world.new }
     ensures desk { desk.new ≡ record desk.old { log = freeing flight desk.old.log } }
 {
     let Flight { first, done } = flight;
@@ -123,8 +123,8 @@ impl<K: Caller> Flight<K> {
         requires { IsFirstLive self.now.first desk.old.log }
         ensures heard { IfOk result (λ heard. is_some heard ≡ is_some self.now.first) }
         ensures counted { IfOk result IsCounted }
-        ensures world { IfOk result (λ heard. K.steps world.old (chunk_calls self.now.first (Framed (Data offset bytes.now) true) heard error) world.new) }
-        ensures log { IfOk result (λ heard. desk.new.log ≡ record desk.old.log { notes = desk.old.log.notes ++ chunk_notes self.now.first (Framed (Data offset bytes.now) true) heard error }) }
+        ensures world { IfOk result (λ heard. K.steps world.old (map call_of (first_acts self.now.first (Some (Chunk bytes.now offset read_data error)) heard)) world.new) }
+        ensures log { IfOk result (λ heard. desk.new.log ≡ record desk.old.log { notes = desk.old.log.notes ++ map note_of (first_acts self.now.first (Some (Chunk bytes.now offset read_data error)) heard) }) }
         ensures err_world { OnErr result (world.new ≡ world.old) }
         ensures err_desk { OnErr result (desk.new ≡ desk.old) }
     {

@@ -1,21 +1,22 @@
-//! The row of one command: what was asked, its callbacks while it is in flight, its buffer, and what
+//! The row of one command: what was asked, its callbacks while it is in flight, its buffer, its first error, and what
 //! was kept of it. How rows change is not said here.
 
 ghost use Rattle.std.specs.Prelude.{◌≡◌, ℕ, List, [], true, Some, None, is_some, length, vec_len, IfOk, IfErr, OnErr};
 ghost use Rattle.std.specs.Option.{option_map};
-ghost use Rattle.lnbd_history.specs.Commands.{is_read};
-ghost use Rattle.lnbd_history.specs.Arrivals.{Waiting as Known, simple_content};
-ghost use Rattle.lnbd_history.specs.Entries.{Framed, buffer, heard_error, or_else, told_error};
+ghost use Rattle.lnbd_model.specs.Kind.{is_read};
+ghost use Rattle.lnbd_model.specs.declared.failure.Origin.TheVariants as from;
+ghost use Rattle.lnbd_outcome.specs.Outcome.{buffer, error_number, failing, or_else};
+ghost use Rattle.lnbd_history.specs.Entries.{heard_error};
 ghost use Rattle.lnbd_commands.specs.Contents.{bytes_in};
 ghost use Rattle.lnbd_commands.specs.Flights.{flight_count};
-ghost use Rattle.lnbd_commands.specs.Lands.{Hears, lost};
+ghost use Rattle.lnbd_commands.specs.Lands.{Hears, lost, reply_failure, reply_hearing};
 ghost use Rattle.lnbd_commands.specs.Seen.{seen_waiting};
 
 use crate::content::Content;
 use crate::flight::Flight;
 use lnbd_callbacks::{Caller, Desk, Heard};
 use lnbd_history::Completed;
-use lnbd_model::{Bytes, ENOTCONN, Kind, NoMemory};
+use lnbd_model::{Bytes, ENOTCONN, Failure, Kind, NoMemory, Origin};
 use lnbd_simple::{Settled, settle};
 use std::alloc::Global;
 use std::marker::Model;
@@ -64,12 +65,12 @@ impl Model for Kept {
     ghost view = { λ kept. record { error = kept.error; bytes = kept.bytes } };
 }
 
-/// What a command in flight came to: its callbacks, what its chunk callback answered last, its error and
+/// What a command in flight came to: its callbacks, what its chunk callback answered last, its error, if any, and
 /// its bytes; and a buffer that is not needed any more.
 pub(crate) struct Landed<K> {
     pub(crate) flight: Flight<K>,
     pub(crate) heard: Option<Heard>,
-    pub(crate) error: u32,
+    pub(crate) failure: Option<Failure>,
     pub(crate) bytes: Bytes,
     pub(crate) spare: Vec<u8>,
 }
@@ -79,7 +80,7 @@ impl<K> Model for Landed<K> {
 
     ghost Value = { Landing K };
 
-    ghost view = { λ landed. record { flight = landed.flight; heard = landed.heard; error = landed.error; bytes = landed.bytes } };
+    ghost view = { λ landed. record { flight = landed.flight; heard = landed.heard; failure = landed.failure; bytes = landed.bytes } };
 }
 
 impl<K> Landed<K> {
@@ -100,24 +101,25 @@ pub(crate) struct Row<K> {
     flight: Option<Flight<K>>,
     // of a command in flight
     buf: Vec<u8>,
-    error: u32,
+    // the first error; none while the command is in flight
+    failure: Option<Failure>,
     kept: Option<Kept>,
 }
 
 impl<K> Model for Row<K> {
     ghost use Rattle.lnbd_machine.specs.Machine.{Row as Seen};
-    ghost use Rattle.lnbd_commands.specs.Rows.{seen_bytes, HasBuffer};
+    ghost use Rattle.lnbd_commands.specs.Rows.{seen_bytes, seen_facts, IsHeld};
 
     ghost Value = { Seen K };
 
-    ghost view = { λ row. record { kind = row.kind; flags = row.flags; offset = row.offset; length = row.length; flight = row.flight; bytes = seen_bytes row.kept row.kind row.length row.buf.items; error = row.error; kept = row.kept } };
+    ghost view = { λ row. record { kind = row.kind; flags = row.flags; offset = row.offset; length = row.length; flight = row.flight; bytes = seen_bytes row.kept row.kind row.length row.buf.items; facts = seen_facts row.failure; kept = row.kept } };
 
-    ghost invariant = { λ row. HasBuffer row.kept row.kind row.length row.buf.items };
+    ghost invariant = { λ row. IsHeld row.kept row.kind row.length row.buf.items row.failure };
 }
 
 impl<K> Row<K> {
     ghost use Rattle.lnbd_machine.specs.Machine.{waiting_row, hearing, result_bytes};
-    ghost use Rattle.lnbd_commands.specs.Rows.{unflown, flown, landed, keeping};
+    ghost use Rattle.lnbd_commands.specs.Rows.{unflown, flown, landed, keeping, unanswered};
 
     /// The row of a command whose callbacks are not admitted yet.
     pub(crate) fn new(kind: Kind, flags: u32, offset: u64, length: u64, buf: Vec<u8>) -> Row<K>
@@ -131,7 +133,7 @@ impl<K> Row<K> {
             length,
             flight: None,
             buf,
-            error: 0,
+            failure: None,
             kept: None,
         }
     }
@@ -166,30 +168,31 @@ impl<K> Row<K> {
         self.kept = Some(Kept { error, bytes });
     }
 
-    /// Takes the callbacks and the buffer of a command that ends with this error, 0 for none. The bytes of a
+    /// Takes the callbacks and the buffer of a command that ends with this error, if any. The bytes of a
     /// read that is done are this content, those of one that failed are zeroes, and a write has its own.
     fn land(
         &mut self,
         alloc: Global,
         heard: Option<Heard>,
-        error: u32,
+        failure: Option<Failure>,
         content: Content<'_>,
     ) -> Landed<K>
         requires flies { is_some self.old.flight ≡ true }
         requires held { self.old.kept ≡ None }
-        requires sized { is_read self.old.kind ≡ true → error ≡ 0 → length (bytes_in content) ≡ self.old.length }
+        requires sized { is_read self.old.kind ≡ true → error_number failure ≡ 0 → length (bytes_in content) ≡ self.old.length }
         ensures flight { self.old.flight ≡ Some result.flight }
         ensures heard { result.heard ≡ heard }
-        ensures error { result.error ≡ error }
-        ensures bytes { result.bytes ≡ buffer self.old.kind self.old.length self.old.bytes error (bytes_in content.entry) }
-        ensures row { self.new ≡ landed error (record { error = error; bytes = [] }) self.old }
+        ensures failure { result.failure ≡ failure }
+        ensures bytes { result.bytes ≡ buffer self.old.kind self.old.length self.old.bytes (error_number failure) (bytes_in content.entry) }
+        ensures row { self.new ≡ landed failure (unanswered failure) self.old }
     {
         let Some(flight) = self.flight.take() else {
             unreachable!()
         };
+        let error = error_number(failure);
         let own = replace(&mut self.buf, Vec::new(alloc));
         let (bytes, spare) = finish(alloc, self.kind, error, own, content);
-        self.error = error;
+        self.failure = failure;
         self.kept = Some(Kept {
             error,
             bytes: Bytes::from_vec(Vec::new(alloc)),
@@ -197,7 +200,7 @@ impl<K> Row<K> {
         Landed {
             flight,
             heard,
-            error,
+            failure,
             bytes: Bytes::from_vec(bytes),
             spare,
         }
@@ -209,10 +212,11 @@ impl<K> Row<K> {
         requires held { self.old.kept ≡ None }
         ensures landed { result ≡ lost self.old result.flight }
         ensures flight { self.old.flight ≡ Some result.flight }
-        ensures row { self.new ≡ landed result.error (record { error = result.error; bytes = [] }) self.old }
+        ensures row { self.new ≡ landed result.failure (unanswered result.failure) self.old }
     {
-        let error = first_error(self.error, ENOTCONN);
-        self.land(alloc, None, error, Content::Copied(&[]))
+        let _kind = self.kind;
+        let failure = failing(Origin::Lost, ENOTCONN);
+        self.land(alloc, None, failure, Content::Copied(&[]))
     }
 
     /// Lets a row go that is not in flight.
@@ -224,7 +228,7 @@ impl<K> Row<K> {
 }
 
 impl<K> Row<K> {
-    ghost use Rattle.lnbd_history.specs.Answers.{completed_of};
+    ghost use Rattle.lnbd_machine.specs.Now.{completed_with, failure_with};
 
     /// Whether something is kept of the command.
     pub(crate) fn is_kept(&self) -> bool
@@ -233,10 +237,20 @@ impl<K> Row<K> {
         self.kept.is_some()
     }
 
+    /// The first error of the command, where something is kept of it.
+    pub(crate) fn failure(&self) -> Option<Failure>
+        ensures { result ≡ failure_with self.now.kept self.now.facts.failure }
+    {
+        match &self.kept {
+            None => None,
+            Some(_) => self.failure,
+        }
+    }
+
     /// What the command came to. Its row ends, which is not in flight.
     pub(crate) fn into_completed(self) -> Completed
         requires { self.flight ≡ None }
-        ensures { result ≡ completed_of self.kept }
+        ensures { result ≡ completed_with self.kept }
     {
         let Row {
             kind: _,
@@ -245,7 +259,7 @@ impl<K> Row<K> {
             length: _,
             flight,
             buf: _,
-            error: _,
+            failure: _,
             kept,
         } = self;
         none_left(flight);
@@ -272,7 +286,7 @@ impl<K> Row<K> {
             length: _,
             flight,
             buf: _,
-            error: _,
+            failure: _,
             kept: _,
         } = self;
         flight
@@ -316,8 +330,8 @@ fn none_left<K>(flight: Option<Flight<K>>)
 }
 
 impl<K: Caller> Row<K> {
-    ghost use Rattle.lnbd_history.specs.Arrivals.{content_size};
-    ghost use Rattle.lnbd_commands.specs.Rows.{landed};
+    ghost use Rattle.lnbd_chunks.specs.Reply.{content_size};
+    ghost use Rattle.lnbd_commands.specs.Rows.{landed, unanswered};
     ghost use Rattle.lnbd_commands.specs.Lands.{IsLiveRow, Lands, known_of, reply_item};
 
     /// Ends the command by a simple reply with this error, as the wire tells it, and these bytes. For want of memory they are
@@ -335,7 +349,7 @@ impl<K: Caller> Row<K> {
         requires live { IsLiveRow self.old.flight desk.old.log }
         requires sized { length (bytes_in content) ≡ content_size (known_of self.old) error }
         ensures lands { IfOk result (λ landed. Lands K.steps self.old (reply_item self.old error (bytes_in content.entry)) landed desk.old.log desk.new.log world.old world.new) }
-        ensures row { IfOk result (λ end. self.new ≡ landed end.error (record { error = end.error; bytes = [] }) self.old) }
+        ensures row { IfOk result (λ end. self.new ≡ landed end.failure (unanswered end.failure) self.old) }
         ensures handed_back { IfErr result (λ back. back ≡ content.entry) }
         ensures err_row { OnErr result (self.new ≡ self.old) }
         ensures err_desk { OnErr result (desk.new ≡ desk.old) }
@@ -346,8 +360,8 @@ impl<K: Caller> Row<K> {
             Ok(heard) => heard,
             Err(_) => return Err(content),
         };
-        let error = first_error(first_error(self.error, told), number_of(heard));
-        Ok(self.land(alloc, heard, error, content))
+        let failure = first_of(told, failing(Origin::Callback, number_of(heard)));
+        Ok(self.land(alloc, heard, failure, content))
     }
 
     /// Tells the content of a simple reply, if it has any, to the chunk callback.
@@ -359,7 +373,7 @@ impl<K: Caller> Row<K> {
         bytes: &[u8],
     ) -> Result<Option<Heard>, NoMemory>
         requires live { IsLiveRow self.now.flight desk.old.log }
-        ensures hears { IfOk result (λ heard. Hears K.steps self.now (reply_item self.now error bytes.now) heard desk.old.log desk.new.log world.old world.new) }
+        ensures hears { IfOk result (λ heard. Hears K.steps self.now (reply_hearing self.now.kind self.now.offset error bytes.now) heard desk.old.log desk.new.log world.old world.new) }
         ensures err_desk { OnErr result (desk.new ≡ desk.old) }
         ensures err_world { OnErr result (world.new ≡ world.old) }
     {
@@ -371,27 +385,56 @@ impl<K: Caller> Row<K> {
         };
         match &self.flight {
             None => Ok(None),
-            Some(flight) => flight.hear(desk, world, bytes, self.offset, self.error),
+            Some(flight) => flight.hear(desk, world, bytes, self.offset, 0),
         }
     }
 }
 
-/// The error that a simple reply tells: a block status that is answered without extents is at fault.
-fn told_by(kind: Kind, error: u32) -> u32
-    ensures { (known : Known) (bytes : List ℕ) → known.kind ≡ kind → told_error kind (Framed (simple_content known error bytes) true) ≡ result }
+/// What a simple reply fails its command with: a block status that is answered without extents is at fault.
+fn told_by(kind: Kind, error: u32) -> Option<Failure>
+    ensures { result ≡ reply_failure kind error }
 {
+    let origin = if error == 0 {
+        Origin::Content
+    } else {
+        Origin::Told
+    };
     match settle(kind, false, error) {
-        Settled::Done => 0,
-        Settled::Failed(number) => number,
+        Settled::Done => None,
+        Settled::Failed(error) => Some(Failure { origin, error }),
         Settled::Broke(_) => unreachable!(),
     }
 }
 
-/// The first error of two, 0 being none.
-fn first_error(early: u32, late: u32) -> u32
+/// An error from here with this number, 0 being none.
+fn failing(origin: Origin, error: u32) -> Option<Failure>
+    ensures { result ≡ failing origin error }
+{
+    if error == 0 {
+        None
+    } else {
+        Some(Failure { origin, error })
+    }
+}
+
+/// The first of two errors.
+fn first_of(early: Option<Failure>, late: Option<Failure>) -> Option<Failure>
     ensures { result ≡ or_else early late }
 {
-    if early == 0 { late } else { early }
+    match early {
+        None => late,
+        Some(failure) => Some(failure),
+    }
+}
+
+/// The number of an error, 0 for none.
+pub(crate) fn error_number(failure: Option<Failure>) -> u32
+    ensures { result ≡ error_number failure }
+{
+    match failure {
+        None => 0,
+        Some(failure) => failure.error,
+    }
 }
 
 /// The error with which a chunk callback failed its command, 0 for none.

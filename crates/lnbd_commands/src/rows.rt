@@ -1,19 +1,20 @@
 //! Changes of one row of the table, with the callbacks of its command. Which commands there are, and
 //! what holds of all of them, is not said here.
 
-ghost use Rattle.std.specs.Prelude.{◌≡◌, [], true, false, None, IsSome, IfOk, IfErr, OnErr, is_some};
+ghost use Rattle.std.specs.Prelude.{◌≡◌, map, true, false, None, IsSome, IfOk, IfErr, OnErr, is_some};
 ghost use Rattle.lnbd_keyed.specs.Keyed.{value_at, without};
 ghost use Rattle.lnbd_inflight.specs.Done.{is_done, forgetting};
 ghost use Rattle.lnbd_callbacks.specs.declared.caller.Verdict.{Verdict};
-ghost use Rattle.lnbd_history.specs.Entries.{completion_calls};
+ghost use Rattle.lnbd_outcome.specs.Outcome.{error_number};
+ghost use Rattle.lnbd_history.specs.Entries.{call_of, completion_acts};
 ghost use Rattle.lnbd_commands.specs.Contents.{bytes_in};
 ghost use Rattle.lnbd_commands.specs.Flights.{IsLiveFlight, completing};
 ghost use Rattle.lnbd_commands.specs.Lands.{AnswerableAt, LandsAt, LosableAt, LostAt};
-ghost use Rattle.lnbd_commands.specs.Rows.{changed, ended, flight_of_row, keeping, kept_of_row, landed};
+ghost use Rattle.lnbd_commands.specs.Rows.{changed, ended, flight_of_row, keeping, kept_of_row, landed, unanswered};
 
 use crate::content::Content;
 use crate::flight::complete;
-use crate::row::{Landed, Row};
+use crate::row::{Landed, Row, error_number};
 use lnbd_callbacks::{Caller, Desk, Verdict};
 use lnbd_inflight::Table;
 use lnbd_model::Bytes;
@@ -31,7 +32,7 @@ pub(crate) fn answer_in<'a, K: Caller>(
 ) -> Result<Landed<K>, Content<'a>>
     requires { AnswerableAt (value_at cookie table.old.rows) error (bytes_in content) desk.old.log }
     ensures lands { IfOk result (λ landed. LandsAt K.steps (value_at cookie table.old.rows) error (bytes_in content.entry) landed desk.old.log desk.new.log world.old world.new) }
-    ensures rows { IfOk result (λ end. table.new ≡ record table.old { rows = changed (landed end.error (record { error = end.error; bytes = [] })) cookie table.old.rows }) }
+    ensures rows { IfOk result (λ end. table.new ≡ record table.old { rows = changed (landed end.failure (unanswered end.failure)) cookie table.old.rows }) }
     ensures handed_back { IfErr result (λ back. back ≡ content.entry) }
     ensures err_table { OnErr result (table.new ≡ table.old) }
     ensures err_desk { OnErr result (desk.new ≡ desk.old) }
@@ -48,7 +49,7 @@ pub(crate) fn answer_in<'a, K: Caller>(
 pub(crate) fn lose_in<K>(table: &mut Table<Row<K>>, alloc: Global, cookie: u64) -> Landed<K>
     requires { LosableAt (value_at cookie table.old.rows) }
     ensures lost { LostAt (value_at cookie table.old.rows) result }
-    ensures rows { table.new ≡ record table.old { rows = changed (landed result.error (record { error = result.error; bytes = [] })) cookie table.old.rows } }
+    ensures rows { table.new ≡ record table.old { rows = changed (landed result.failure (unanswered result.failure)) cookie table.old.rows } }
 {
     if let Some(row) = table.get_mut(cookie) {
         row.lose(alloc)
@@ -96,17 +97,17 @@ pub(crate) fn finish_in<K: Caller>(
     requires undone { is_done cookie table.old.done ≡ false }
     requires live { IsLiveFlight landed.flight desk.old.log }
     ensures { (verdict : Verdict) × (table.new ≡ ended verdict cookie table.old)
-        × (desk.new ≡ record desk.old { log = completing landed.flight landed.error verdict desk.old.log })
-        × K.steps world.old (completion_calls landed.flight landed.error landed.bytes verdict) world.new }
+        × (desk.new ≡ record desk.old { log = completing landed.flight (error_number landed.failure) verdict desk.old.log })
+        × K.steps world.old (map call_of (completion_acts landed.flight (error_number landed.failure) landed.bytes verdict)) world.new }
 {
     let Landed {
         flight,
         heard: _,
-        error,
+        failure,
         bytes,
         spare,
     } = landed;
-    match complete(flight, desk, world, error, bytes) {
+    match complete(flight, desk, world, error_number(failure), bytes) {
         Verdict::Keep { error, buf } => {
             keep_in(table, cookie, error, buf);
             table.mark_done(cookie);

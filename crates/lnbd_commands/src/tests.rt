@@ -3,7 +3,7 @@
 use crate::{Asked, Commands};
 use lnbd_callbacks::{Caller, Heard, Verdict};
 use lnbd_history::{Completed, Peeked};
-use lnbd_model::{Bytes, Extent, Kind};
+use lnbd_model::{Bytes, Extent, Failure, Kind, Origin};
 use std::alloc::Global;
 
 /// Keeps what it is told to keep, and counts the calls in its world.
@@ -108,7 +108,13 @@ fn a_death_fails_all_that_were_left(rt: HostRuntime) {
     assert!(rt; commands.refuse(&mut world, None, Keeper).is_ok());
     assert_eq!(rt; commands.notes().len(), 1);
     commands.clear_log();
+    assert_eq!(rt; commands.failure(1), None);
     commands.lose_all(&mut world);
+    let lost = Failure {
+        origin: Origin::Lost,
+        error: 107,
+    };
+    assert_eq!(rt; commands.failure(1), Some(lost));
     assert!(rt; came_to(commands.take_completed(1), 107, &[0, 0, 0, 0]));
     assert_eq!(rt; commands.peek(), Peeked::NoneLeft);
     let closed = commands.close(&mut world);

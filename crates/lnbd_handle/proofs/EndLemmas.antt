@@ -24,6 +24,7 @@ module _ {K : Type 0} where
   shut_sound old queue e s = record {
     fits = subst (λ q. AllFit no_writes q.pieces) (sym e) tt;
     stands = tt;
+    plain = s.plain;
     counted = let n : ends_in (waits no_writes queue) ≡ 0 = ap (λ q. ends_in (waits no_writes q)) e in omega (arith, n, s.counted);
   }
 

@@ -22,7 +22,7 @@ use Rattle.lnbd_negotiate.specs.declared.kinds.TalkFault.TheVariants as fault
 use Rattle.lnbd_outgoing.specs.Queue.{Queue, waits, AllFit}
 use Rattle.lnbd_handle.specs.declared.connection.Connection.{Connection}
 use Rattle.lnbd_handle.specs.Greets.{Replies, goes_on}
-use Rattle.lnbd_handle.specs.Seen.{IsSound, state_of, no_writes, ends_in}
+use Rattle.lnbd_handle.specs.Seen.{IsPlain, IsSound, state_of, no_writes, ends_in}
 use Rattle.lnbd_handle.proofs.TurnLemmas.{open_queue, open_stands}
 
 pub ends_append : (xs : List Part) (part : Part) → ends_in (xs ++ part ∷ []) ≡ ends_in xs + one_if part.ends
@@ -75,14 +75,15 @@ goes phase.Ready next e = refl
 goes (phase.Refused code) next e = cc
 
 module _ {K : Type 0} where
-  pub talk_sound : (old : Connection K) (talk : Talk) → old.stage ≡ Open → IsSound old → IsSound (record old { talk = talk })
-  talk_sound old talk opened s = record { fits = s.fits; stands = open_stands old.stage talk.phase old.queue.ended opened (open_queue old s opened); counted = s.counted }
+  pub talk_sound : (old : Connection K) (talk : Talk) → old.stage ≡ Open → IsPlain talk → IsSound old → IsSound (record old { talk = talk })
+  talk_sound old talk opened plain s = record { fits = s.fits; stands = open_stands old.stage talk.phase old.queue.ended opened (open_queue old s opened); plain = plain; counted = s.counted }
 
-  pub queue_sound : (old : Connection K) (flags : ℕ) (talk : Talk) (queue : Queue) → old.stage ≡ Open → IsSound old → AllFit no_writes queue.pieces → queue.ended ≡ false → ends_in (waits no_writes queue) ≡ ends_in (waits no_writes old.queue) →
+  pub queue_sound : (old : Connection K) (flags : ℕ) (talk : Talk) (queue : Queue) → old.stage ≡ Open → IsSound old → IsPlain talk → AllFit no_writes queue.pieces → queue.ended ≡ false → ends_in (waits no_writes queue) ≡ ends_in (waits no_writes old.queue) →
       IsSound (record old { flags = flags; talk = talk; queue = queue })
-  queue_sound old flags talk queue opened s fits ended same = record {
+  queue_sound old flags talk queue opened s plain fits ended same = record {
     fits = fits;
     stands = open_stands old.stage talk.phase queue.ended opened ended;
+    plain = plain;
     counted = subst (λ n. old.written + n ≤ old.commands.issued) (sym same) s.counted;
   }
 

@@ -1,5 +1,5 @@
 -- A read that is issued or refused.
-use Rattle.std.proofs.Common.{◌≡◌, ℕ, ◌+◌, ◌-◌, ◌<◌, ◌≤◌, Bool, true, false, not, List, [], ◌∷◌, ◌++◌, length, Option, Some, None, Result, Ok, Err, refl, ap, sym, ◌∙◌, subst, arith, ◌==◌, nat_le, bit_and, if◌then◌else◌}
+use Rattle.std.proofs.Common.{◌≡◌, ℕ, ◌+◌, ◌-◌, ◌<◌, ◌≤◌, Bool, true, false, not, ◌&&◌, List, [], ◌∷◌, ◌++◌, length, Option, Some, None, Result, Ok, Err, refl, ap, sym, ◌∙◌, subst, arith, ◌==◌, nat_le, bit_and, if◌then◌else◌}
 use Rattle.std.specs.Prelude.{is_some, is_err, OnOk}
 use Rattle.std.proofs.lemmas.Bool.{leb-true}
 use Rattle.lnbd_model.specs.declared.kind.Kind.TheVariants.{Read}
@@ -11,8 +11,12 @@ use Rattle.lnbd_callbacks.specs.Calls.{Call}
 use Rattle.lnbd_callbacks.specs.Desk.{Log}
 use Rattle.lnbd_history.specs.Commands.{Command, callbacks, flight_of, is_write}
 use Rattle.lnbd_history.specs.Events.{Issue, Refuse}
-use Rattle.lnbd_history.specs.Outgoing.{Part, last_of, head_of, command_parts, one_if}
-use Rattle.lnbd_history.specs.Refusals.{Terms, allowed, by_range, by_state, refuse, refusal}
+use Rattle.lnbd_history.specs.Agreement.{is_empty}
+use Rattle.lnbd_history.specs.Outgoing.{Part, plain, last_of, head_of, command_parts, one_if}
+use Rattle.lnbd_model.specs.declared.refusal.Lack.{Lack}
+use Rattle.lnbd_history.specs.Strict.{all_strict, strict_commands, strict_flags}
+use Rattle.lnbd_records.specs.Numbers.{has_bit}
+use Rattle.lnbd_history.specs.Refusals.{Terms, allowed, allowed_now, bad_flags, by_range, by_state, lack_now, refuse, refusal, sendable_flags, unsupported}
 use Rattle.lnbd_machine.specs.Machine.{State, Machine, Doing, issued, refused}
 use Rattle.lnbd_machine.specs.Laws.{IsPartial}
 use Rattle.lnbd_machine.specs.Now.{refusal_now}
@@ -58,22 +62,32 @@ nonzero : (n : ℕ) → (n ≡ 0 → ⊥) → (n == 0) ≡ false
 nonzero n h = grind arith
 
 -- where neither the state nor the number of commands refuses
-judged : (terms : Terms) (flags offset length excess : ℕ) → None ≡ by_state terms.state None → terms.held < 1024 → excess ≡ flags - bit_and flags (allowed terms Read) →
+same_lack : (b : Bool) (lack : Option Lack) → (if b then lack else lack) ≡ lack
+same_lack true lack = refl
+same_lack false lack = refl
+
+strict_allowed : (terms : Terms) → terms.strict ≡ all_strict → allowed_now terms Read ≡ allowed terms Read
+strict_allowed terms e = ap (λ (bits : ℕ). if has_bit strict_flags bits then allowed terms Read else sendable_flags) e
+
+judged : (terms : Terms) (flags offset length excess : ℕ) → terms.strict ≡ all_strict → None ≡ by_state terms.state None → terms.held < 1024 → excess ≡ flags - bit_and flags (allowed terms Read) →
     refusal 1024 terms Read flags offset length ≡ refuse (not (excess == 0)) (why.BadFlags excess) (by_range terms Read offset length)
-judged terms flags offset length excess s h e =
+judged terms flags offset length excess strict s h e =
+    let bad : bad_flags terms Read flags ≡ excess = ap (λ (n : ℕ). flags - bit_and flags n) (strict_allowed terms strict) ∙ sym e in
+    let later : Option Why = refuse (not (bad_flags terms Read flags == 0)) (why.BadFlags (bad_flags terms Read flags)) (by_range terms Read offset length) in
     by_state_none terms.state _ s
-    ∙ ap (λ (b : Bool). refuse b (why.TooMany 1024) (refuse (not (flags - bit_and flags (allowed terms Read) == 0)) (why.BadFlags (flags - bit_and flags (allowed terms Read))) (by_range terms Read offset length))) (few terms.held 1024 h)
-    ∙ ap (λ (n : ℕ). refuse (not (n == 0)) (why.BadFlags n) (by_range terms Read offset length)) (sym e)
+    ∙ ap (λ (b : Bool). refuse b (why.TooMany 1024) (unsupported (lack_now terms Read) later)) (few terms.held 1024 h)
+    ∙ ap (λ (l : Option Lack). unsupported l later) (same_lack (has_bit strict_commands terms.strict) None)
+    ∙ ap (λ (n : ℕ). refuse (not (n == 0)) (why.BadFlags n) (by_range terms Read offset length)) bad
 
-pub flags_refused : (terms : Terms) (flags offset length excess : ℕ) → None ≡ by_state terms.state None → terms.held < 1024 → excess ≡ flags - bit_and flags (allowed terms Read) → (excess ≡ 0 → ⊥) →
+pub flags_refused : (terms : Terms) (flags offset length excess : ℕ) → terms.strict ≡ all_strict → None ≡ by_state terms.state None → terms.held < 1024 → excess ≡ flags - bit_and flags (allowed terms Read) → (excess ≡ 0 → ⊥) →
     Some (why.BadFlags excess) ≡ refusal 1024 terms Read flags offset length
-flags_refused terms flags offset length excess s h e n =
-    sym (judged terms flags offset length excess s h e ∙ ap (λ (b : Bool). refuse (not b) (why.BadFlags excess) (by_range terms Read offset length)) (nonzero excess n))
+flags_refused terms flags offset length excess strict s h e n =
+    sym (judged terms flags offset length excess strict s h e ∙ ap (λ (b : Bool). refuse (not b) (why.BadFlags excess) (by_range terms Read offset length)) (nonzero excess n))
 
-pub range_judged : (terms : Terms) (flags offset length excess : ℕ) (answer : Option Why) → None ≡ by_state terms.state None → terms.held < 1024 → excess ≡ flags - bit_and flags (allowed terms Read) → excess ≡ 0 →
+pub range_judged : (terms : Terms) (flags offset length excess : ℕ) (answer : Option Why) → terms.strict ≡ all_strict → None ≡ by_state terms.state None → terms.held < 1024 → excess ≡ flags - bit_and flags (allowed terms Read) → excess ≡ 0 →
     answer ≡ by_range terms Read offset length → answer ≡ refusal 1024 terms Read flags offset length
-range_judged terms flags offset length excess answer s h e n a =
-    a ∙ sym (judged terms flags offset length excess s h e ∙ ap (λ (k : ℕ). refuse (not (k == 0)) (why.BadFlags excess) (by_range terms Read offset length)) n)
+range_judged terms flags offset length excess answer strict s h e n a =
+    a ∙ sym (judged terms flags offset length excess strict s h e ∙ ap (λ (k : ℕ). refuse (not (k == 0)) (why.BadFlags excess) (by_range terms Read offset length)) n)
 
 ends_more : (parts : List Part) (part : Part) → ends_in (parts ++ part ∷ []) ≡ ends_in parts + one_if part.ends
 ends_more [] part = omega arith
@@ -88,7 +102,7 @@ module _ {K : Type 0} where
 
   -- the parts of a command that ends with its head
   abbrev pub IsQueued : Connection K → Command K → Queue → Type 0
-  IsQueued old command queue = waits no_writes queue ≡ waits no_writes old.queue ++ last_of (head_of (old.commands.issued + 1) command) ∷ []
+  IsQueued old command queue = waits no_writes queue ≡ waits no_writes old.queue ++ last_of (head_of old.talk.extended (old.commands.issued + 1) command) ∷ []
 
   pub issue_does : (old : Connection K) (command : Command K) (queue : Queue) (commands : Commands K) → is_write command.kind ≡ false → IsQueued old command queue → commands ≡ issuing command old.commands →
       state_of (record old { queue = queue; commands = commands }) ≡ issued command (state_of old)
@@ -99,16 +113,20 @@ module _ {K : Type 0} where
       ∙ ap (λ n. record (issued command (state_of old)) { notes = n; admitted = (admitting command.first old.commands.log).admitted }) log.0
       ∙ ap (λ (n : ℕ). record (issued command (state_of old)) { admitted = n }) log.1
     where
-      parts : waits no_writes old.queue ++ last_of (head_of (old.commands.issued + 1) command) ∷ [] ≡ waits no_writes old.queue ++ command_parts (old.commands.issued + 1) command
-      parts = ap (λ (b : Bool). waits no_writes old.queue ++ (if b then Rattle.lnbd_history.specs.Outgoing.plain (head_of (old.commands.issued + 1) command) ∷ last_of command.payload ∷ [] else last_of (head_of (old.commands.issued + 1) command) ∷ [])) (sym w)
+      head : List ℕ
+      head = head_of old.talk.extended (old.commands.issued + 1) command
+
+      parts : waits no_writes old.queue ++ last_of head ∷ [] ≡ waits no_writes old.queue ++ command_parts old.talk.extended (old.commands.issued + 1) command
+      parts = ap (λ (b : Bool). waits no_writes old.queue ++ (if b && not (is_empty command.payload) then plain head ∷ last_of command.payload ∷ [] else last_of head ∷ [])) (sym w)
 
   pub issue_sound : (old : Connection K) (command : Command K) (queue : Queue) (commands : Commands K) → IsQueued old command queue → commands ≡ issuing command old.commands → AllFit no_writes queue.pieces → queue.ended ≡ old.queue.ended →
       IsSound old → IsSound (record old { queue = queue; commands = commands })
   issue_sound old command queue commands q e fits same s = record {
     fits = fits;
     stands = subst (λ (b : Bool). Stands old.stage old.talk.phase b) (sym same) s.stands;
+    plain = s.plain;
     counted =
-        let n : ends_in (waits no_writes queue) ≡ ends_in (waits no_writes old.queue) + 1 = ap ends_in q ∙ ends_more (waits no_writes old.queue) (last_of (head_of (old.commands.issued + 1) command)) in
+        let n : ends_in (waits no_writes queue) ≡ ends_in (waits no_writes old.queue) + 1 = ap ends_in q ∙ ends_more (waits no_writes old.queue) (last_of (head_of old.talk.extended (old.commands.issued + 1) command)) in
         let m : commands.issued ≡ old.commands.issued + 1 = ap (λ (c : Commands K). c.issued) e in
         omega (arith, n, m, s.counted);
   }
@@ -138,7 +156,7 @@ module _ {K : Type 0} where
         Takes steps (refused (flight_of old.commands.log.admitted command.first command.done) (callbacks command.first)) old.commands commands before after → IsSound old → IsSound (record old { commands = commands })
     refuse_sound old command commands before after t s =
         let i = takes_issued steps (refused (flight_of old.commands.log.admitted command.first command.done) (callbacks command.first)) (state_of old) old.commands commands before after (λ d. refl) t in
-        record { fits = s.fits; stands = s.stands; counted = subst (λ (n : ℕ). old.written + ends_in (waits no_writes old.queue) ≤ n) (sym i) s.counted }
+        record { fits = s.fits; stands = s.stands; plain = s.plain; counted = subst (λ (n : ℕ). old.written + ends_in (waits no_writes old.queue) ≤ n) (sym i) s.counted }
 
     pub faults_partial : (command : Command K) (fault : IssueFault K) (old new : Machine K) (before after : World) → Faults steps command fault old new before after → IsPartial old → IsPartial new
     faults_partial command (NoMemory buf first done) old new before after f p = subst (λ (m : Machine K). IsPartial m) (sym f.3) p

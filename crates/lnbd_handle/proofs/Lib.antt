@@ -1,4 +1,5 @@
 pub mod RunLemmas
+pub mod PlainLemmas
 pub mod TurnLemmas
 pub mod DrainLemmas
 pub mod GreetLemmas

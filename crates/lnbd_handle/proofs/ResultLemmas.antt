@@ -5,11 +5,10 @@ use Rattle.lnbd_keyed.specs.Keyed.{value_at}
 use Rattle.lnbd_history.specs.declared.kinds.Completed.{Completed}
 use Rattle.lnbd_history.specs.declared.kinds.Completed.TheVariants.{Done, Failed, NotYet, NoSuchCookie}
 use Rattle.lnbd_history.specs.Events.{Event, Retire}
-use Rattle.lnbd_history.specs.Answers.{completed_of}
 use Rattle.lnbd_history.specs.Entries.{Kept}
 use Rattle.lnbd_machine.specs.Machine.{Row, Machine, step}
 use Rattle.lnbd_machine.specs.Laws.{IsPartial, Keeps}
-use Rattle.lnbd_machine.specs.Now.{completed_row}
+use Rattle.lnbd_machine.specs.Now.{completed_row, completed_with}
 use Rattle.lnbd_machine.proofs.Partial.{step_partial}
 use Rattle.lnbd_commands.specs.Asks.{taking as taking_result}
 use Rattle.lnbd_commands.specs.Commands.{Commands, retiring}
@@ -20,11 +19,11 @@ use Rattle.lnbd_handle.specs.Seen.{IsSound, machine_of}
 use Rattle.lnbd_handle.specs.Completing.{completing}
 
 -- what is done or failed was kept
-done_kept : (o : Option Kept) (bytes : List ℕ) → Done bytes ≡ completed_of o → is_some o ≡ true
+done_kept : (o : Option Kept) (bytes : List ℕ) → Done bytes ≡ completed_with o → is_some o ≡ true
 done_kept None bytes e = cc
 done_kept (Some k) bytes e = refl
 
-failed_kept : (o : Option Kept) (error : ℕ) (bytes : List ℕ) → Failed error bytes ≡ completed_of o → is_some o ≡ true
+failed_kept : (o : Option Kept) (error : ℕ) (bytes : List ℕ) → Failed error bytes ≡ completed_with o → is_some o ≡ true
 failed_kept None error bytes e = cc
 failed_kept (Some k) error bytes e = refl
 
@@ -49,7 +48,7 @@ module _ {K : Type 0} where
   retires cookie old held commands sound kept e w = subst (λ (c : Commands K). Took (Retire cookie) old held (record old { commands = c }) held) (sym e)
       (took (Retire cookie) old held (record old { commands = retiring cookie old.commands }) held refl
       (sound.cookies, λ row is. kept_landed cookie row old.commands.done old.commands.rows sound.rows is (kept row is)) w.1
-      (record { fits = w.0.fits; stands = w.0.stands; counted = w.0.counted }))
+      (record { fits = w.0.fits; stands = w.0.stands; plain = w.0.plain; counted = w.0.counted }))
 
   pub took_result : (result : Completed) (cookie : ℕ) (old : Connection K) (held : List ℕ) (commands : Commands K) → AreSound old.commands → result ≡ completed_row (value_at cookie old.commands.rows) →
       commands ≡ taking_result result cookie old.commands → Whole old held → Results result cookie old held commands

@@ -25,9 +25,10 @@ use Rattle.lnbd_outgoing.specs.Queue.{Queue, waits, AllFit}
 use Rattle.lnbd_negotiate.specs.declared.kinds.TalkFault.TheVariants as fault
 use Rattle.lnbd_commands.specs.Commands.{Commands, waiting_as, waiting_at}
 use Rattle.lnbd_commands.specs.Takes.{Takes, TakesReply}
-use Rattle.lnbd_arrivals.specs.Frames.{IsReply}
+use Rattle.lnbd_arrivals.specs.Frames.{IsReply, shows_plain}
+use Rattle.lnbd_chunks.specs.Reply.{simple_content}
 use Rattle.lnbd_history.specs.Events.{Answer}
-use Rattle.lnbd_history.specs.Arrivals.{Shown, Hello, OptionReply, ExportReply, Reply, Broken, Ignored, Frame, Waiting, Sight, has_bit, simple_content, shows_at, shows_in, shows_hello, shows_option, shows_by_name, shows_frame}
+use Rattle.lnbd_history.specs.Arrivals.{Shown, Hello, OptionReply, ExportReply, Reply, Broken, Ignored, Frame, Waiting, Sight, has_bit, shows_at, shows_in, shows_hello, shows_option, shows_by_name, shows_frame}
 use Rattle.lnbd_machine.specs.Machine.{Row, State, Doing, enter, kill, greeted, turned, if_refused, file_in, sight, waited, waited_of, table_rules}
 use Rattle.lnbd_arrivals.proofs.Fronts.{shows, Ignores, feed_ignored, broke, took_hello, took_by_name, took_option, took_frame}
 use Rattle.lnbd_handle.specs.declared.connection.Connection.{Connection}
@@ -35,7 +36,7 @@ use Rattle.lnbd_handle.specs.Runs.{doing, under, Acts, Runs}
 use Rattle.lnbd_handle.specs.Seen.{state_of, machine_of}
 use Rattle.lnbd_handle.specs.Turns.{arriving, is_speaking, takes_options}
 use Rattle.lnbd_handle.specs.Greets.{Greets, Replies, goes_on}
-use Rattle.lnbd_handle.specs.Seen.{Stands, IsSound, no_writes, ends_in}
+use Rattle.lnbd_handle.specs.Seen.{Stands, IsPlain, IsSound, no_writes, ends_in}
 use Rattle.lnbd_handle.proofs.RunLemmas.{runs_none, issued_in, takes_issued}
 
 -- Where the two sides speak, the phase says what may come.
@@ -82,10 +83,10 @@ module _ {K : Type 0} where
   pub shown_option : (old : Connection K) (bytes : List ℕ) → old.stage ≡ Open → takes_options old.talk.phase ≡ true → ShownBy old bytes (shows_option (sight (state_of old)) bytes)
   shown_option old bytes opened options answers made = shown_open old bytes opened answers made ∙ shows_options old.talk.phase (sight (state_of old)) (waited (state_of old)) bytes options
 
-  pub shown_frame : (old : Connection K) (bytes : List ℕ) (structured : Bool) → is_speaking old.stage ≡ true → old.talk.phase ≡ phase.Ready → structured ≡ old.talk.structured → ShownBy old bytes (shows_frame structured (waited (state_of old)) bytes)
-  shown_frame old bytes structured speaking ready is answers made =
+  pub shown_frame : (old : Connection K) (bytes : List ℕ) → is_speaking old.stage ≡ true → old.talk.phase ≡ phase.Ready → IsPlain old.talk → ShownBy old bytes (shows_plain (waited (state_of old)) bytes)
+  shown_frame old bytes speaking ready plain answers made =
       shows_speaking old.stage (sight (state_of old)) (waited (state_of old)) bytes speaking ∙ ap (λ p. shows_in p (sight (state_of old)) (waited (state_of old)) bytes) ready
-      ∙ ap (λ z. shows_frame z (waited (state_of old)) bytes) (sym is)
+      ∙ ap (λ (z : Bool). shows_frame z old.talk.extended (waited (state_of old)) bytes) plain.structured ∙ ap (λ (z : Bool). shows_frame false z (waited (state_of old)) bytes) plain.extended
 
   -- What lasts.
 
@@ -97,11 +98,12 @@ module _ {K : Type 0} where
   dead_sound old queue commands cause e i s = record {
     fits = subst (λ q. AllFit no_writes q.pieces) (sym e) tt;
     stands = tt;
+    plain = s.plain;
     counted = let n : ends_in (waits no_writes queue) ≡ 0 = ap (λ q. ends_in (waits no_writes q)) e in omega (arith, n, i, s.counted);
   }
 
   pub commands_sound : (old : Connection K) (commands : Commands K) → commands.issued ≡ old.commands.issued → IsSound old → IsSound (record old { commands = commands })
-  commands_sound old commands i s = record { fits = s.fits; stands = s.stands; counted = subst (λ n. old.written + ends_in (waits no_writes old.queue) ≤ n) (sym i) s.counted }
+  commands_sound old commands i s = record { fits = s.fits; stands = s.stands; plain = s.plain; counted = subst (λ n. old.written + ends_in (waits no_writes old.queue) ≤ n) (sym i) s.counted }
 
   pub waited_row : (b : Bool) (r : Option (Row K)) (command : Waiting) → waited_of b r ≡ Some command → waiting_as r ≡ Some command
   waited_row true None command e = cc
@@ -227,17 +229,17 @@ module _ {K World : Type 0} (steps : World → List (Call K) → World → Type 
   turn_refused old middle new before after rest size verdict LinkFailed opened options sized fits shown replies acts dead = absurd replies
 
   -- A simple reply.
-  pub turn_reply : (old : Connection K) (commands : Commands K) (before after : World) (rest : List ℕ) (structured : Bool) (cookie error size : ℕ) (content : List ℕ) → is_speaking old.stage ≡ true → old.talk.phase ≡ phase.Ready →
-      structured ≡ old.talk.structured → IsReply structured (waited (state_of old)) rest cookie error size → content ≡ take size (drop 16 rest) →
+  pub turn_reply : (old : Connection K) (commands : Commands K) (before after : World) (rest : List ℕ) (cookie error size : ℕ) (content : List ℕ) → is_speaking old.stage ≡ true → old.talk.phase ≡ phase.Ready →
+      IsPlain old.talk → IsReply (waited (state_of old)) rest cookie error size → content ≡ take size (drop 16 rest) →
       TakesReply steps cookie (waiting_at cookie old.commands) error content old.commands commands before after →
       Runs steps (arriving (take (16 + size) rest)) (machine_of old []) (machine_of (record old { commands = commands }) []) before after × (commands.issued ≡ old.commands.issued)
-  turn_reply old commands before after rest structured cookie error size content speaking ready is r there takes =
+  turn_reply old commands before after rest cookie error size content speaking ready plain r there takes =
       let row : waiting_at cookie old.commands ≡ Some r.command = waited_row (nat_le cookie old.written) (value_at cookie old.commands.rows) r.command r.waits in
       let one = subst (λ w. TakesReply steps cookie w error content old.commands commands before after) row takes in
       let t = subst (λ bytes. Takes steps (file_in cookie (Framed (simple_content r.command error bytes) true)) old.commands commands before after) there one in
       let frame : Frame = record { cookie = cookie; content = simple_content r.command error (take size (drop 16 rest)); last = true } in (
         turn_acts old (record old { commands = commands }) before after (take (16 + size) rest) (Reply frame)
-            (λ answers made. took_frame (doing (state_of old) answers made) rest structured size error r.command frame (λ b. shown_frame old b structured speaking ready is answers made)
+            (λ answers made. took_frame (doing (state_of old) answers made) rest size error r.command frame (λ b. shown_frame old b speaking ready plain answers made)
             (ap (waited (state_of old)) (sym r.cookie_is) ∙ r.waits) r.error_is r.sized r.there r.shown)
             (record { answers = t.answers; calls = t.calls; world = t.world; does = λ more made. t.does (state_of old) more made }),
         takes_issued steps (file_in cookie (Framed frame.content true)) (state_of old) old.commands commands before after (λ d. issued_in cookie (Framed frame.content true) d) t,

@@ -1,4 +1,4 @@
--- What the calls do, in the words of histories. The handle stands for histories of which at most 1024 commands are unretired.
+-- What the calls do, in the words of histories. The handle stands for histories of which at most so many commands are unretired.
 use Rattle.std.specs.Prelude.{◌≡◌, ℕ, List, ◌∷◌, ◌++◌, Result, Ok, Err}
 use Rattle.lnbd_model.specs.declared.note.Note.{Note}
 use Rattle.lnbd_callbacks.specs.Calls.{Call}
@@ -21,18 +21,22 @@ pub record Plays {K World : Type 0} (steps : World → List (Call K) → World �
   pub told : entries.calls (reading (event ∷ history)).known.entries ≡ entries.calls (reading history).known.entries ++ calls
   pub world : steps before calls after
 
+-- how many commands may be issued and not retired
+abbrev pub max_unretired : ℕ
+max_unretired = 1024
+
 module _ {K : Type 0} where
   -- This holds of every history that the machine stands for.
   abbrev pub ForEach : Machine K → (History K → Type 0) → Type 0
-  ForEach now holds = (history : History K) → StandsFor 1024 history now → holds history
+  ForEach now holds = (history : History K) → StandsFor max_unretired history now → holds history
 
   -- the history with this event
   abbrev pub Adds : Event K → (new : Machine K) → History K → Type 0
-  Adds event new history = StandsFor 1024 (event ∷ history) new
+  Adds event new history = StandsFor max_unretired (event ∷ history) new
 
   -- the same, and the event's calls on callbacks
   abbrev pub AddsCalls : {World : Type 0} → (World → List (Call K) → World → Type 0) → Event K → (new : Machine K) → (before after : World) → History K → Type 0
-  AddsCalls steps event new before after history = StandsFor 1024 (event ∷ history) new × Plays steps event history before after
+  AddsCalls steps event new before after history = StandsFor max_unretired (event ∷ history) new × Plays steps event history before after
 
   -- the same with some answers of callbacks in the event
   abbrev pub AddsAnswered : {World : Type 0} → (World → List (Call K) → World → Type 0) → (List Answer → Event K) → (new : Machine K) → (before after : World) → History K → Type 0
@@ -40,7 +44,7 @@ module _ {K : Type 0} where
 
   -- the same history
   abbrev pub Stays : (new : Machine K) → History K → Type 0
-  Stays new history = StandsFor 1024 history new
+  Stays new history = StandsFor max_unretired history new
 
   -- a call that is no event where it is refused
   abbrev pub AddsOnOk : {A E : Type 0} → Result A E → Event K → (new : Machine K) → History K → Type 0
@@ -61,7 +65,7 @@ module _ {K : Type 0} where
 
 -- The history with a close is lawful, and this is what is told of it: the notes, and how many callbacks were admitted and freed.
 pub record Closes {K World : Type 0} (steps : World → List (Call K) → World → Type 0) (noted : List Note) (opened freed : ℕ) (before after : World) (history : History K) : Type 0 where
-  pub lawful : Lawful 1024 (Close ∷ history)
+  pub lawful : Lawful max_unretired (Close ∷ history)
   pub log : noted ≡ log_after (Close ∷ history)
   pub admitted : opened ≡ (asked (Close ∷ history)).admitted
   pub frees : freed ≡ entries.frees (entries.notes (reading (Close ∷ history)).known.entries)

@@ -6,12 +6,14 @@ use Rattle.lnbd_callbacks.specs.Calls.{Call}
 use Rattle.lnbd_history.specs.Commands.{Command}
 use Rattle.lnbd_history.specs.Events.{Refuse}
 use Rattle.lnbd_history.specs.Refusals.{Terms}
+use Rattle.lnbd_history.specs.Strict.{all_strict}
 use Rattle.lnbd_machine.specs.Machine.{Machine}
 use Rattle.lnbd_machine.specs.Does.{Does}
 use Rattle.lnbd_machine.specs.Now.{refusal_now}
 use Rattle.lnbd_handle.specs.declared.issue.IssueFault.{IssueFault}
 use Rattle.lnbd_handle.specs.declared.issue.IssueFault.TheVariants.{NoMemory, Refused}
 use Rattle.lnbd_handle.specs.declared.refusals.Known.{Known}
+use Rattle.lnbd_handle.specs.Histories.{max_unretired}
 
 -- the terms by which a read is judged, which no meta context changes
 abbrev pub read_terms : Standing → (held : ℕ) → Known → Terms
@@ -23,6 +25,8 @@ read_terms state held known = record {
   blocks = known.blocks;
   has_context = false;
   structured = known.structured;
+  extended = known.extended;
+  strict = all_strict;
 }
 
 module _ {K : Type 0} where
@@ -42,4 +46,4 @@ module _ {K : Type 0} where
   -- admitted and freed, and its buffer is handed back.
   abbrev pub Faults : {World : Type 0} → (World → List (Call K) → World → Type 0) → Command K → IssueFault K → (old new : Machine K) → (before after : World) → Type 0
   Faults steps command (NoMemory buf first done) old new before after = (buf ≡ command.payload) × (first ≡ command.first) × (done ≡ command.done) × (new ≡ old) × (after ≡ before)
-  Faults steps command (Refused why buf) old new before after = (refusal_now 1024 old.known command ≡ Some why) × (buf ≡ command.payload) × Does steps (Refuse command why) old new before after
+  Faults steps command (Refused why buf) old new before after = (refusal_now max_unretired old.known command ≡ Some why) × (buf ≡ command.payload) × Does steps (Refuse command why) old new before after

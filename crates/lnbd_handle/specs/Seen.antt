@@ -1,5 +1,8 @@
 -- What a connection's fields stand for, and what holds of them.
 use Rattle.std.specs.Prelude.{◌≡◌, ℕ, ◌+◌, ◌≤◌, Bool, false, List, [], ◌∷◌}
+use Rattle.lnbd_history.specs.Agreement.{settles_replies}
+use Rattle.lnbd_history.specs.Strict.{all_strict}
+use Rattle.lnbd_history.specs.Talk.{Talk}
 use Rattle.lnbd_history.specs.declared.kinds.Phase.{Phase}
 use Rattle.lnbd_history.specs.declared.kinds.Phase.TheVariants as phase
 use Rattle.lnbd_history.specs.declared.kinds.Stage.{Stage}
@@ -28,11 +31,29 @@ Stands Aborting at ended = ⊥
 Stands Closed at ended = Unit {0}
 Stands (Dead cause) at ended = Unit {0}
 
+-- an option that settles how the server replies is asked
+abbrev pub asks_replies : Phase → Bool
+asks_replies (phase.Asked option) = settles_replies option
+asks_replies phase.Greeting = false
+asks_replies phase.AskedByName = false
+asks_replies phase.OptMode = false
+asks_replies phase.Ready = false
+asks_replies (phase.Refused code) = false
+
+-- Replies are simple and heads compact: structured replies and extended headers are off, and nothing asks for them.
+pub record IsPlain (talk : Talk) : Type 0 where
+  pub asks_structured : talk.asks_structured ≡ false
+  pub asks_extended : talk.asks_extended ≡ false
+  pub asks : asks_replies talk.phase ≡ false
+  pub structured : talk.structured ≡ false
+  pub extended : talk.extended ≡ false
+
 module _ {K : Type 0} where
-  -- the machine's state
+  -- the machine's state: strict mode stays as it was at first
   abbrev pub state_of : Connection K → State K
   state_of c = record {
     stage = c.stage;
+    strict = all_strict;
     flags = c.flags;
     talk = c.talk;
     passed = 0;
@@ -52,4 +73,5 @@ module _ {K : Type 0} where
   pub record IsSound (c : Connection K) : Type 0 where
     pub fits : AllFit no_writes c.queue.pieces
     pub stands : Stands c.stage c.talk.phase c.queue.ended
+    pub plain : IsPlain c.talk
     pub counted : c.written + ends_in (waits no_writes c.queue) ≤ c.commands.issued

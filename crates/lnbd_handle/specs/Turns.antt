@@ -51,7 +51,7 @@ module _ {K : Type 0} where
   pub record Brings (c : Connection K) (head : List ℕ) (announced : Announced) : Type 0 where
     pub speaking : is_speaking c.stage ≡ true
     pub ready : c.talk.phase ≡ phase.Ready
-    pub announces : Announces c.talk.structured (waited (state_of c)) head announced
+    pub announces : Announces (waited (state_of c)) head announced
 
   -- What one turn does with the bytes in front of it: they show nothing yet; so many are a record, which is taken; all are
   -- taken, since nothing counts any more; or nothing is done, for want of memory.

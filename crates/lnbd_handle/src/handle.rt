@@ -11,7 +11,7 @@ ghost use Rattle.lnbd_history.specs.Refusals.{by_state};
 ghost use Rattle.lnbd_machine.specs.Machine.{calls, created, step};
 ghost use Rattle.lnbd_machine.specs.Now.{state_now, in_flight_now, info_now, out_now, direction_now, peeked_now};
 ghost use Rattle.lnbd_standing.specs.Standing.{StandsFor};
-ghost use Rattle.lnbd_handle.specs.Histories.{Adds, AddsAnswered, AddsOnOk, Closes, ForEach};
+ghost use Rattle.lnbd_handle.specs.Histories.{Adds, AddsAnswered, AddsOnOk, Closes, ForEach, max_unretired};
 ghost use Rattle.lnbd_handle.specs.Runs.{Answered};
 
 use crate::connection::Connection;
@@ -54,7 +54,7 @@ impl<K> Handle<K> {
     /// A handle in the state Created (libnbd, nbd_create).
     pub fn create(alloc: Global) -> Result<Handle<K>, NoMemory>
         ensures created { IfOk result (λ handle. handle ≡ created) }
-        ensures stands { IfOk result (λ handle. StandsFor 1024 [] handle) }
+        ensures stands { IfOk result (λ handle. StandsFor max_unretired [] handle) }
     {
         let queue = Queue::new(alloc)?;
         let talk = Talk::new(
@@ -63,6 +63,7 @@ impl<K> Handle<K> {
                 name: Text::empty(alloc),
                 contexts: Texts::new(alloc),
                 structured: false,
+                extended: false,
                 opt_mode: false,
             },
         );

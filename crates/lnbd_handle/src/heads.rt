@@ -28,11 +28,9 @@ pub(crate) fn announced_in<K>(connection: &Connection<K>, head: &[u8]) -> Option
     ensures { IfSome result (λ announced. Brings connection.now head.now announced) }
 {
     match connection.talk.phase() {
-        Phase::Ready if is_speaking(connection.stage) => look_head(
-            connection.talk.structured(),
-            waiting_at(connection, head),
-            head,
-        ),
+        Phase::Ready if is_speaking(connection.stage) => {
+            look_head(waiting_at(connection, head), head)
+        }
         _ => None,
     }
 }

@@ -9,16 +9,17 @@ ghost use Rattle.lnbd_history.specs.Events.{Issue};
 ghost use Rattle.lnbd_machine.specs.Machine.{issued, step};
 ghost use Rattle.lnbd_machine.specs.Now.{refusal_now};
 ghost use Rattle.lnbd_commands.specs.Asks.{command_of};
-ghost use Rattle.lnbd_handle.specs.Histories.{Adds, AddsFault, ForEach};
+ghost use Rattle.lnbd_handle.specs.Histories.{Adds, AddsFault, ForEach, max_unretired};
 ghost use Rattle.lnbd_handle.specs.Issues.{Faults, read_of};
 ghost use Rattle.lnbd_handle.specs.Seen.{IsSound, machine_of, state_of};
+ghost use Rattle.lnbd_records.specs.Limits.{max_data};
 
 use crate::connection::Connection;
 use crate::handle::Handle;
 use lnbd_callbacks::Caller;
 use lnbd_commands::Asked;
 use lnbd_model::{Bytes, Kind, Why};
-use lnbd_outgoing::Piece;
+use lnbd_outgoing::{Piece, RequestBytes};
 use lnbd_wire::put_request;
 
 /// Why a command was not issued. What was handed over comes back.
@@ -65,7 +66,7 @@ fn refuse<K: Caller>(
     why: Why,
 ) -> IssueFault<K>
     requires sound { IsSound connection.old }
-    requires why { refusal_now 1024 (state_of connection.old) (command_of asked) ≡ Some why }
+    requires why { refusal_now max_unretired (state_of connection.old) (command_of asked) ≡ Some why }
     ensures faults { (held : List ℕ) → Faults K.steps (command_of asked) result (machine_of connection.old held) (machine_of connection.new held) world.old world.new }
     ensures sound { IsSound connection.new }
 {
@@ -85,10 +86,10 @@ fn refuse<K: Caller>(
     }
 }
 
-/// The head of a read.
+/// The head of a read, where extended headers are off.
 fn read_head(flags: u32, cookie: u64, offset: u64, length: u64) -> [u8; 28]
     requires flags { flags ≤ 4 }
-    requires length { length ≤ 33554432 }
+    requires length { length ≤ max_data }
     ensures { result ≡ row (request flags (type_of Read) cookie offset length) }
 {
     let mut head = [0; 28];
@@ -108,7 +109,7 @@ fn issue_read<K: Caller>(connection: &mut Connection<K>, asked: Asked<K>) -> Res
     requires sound { IsSound connection.old }
     requires kind { asked.kind ≡ Read }
     requires size { vec_len asked.buf ≡ asked.length }
-    requires accepted { refusal_now 1024 (state_of connection.old) (command_of asked) ≡ None }
+    requires accepted { refusal_now max_unretired (state_of connection.old) (command_of asked) ≡ None }
     ensures cookie { IfOk result (λ cookie. cookie ≡ (state_of connection.new).issued) }
     ensures ok { OnOk result (state_of connection.new ≡ issued (command_of asked) (state_of connection.old)) }
     ensures handed_back { IfErr result (λ back. back ≡ asked) }
@@ -126,7 +127,9 @@ fn issue_read<K: Caller>(connection: &mut Connection<K>, asked: Asked<K>) -> Res
         Err(asked) => return Err(asked),
     };
     let head = read_head(flags, cookie, offset, length);
-    connection.queue.push(Piece::Whole(head));
+    connection
+        .queue
+        .push(Piece::Whole(RequestBytes::Compact(head)));
     Ok(cookie)
 }
 
@@ -142,7 +145,7 @@ impl<K: Caller> Handle<K> {
         world: &mut K::World,
     ) -> Result<u64, IssueFault<K>>
         ensures cookie { IfOk result (λ cookie. cookie ≡ self.new.known.issued) }
-        ensures accepted { OnOk result (refusal_now 1024 self.old.known (read_of buf.items offset done flags) ≡ None) }
+        ensures accepted { OnOk result (refusal_now max_unretired self.old.known (read_of buf.items offset done flags) ≡ None) }
         ensures ok { OnOk result (self.new ≡ step self.old (Issue (read_of buf.items offset done flags))) }
         ensures ok_world { OnOk result (world.new ≡ world.old) }
         ensures faults { IfErr result (λ fault. Faults K.steps (read_of buf.items offset done flags) fault self.old self.new world.old world.new) }

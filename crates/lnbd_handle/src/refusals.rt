@@ -8,6 +8,7 @@ ghost use Rattle.lnbd_history.specs.Refusals.{allowed, by_range, minimum, payloa
 ghost use Rattle.lnbd_machine.specs.Now.{terms_now};
 ghost use Rattle.lnbd_handle.specs.Issues.{read_terms};
 ghost use Rattle.lnbd_handle.specs.Seen.{state_of};
+ghost use Rattle.lnbd_handle.specs.Histories.{max_unretired};
 
 use crate::connection::Connection;
 use crate::standing::{by_state, state_at};
@@ -22,6 +23,7 @@ pub(crate) struct Known {
     flags: u16,
     blocks: Option<Blocks>,
     structured: bool,
+    extended: bool,
 }
 
 /// Whether the server sends structured replies in one piece where it is asked to.
@@ -127,12 +129,14 @@ impl<K> Connection<K> {
                 flags: info.flags,
                 blocks: info.blocks,
                 structured: info.structured,
+                extended: info.extended,
             },
             None => Known {
                 size: 0,
                 flags: 0,
                 blocks: None,
                 structured: self.talk.structured(),
+                extended: self.talk.extended(),
             },
         }
     }
@@ -140,7 +144,7 @@ impl<K> Connection<K> {
     /// Why a read is refused: by its state, by how many commands are not retired, by its flags, and by its
     /// range.
     pub(crate) fn read_refusal(&self, flags: u32, offset: u64, length: u64) -> Option<Why>
-        ensures { result ≡ refusal 1024 (terms_now (state_of self.now)) Read flags offset length }
+        ensures { result ≡ refusal max_unretired (terms_now (state_of self.now)) Read flags offset length }
     {
         let state = state_at(self.stage, self.talk.phase());
         let refused = by_state(state);

@@ -1,6 +1,6 @@
 //! What goes out: how bytes that went out are counted, and DISC.
 
-ghost use Rattle.std.specs.Prelude.{◌≡◌, ◌≤◌, ◌+◌, ◌++◌, ◌∷◌, [], length};
+ghost use Rattle.std.specs.Prelude.{◌≡◌, ◌≤◌, ◌+◌, ◌++◌, ◌∷◌, [], false, length};
 ghost use Rattle.lnbd_history.specs.declared.kinds.Phase.TheVariants.{Ready};
 ghost use Rattle.lnbd_history.specs.declared.kinds.Stage.TheVariants as stage;
 ghost use Rattle.lnbd_history.specs.Outgoing.{disconnect_part, out};
@@ -11,7 +11,7 @@ ghost use Rattle.lnbd_handle.specs.Seen.{IsSound, no_writes, state_of};
 
 use crate::connection::Connection;
 use lnbd_history::Stage;
-use lnbd_outgoing::Piece;
+use lnbd_outgoing::{Piece, RequestBytes};
 use lnbd_wire::put_disconnect;
 
 /// The bytes that are offered: the rest of the first part that waits.
@@ -35,9 +35,9 @@ pub(crate) fn count_written<K>(connection: &mut Connection<K>, n: usize)
     }
 }
 
-/// The request that ends a session.
+/// The request that ends a session, where extended headers are off.
 fn disconnect() -> [u8; 28]
-    ensures { result ≡ disconnect_part.bytes }
+    ensures { result ≡ (disconnect_part false).bytes }
 {
     let mut head = [0; 28];
     put_disconnect(&mut head);
@@ -49,9 +49,10 @@ pub(crate) fn say_goodbye<K>(connection: &mut Connection<K>)
     requires sound { IsSound connection.old }
     requires open { connection.old.stage ≡ stage.Open }
     requires ready { connection.old.talk.phase ≡ Ready }
-    ensures state { state_of connection.new ≡ asking (disconnect_part ∷ []) (record (state_of connection.old) { stage = stage.Disconnecting }) }
+    ensures state { state_of connection.new ≡ asking (disconnect_part connection.old.talk.extended ∷ []) (record (state_of connection.old) { stage = stage.Disconnecting }) }
     ensures sound { IsSound connection.new }
 {
     connection.stage = Stage::Disconnecting;
-    connection.queue.push_last(Piece::Head(disconnect()));
+    let head = RequestBytes::Compact(disconnect());
+    connection.queue.push_last(Piece::Head(head));
 }

@@ -2,7 +2,7 @@
 
 use crate::{Completed, Handle, IssueFault, Peeked};
 use lnbd_callbacks::{Caller, Heard, Verdict};
-use lnbd_model::{Breach, Bytes, Cause, Extent, Note, State, Why};
+use lnbd_model::{Breach, Bytes, Cause, Extent, Failure, Note, Origin, State, Why};
 use std::alloc::Global;
 use std::process::Abort;
 use std::test::Fail;
@@ -25,6 +25,9 @@ const DISCONNECT: [u8; 28] = *b"\x25\x60\x95\x13\0\0\0\x02\0\0\0\0\0\0\0\0\0\0\0
 /// Replies to three reads of one byte.
 const REPLIES: [u8; 51] = *b"\x67\x44\x66\x98\0\0\0\0\0\0\0\0\0\0\0\x01\x11\
 \x67\x44\x66\x98\0\0\0\0\0\0\0\0\0\0\0\x02\x22\x67\x44\x66\x98\0\0\0\0\0\0\0\0\0\0\0\x03\x33";
+
+/// The reply that refuses the first command by EIO (5).
+const REFUSED: [u8; 16] = *b"\x67\x44\x66\x98\0\0\0\x05\0\0\0\0\0\0\0\x01";
 
 /// A caller that keeps what it is told to keep, or retires each command.
 #[derive(Clone, Copy)]
@@ -305,6 +308,30 @@ fn a_death_fails_all_that_were_left(rt: HostRuntime) -> Result<(), Fail> {
     assert!(rt; session.came_to(5, 107, &[0; 512]));
     assert!(rt; session.is_refused(&[0xff], Why::Dead(Cause::Ended)));
     assert_eq!(rt; session.close(), (6, 6));
+    Ok(())
+}
+
+#[test]
+fn an_error_tells_where_it_came_from(rt: HostRuntime) -> Result<(), Fail> {
+    let mut session = Session::reading(&rt, rt.alloc(), 2, &[0xff], KEEP)?;
+    assert_eq!(rt; session.handle.failure(1), None);
+    // EIO (5) for the first command; the connection ends before the second is answered.
+    assert!(rt; session.feed(&REFUSED));
+    session.handle.ended(&mut session.world);
+    let told = Failure {
+        origin: Origin::Told,
+        error: 5,
+    };
+    let lost = Failure {
+        origin: Origin::Lost,
+        error: 107,
+    };
+    for (cookie, failure) in [(1, Some(told)), (2, Some(lost)), (3, None)] {
+        assert_eq!(rt; session.handle.failure(cookie), failure);
+    }
+    assert!(rt; session.came_to(1, 5, &[0]));
+    assert_eq!(rt; session.handle.failure(1), None);
+    assert_eq!(rt; session.close(), (2, 2));
     Ok(())
 }
 

@@ -143,7 +143,7 @@ fn turn_frame<K: Caller>(connection: &mut Connection<K>, world: &mut K::World, r
     ensures sound { IsSound connection.new }
 {
     let waiting = waiting_at(connection, rest);
-    match look_frame(connection.talk.structured(), waiting, rest) {
+    match look_frame(waiting, rest) {
         Frame::Nothing => Turn::Nothing,
         Frame::Broken(breach) => {
             die(connection, world, Cause::Broke(breach));

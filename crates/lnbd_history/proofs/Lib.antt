@@ -1,3 +1,4 @@
+mod Example
 pub mod Bytes
 mod Rows
 mod LiveRows
@@ -6,10 +7,11 @@ pub mod Agree
 pub mod Cuts
 pub mod Sums
 pub mod Cookies
+pub mod ByName
+pub mod Steady
 pub mod Flies
 pub mod Weights
 pub mod Freed
-pub mod Steady
-pub mod ByName
-pub mod Filled
 pub mod Live
+pub mod Filled
+pub mod Whole

@@ -5,6 +5,8 @@ use Rattle.lnbd_model.specs.declared.export.Context.{Context as MetaContext}
 use Rattle.lnbd_model.specs.declared.export.Listed.{Listed}
 use Rattle.lnbd_records.specs.Told.{Told, Size}
 use Rattle.lnbd_records.specs.Told as told
+pub use Rattle.lnbd_records.specs.Requests.{is_info}
+use Rattle.lnbd_records.specs.Options.{err_unsup, opt_extended_headers, opt_go, opt_list, opt_set_meta_context, opt_structured_reply}
 use Rattle.lnbd_history.specs.declared.kinds.OptAnswer.{OptAnswer}
 use Rattle.lnbd_history.specs.declared.kinds.OptAnswer.TheVariants as opt
 use Rattle.lnbd_history.specs.declared.kinds.Phase.{Phase}
@@ -39,6 +41,11 @@ asks_structured [] = false
 asks_structured (Set (setting.Structured on) ∷ before) = on
 asks_structured (turn ∷ before) = asks_structured before
 
+abbrev pub asks_extended : List Turn → Bool
+asks_extended [] = false
+asks_extended (Set (setting.Extended on) ∷ before) = on
+asks_extended (turn ∷ before) = asks_extended before
+
 abbrev pub opt_mode : List Turn → Bool
 opt_mode [] = false
 opt_mode (Set (setting.OptMode on) ∷ before) = on
@@ -71,40 +78,51 @@ abbrev pub is_empty : {A : Type 0} → List A → Bool
 is_empty [] = true
 is_empty (x ∷ xs) = false
 
--- STRUCTURED_REPLY (8) was answered, or isn't asked for: the caller decides, or SET_META_CONTEXT (10) is asked where contexts
--- are wanted and structured replies are on, or GO (7).
+-- STRUCTURED_REPLY (8) and EXTENDED_HEADERS (11) settle how the server replies. They are asked without the caller.
+abbrev pub settles_replies : ℕ → Bool
+settles_replies option = (option == opt_structured_reply) || (option == opt_extended_headers)
+
+-- How the server replies is settled: the caller decides, or SET_META_CONTEXT (10) is asked where contexts are wanted and structured replies
+-- are on, or GO (7).
 abbrev pub after_structured : Bool → List (List ℕ) → Bool → Phase
 after_structured opt_mode wanted on =
     if opt_mode then OptMode
-    else if on && not (is_empty wanted) then Asked 10
-    else Asked 7
+    else if on && not (is_empty wanted) then Asked opt_set_meta_context
+    else Asked opt_go
 
-abbrev pub after_hello : Bool → Bool → List (List ℕ) → Phase
-after_hello structured opt_mode wanted = if structured then Asked 8 else after_structured opt_mode wanted false
+-- EXTENDED_HEADERS was answered, or isn't asked for: where extended headers are off, STRUCTURED_REPLY is asked if that is wanted.
+abbrev pub after_extended : (structured opt_mode : Bool) → List (List ℕ) → Bool → Phase
+after_extended structured opt_mode wanted on =
+    if not on && structured then Asked opt_structured_reply
+    else after_structured opt_mode wanted on
+
+abbrev pub after_hello : (extended structured opt_mode : Bool) → List (List ℕ) → Phase
+after_hello extended structured opt_mode wanted = if extended then Asked opt_extended_headers else after_extended structured opt_mode wanted false
 
 -- GO was answered. Where it isn't known (UNSUP, 1), EXPORT_NAME is asked.
 abbrev pub after_go : Bool → End → Phase
 after_go opt_mode Acknowledged = Ready
-after_go opt_mode (Failed code) = if opt_mode then OptMode else if code == 1 then AskedByName else Refused code
+after_go opt_mode (Failed code) = if opt_mode then OptMode else if code == err_unsup then AskedByName else Refused code
 
 -- this option was answered so
-abbrev pub after_answer : Bool → List (List ℕ) → ℕ → End → Phase
-after_answer opt_mode wanted option end =
-    if option == 8 then after_structured opt_mode wanted (is_acknowledged end)
-    else if option == 7 then after_go opt_mode end
+abbrev pub after_answer : (structured opt_mode : Bool) → List (List ℕ) → ℕ → End → Phase
+after_answer structured opt_mode wanted option end =
+    if option == opt_extended_headers then after_extended structured opt_mode wanted (is_acknowledged end)
+    else if option == opt_structured_reply then after_structured opt_mode wanted (is_acknowledged end)
+    else if option == opt_go then after_go opt_mode end
     else if opt_mode then OptMode
-    else Asked 7
+    else Asked opt_go
 
-abbrev pub after_reply : Bool → List (List ℕ) → Option End → Phase → Phase
-after_reply opt_mode wanted (Some end) (Asked option) = after_answer opt_mode wanted option end
-after_reply opt_mode wanted (Some end) phase = phase
-after_reply opt_mode wanted None phase = phase
+abbrev pub after_reply : (structured opt_mode : Bool) → List (List ℕ) → Option End → Phase → Phase
+after_reply structured opt_mode wanted (Some end) (Asked option) = after_answer structured opt_mode wanted option end
+after_reply structured opt_mode wanted (Some end) phase = phase
+after_reply structured opt_mode wanted None phase = phase
 
 -- where negotiation stands
 abbrev pub phase : List Turn → Phase
 phase [] = Greeting
-phase (Hello ∷ before) = after_hello (asks_structured before) (opt_mode before) (contexts_now before)
-phase (Replied reply ∷ before) = after_reply (opt_mode before) (contexts_now before) (end_of reply) (phase before)
+phase (Hello ∷ before) = after_hello (asks_extended before) (asks_structured before) (opt_mode before) (contexts_now before)
+phase (Replied reply ∷ before) = after_reply (asks_structured before) (opt_mode before) (contexts_now before) (end_of reply) (phase before)
 phase (ByName size flags ∷ before) = Ready
 phase (Set one ∷ before) = phase before
 phase (Opted option ∷ before) = Asked option
@@ -127,9 +145,8 @@ pub data Step : Type 0 where
   ToldByName : (size flags : ℕ) → Step
   Renamed : Step
 
--- STRUCTURED_REPLY is asked without the caller.
 abbrev pub answered : Bool → Option End → List Told → Phase → List Step
-answered opt_mode (Some end) replies (Asked option) = Answered (opt_mode && not (option == 8)) option replies end ∷ []
+answered opt_mode (Some end) replies (Asked option) = Answered (opt_mode && not (settles_replies option)) option replies end ∷ []
 answered opt_mode (Some end) replies phase = []
 answered opt_mode None replies phase = []
 
@@ -183,17 +200,23 @@ contexts_told (reply ∷ earlier) = contexts_told earlier
 
 -- What was agreed.
 
--- Structured replies are on exactly where STRUCTURED_REPLY was answered by ACK.
+-- Extended headers are on exactly where EXTENDED_HEADERS was answered by ACK.
+abbrev pub extended : List Step → Bool
+extended [] = false
+extended (Answered by_caller option replies end ∷ earlier) = ((option == opt_extended_headers) && is_acknowledged end) || extended earlier
+extended (step ∷ earlier) = extended earlier
+
+-- Structured replies are on exactly where extended headers are, or STRUCTURED_REPLY was answered by ACK.
 abbrev pub structured : List Step → Bool
 structured [] = false
-structured (Answered by_caller option replies end ∷ earlier) = ((option == 8) && is_acknowledged end) || structured earlier
+structured (Answered by_caller option replies end ∷ earlier) = (settles_replies option && is_acknowledged end) || structured earlier
 structured (step ∷ earlier) = structured earlier
 
 -- The contexts of the last answer to SET_META_CONTEXT, where it ended in ACK and no name was set after it.
 abbrev pub contexts : List Step → List MetaContext
 contexts [] = []
 contexts (Answered by_caller option replies end ∷ earlier) =
-    if option == 10 then if is_acknowledged end then contexts_told replies else []
+    if option == opt_set_meta_context then if is_acknowledged end then contexts_told replies else []
     else contexts earlier
 contexts (ToldByName size flags ∷ earlier) = contexts earlier
 contexts (Renamed ∷ earlier) = []
@@ -210,9 +233,6 @@ abbrev pub export_of : Option Size → Option BlockSizes → Option (List ℕ) �
 export_of None blocks name description = None
 export_of (Some size) blocks name description = Some (record { size = size.size; flags = size.flags; blocks = blocks; name = name; description = description })
 
-abbrev pub is_info : ℕ → Bool
-is_info option = (option == 6) || (option == 7)
-
 -- By the last answer to INFO (6) or GO (7) that ended in ACK, or the reply to EXPORT_NAME.
 abbrev pub export : List Step → Option Export
 export [] = None
@@ -226,7 +246,7 @@ export (Renamed ∷ earlier) = export earlier
 abbrev pub listing : List Step → List Listed
 listing [] = []
 listing (Answered by_caller option replies end ∷ earlier) =
-    if (option == 3) && is_acknowledged end then servers_told replies
+    if (option == opt_list) && is_acknowledged end then servers_told replies
     else listing earlier
 listing (step ∷ earlier) = listing earlier
 

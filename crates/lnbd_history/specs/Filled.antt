@@ -1,14 +1,36 @@
 -- Replies count when they are there whole, and what they tell is what their bytes spell.
-use Rattle.std.specs.Prelude.{◌≡◌, ◌↔◌, ℕ, ◌+◌, ◌^◌, ◌<◌, ◌≤◌, Bool, true, false, List, ◌∷◌, ◌++◌, length, Option, Some, None}
+use Rattle.std.specs.Prelude.{◌≡◌, ◌↔◌, ℕ, ◌+◌, ◌-◌, ◌^◌, ◌<◌, ◌≤◌, Bool, true, false, List, ◌∷◌, ◌++◌, length, get_or, Option, Some, None}
 use Rattle.lnbd_model.specs.declared.breach.Breach.TheVariants.{SizeTooBig}
 use Rattle.lnbd_model.specs.declared.kind.Kind.TheVariants.{Read}
-use Rattle.lnbd_records.specs.Handshake.{export_name_reply, padding}
-use Rattle.lnbd_records.specs.Numbers.{IsBytes, IsRowThen}
+use Rattle.lnbd_records.specs.Handshake.{hello, option_reply_head, export_name_reply, padding}
+use Rattle.lnbd_records.specs.Numbers.{IsBytes, IsRow, IsRowThen, Begins}
+use Rattle.lnbd_records.specs.Replies.{Tells}
+use Rattle.lnbd_records.specs.Told.{Told}
 use Rattle.lnbd_records.specs.Transmission.{simple_reply}
-use Rattle.lnbd_history.specs.Arrivals.{Data, ExportReply, Reply, Broken, Waiting, shows_by_name, shows_frame}
+use Rattle.lnbd_history.specs.Arrivals.{Data, Hello, OptionReply, ExportReply, Reply, Broken, Waiting, Sight, is_asked, shows_hello, shows_option, shows_by_name, shows_frame}
 use Rattle.lnbd_history.specs.Entries.{Framed, Filing, own, error_in, bytes_in}
 use Rattle.lnbd_history.specs.Events.{History}
 use Rattle.lnbd_history.specs.History.{request, reading}
+
+-- The hello, and the replies to options.
+
+-- A hello that is told stands at the front of the bytes.
+abbrev pub HelloIsWhole : Type 0
+HelloIsWhole = (flags : ℕ) (bytes : List ℕ) → IsBytes bytes → shows_hello bytes ≡ Some (Hello flags) → Begins (IsRow (hello flags)) bytes
+
+-- The bytes begin with a reply to the option that was asked, whose body tells this.
+pub record BeginsWithOptionReply (sight : Sight) (told : Told) (bytes : List ℕ) : Type 0 where
+  pub option : ℕ
+  pub type : ℕ
+  pub body : List ℕ
+  pub rest : List ℕ
+  pub spelled : IsRowThen (option_reply_head option type (length body)) (body ++ rest) bytes
+  pub asked : is_asked option sight.phase ≡ true
+  pub tells : Tells type body told
+
+-- So does a reply that is told.
+abbrev pub OptionReplyIsWhole : Type 0
+OptionReplyIsWhole = (sight : Sight) (told : Told) (bytes : List ℕ) → IsBytes bytes → shows_option sight bytes ≡ Some (OptionReply told) → BeginsWithOptionReply sight told bytes
 
 -- The reply to EXPORT_NAME.
 
@@ -39,24 +61,25 @@ pub record BeginsWithContent (cookie : ℕ) (content bytes : List ℕ) : Type 0 
   pub rest : List ℕ
   pub spelled : IsRowThen (simple_reply 0 cookie) (content ++ rest) bytes
 
--- A frame of content is shown exactly where a read of so many bytes from there waits for it, and the bytes begin with its reply and
--- that content. It is the read's last.
+-- While structured replies and extended headers are off, a frame of content is shown exactly where a read of so many bytes from there waits for
+-- it, and the bytes begin with its reply and that content. It is the read's last.
 abbrev pub ContentIsShown : Type 0
-ContentIsShown = (structured : Bool) (waited : ℕ → Option Waiting) (cookie offset : ℕ) (content : List ℕ) (last : Bool) (bytes : List ℕ) → IsBytes bytes →
-    (shows_frame structured waited bytes ≡ Some (Reply (record { cookie = cookie; content = Data offset content; last = last })))
-    ↔ ((structured ≡ false) × (last ≡ true) × (waited cookie ≡ Some (record { kind = Read; offset = offset; length = length content })) × BeginsWithContent cookie content bytes)
+ContentIsShown = (waited : ℕ → Option Waiting) (cookie offset : ℕ) (content : List ℕ) (last : Bool) (bytes : List ℕ) → IsBytes bytes →
+    (shows_frame false false waited bytes ≡ Some (Reply (record { cookie = cookie; content = Data offset content; last = last })))
+    ↔ ((faults : ℕ) × (last ≡ true) × (waited cookie ≡ Some (record { kind = Read; offset = offset; length = length content; faults = faults })) × BeginsWithContent cookie content bytes)
 
 module _ {K : Type 0} where
-  -- This content fills a read: the command of this cookie is a read that begins where the content does and asked as many bytes. Where
-  -- it has no error, these bytes are what it comes to.
+  -- This content is a read's: the command of this cookie is a read, and the content lies in its range. Where the read has no error, these are
+  -- the bytes that it has there.
   pub record FillsRead (history : History K) (cookie : ℕ) (filing : Filing K) (earlier : List (Filing K)) (offset : ℕ) (content : List ℕ) : Type 0 where
     pub asked : request history cookie ≡ Some filing.request
     pub read : filing.request.kind ≡ Read
-    pub from : filing.request.offset ≡ offset
-    pub filled : filing.request.length ≡ length content
-    pub bytes : error_in Read (filing ∷ earlier) ≡ 0 → bytes_in filing.request (filing ∷ earlier) ≡ content
+    pub from : filing.request.offset ≤ offset
+    pub within : offset + length content ≤ filing.request.offset + filing.request.length
+    pub bytes : error_in filing.request (filing ∷ earlier) ≡ 0 → (i : ℕ) → i < length content →
+        get_or (bytes_in filing.request (filing ∷ earlier)) (offset - filing.request.offset + i) 0 ≡ get_or content i 0
 
--- Whatever content a history filed fills its read.
+-- Whatever content a history filed is its read's.
 abbrev pub PayloadIsFilled : Type 0 → Type 0
 PayloadIsFilled K =
     (history : History K) (cookie : ℕ) (later earlier : List (Filing K)) (filing : Filing K) (offset : ℕ) (content : List ℕ) (last : Bool) →

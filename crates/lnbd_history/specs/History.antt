@@ -3,24 +3,28 @@
 use Rattle.std.specs.Prelude.{ℕ, zero, suc, ◌+◌, Bool, true, false, not, ◌&&◌, ◌||◌, List, [], ◌∷◌, ◌++◌, length, map, Option, Some, None, is_some, if◌then◌else◌, ◌==◌, nat_le}
 use Rattle.lnbd_model.specs.declared.state.Cause.{Cause}
 use Rattle.lnbd_model.specs.declared.state.Cause.TheVariants as cause
+use Rattle.lnbd_model.specs.declared.export.Context.{Context as MetaContext}
 use Rattle.lnbd_callbacks.specs.Calls.{counted}
 use Rattle.lnbd_callbacks.specs.declared.caller.Heard.{Heard}
 use Rattle.lnbd_callbacks.specs.declared.caller.Heard.TheVariants.{Going}
 use Rattle.lnbd_callbacks.specs.declared.caller.Verdict.{Verdict}
 use Rattle.lnbd_callbacks.specs.declared.caller.Verdict.TheVariants as verdict
 use Rattle.lnbd_stream.specs.Stream.{Rules, Held, feed}
+use Rattle.lnbd_records.specs.Flags.{flag_no_zeroes}
+use Rattle.lnbd_records.specs.Options.{opt_go}
 use Rattle.lnbd_history.specs.declared.kinds.Phase.{Phase}
 use Rattle.lnbd_history.specs.declared.kinds.Phase.TheVariants as phase
 use Rattle.lnbd_history.specs.declared.kinds.Stage.{Stage}
 use Rattle.lnbd_history.specs.declared.kinds.Stage.TheVariants.{Created, Open, Disconnecting, Aborting, Closed, Dead}
 use Rattle.lnbd_history.specs.Commands.{Flight, Request, flight_of, request_of, callbacks}
-use Rattle.lnbd_history.specs.Events.{Answer, Hears, Decides, Event, History, Start, Opt, Abort, Issue, Refuse, Disconnect, Wrote, Arrived, End, LinkFailed, Retire, ClearLog, Close}
+use Rattle.lnbd_history.specs.Events.{Answer, Hears, Decides, Event, History, StrictMode, Start, Opt, Abort, Issue, Refuse, Disconnect, Wrote, Arrived, End, LinkFailed, Retire, ClearLog, Close}
 use Rattle.lnbd_history.specs.Events as event
-use Rattle.lnbd_history.specs.Agreement.{Turn, Replied, ByName, Opted, phase, under_way, end_of, size_told, structured, steps}
+use Rattle.lnbd_history.specs.Agreement.{Turn, Replied, ByName, Opted, phase, under_way, end_of, size_told, structured, extended, contexts, steps}
 use Rattle.lnbd_history.specs.Agreement as turn
 use Rattle.lnbd_history.specs.Outgoing.{Part, plain, client_flags, next_request, command_parts, disconnect_part, abort_part, waiting, whole}
 use Rattle.lnbd_history.specs.Arrivals.{Shown, Hello, OptionReply, ExportReply, Reply, Broken, Passed, Ignored, Waiting, Sight, has_bit, shows_at}
-use Rattle.lnbd_history.specs.Entries.{Item, Framed, Lost, Dropped, Filing, Entry, Filed, Freed, Cleared, completes, hears, own, is_ended, is_retired}
+use Rattle.lnbd_history.specs.Entries.{Item, Framed, Lost, Dropped, Filing, Entry, Filed, Freed, Cleared, completes, hears, own, is_ended, is_retired, hearing_in, faults_in}
+use Rattle.lnbd_history.specs.Strict.{all_strict}
 
 -- The answers of callbacks.
 
@@ -73,6 +77,12 @@ module _ {K : Type 0} where
   is_taken (Retire other ∷ before) cookie = (other == cookie) || is_taken before cookie
   is_taken (event ∷ before) cookie = is_taken before cookie
 
+  -- the bits of strict mode
+  abbrev pub strict_mode : History K → ℕ
+  strict_mode [] = all_strict
+  strict_mode (StrictMode bits ∷ before) = bits
+  strict_mode (event ∷ before) = strict_mode before
+
 -- What is known.
 pub record Known (K : Type 0) : Type 0 where
   pub stage : Stage
@@ -108,21 +118,32 @@ sent_by (Opted option) before = next_request (Opted option ∷ before)
 module _ {K : Type 0} where
   -- Filing.
 
-  -- an item under this cookie, with the next answers for the callbacks that it calls
-  abbrev pub filing_of : Request K → ℕ → Item → List Answer → Filing K
-  filing_of asks cookie item answers = record {
+  abbrev pub agreed_contexts : Known K → List MetaContext
+  agreed_contexts known = contexts (steps known.turns)
+
+  abbrev pub is_extended : Known K → Bool
+  is_extended known = extended (steps known.turns)
+
+  -- an item under this cookie, where these were filed before, with the next answers for the callbacks that it calls
+  abbrev pub filing_of : Request K → ℕ → List (Filing K) → List MetaContext → Item → List Answer → Filing K
+  filing_of asks cookie earlier contexts item answers = record {
     cookie = cookie;
     request = asks;
+    contexts = contexts;
     item = item;
-    heard = next_heard (hears asks.flight item) answers;
-    verdict = next_verdict (completes item) (left (hears asks.flight item) answers);
+    heard = next_heard (hears asks.flight (hearing_in asks earlier contexts item)) answers;
+    verdict = next_verdict (completes item) (left (hears asks.flight (hearing_in asks earlier contexts item)) answers);
   }
+
+  -- the answers that it leaves
+  abbrev pub answers_after : Request K → List (Filing K) → List MetaContext → Item → List Answer → List Answer
+  answers_after asks earlier contexts item answers = left (completes item) (left (hears asks.flight (hearing_in asks earlier contexts item)) answers)
 
   abbrev pub file_under : Option (Request K) → ℕ → Item → Known K → Known K
   file_under None cookie item known = known
   file_under (Some asks) cookie item known = record known {
-    entries = Filed (filing_of asks cookie item known.answers) ∷ known.entries;
-    answers = left (completes item) (left (hears asks.flight item) known.answers);
+    entries = Filed (filing_of asks cookie (own cookie known.entries) (agreed_contexts known) item known.answers) ∷ known.entries;
+    answers = answers_after asks (own cookie known.entries) (agreed_contexts known) item known.answers;
   }
 
   abbrev pub file : History K → ℕ → Item → Known K → Known K
@@ -149,7 +170,7 @@ module _ {K : Type 0} where
 
   -- GO (7) was refused.
   abbrev pub if_refused : Phase → History K → Known K → Known K
-  if_refused (phase.Refused code) before known = die before (cause.Refused 7 code) known
+  if_refused (phase.Refused code) before known = die before (cause.Refused opt_go code) known
   if_refused other before known = known
 
   abbrev pub greeted : ℕ → Known K → Known K
@@ -175,20 +196,22 @@ module _ {K : Type 0} where
     phase = phase known.turns;
     count = length (under_way known.turns);
     size = size_told (under_way known.turns);
-    no_zeroes = has_bit 2 known.flags;
+    no_zeroes = has_bit flag_no_zeroes known.flags;
     structured = structured (steps known.turns);
+    extended = extended (steps known.turns);
     passed = known.passed;
   }
 
-  abbrev pub waiting_of : Bool → Bool → Option (Request K) → Option Waiting
-  waiting_of true false (Some asks) = Some (record { kind = asks.kind; offset = asks.offset; length = asks.length })
-  waiting_of true false None = None
-  waiting_of true true asks = None
-  waiting_of false ended asks = None
+  abbrev pub waiting_of : (written ended : Bool) → List (Filing K) → Option (Request K) → Option Waiting
+  waiting_of true false own (Some asks) = Some (record { kind = asks.kind; offset = asks.offset; length = asks.length; faults = faults_in asks own })
+  waiting_of true false own None = None
+  waiting_of true true own asks = None
+  waiting_of false ended own asks = None
 
   -- the command of this cookie, where it was wholly written before the event and is in flight
   abbrev pub waited : History K → Known K → ℕ → Option Waiting
-  waited before known cookie = waiting_of (nat_le cookie (whole known.parts (asked before).wrote)) (is_ended (own cookie known.entries)) (request before cookie)
+  waited before known cookie =
+      waiting_of (nat_le cookie (whole known.parts (asked before).wrote)) (is_ended (own cookie known.entries)) (own cookie known.entries) (request before cookie)
 
   abbrev pub rules : History K → Rules (Known K) Shown
   rules before = record { shows = λ known. shows_at known.stage (sight known) (waited before known); enter = entered before }
@@ -247,12 +270,13 @@ module _ {K : Type 0} where
   abbrev pub reading : History K → Held (Known K)
   reading [] = record { known = begun; pending = [] }
   reading (event.Set setting ∷ before) = change (turned (turn.Set setting)) (reading before)
+  reading (StrictMode bits ∷ before) = reading before
   reading (Start ∷ before) = change (λ known. record known { stage = Open }) (reading before)
   reading (Opt option ∷ before) = change (turned (Opted option)) (reading before)
   reading (Abort ∷ before) = finish (λ known. asking (abort_part ∷ []) (record known { stage = Aborting })) (reading before)
-  reading (Issue command ∷ before) = change (asking (command_parts ((asked before).issued + 1) command)) (reading before)
+  reading (Issue command ∷ before) = change (λ known. asking (command_parts (is_extended known) ((asked before).issued + 1) command) known) (reading before)
   reading (Refuse command why ∷ before) = change (freed (flight_of (asked before).admitted command.first command.done)) (reading before)
-  reading (Disconnect ∷ before) = change (λ known. asking (disconnect_part ∷ []) (record known { stage = Disconnecting })) (reading before)
+  reading (Disconnect ∷ before) = change (λ known. asking (disconnect_part (is_extended known) ∷ []) (record known { stage = Disconnecting })) (reading before)
   reading (Wrote n ∷ before) = reading before
   reading (Arrived bytes answers ∷ before) = feed (rules before) (change (with_answers answers) (reading before)) bytes
   reading (End answers ∷ before) = ended_at (reading before).known.stage before (change (with_answers answers) (reading before))

@@ -4,8 +4,12 @@ use Rattle.lnbd_model.specs.declared.note.Note.{Note}
 use Rattle.lnbd_model.specs.declared.note.Note.TheVariants as note
 use Rattle.lnbd_model.specs.declared.state.State.{State}
 use Rattle.lnbd_model.specs.declared.state.State.TheVariants as state
-use Rattle.lnbd_history.specs.Events.{Setting, Name, Context, Structured, OptMode, Answer, Event, History, Set, Start, Opt, Abort, Issue, Refuse, Disconnect, Wrote, Arrived, End, LinkFailed, Retire, ClearLog, Close}
+use Rattle.lnbd_history.specs.Events.{Setting, Name, Context, Structured, Extended, OptMode, Answer, Event, History, Set, StrictMode, Start, Opt, Abort, Issue, Refuse, Disconnect, Wrote, Arrived, End, LinkFailed, Retire, ClearLog, Close}
+use Rattle.lnbd_records.specs.Limits.{max_contexts}
+use Rattle.lnbd_records.specs.Options.{opt_go, opt_info, opt_list, opt_set_meta_context}
 use Rattle.lnbd_history.specs.Agreement.{contexts_now, structured, steps}
+use Rattle.lnbd_history.specs.Commands.{Command, is_write}
+use Rattle.lnbd_history.specs.Strict.{unknown_bits}
 use Rattle.lnbd_history.specs.Entries.{own, is_ended, notes, frees}
 use Rattle.lnbd_history.specs.History.{asked, request, reading, is_gone}
 use Rattle.lnbd_history.specs.Answers.{state_after, out_after, is_living}
@@ -25,26 +29,32 @@ may_name (state.Dead cause) = false
 
 -- LIST (3), INFO (6), GO (7) and SET_META_CONTEXT (10)
 abbrev pub is_call : ℕ → Bool
-is_call option = (option == 3) || (option == 6) || (option == 7) || (option == 10)
+is_call option = (option == opt_list) || (option == opt_info) || (option == opt_go) || (option == opt_set_meta_context)
 
 module _ {K : Type 0} where
   abbrev pub CanSet : History K → Setting → Type 0
   CanSet before (Name name) = may_name (state_after before) ≡ true
-  CanSet before (Context name) = (may_name (state_after before) ≡ true) × (length (contexts_now (reading before).known.turns) < 16)
+  CanSet before (Context name) = (may_name (state_after before) ≡ true) × (length (contexts_now (reading before).known.turns) < max_contexts)
   CanSet before (Structured on) = state_after before ≡ state.Created
+  CanSet before (Extended on) = state_after before ≡ state.Created
   CanSet before (OptMode on) = state_after before ≡ state.Created
 
   abbrev pub is_closed : History K → Bool
   is_closed (Close ∷ before) = true
   is_closed before = false
 
+  -- a write has as many bytes as it asks to write
+  abbrev pub HasItsBytes : Command K → Type 0
+  HasItsBytes command = is_write command.kind ≡ true → length command.payload ≡ command.length
+
   -- At most `limit` commands may be unretired.
   abbrev pub CanFollow : ℕ → History K → Event K → Type 0
   CanFollow limit before (Set setting) = CanSet before setting
+  CanFollow limit before (StrictMode bits) = unknown_bits bits ≡ 0
   CanFollow limit before Start = state_after before ≡ state.Created
-  CanFollow limit before (Opt option) = (state_after before ≡ state.OptMode) × (is_call option ≡ true) × (option ≡ 10 → structured (steps (reading before).known.turns) ≡ true)
+  CanFollow limit before (Opt option) = (state_after before ≡ state.OptMode) × (is_call option ≡ true) × (option ≡ opt_set_meta_context → structured (steps (reading before).known.turns) ≡ true)
   CanFollow limit before Abort = state_after before ≡ state.OptMode
-  CanFollow limit before (Issue command) = refusal_after limit before command ≡ None
+  CanFollow limit before (Issue command) = (refusal_after limit before command ≡ None) × HasItsBytes command
   CanFollow limit before (Refuse command why) = refusal_after limit before command ≡ Some why
   CanFollow limit before Disconnect = by_state (state_after before) None ≡ None
   CanFollow limit before (Wrote n) = n ≤ length (out_after before)

@@ -1,13 +1,17 @@
 -- What the client sends, and what of it still waits.
-use Rattle.std.specs.Prelude.{ℕ, ◌+◌, ◌-◌, Bool, true, false, List, [], ◌∷◌, ◌++◌, length, drop, if◌then◌else◌, ◌==◌, nat_lt, bit_and}
-use Rattle.lnbd_model.specs.Kind.{type_of}
+use Rattle.std.specs.Prelude.{ℕ, ◌+◌, ◌-◌, Bool, true, false, not, ◌&&◌, List, [], ◌∷◌, length, drop, if◌then◌else◌, ◌==◌, nat_lt, bit_and}
+use Rattle.lnbd_model.specs.Kind.{type_of, has_range}
+use Rattle.lnbd_model.specs.declared.kind.Kind.{Kind}
 use Rattle.lnbd_records.specs.Numbers.{row}
 use Rattle.lnbd_records.specs.Handshake as handshake
+pub use Rattle.lnbd_records.specs.Handshake.{option_request}
 use Rattle.lnbd_records.specs.Requests.{info_request, meta_request}
 use Rattle.lnbd_records.specs.Transmission as transmission
+use Rattle.lnbd_records.specs.Flags.{cmd_flag_payload_len}
+use Rattle.lnbd_records.specs.Options.{opt_abort, opt_export_name, opt_set_meta_context}
 use Rattle.lnbd_history.specs.declared.kinds.Phase.{Phase}
 use Rattle.lnbd_history.specs.declared.kinds.Phase.TheVariants.{Greeting, Asked, AskedByName, OptMode, Ready, Refused}
-use Rattle.lnbd_history.specs.Agreement.{Turn, name_now, contexts_now, phase, is_info}
+use Rattle.lnbd_history.specs.Agreement.{Turn, is_empty, name_now, contexts_now, phase, is_info}
 use Rattle.lnbd_history.specs.Commands.{Command, is_write}
 
 -- Negotiation.
@@ -20,17 +24,14 @@ client_flags flags = row (handshake.client_flags (bit_and flags 3))
 abbrev pub option_body : ℕ → List ℕ → List (List ℕ) → List ℕ
 option_body option name contexts =
     if is_info option then info_request name (1 ∷ 2 ∷ 3 ∷ [])
-    else if option == 10 then meta_request name contexts
-    else if option == 1 then name
+    else if option == opt_set_meta_context then meta_request name contexts
+    else if option == opt_export_name then name
     else []
-
-abbrev pub option_request : ℕ → List ℕ → List ℕ
-option_request option body = row (handshake.option_head option (length body)) ++ body
 
 -- the request that is sent where negotiation comes to this phase
 abbrev pub request_at : Phase → List ℕ → List (List ℕ) → List (List ℕ)
 request_at (Asked option) name contexts = option_request option (option_body option name contexts) ∷ []
-request_at AskedByName name contexts = option_request 1 (option_body 1 name contexts) ∷ []
+request_at AskedByName name contexts = option_request opt_export_name (option_body opt_export_name name contexts) ∷ []
 request_at Greeting name contexts = []
 request_at OptMode name contexts = []
 request_at Ready name contexts = []
@@ -53,23 +54,36 @@ plain bytes = record { bytes = bytes; ends = false }
 abbrev pub last_of : List ℕ → Part
 last_of bytes = record { bytes = bytes; ends = true }
 
--- Flush has no range.
-abbrev pub head_of : {K : Type 0} → ℕ → Command K → List ℕ
-head_of cookie command = row (transmission.request command.flags (type_of command.kind) cookie command.offset command.length)
+-- PAYLOAD_LEN (32): the length of an extended request is that of the data that follows it.
+abbrev pub sent_flags : Kind → ℕ → ℕ
+sent_flags kind flags = if is_write kind then flags + cmd_flag_payload_len else flags
 
--- a command's head, and a write's bytes behind it
-abbrev pub command_parts : {K : Type 0} → ℕ → Command K → List Part
-command_parts cookie command =
-    if is_write command.kind then plain (head_of cookie command) ∷ last_of command.payload ∷ []
-    else last_of (head_of cookie command) ∷ []
+-- a head, with extended headers or without
+abbrev pub head : (extended : Bool) → Kind → (flags cookie offset length : ℕ) → List ℕ
+head extended kind flags cookie offset length =
+    if extended then row (transmission.extended_request (sent_flags kind flags) (type_of kind) cookie offset length)
+    else row (transmission.request flags (type_of kind) cookie offset length)
+
+-- Flush has no range: its offset and its length are 0.
+abbrev pub head_of : {K : Type 0} → (extended : Bool) → ℕ → Command K → List ℕ
+head_of extended cookie command =
+    if has_range command.kind then head extended command.kind command.flags cookie command.offset command.length
+    else head extended command.kind command.flags cookie 0 0
+
+-- a command's head, and a write's bytes behind it, if it has any
+abbrev pub command_parts : {K : Type 0} → (extended : Bool) → ℕ → Command K → List Part
+command_parts extended cookie command =
+    if is_write command.kind && not (is_empty command.payload) then plain (head_of extended cookie command) ∷ last_of command.payload ∷ []
+    else last_of (head_of extended cookie command) ∷ []
 
 -- DISC (2), which has no answer
-abbrev pub disconnect_part : Part
-disconnect_part = plain (row (transmission.request 0 2 0 0 0))
+abbrev pub disconnect_part : (extended : Bool) → Part
+disconnect_part extended =
+    plain (if extended then row transmission.extended_disconnect else row transmission.disconnect)
 
 -- ABORT (2)
 abbrev pub abort_part : Part
-abort_part = plain (option_request 2 [])
+abort_part = plain (option_request opt_abort [])
 
 -- What waits where so many bytes have gone out.
 abbrev pub waiting : List Part → ℕ → List Part

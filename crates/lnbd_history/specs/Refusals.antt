@@ -1,5 +1,5 @@
 -- Why a command is refused: by the first rule that holds.
-use Rattle.std.specs.Prelude.{ℕ, ◌+◌, ◌-◌, ◌%◌, Bool, true, false, not, ◌&&◌, ◌||◌, List, Option, Some, None, if◌then◌else◌, ◌==◌, nat_lt, nat_le, bit_and}
+use Rattle.std.specs.Prelude.{ℕ, ◌+◌, ◌-◌, ◌%◌, Bool, not, ◌&&◌, List, Option, Some, None, if◌then◌else◌, ◌==◌, nat_lt, nat_le, bit_and}
 use Rattle.lnbd_model.specs.declared.export.Blocks.{Blocks}
 use Rattle.lnbd_model.specs.declared.export.Context.{Context}
 use Rattle.lnbd_model.specs.declared.kind.Kind.{Kind}
@@ -10,11 +10,15 @@ use Rattle.lnbd_model.specs.declared.refusal.Why.{Why}
 use Rattle.lnbd_model.specs.declared.refusal.Why.TheVariants as why
 use Rattle.lnbd_model.specs.declared.state.State.{State}
 use Rattle.lnbd_model.specs.declared.state.State.TheVariants as state
-use Rattle.lnbd_history.specs.Agreement.{Export, is_empty, steps, export, contexts, structured}
-use Rattle.lnbd_history.specs.Arrivals.{has_bit}
+use Rattle.lnbd_model.specs.Kind.{has_range}
+use Rattle.lnbd_records.specs.Limits.{max_data, max_range, max_extended_range}
+use Rattle.lnbd_records.specs.Numbers.{has_bit}
+use Rattle.lnbd_records.specs.Flags.{cmd_flag_df, cmd_flag_fast_zero, cmd_flag_fua, cmd_flag_no_hole, cmd_flag_req_one, flag_read_only, flag_send_cache, flag_send_df, flag_send_fast_zero, flag_send_flush, flag_send_fua, flag_send_trim, flag_send_write_zeroes}
+use Rattle.lnbd_history.specs.Strict.{strict_commands, strict_flags, strict_bounds, strict_zero_size, strict_align}
+use Rattle.lnbd_history.specs.Agreement.{Export, is_empty, steps, export, contexts, structured, extended}
 use Rattle.lnbd_history.specs.Commands.{Command}
 use Rattle.lnbd_history.specs.Events.{History}
-use Rattle.lnbd_history.specs.History.{reading}
+use Rattle.lnbd_history.specs.History.{reading, strict_mode}
 use Rattle.lnbd_history.specs.Answers.{state_after, held_after}
 
 -- All by which a command is judged.
@@ -29,6 +33,9 @@ pub record Terms : Type 0 where
   -- whether a meta context is agreed
   pub has_context : Bool
   pub structured : Bool
+  pub extended : Bool
+  -- the bits of strict mode
+  pub strict : ℕ
 
 -- refused so where the test holds, and else by what follows
 abbrev pub refuse : Bool → Why → Option Why → Option Why
@@ -48,12 +55,16 @@ by_state state.Ready later = later
 -- SEND_CACHE 1024, SEND_FAST_ZERO 2048.
 abbrev pub lack_of : Terms → Kind → Option Lack
 lack_of terms Read = None
-lack_of terms Write = if has_bit 2 terms.flags then Some lack.ReadOnly else None
-lack_of terms Flush = if has_bit 4 terms.flags then None else Some lack.Flush
-lack_of terms Trim = if has_bit 2 terms.flags then Some lack.ReadOnly else if has_bit 32 terms.flags then None else Some lack.Trim
-lack_of terms Cache = if has_bit 1024 terms.flags then None else Some lack.Cache
-lack_of terms Zero = if has_bit 2 terms.flags then Some lack.ReadOnly else if has_bit 64 terms.flags then None else Some lack.Zero
+lack_of terms Write = if has_bit flag_read_only terms.flags then Some lack.ReadOnly else None
+lack_of terms Flush = if has_bit flag_send_flush terms.flags then None else Some lack.Flush
+lack_of terms Trim = if has_bit flag_read_only terms.flags then Some lack.ReadOnly else if has_bit flag_send_trim terms.flags then None else Some lack.Trim
+lack_of terms Cache = if has_bit flag_send_cache terms.flags then None else Some lack.Cache
+lack_of terms Zero = if has_bit flag_read_only terms.flags then Some lack.ReadOnly else if has_bit flag_send_write_zeroes terms.flags then None else Some lack.Zero
 lack_of terms BlockStatus = if terms.has_context then None else Some lack.Context
+
+-- What the export lacks counts where the client is strict on it.
+abbrev pub lack_now : Terms → Kind → Option Lack
+lack_now terms kind = if has_bit strict_commands terms.strict then lack_of terms kind else None
 
 abbrev pub unsupported : Option Lack → Option Why → Option Why
 unsupported None later = later
@@ -64,13 +75,24 @@ flag_if test flag = if test then flag else 0
 
 -- The command flags that are allowed: FUA 1, NO_HOLE 2, DF 4, REQ_ONE 8, FAST_ZERO 16.
 abbrev pub allowed : Terms → Kind → ℕ
-allowed terms Read = flag_if (has_bit 128 terms.flags && terms.structured) 4
-allowed terms Write = flag_if (has_bit 8 terms.flags) 1
+allowed terms Read = flag_if (has_bit flag_send_df terms.flags && terms.structured) cmd_flag_df
+allowed terms Write = flag_if (has_bit flag_send_fua terms.flags) cmd_flag_fua
 allowed terms Flush = 0
-allowed terms Trim = flag_if (has_bit 8 terms.flags) 1
+allowed terms Trim = flag_if (has_bit flag_send_fua terms.flags) cmd_flag_fua
 allowed terms Cache = 0
-allowed terms Zero = flag_if (has_bit 8 terms.flags) 1 + 2 + flag_if (has_bit 2048 terms.flags) 16
-allowed terms BlockStatus = 8
+allowed terms Zero = flag_if (has_bit flag_send_fua terms.flags) cmd_flag_fua + cmd_flag_no_hole + flag_if (has_bit flag_send_fast_zero terms.flags) cmd_flag_fast_zero
+allowed terms BlockStatus = cmd_flag_req_one
+
+-- all flags but PAYLOAD_LEN (32), which is the client's own
+abbrev pub sendable_flags : ℕ
+sendable_flags = 0xffdf
+
+abbrev pub allowed_now : Terms → Kind → ℕ
+allowed_now terms kind = if has_bit strict_flags terms.strict then allowed terms kind else sendable_flags
+
+-- the flags outside those
+abbrev pub bad_flags : Terms → Kind → ℕ → ℕ
+bad_flags terms kind flags = flags - bit_and flags (allowed_now terms kind)
 
 abbrev pub minimum : Option Blocks → ℕ
 minimum None = 1
@@ -81,33 +103,32 @@ smaller a b = if nat_le a b then a else b
 
 -- the most bytes of a read or write
 abbrev pub payload_limit : Option Blocks → ℕ
-payload_limit None = 33554432
-payload_limit (Some blocks) = smaller 33554432 blocks.maximum
+payload_limit None = max_data
+payload_limit (Some blocks) = smaller max_data blocks.maximum
+
+-- the longest range of another command
+abbrev pub range_limit : (extended : Bool) → ℕ
+range_limit extended = if extended then max_extended_range else max_range
 
 abbrev pub length_limit : Terms → Kind → ℕ
 length_limit terms Read = payload_limit terms.blocks
 length_limit terms Write = payload_limit terms.blocks
-length_limit terms Flush = 4294967295
-length_limit terms Trim = 4294967295
-length_limit terms Cache = 4294967295
-length_limit terms Zero = 4294967295
-length_limit terms BlockStatus = 4294967295
+length_limit terms Flush = range_limit terms.extended
+length_limit terms Trim = range_limit terms.extended
+length_limit terms Cache = range_limit terms.extended
+length_limit terms Zero = range_limit terms.extended
+length_limit terms BlockStatus = range_limit terms.extended
 
-abbrev pub has_range : Kind → Bool
-has_range Read = true
-has_range Write = true
-has_range Flush = false
-has_range Trim = true
-has_range Cache = true
-has_range Zero = true
-has_range BlockStatus = true
+abbrev pub is_aligned : ℕ → (offset length : ℕ) → Bool
+is_aligned minimum offset length = (offset % minimum == 0) && (length % minimum == 0)
 
+-- No command may be longer than its limit; the other rules on the range hold where the client is strict on them.
 abbrev pub by_range : Terms → Kind → (offset length : ℕ) → Option Why
 by_range terms kind offset length =
-    refuse (length == 0) why.ZeroSize
+    refuse (has_bit strict_zero_size terms.strict && (length == 0)) why.ZeroSize
     (refuse (nat_lt (length_limit terms kind) length) (why.TooBig (length_limit terms kind))
-    (refuse (nat_lt terms.size (offset + length)) (why.Bounds terms.size)
-    (refuse (not (offset % minimum terms.blocks == 0) || not (length % minimum terms.blocks == 0)) (why.Align (minimum terms.blocks))
+    (refuse (has_bit strict_bounds terms.strict && nat_lt terms.size (offset + length)) (why.Bounds terms.size)
+    (refuse (has_bit strict_align terms.strict && not (is_aligned (minimum terms.blocks) offset length)) (why.Align (minimum terms.blocks))
     None)))
 
 -- A command of this kind, with these flags and this range, where at most `limit` may be unretired.
@@ -115,8 +136,8 @@ abbrev pub refusal : ℕ → Terms → Kind → (flags offset length : ℕ) → 
 refusal limit terms kind flags offset length =
     by_state terms.state
     (refuse (nat_le limit terms.held) (why.TooMany limit)
-    (unsupported (lack_of terms kind)
-    (refuse (not (flags - bit_and flags (allowed terms kind) == 0)) (why.BadFlags (flags - bit_and flags (allowed terms kind)))
+    (unsupported (lack_now terms kind)
+    (refuse (not (bad_flags terms kind flags == 0)) (why.BadFlags (bad_flags terms kind flags))
     (if has_range kind then by_range terms kind offset length else None))))
 
 abbrev pub size_in : Option Export → ℕ
@@ -131,8 +152,8 @@ abbrev pub blocks_in : Option Export → Option Blocks
 blocks_in None = None
 blocks_in (Some export) = export.blocks
 
-abbrev pub terms_of : State → ℕ → Option Export → List Context → Bool → Terms
-terms_of state held export contexts structured = record {
+abbrev pub terms_of : State → ℕ → Option Export → List Context → (structured extended : Bool) → (strict : ℕ) → Terms
+terms_of state held export contexts structured extended strict = record {
   state = state;
   held = held;
   size = size_in export;
@@ -140,13 +161,15 @@ terms_of state held export contexts structured = record {
   blocks = blocks_in export;
   has_context = not (is_empty contexts);
   structured = structured;
+  extended = extended;
+  strict = strict;
 }
 
 module _ {K : Type 0} where
   abbrev pub terms_after : History K → Terms
   terms_after history =
       let all = steps (reading history).known.turns in
-      terms_of (state_after history) (held_after history) (export all) (contexts all) (structured all)
+      terms_of (state_after history) (held_after history) (export all) (contexts all) (structured all) (extended all) (strict_mode history)
 
   abbrev pub refusal_after : ℕ → History K → Command K → Option Why
   refusal_after limit history command = refusal limit (terms_after history) command.kind command.flags command.offset command.length

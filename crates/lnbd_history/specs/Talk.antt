@@ -5,12 +5,13 @@ use Rattle.lnbd_model.specs.declared.export.Context.{Context as MetaContext}
 use Rattle.lnbd_model.specs.declared.export.Listed.{Listed}
 use Rattle.lnbd_records.specs.Told.{Told, Size}
 use Rattle.lnbd_records.specs.Told as told
+use Rattle.lnbd_records.specs.Options.{opt_extended_headers, opt_list, opt_set_meta_context}
 use Rattle.lnbd_history.specs.declared.kinds.OptAnswer.{OptAnswer}
 use Rattle.lnbd_history.specs.declared.kinds.Phase.{Phase}
 use Rattle.lnbd_history.specs.declared.kinds.Phase.TheVariants.{Greeting, Asked, Ready}
 use Rattle.lnbd_history.specs.Events.{Setting}
 use Rattle.lnbd_history.specs.Events as setting
-use Rattle.lnbd_history.specs.Agreement.{Turn, Hello, Replied, ByName, Set, Opted, End, Export, end_of, after_hello, after_answer, phase, under_way, steps, structured, contexts, export, export_of, listing, opt_answer, opt_answer_of, is_acknowledged, is_info, name_now, contexts_now, asks_structured, opt_mode, adding, size_told, blocks_told, name_told, description_told, servers_told, contexts_told}
+use Rattle.lnbd_history.specs.Agreement.{Turn, Hello, Replied, ByName, Set, Opted, End, Export, end_of, after_hello, after_answer, phase, under_way, steps, structured, extended, contexts, export, export_of, listing, opt_answer, opt_answer_of, is_acknowledged, settles_replies, is_info, name_now, contexts_now, asks_structured, asks_extended, opt_mode, adding, size_told, blocks_told, name_told, description_told, servers_told, contexts_told}
 use Rattle.lnbd_history.specs.Outgoing.{request_at}
 
 -- what the replies of the answer that isn't ended tell
@@ -24,15 +25,17 @@ pub record Pending : Type 0 where
   pub contexts : List MetaContext
 
 pub record Talk : Type 0 where
-  -- the settings: the export's name, the contexts that are asked for, and the two switches
+  -- the settings: the export's name, the contexts that are asked for, and the three switches
   pub name : List ℕ
   pub wanted : List (List ℕ)
   pub asks_structured : Bool
+  pub asks_extended : Bool
   pub opt_mode : Bool
   pub phase : Phase
   pub pending : Pending
   -- what was agreed
   pub structured : Bool
+  pub extended : Bool
   pub contexts : List MetaContext
   pub export : Option Export
   pub listing : List Listed
@@ -62,14 +65,16 @@ answered option end t = record {
   name = t.name;
   wanted = t.wanted;
   asks_structured = t.asks_structured;
+  asks_extended = t.asks_extended;
   opt_mode = t.opt_mode;
-  phase = after_answer t.opt_mode t.wanted option end;
+  phase = after_answer t.asks_structured t.opt_mode t.wanted option end;
   pending = nothing;
-  structured = ((option == 8) && is_acknowledged end) || t.structured;
-  contexts = if option == 10 then if is_acknowledged end then t.pending.contexts else [] else t.contexts;
+  structured = (settles_replies option && is_acknowledged end) || t.structured;
+  extended = ((option == opt_extended_headers) && is_acknowledged end) || t.extended;
+  contexts = if option == opt_set_meta_context then if is_acknowledged end then t.pending.contexts else [] else t.contexts;
   export = if is_info option && is_acknowledged end then export_of t.pending.size t.pending.blocks t.pending.name t.pending.description else t.export;
-  listing = if (option == 3) && is_acknowledged end then t.pending.servers else t.listing;
-  answer = if t.opt_mode && not (option == 8) then Some (opt_answer_of option end) else t.answer;
+  listing = if (option == opt_list) && is_acknowledged end then t.pending.servers else t.listing;
+  answer = if t.opt_mode && not (settles_replies option) then Some (opt_answer_of option end) else t.answer;
 }
 
 abbrev pub ended : End → Phase → Talk → Talk
@@ -85,17 +90,18 @@ abbrev pub setting_to : Setting → Talk → Talk
 setting_to (setting.Name name) t = record t { name = name; contexts = [] }
 setting_to (setting.Context name) t = record t { wanted = t.wanted ++ name ∷ [] }
 setting_to (setting.Structured on) t = record t { asks_structured = on }
+setting_to (setting.Extended on) t = record t { asks_extended = on }
 setting_to (setting.OptMode on) t = record t { opt_mode = on }
 
 abbrev pub taking : Turn → Talk → Talk
-taking Hello t = record t { phase = after_hello t.asks_structured t.opt_mode t.wanted }
+taking Hello t = record t { phase = after_hello t.asks_extended t.asks_structured t.opt_mode t.wanted }
 taking (Replied reply) t = replied (end_of reply) reply t
 taking (ByName size flags) t = record t { phase = Ready; export = export_of (Some (record { size = size; flags = flags })) None None None }
 taking (Set setting) t = setting_to setting t
 taking (Opted option) t = record t { phase = Asked option }
 
 abbrev pub begun : Talk
-begun = record { name = []; wanted = []; asks_structured = false; opt_mode = false; phase = Greeting; pending = nothing; structured = false; contexts = []; export = None; listing = []; answer = None }
+begun = record { name = []; wanted = []; asks_structured = false; asks_extended = false; opt_mode = false; phase = Greeting; pending = nothing; structured = false; extended = false; contexts = []; export = None; listing = []; answer = None }
 
 abbrev pub run : List Turn → Talk
 run [] = begun
@@ -118,10 +124,12 @@ agreed turns = record {
   name = name_now turns;
   wanted = contexts_now turns;
   asks_structured = asks_structured turns;
+  asks_extended = asks_extended turns;
   opt_mode = opt_mode turns;
   phase = phase turns;
   pending = pending_in (under_way turns);
   structured = structured (steps turns);
+  extended = extended (steps turns);
   contexts = contexts (steps turns);
   export = export (steps turns);
   listing = listing (steps turns);

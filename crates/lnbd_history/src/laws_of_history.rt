@@ -1,7 +1,7 @@
 //! Laws of what histories mean. Each is the contract of a function that does nothing.
 
 ghost use Rattle.lnbd_history.specs.Laws.{CutsDoNotMatter, CallbacksAreCalledOnce, CloseFreesAll};
-ghost use Rattle.lnbd_history.specs.Filled.{ExportIsAwaited, ExportIsTold, ExportIsTooBig, ContentIsShown, PayloadIsFilled};
+ghost use Rattle.lnbd_history.specs.Filled.{HelloIsWhole, OptionReplyIsWhole, ExportIsAwaited, ExportIsTold, ExportIsTooBig, ContentIsShown, PayloadIsFilled};
 ghost use Rattle.lnbd_history.specs.Talk.{ComesToAgreed};
 
 /// Negotiation that keeps no list, taken one turn at a time, comes to what all turns agree on.
@@ -24,6 +24,13 @@ pub fn callbacks_are_called_once<K>()
 /// After a close each callback that was admitted was freed exactly once.
 pub fn close_frees_all<K>()
     ensures { CloseFreesAll K }
+{}
+
+/// A hello, and a reply to an option, that is told is a whole record at the front of the bytes.
+#[tactic(auto, using(crate::proofs::Whole::hello_is_whole, crate::proofs::Whole::option_reply_is_whole))]
+pub fn handshake_is_whole()
+    ensures hello { HelloIsWhole }
+    ensures reply { OptionReplyIsWhole }
 {}
 
 /// The reply to EXPORT_NAME is taken when it is there whole, and tells the size and the flags that its bytes spell.

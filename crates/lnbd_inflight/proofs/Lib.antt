@@ -1,4 +1,8 @@
-pub mod Changes
 pub mod Order
-pub mod Rows
+pub mod Standing
 pub mod Sound
+pub mod Placing
+pub mod Changes
+pub mod Removal
+pub mod Writes
+pub mod Firsts

@@ -1,10 +1,18 @@
 -- Lemmas on the order of done cookies.
-use Rattle.std.proofs.Common.{◌≡◌, ℕ, zero, suc, ◌<◌, List, [], ◌∷◌, ◌++◌, Bool, true, false, not, cond, ◌≢◌, refl, sym, arith, Some, None, Option, IsSome, OnSome, is_some, length, get_or, nat_eq, slice_get}
+use Rattle.std.proofs.Common.{◌≡◌, ℕ, zero, suc, ◌<◌, List, [], ◌∷◌, ◌++◌, Bool, true, false, not, cond, ◌≢◌, refl, arith, Some, None, Option, IsSome, OnSome, length, get_or, nat_eq, slice_get}
 use Rattle.std.specs.List.{remove}
 use Rattle.std.proofs.lemmas.Grind.{common_steps}
 use Rattle.lnbd_inflight.specs.declared.marks.Mark.{Mark}
 use Rattle.lnbd_inflight.specs.Done.{is_done, forgetting, IsOnce}
 use Rattle.lnbd_inflight.specs.Marks.{order_of}
+
+pub length_order : (marks : List Mark) → length (order_of marks) ≡ length marks
+length_order [] = refl
+length_order (x ∷ xs) = let e = length_order xs in grind (arith, common_steps)
+
+pub order_append : (mark : Mark) (marks : List Mark) → order_of (marks ++ mark ∷ []) ≡ order_of marks ++ mark.cookie ∷ []
+order_append mark [] = refl
+order_append mark (x ∷ xs) = let e = order_append mark xs in grind (arith, common_steps)
 
 -- a cookie that isn't done is in the order nowhere
 pub forgetting_none : (c : ℕ) (done : List ℕ) → is_done c done ≡ false → forgetting c done ≡ done
@@ -42,11 +50,6 @@ forgetting_remove (suc at) c (x ∷ xs) o h =
     let alone : is_done x.cookie (order_of xs) ≡ false = o.0 in
     grind (arith, common_steps)
 
--- a row with no stamp has no mark in the order
-pub unmarked : (stamp : Option ℕ) (c : ℕ) (done : List ℕ) → stamp ≡ None → is_some stamp ≡ is_done c done → done ≡ forgetting c done
-unmarked None c done e h = sym (forgetting_none c done (sym h))
-unmarked (Some n) c done e h = cc
-
 -- what a removal at a place within the order does
 pub removed : (o : Option Mark) (at c : ℕ) (marks new : List Mark) → (at < length marks → IsSome o) → OnSome o (new ≡ remove marks at) → IsOnce (order_of marks) → slice_get (order_of marks) at ≡ Some c → order_of new ≡ forgetting c (order_of marks)
 removed None at c marks new there items once spot = absurd (cc (there (spot_within at c marks spot)))
@@ -56,6 +59,14 @@ removed (Some mark) at c marks new there items once spot = rw items (forgetting_
 pub done_append : (n c : ℕ) (done : List ℕ) → is_done n (done ++ c ∷ []) ≡ cond (is_done n done) true (nat_eq c n)
 done_append n c [] = grind (arith, common_steps)
 done_append n c (x ∷ xs) = let e = done_append n c xs in grind (arith, common_steps)
+
+pub done_last : (c : ℕ) (done : List ℕ) → is_done c (done ++ c ∷ []) ≡ true
+done_last c [] = grind (arith, common_steps)
+done_last c (x ∷ xs) = let e = done_last c xs in grind (arith, common_steps)
+
+pub done_before_last : (n c : ℕ) (done : List ℕ) → n ≢ c → is_done n (done ++ c ∷ []) ≡ is_done n done
+done_before_last n c [] h = grind (arith, common_steps)
+done_before_last n c (x ∷ xs) h = let e = done_before_last n c xs h in grind (arith, common_steps)
 
 -- what is forgotten isn't done, and all else is as it was
 pub done_same : (c : ℕ) (done : List ℕ) → is_done c (forgetting c done) ≡ false

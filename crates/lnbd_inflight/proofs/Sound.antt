@@ -1,9 +1,9 @@
 -- What holds of every table, kept by each change.
-use Rattle.std.proofs.Common.{◌≡◌, ℕ, zero, suc, ◌+◌, ◌<◌, ◌≤◌, ◌≢◌, List, [], ◌∷◌, ◌++◌, Bool, true, false, not, cond, refl, ap, sym, ◌∙◌, arith, Some, None, Option, IsSome, IfSome, length, ◌==◌, nat_eq, slice_get}
-use Rattle.std.specs.List.{find, remove}
+use Rattle.std.proofs.Common.{◌≡◌, ℕ, ◌+◌, ◌<◌, ◌≤◌, ◌≢◌, List, [], ◌∷◌, ◌++◌, Bool, true, false, not, ◌&&◌, nat_lt, ltb-true, cond, refl, ap, arith, Some, None, Option, IsSome, IfSome, length, ◌==◌, nat_eq}
+use Rattle.std.specs.List.{find}
 use Rattle.std.proofs.lemmas.Grind.{common_steps}
-use Rattle.lnbd_keyed.specs.Keyed.{keys, value_at, place, with_value, without, IsAbove, IsBelow, IsRising}
-use Rattle.lnbd_keyed.proofs.KeyedLemmas.{value_at_below, IsRising_append, IsRising_with}
+use Rattle.lnbd_keyed.specs.Keyed.{keys, value_at, with_value, without, IsAbove, IsBelow, IsRising}
+use Rattle.lnbd_keyed.proofs.KeyedLemmas.{value_at_below, value_at_without_other, IsRising_append, IsRising_with, IsRising_without}
 use Rattle.lnbd_inflight.specs.Done.{is_done, forgetting, IsOnce}
 use Rattle.lnbd_inflight.specs.Table.{Table, IsSound, undone, with_row}
 use Rattle.lnbd_inflight.proofs.Order.{done_append, done_same, done_before, once_append, once_forgetting}
@@ -15,6 +15,14 @@ held_other n c done d e = let same = done_same c done in cc (ap (λ (m : ℕ). i
 not_true : (b : Bool) → not b ≡ true → b ≡ false
 not_true true h = cc
 not_true false h = refl
+
+first_true : (a b : Bool) → a && b ≡ true → a ≡ true
+first_true true b h = refl
+first_true false b h = absurd (cc (h))
+
+second_true : (a b : Bool) → a && b ≡ true → b ≡ true
+second_true true b h = h
+second_true false b h = absurd (cc (h))
 
 module _ {R : Type 0} where
   -- a cookie above all isn't held, so it isn't done
@@ -36,46 +44,16 @@ module _ {R : Type 0} where
     once = sound.once;
   }
 
-  -- a removal at a place
-  above_remove : (n at : ℕ) (rows : List (ℕ × R)) → IsAbove n rows → IsAbove n (remove rows at)
-  above_remove n zero [] h = tt
-  above_remove n (suc at) [] h = tt
-  above_remove n zero (x ∷ xs) h = h.1
-  above_remove n (suc at) (x ∷ xs) h = (h.0, above_remove n at xs h.1)
+  -- a removal
+  held_without : (n c : ℕ) (rows : List (ℕ × R)) → n ≢ c → IsSome (value_at n rows) → IsSome (value_at n (without c rows))
+  held_without n c rows other h = rw (value_at_without_other n c rows other) h
 
-  rising_remove : (at : ℕ) (rows : List (ℕ × R)) → IsRising rows → IsRising (remove rows at)
-  rising_remove zero [] h = tt
-  rising_remove (suc at) [] h = tt
-  rising_remove zero (x ∷ xs) h = h.1
-  rising_remove (suc at) (x ∷ xs) h = (above_remove x.0 at xs h.0, rising_remove at xs h.1)
-
-  held_remove : (n at : ℕ) (p : ℕ × R) (rows : List (ℕ × R)) → slice_get rows at ≡ Some p → n ≢ p.0 → IsSome (value_at n rows) → IsSome (value_at n (remove rows at))
-  held_remove n at p [] e other h = absurd (cc (h))
-  held_remove n zero p (x ∷ xs) e other h =
-      let same : x ≡ p = cc in
-      let key : x.0 ≡ p.0 = ap (λ (q : ℕ × R). q.0) same in
-      grind (arith, common_steps)
-  held_remove n (suc at) p (x ∷ xs) e other h = grind (arith, common_steps, held_remove n at p xs e other)
-
-  pub sound_remove : (at : ℕ) (p : ℕ × R) (table : Table R) → IsSound table → slice_get table.rows at ≡ Some p → IsSound (record { rows = remove table.rows at; done = forgetting p.0 table.done })
-  sound_remove at p table sound e = record {
-    rising = rising_remove at table.rows sound.rising;
-    held = λ n d. held_remove n at p table.rows e (held_other n p.0 table.done d) (sound.held n (done_before n p.0 table.done d));
-    once = once_forgetting p.0 table.done sound.once;
+  pub sound_without : (c : ℕ) (table : Table R) → IsSound table → IsSound (record { rows = without c table.rows; done = forgetting c table.done })
+  sound_without c table sound = record {
+    rising = IsRising_without c table.rows sound.rising;
+    held = λ n d. held_without n c table.rows (held_other n c table.done d) (sound.held n (done_before n c table.done d));
+    once = once_forgetting c table.done sound.once;
   }
-
-  -- the row at the place of a cookie is that cookie's
-  pub remove_place : (c at : ℕ) (p : ℕ × R) (rows : List (ℕ × R)) → IsSome (value_at c rows) → at ≡ place c rows → slice_get rows at ≡ Some p → (p.0 ≡ c) × (value_at c rows ≡ Some p.1) × (remove rows at ≡ without c rows)
-  remove_place c at p [] h e k = absurd (cc (h))
-  remove_place c zero p (x ∷ xs) h e k =
-      let same : x ≡ p = cc in
-      let here : c ≡ x.0 = grind (arith, common_steps) in
-      (sym (here ∙ ap (λ (q : ℕ × R). q.0) same), grind (arith, common_steps), grind (arith, common_steps))
-  remove_place c (suc at) p (x ∷ xs) h e k =
-      let other : c ≢ x.0 = grind (arith, common_steps) in
-      let held : IsSome (value_at c xs) = grind (arith, common_steps) in
-      let rest = remove_place c at p xs held (grind (arith, common_steps)) k in
-      (rest.0, grind (arith, common_steps, rest.1), grind (arith, common_steps, rest.2))
 
   -- another row at a cookie
   held_with : (n c : ℕ) (row : R) (rows : List (ℕ × R)) → IsSome (value_at n rows) → IsSome (value_at n (with_value c row rows))
@@ -130,6 +108,10 @@ module _ {R : Type 0} where
       let rest = counted done rows r (λ n d. h n (grind (arith, common_steps))) o.1 in
       omega arith
 
+  -- no more is done than held
+  pub done_fits : (table : Table R) → IsSound table → length table.done + undone table ≡ length table.rows
+  done_fits table sound = counted table.done table.rows sound.rising sound.held sound.once
+
   -- a row that isn't done counts
   pub unfinished : (c : ℕ) (done : List ℕ) (rows : List (ℕ × R)) → IsSome (value_at c rows) → is_done c done ≡ false → 1 ≤ undone (record { rows = rows; done = done })
   unfinished c done [] h f = absurd (cc (h))
@@ -154,10 +136,20 @@ module _ {R : Type 0} where
         | false ↦ found_later (find p (keys xs)) x xs rest
       ]
 
-  pub found_undone : (done : List ℕ) (rows : List (ℕ × R)) → IfSome (find (λ c. not (is_done c done)) (keys rows)) (λ c. is_done c done ≡ false)
-  found_undone done [] = tt
-  found_undone done (x ∷ xs) =
-      elim (not (is_done x.0 done)) as (λ b. not (is_done x.0 done) ≡ b → IfSome (cond b (Some x.0) (find (λ c. not (is_done c done)) (keys xs))) (λ c. is_done c done ≡ false)) [
-        | true ↦ λ e. not_true (is_done x.0 done) e
-        | false ↦ λ e. found_undone done xs
+  -- what is found passes
+  found_is : (P : ℕ → Type 0) (p : ℕ → Bool) → ((c : ℕ) → p c ≡ true → P c) → (rows : List (ℕ × R)) → IfSome (find p (keys rows)) P
+  found_is P p says [] = tt
+  found_is P p says (x ∷ xs) =
+      elim (p x.0) as (λ b. p x.0 ≡ b → IfSome (cond b (Some x.0) (find p (keys xs))) P) [
+        | true ↦ λ e. says x.0 e
+        | false ↦ λ e. found_is P p says xs
       ] refl
+
+  pub found_undone : (done : List ℕ) (rows : List (ℕ × R)) → IfSome (find (λ c. not (is_done c done)) (keys rows)) (λ c. is_done c done ≡ false)
+  found_undone done rows = found_is (λ c. is_done c done ≡ false) (λ c. not (is_done c done)) (λ c e. not_true (is_done c done) e) rows
+
+  pub found_above : (above : ℕ) (done : List ℕ) (rows : List (ℕ × R)) → IfSome (find (λ c. nat_lt above c && not (is_done c done)) (keys rows)) (λ c. above < c)
+  found_above above done rows = found_is (λ c. above < c) (λ c. nat_lt above c && not (is_done c done)) (λ c e. ltb-true above c (first_true (nat_lt above c) (not (is_done c done)) e)) rows
+
+  pub found_undone_above : (above : ℕ) (done : List ℕ) (rows : List (ℕ × R)) → IfSome (find (λ c. nat_lt above c && not (is_done c done)) (keys rows)) (λ c. is_done c done ≡ false)
+  found_undone_above above done rows = found_is (λ c. is_done c done ≡ false) (λ c. nat_lt above c && not (is_done c done)) (λ c e. not_true (is_done c done) (second_true (nat_lt above c) (not (is_done c done)) e)) rows

@@ -1,5 +1,5 @@
 -- What a contract sees of a `Table`.
-use Rattle.std.specs.Prelude.{◌≡◌, ℕ, List, Option, true, not, IsSome}
+use Rattle.std.specs.Prelude.{◌≡◌, ℕ, List, Option, true, not, ◌&&◌, nat_lt, IsSome}
 use Rattle.std.specs.List.{find, count_by}
 use Rattle.lnbd_keyed.specs.Keyed.{keys, value_at, with_value, IsRising}
 use Rattle.lnbd_inflight.specs.Done.{is_done, IsOnce}
@@ -13,6 +13,10 @@ module _ {R : Type 0} where
   -- the least cookie that is held and not done
   abbrev pub first_undone : Table R → Option ℕ
   first_undone table = find (λ cookie. not (is_done cookie table.done)) (keys table.rows)
+
+  -- the least cookie that is held, not done and greater than this
+  abbrev pub next_undone : ℕ → Table R → Option ℕ
+  next_undone above table = find (λ cookie. nat_lt above cookie && not (is_done cookie table.done)) (keys table.rows)
 
   -- how many rows are not done
   abbrev pub undone : Table R → ℕ

@@ -5,8 +5,11 @@
 #![tactic(auto)]
 
 mod marks;
+mod places;
+mod rows;
 mod table;
 
+pub use places::Spot;
 pub use table::Table;
 
 #[cfg(test)]

@@ -1,19 +1,11 @@
-//! The done marks: each stands at its row and in the order in which the rows were done.
+//! The done marks: each stands in the order in which the rows were done.
 
-ghost use Rattle.std.specs.Prelude.{◌≡◌, true, is_some, is_none, slice_get};
-ghost use Rattle.std.specs.List.{find};
-ghost use Rattle.std.specs.Option.{option_map};
+ghost use Rattle.std.specs.Prelude.{◌≡◌, true, slice_get};
 ghost use Rattle.std.specs.VecDeque.{deque_capacity};
 ghost use Rattle.lnbd_inflight.specs.Done.{is_done, forgetting, IsOnce};
 ghost use Rattle.lnbd_inflight.specs.Marks.{order_of};
 
 use std::collections::VecDeque;
-
-/// A row, with the stamp of its done mark where it is done.
-pub struct Held<R> {
-    pub stamp: Option<u64>,
-    pub row: R,
-}
 
 /// A done cookie. The stamps rise in the order of the marks, until they come to their end and stand still. They
 /// only say where to look.
@@ -23,23 +15,14 @@ pub struct Mark {
     pub stamp: u64,
 }
 
-/// The first of these rows that isn't done.
-pub fn first_unmarked<R>(rows: &[(u64, Held<R>)]) -> Option<u64>
-    ensures { result ≡ option_map (λ row. row.0) (find (λ row. is_none row.1.stamp) rows.now) }
-{
-    rows.iter()
-        .find(|row| row.1.stamp.is_none())
-        .map(|row| row.0)
-}
-
-/// Takes the mark of a row off the order, where it has one.
-pub fn forget(order: &mut VecDeque<Mark>, cookie: u64, stamp: Option<u64>)
+/// Takes the mark of a cookie off the order, where it is done.
+pub fn forget(order: &mut VecDeque<Mark>, cookie: u64, done: bool, stamp: u64)
     requires once { IsOnce (order_of order.old.items) }
-    requires agrees { is_some stamp ≡ is_done cookie (order_of order.old.items) }
+    requires agrees { done ≡ is_done cookie (order_of order.old.items) }
     ensures items { order_of order.new.items ≡ forgetting cookie (order_of order.old.items) }
     ensures capacity { deque_capacity order.new ≡ deque_capacity order.old }
 {
-    if let Some(stamp) = stamp {
+    if done {
         let at = spot_of(order, cookie, stamp);
         let _mark = order.remove(at);
     }

@@ -1,21 +1,32 @@
 //! Rows by cookie, and which of them are done.
 
 ghost use Rattle.std.specs.Prelude.{◌≡◌, ◌<◌, ◌↔◌, [], ◌∷◌, ◌++◌, false, length, slice_get, IsSome, IsNone, IfSome, IfNone, IfErr, OnOk, OnErr, OnSome};
-ghost use Rattle.std.specs.List.{remove};
 ghost use Rattle.std.specs.Option.{option_copied, option_copied_mut};
 ghost use Rattle.std.specs.Borrow.{sem};
-ghost use Rattle.lnbd_keyed.specs.Keyed.{value_at, place, without, IsBelow};
+ghost use Rattle.slab.specs.Slab.{slab_len};
+ghost use Rattle.lnbd_keyed.specs.Keyed.{value_at, holds_key, first_key, without, IsBelow};
 ghost use Rattle.lnbd_inflight.specs.Done.{is_done, forgetting};
+ghost use Rattle.lnbd_inflight.specs.Found.{HasCookies, HasDistinctValues, HasHeldOnly, HasEachHeld, StandsAtValues, StandsNowhereElse};
 
-use crate::marks::{Held, Mark, first_unmarked, forget};
-use lnbd_keyed::{place_in, place_of};
+use crate::marks::{Mark, forget};
+use crate::places::{Spot, first_held, first_unmarked, key_of, place_above, tidy};
+use crate::rows::{Held, end, grow, put, stamp_at, take};
+use indexmap::IndexMap;
+use slab::Slab;
 use std::alloc::Global;
 use std::collections::VecDeque;
 use std::marker::Model;
 
 /// Rows by cookie, and the order in which they were done. A row needn't be droppable: a table ends by `finish`.
 pub struct Table<R> {
-    rows: Vec<(u64, Held<R>)>,
+    // What is held, at keys that the slab picks.
+    spots: Slab<Spot>,
+    // The key of each cookie that is held.
+    index: IndexMap<u64, usize>,
+    // The row at each key.
+    rows: Vec<Option<Held<R>>>,
+    // The cookies with their keys, by rising cookie; places that went may be left in it.
+    order: VecDeque<(u64, usize)>,
     done: VecDeque<Mark>,
     next_stamp: u64,
 }
@@ -32,7 +43,7 @@ impl<R> Model for Table<R> {
 }
 
 impl<R> Table<R> {
-    ghost use Rattle.lnbd_inflight.specs.Table.{first_undone, undone, IsSound};
+    ghost use Rattle.lnbd_inflight.specs.Table.{first_undone, next_undone, undone, IsSound};
     ghost use Rattle.lnbd_inflight.specs.Lends.{lends_get, lends_row};
 
     /// A table with no row.
@@ -41,7 +52,10 @@ impl<R> Table<R> {
         ensures done { result.done ≡ [] }
     {
         Table {
+            spots: Slab::new(alloc),
+            index: IndexMap::new(alloc),
             rows: Vec::new(alloc),
+            order: VecDeque::new(alloc),
             done: VecDeque::new(alloc),
             next_stamp: 0,
         }
@@ -55,15 +69,24 @@ impl<R> Table<R> {
         ensures handed_back { IfErr result (λ back. back ≡ row) }
         ensures unchanged { OnErr result (self.new ≡ self.old) }
     {
-        if self.rows.reserve(1).is_err() {
+        let Ok(key) = grow(
+            &mut self.spots,
+            &mut self.rows,
+            &mut self.order,
+            &mut self.done,
+        ) else {
+            return Err(row);
+        };
+        // The index grows last: what is refused here has changed nothing.
+        if self.index.insert(cookie, key).is_err() {
             return Err(row);
         }
-        // A mark takes no memory later: there is room for one of each row.
-        let more = self.rows.len() + 1 - self.done.len();
-        if self.done.reserve(more).is_err() {
-            return Err(row);
-        }
-        self.rows.push_reserved((cookie, Held { stamp: None, row }));
+        let _key = self.spots.insert_reserved(Spot {
+            cookie,
+            done: false,
+        });
+        self.order.push_back_reserved((cookie, key));
+        put(&mut self.rows, key, row);
         Ok(())
     }
 
@@ -71,8 +94,9 @@ impl<R> Table<R> {
     pub fn get(&self, cookie: u64) -> Option<&R>
         ensures { option_copied result ≡ value_at cookie self.now.rows }
     {
-        match place_of(&self.rows, cookie) {
-            Some(at) => Some(&self.rows[at].1.row),
+        let key = *self.index.get(&cookie)?;
+        match &self.rows[key] {
+            Some(held) => Some(&held.row),
             None => None,
         }
     }
@@ -82,30 +106,29 @@ impl<R> Table<R> {
         ensures* writes_back { sem 𝓛 (lends_get R.row self.entry cookie result) }
         ensures value { option_copied_mut result ≡ value_at cookie self.old.rows }
     {
-        match self.find(cookie) {
-            Some(at) => Some(self.row_mut(cookie, at)),
-            None => None,
+        if self.is_held(cookie) {
+            Some(self.row_mut(cookie))
+        } else {
+            None
         }
     }
 
-    /// The place of a cookie, where it is held.
-    fn find(&self, cookie: u64) -> Option<usize>
-        ensures place { IfSome result (λ at. at ≡ place cookie self.now.rows) }
-        ensures held { OnSome result (IsSome (value_at cookie self.now.rows)) }
-        ensures none { IfNone result (value_at cookie self.now.rows ≡ None) }
+    /// Whether a cookie is held.
+    fn is_held(&self, cookie: u64) -> bool
+        ensures { result ≡ holds_key cookie self.now.rows }
     {
-        place_of(&self.rows, cookie)
+        self.index.get(&cookie).is_some()
     }
 
-    /// The row of a cookie that stands at this place.
-    fn row_mut(&mut self, cookie: u64, at: usize) -> &mut R
-        requires held { IsSome (value_at cookie self.old.rows) }
-        requires place { at ≡ place cookie self.old.rows }
+    /// The row of a cookie that is held.
+    fn row_mut(&mut self, cookie: u64) -> &mut R
+        requires { IsSome (value_at cookie self.old.rows) }
         ensures* writes_back { sem 𝓛 (lends_row R.row self.entry cookie result) }
         ensures value { value_at cookie self.old.rows ≡ Some result.now }
     {
-        let pair = &mut self.rows[at];
-        let held = &mut pair.1;
+        let key = key_of(&self.index, cookie);
+        let slot = &mut self.rows[key];
+        let held = slot.as_mut().unwrap();
         &mut held.row
     }
 
@@ -116,21 +139,12 @@ impl<R> Table<R> {
         ensures done { OnSome result (self.new.done ≡ forgetting cookie self.old.done) }
         ensures unchanged { IfNone result (self.new ≡ self.old) }
     {
-        let at = self.find(cookie)?;
-        let (_, row) = self.remove_at(at);
+        let key = self.index.swap_remove(&cookie)?;
+        let spot = self.spots.remove(key);
+        let Held { stamp, row } = take(&mut self.rows, key);
+        forget(&mut self.done, cookie, spot.done, stamp);
+        tidy(&mut self.order, &self.spots);
         Some(row)
-    }
-
-    /// Takes out the row at a place, and its mark.
-    fn remove_at(&mut self, at: usize) -> (u64, R)
-        requires { at < length self.old.rows }
-        ensures row { slice_get self.old.rows at ≡ Some result }
-        ensures rows { self.new.rows ≡ remove self.old.rows at }
-        ensures done { self.new.done ≡ forgetting result.0 self.old.done }
-    {
-        let (cookie, Held { stamp, row }) = self.rows.remove(at);
-        forget(&mut self.done, cookie, stamp);
-        (cookie, row)
     }
 
     /// Marks a row as done, after those that are.
@@ -140,10 +154,11 @@ impl<R> Table<R> {
         ensures rows { self.new.rows ≡ self.old.rows }
         ensures done { self.new.done ≡ self.old.done ++ cookie ∷ [] }
     {
-        let at = place_in(&self.rows, cookie);
+        let key = key_of(&self.index, cookie);
         let stamp = self.next_stamp;
         self.next_stamp = stamp.saturating_add(1);
-        self.rows[at].1.stamp = Some(stamp);
+        self.spots[key].done = true;
+        stamp_at(&mut self.rows, key, stamp);
         self.done.push_back_reserved(Mark { cookie, stamp });
     }
 
@@ -164,7 +179,21 @@ impl<R> Table<R> {
         ensures held { IfSome result (λ cookie. IsSome (value_at cookie self.now.rows)) }
         ensures undone { IfSome result (λ cookie. is_done cookie self.now.done ≡ false) }
     {
-        first_unmarked(&self.rows)
+        first_unmarked(&self.order, &self.spots, 0)
+    }
+
+    /// The least cookie above this one that is held and not done.
+    ///
+    /// It is looked for from its place on, which a binary search finds. So a walk over all that is not done, each call
+    /// above what the one before told, meets each place once.
+    pub fn next_undone(&self, above: u64) -> Option<u64>
+        ensures first { result ≡ next_undone above self.now }
+        ensures above { IfSome result (λ cookie. above < cookie) }
+        ensures held { IfSome result (λ cookie. IsSome (value_at cookie self.now.rows)) }
+        ensures undone { IfSome result (λ cookie. is_done cookie self.now.done ≡ false) }
+    {
+        let from = place_above(&self.order, above);
+        first_unmarked(&self.order, &self.spots, from)
     }
 
     /// Takes out the row of the least cookie, and its mark.
@@ -174,10 +203,18 @@ impl<R> Table<R> {
         ensures none { IsNone result ↔ (self.old.rows ≡ []) }
         ensures unchanged { IfNone result (self.new ≡ self.old) }
     {
-        if self.count() == 0 {
-            return None;
+        let cookie = self.first()?;
+        match self.remove(cookie) {
+            Some(row) => Some((cookie, row)),
+            None => unreachable!(),
         }
-        Some(self.remove_at(0))
+    }
+
+    /// The least cookie that is held.
+    fn first(&self) -> Option<u64>
+        ensures { result ≡ first_key self.now.rows }
+    {
+        first_held(&self.order, &self.spots)
     }
 
     /// How many rows are held.
@@ -185,14 +222,41 @@ impl<R> Table<R> {
         ensures count { result ≡ length self.now.rows }
         ensures sound { IsSound self.now }
     {
-        self.rows.len()
+        self.spots.len()
     }
 
     /// How many of the rows are not done.
     pub fn undone(&self) -> usize
         ensures { result ≡ undone self.now }
     {
-        self.rows.len() - self.done.len()
+        self.spots.len() - self.done.len()
+    }
+
+    /// The key of each cookie that is held, in no order.
+    pub fn index(&self) -> &IndexMap<u64, usize>
+        ensures cookies { HasCookies result.now self.now }
+        ensures distinct { HasDistinctValues result.now }
+    {
+        self.parts().0
+    }
+
+    /// What the slab holds at the keys: each cookie that is held, and whether it is done.
+    pub fn spots(&self) -> &Slab<Spot>
+        ensures held_only { HasHeldOnly result.now self.now }
+        ensures each_held { HasEachHeld result.now self.now }
+        ensures count { slab_len result.now ≡ length self.now.rows }
+    {
+        self.parts().1
+    }
+
+    /// Index and slab as they belong together.
+    pub fn parts(&self) -> (&IndexMap<u64, usize>, &Slab<Spot>)
+        ensures cookies { HasCookies result.0.now self.now }
+        ensures values { StandsAtValues result.0.now result.1.now self.now }
+        ensures nothing_else { StandsNowhereElse result.0.now result.1.now }
+        ensures count { slab_len result.1.now ≡ length self.now.rows }
+    {
+        (&self.index, &self.spots)
     }
 
     /// Ends a table that holds no row.
@@ -200,10 +264,13 @@ impl<R> Table<R> {
         requires { self.rows ≡ [] }
     {
         let Table {
+            spots: _,
+            index: _,
             rows,
+            order: _,
             done: _,
             next_stamp: _,
         } = self;
-        rows.destroy_empty();
+        end(rows);
     }
 }

@@ -3,7 +3,7 @@
 ghost use Rattle.std.specs.Prelude.{◌≡◌, ◌==◌, ◌≤◌, ◌<◌, ◌↔◌, ◌⊎◌, ◌∷◌, IfOk, IfSome, IsErrOf, List, length, option_copied, ℕ};
 ghost use Rattle.std.specs.List.{position};
 ghost use Rattle.lnbd_lines.specs.Grammar.{IsLawful};
-ghost use Rattle.lnbd_lines.specs.Scripts.{IsFault, IsScript, lines_of};
+ghost use Rattle.lnbd_lines.specs.Scripts.{IsFault, IsScript, lines_of, max_script};
 ghost use Rattle.lnbd_lines.specs.Written.{IsAdded, lines_behind};
 ghost use Rattle.lnbd_lines.specs.declared.fault.LineFault.{LineFault};
 ghost use Rattle.lnbd_lines.specs.declared.fault.ScriptFault.{ScriptFault};
@@ -76,7 +76,7 @@ fn first_line(text: &[u8]) -> (&[u8], Option<&[u8]>)
 
 /// The script of bytes that are not too many.
 fn read_all(alloc: Global, bytes: &[u8]) -> Result<Script, ScriptFault>
-    requires { length bytes.now ≤ 16777216 }
+    requires { length bytes.now ≤ max_script }
     ensures script { IfOk result (λ script. IsScript bytes.now script) }
     ensures fault { (n : ℕ) → IsErrOf result (ScriptFault.Line n) → IsFault bytes.now n }
 {
@@ -113,7 +113,7 @@ pub fn parse(alloc: Global, bytes: &[u8]) -> Result<Script, ScriptFault>
     ensures refuses { (n : ℕ) → IsFault bytes.now n → IsErrOf result (ScriptFault.Line n) ⊎ IsErrOf result ScriptFault.NoMemory }
 
     // No memory is taken for bytes that are too many.
-    ensures too_long { IsErrOf result (ScriptFault.Line 0) ↔ (16777216 < length bytes.now) }
+    ensures too_long { IsErrOf result (ScriptFault.Line 0) ↔ (max_script < length bytes.now) }
 {
     if bytes.len() > LIMIT {
         return Err(ScriptFault::Line(0));

@@ -1,5 +1,6 @@
 -- Bytes are judged alike by the machine and by the history.
 use Rattle.std.proofs.Common.{◌≡◌, ℕ, ◌+◌, Bool, true, false, ◌||◌, List, [], ◌∷◌, Option, Some, None, refl, ap, sym, subst, ◌∙◌, nat_le, ◌⊎◌, inl, inr}
+use Rattle.lnbd_model.specs.declared.kind.Kind.{Kind}
 use Rattle.lnbd_model.specs.declared.state.Cause.TheVariants as cause
 use Rattle.lnbd_callbacks.specs.Calls.{Call}
 use Rattle.lnbd_keyed.specs.Keyed.{value_at}
@@ -21,13 +22,16 @@ use Rattle.lnbd_history.specs.Talk.{Talk, agreed}
 use Rattle.lnbd_history.proofs.Flies.{frame_flies, alive_where, waiting_flies}
 use Rattle.lnbd_machine.specs.Machine.{Row, State, Doing, on_state, waited_of, waiting_row, table_rules}
 use Rattle.lnbd_machine.specs.Machine as m
-use Rattle.lnbd_machine.proofs.Fold.{row_of, row_flight, row_kind, row_offset, row_length, flight_if}
+use Rattle.lnbd_machine.proofs.Fold.{row_of, row_flight, row_kind, row_offset, row_length, row_faults, flight_if}
 use Rattle.lnbd_machine.proofs.Speaking.{speaks_parts, speaks_flags, speaks_passed, speaks_turned}
 use Rattle.lnbd_machine.proofs.Table.{row_at}
 use Rattle.lnbd_machine.proofs.Filing.{Stands, Same, file_good, kill_good}
 
+waiting : Kind → (offset length faults : ℕ) → Waiting
+waiting kind offset length faults = record { kind = kind; offset = offset; length = length; faults = faults }
+
 sight_of : Stage → Talk → (flags passed : ℕ) → Sight
-sight_of stage talk flags passed = record { stage = stage; phase = talk.phase; count = talk.pending.count; size = talk.pending.size; no_zeroes = has_bit 2 flags; structured = talk.structured; passed = passed }
+sight_of stage talk flags passed = record { stage = stage; phase = talk.phase; count = talk.pending.count; size = talk.pending.size; no_zeroes = has_bit 2 flags; structured = talk.structured; extended = talk.extended; passed = passed }
 
 module _ {K : Type 0} (before : History K) (earlier : List (Call K)) where
   sight_is : (state : State K) (known : Known K) → Stands before state known → m.sight state ≡ h.sight known
@@ -36,26 +40,26 @@ module _ {K : Type 0} (before : History K) (earlier : List (Call K)) where
       ap (λ s. sight_of s state.talk state.flags state.passed) stands.speaks.stage_is ∙ ap (λ t. sight_of known.stage t state.flags state.passed) stands.speaks.talk_is
       ∙ ap (λ f. sight_of known.stage (agreed known.turns) f state.passed) stands.speaks.flags_are ∙ ap (λ p. sight_of known.stage (agreed known.turns) known.flags p) stands.speaks.passed_is
 
-  row_waits : (b gone : Bool) (mine : List (Filing K)) (asks : Option (Request K)) → (gone ≡ true → is_ended mine ≡ true) → waited_of b (row_at gone mine asks) ≡ waiting_of b (is_ended mine) asks
+  row_waits : (b gone : Bool) (mine : List (Filing K)) (asks : Option (Request K)) → (gone ≡ true → is_ended mine ≡ true) → waited_of b (row_at gone mine asks) ≡ waiting_of b (is_ended mine) mine asks
+  unfolding waiting
   row_waits false gone mine asks over = refl
-  row_waits true true mine asks over = ap (λ (e : Bool). waiting_of true e asks) (sym (over refl))
+  row_waits true true mine asks over = ap (λ (e : Bool). waiting_of true e mine asks) (sym (over refl))
   row_waits true false mine None over = none (is_ended mine)
     where
-      none : (e : Bool) → None ≡ waiting_of {K = K} true e None
+      none : (e : Bool) → None ≡ waiting_of {K = K} true e mine None
       none true = refl
       none false = refl
   row_waits true false mine (Some q) over =
-      ap (λ fl. waiting_row fl (row_of q mine)) (row_flight q mine) ∙ go (is_ended mine)
+      ap (λ fl. waiting_row fl (row_of q mine)) (row_flight q mine) ∙ go (is_ended mine) refl
     where
-      go : (e : Bool) → waiting_row (flight_if e q.flight) (row_of q mine) ≡ waiting_of true e (Some q)
-      go true = refl
-      go false =
-          ap (λ k. Some (waiting k (row_of q mine).offset (row_of q mine).length)) (row_kind q mine)
-          ∙ ap (λ (o : ℕ). Some (waiting q.kind o (row_of q mine).length)) (row_offset q mine)
-          ∙ ap (λ (l : ℕ). Some (waiting q.kind q.offset l)) (row_length q mine)
-        where
-          waiting : Rattle.lnbd_model.specs.declared.kind.Kind.Kind → (offset length : ℕ) → Waiting
-          waiting k o l = record { kind = k; offset = o; length = l }
+      go : (e : Bool) → is_ended mine ≡ e → waiting_row (flight_if e q.flight) (row_of q mine) ≡ waiting_of true e mine (Some q)
+      go true ended = refl
+      go false live =
+          let row = row_of q mine in
+          ap (λ k. Some (waiting k row.offset row.length row.facts.faults)) (row_kind q mine)
+          ∙ ap (λ (o : ℕ). Some (waiting q.kind o row.length row.facts.faults)) (row_offset q mine)
+          ∙ ap (λ (l : ℕ). Some (waiting q.kind q.offset l row.facts.faults)) (row_length q mine)
+          ∙ ap (λ (n : ℕ). Some (waiting q.kind q.offset q.length n)) (row_faults q mine live)
 
   waits_are : (state : State K) (known : Known K) → Stands before state known → (c : ℕ) → m.waited state c ≡ h.waited before known c
   waits_are state known stands c =
@@ -71,7 +75,7 @@ module _ {K : Type 0} (before : History K) (earlier : List (Call K)) where
 
   turned_good : (turn : Turn) (doing : Doing K) (known : Known K) → is_over known.stage ≡ false → Same before earlier doing known → Same before earlier (on_state (m.turned turn) doing) (h.turned turn known)
   turned_good turn doing known alive same = record {
-    stands = record { speaks = speaks_turned _ _ _ _ _ _ _ _ _ _ _ _ turn alive same.stands.speaks; tabled = same.stands.tabled };
+    stands = record { speaks = speaks_turned _ _ _ _ _ _ _ _ _ _ _ _ turn alive same.stands.speaks; strict_is = same.stands.strict_is; tabled = same.stands.tabled };
     answers_are = same.answers_are;
     calls_are = same.calls_are;
   }
@@ -80,6 +84,7 @@ module _ {K : Type 0} (before : History K) (earlier : List (Call K)) where
   greeted_good flags doing known alive same = record {
     stands = record {
       speaks = speaks_turned _ _ _ _ _ _ _ _ _ _ _ _ turn.Hello alive (speaks_parts _ _ _ _ _ _ _ _ _ _ _ _ (speaks_flags _ _ _ _ _ _ _ _ _ _ _ _ same.stands.speaks flags) (plain (client_flags flags) ∷ []) alive);
+      strict_is = same.stands.strict_is;
       tabled = same.stands.tabled;
     };
     answers_are = same.answers_are;
@@ -88,7 +93,7 @@ module _ {K : Type 0} (before : History K) (earlier : List (Call K)) where
 
   passed_good : (doing : Doing K) (known : Known K) → Same before earlier doing known → Same before earlier (on_state (λ state. record state { passed = state.passed + 1 }) doing) (record known { passed = known.passed + 1 })
   passed_good doing known same = record {
-    stands = record { speaks = speaks_passed _ _ _ _ _ _ _ _ _ _ _ _ same.stands.speaks; tabled = same.stands.tabled };
+    stands = record { speaks = speaks_passed _ _ _ _ _ _ _ _ _ _ _ _ same.stands.speaks; strict_is = same.stands.strict_is; tabled = same.stands.tabled };
     answers_are = same.answers_are;
     calls_are = same.calls_are;
   }
@@ -122,6 +127,6 @@ module _ {K : Type 0} (before : History K) (earlier : List (Call K)) where
     shows = λ doing known bytes same. shows_same doing.state known bytes same.stands;
     enter = λ doing known bytes shown same e. entered_good doing known shown (alive_where known.stage (h.sight known) (h.waited before known) bytes shown e)
         (λ frame is. frame_flies (in_flight before known.entries) (h.waited before known)
-        (λ c command w. waiting_flies (nat_le c (whole known.parts (asked before).wrote)) (is_ended (own c known.entries)) (request before c) command w)
+        (λ c command w. waiting_flies (nat_le c (whole known.parts (asked before).wrote)) (is_ended (own c known.entries)) (own c known.entries) (request before c) command w)
         known.stage (h.sight known) bytes frame (e ∙ ap (λ x. Some x) is)) same;
   }

@@ -1,7 +1,7 @@
 -- The bytes that are held show nothing yet.
-use Rattle.std.proofs.Common.{◌≡◌, ℕ, ◌+◌, Bool, true, false, cond, List, [], ◌∷◌, ◌++◌, length, Option, Some, None, refl, ap, sym, ◌∙◌, arith, ◌==◌, ◌⊎◌, inl, inr, nat_le, nat_lt}
+use Rattle.std.proofs.Common.{◌≡◌, ℕ, ◌+◌, Bool, true, false, cond, List, [], ◌∷◌, ◌++◌, drop, length, Option, Some, None, refl, ap, sym, ◌∙◌, arith, ◌==◌, ◌⊎◌, inl, inr, nat_le, nat_lt, if◌then◌else◌}
 use Rattle.std.proofs.lemmas.Bool.{leb-true, le-leb, cases_eq}
-use Rattle.lnbd_model.specs.declared.breach.Breach.TheVariants.{BadReplyMagic, BadOptionMagic, WrongOption}
+use Rattle.lnbd_model.specs.declared.breach.Breach.TheVariants.{BadOptionMagic, WrongOption}
 use Rattle.lnbd_records.specs.Numbers.{number_at}
 use Rattle.lnbd_records.specs.Handshake.{option_reply_magic}
 use Rattle.lnbd_records.specs.Transmission.{simple_reply_magic}
@@ -13,9 +13,11 @@ use Rattle.lnbd_history.specs.declared.kinds.Phase.{Phase}
 use Rattle.lnbd_history.specs.declared.kinds.Phase.TheVariants as phase
 use Rattle.lnbd_history.specs.declared.kinds.Stage.{Stage}
 use Rattle.lnbd_history.specs.declared.kinds.Stage.TheVariants.{Created, Open, Disconnecting, Aborting, Closed, Dead}
-use Rattle.lnbd_history.specs.Arrivals.{Shown, Broken, Waiting, Sight, is_asked, shows_option, shows_simple, shows_frame, shows_ignored, shows_in, shows_at}
+use Rattle.lnbd_chunks.specs.Chunk.{Head}
+use Rattle.lnbd_chunks.specs.Reply.{shows_simple, shows_chunk_for, shows_compact, shows_extended, shows_reply, chunk_head_in, extended_head_in}
+use Rattle.lnbd_history.specs.Arrivals.{Shown, Broken, Waiting, Sight, is_asked, reply, shows_option, shows_frame, shows_ignored, shows_in, shows_at}
 use Rattle.lnbd_history.specs.Commands.{Command, request_of}
-use Rattle.lnbd_history.specs.Events.{Setting, Name, Context, Structured, OptMode, Answer, Set, Start, Opt, Abort, Issue, Refuse, Disconnect, Wrote, Arrived, End, LinkFailed, Retire, ClearLog, Close}
+use Rattle.lnbd_history.specs.Events.{Setting, Name, Context, Structured, Extended, OptMode, Answer, Set, StrictMode, Start, Opt, Abort, Issue, Refuse, Disconnect, Wrote, Arrived, End, LinkFailed, Retire, ClearLog, Close}
 use Rattle.lnbd_history.specs.Outgoing.{ended}
 use Rattle.lnbd_history.proofs.Steady.{stays_at, none_at}
 use Rattle.lnbd_machine.specs.Laws.{IsPartial, EventsKeepPartial, TableIsSteady}
@@ -33,28 +35,58 @@ table_steady = record {
 Grows : (ℕ → Option Waiting) → (ℕ → Option Waiting) → Type 0
 Grows early late = (c : ℕ) (command : Waiting) → early c ≡ Some command → late c ≡ Some command
 
-simple_partial : (structured : Bool) (early late : Option Waiting) (bytes : List ℕ) → ((command : Waiting) → early ≡ Some command → late ≡ Some command) → shows_simple structured early bytes ≡ None → shows_simple structured late bytes ≡ None
-unfolding shows_simple
-simple_partial structured None late bytes grows e = cc
-simple_partial structured (Some command) late bytes grows e = ap (λ o. shows_simple structured o bytes) (grows command refl) ∙ e
+-- what shows nothing early shows nothing late
+Fades : Option Shown → Option Shown → Type 0
+Fades early late = early ≡ None → late ≡ None
 
-frame_partial : (structured : Bool) (early late : ℕ → Option Waiting) (bytes : List ℕ) → Grows early late → shows_frame structured early bytes ≡ None → shows_frame structured late bytes ≡ None
-unfolding shows_frame once wants Grows
-frame_partial structured early late bytes grows = go (nat_lt (length bytes) 4) (number_at 0 4 bytes == simple_reply_magic) (nat_lt (length bytes) 16)
-  where
-    go : (a b c : Bool) → cond a None (cond b (cond c None (shows_simple structured (early (number_at 8 8 bytes)) bytes)) (Some (Broken BadReplyMagic))) ≡ None →
-        cond a None (cond b (cond c None (shows_simple structured (late (number_at 8 8 bytes)) bytes)) (Some (Broken BadReplyMagic))) ≡ None
-    go true b c e = refl
-    go false false c e = cc
-    go false true true e = refl
-    go false true false e = simple_partial structured (early (number_at 8 8 bytes)) (late (number_at 8 8 bytes)) bytes (grows (number_at 8 8 bytes)) e
+fades_if : (test : Bool) (a b x y : Option Shown) → Fades a x → Fades b y → Fades (if test then a else b) (if test then x else y)
+fades_if true a b x y first second = first
+fades_if false a b x y first second = second
+
+fades_once : (n : ℕ) (bytes : List ℕ) (x y : Option Shown) → Fades x y → Fades (once n bytes x) (once n bytes y)
+unfolding once Fades
+fades_once n bytes x y rest = fades_if (nat_lt (length bytes) n) None x None y (λ e. refl) rest
+
+fades_wants : (test : Bool) (fault : Shown) (x y : Option Shown) → Fades x y → Fades (wants test fault x) (wants test fault y)
+unfolding wants Fades
+fades_wants test fault x y rest = fades_if test x (Some fault) y (Some fault) rest (λ e. e)
+
+-- A command that isn't known is a breach, so where nothing is shown it was known, or isn't looked up yet.
+simple_fades : (structured : Bool) (early late : Option Waiting) (bytes : List ℕ) → ((command : Waiting) → early ≡ Some command → late ≡ Some command) →
+    Fades (shows_simple Broken reply structured early bytes) (shows_simple Broken reply structured late bytes)
+unfolding Fades shows_simple
+simple_fades structured None late bytes grows e = cc
+simple_fades structured (Some command) late bytes grows e = ap (λ o. shows_simple Broken reply structured o bytes) (grows command refl) ∙ e
+
+chunk_fades : (extended : Bool) (early late : Option Waiting) (cookie : ℕ) (head : Head) (payload : List ℕ) → ((command : Waiting) → early ≡ Some command → late ≡ Some command) →
+    Fades (shows_chunk_for Broken reply extended early cookie head payload) (shows_chunk_for Broken reply extended late cookie head payload)
+unfolding Fades shows_chunk_for
+chunk_fades extended None late cookie head payload grows e = cc
+chunk_fades extended (Some command) late cookie head payload grows e = ap (λ o. shows_chunk_for Broken reply extended o cookie head payload) (grows command refl) ∙ e
+
+module _ (early late : ℕ → Option Waiting) (bytes : List ℕ) (grows : Grows early late) where
+  compact_fades : (structured : Bool) → Fades (shows_compact Broken reply structured early bytes) (shows_compact Broken reply structured late bytes)
+  unfolding shows_compact Grows
+  compact_fades structured = fades_wants _ _ _ _ (fades_if (number_at 0 4 bytes == simple_reply_magic) _ _ _ _
+      (fades_once _ _ _ _ (simple_fades structured (early (number_at 8 8 bytes)) (late (number_at 8 8 bytes)) bytes (grows (number_at 8 8 bytes))))
+      (fades_once _ _ _ _ (chunk_fades false (early (number_at 8 8 bytes)) (late (number_at 8 8 bytes)) (number_at 8 8 bytes) (chunk_head_in bytes) (drop 20 bytes) (grows (number_at 8 8 bytes)))))
+
+  extended_fades : Fades (shows_extended Broken reply early bytes) (shows_extended Broken reply late bytes)
+  unfolding shows_extended Grows
+  extended_fades = fades_wants _ _ _ _ (fades_wants _ _ _ _ (fades_once _ _ _ _
+      (chunk_fades true (early (number_at 8 8 bytes)) (late (number_at 8 8 bytes)) (number_at 8 8 bytes) (extended_head_in bytes) (drop 32 bytes) (grows (number_at 8 8 bytes)))))
+
+frame_partial : (structured extended : Bool) (early late : ℕ → Option Waiting) (bytes : List ℕ) → Grows early late → shows_frame structured extended early bytes ≡ None → shows_frame structured extended late bytes ≡ None
+unfolding Fades shows_frame shows_reply
+frame_partial structured extended early late bytes grows =
+    fades_once 4 bytes _ _ (fades_if extended _ _ _ _ (extended_fades early late bytes grows) (compact_fades early late bytes grows structured))
 
 in_partial : (p : Phase) (sight : Sight) (early late : ℕ → Option Waiting) (bytes : List ℕ) → Grows early late → shows_in p sight early bytes ≡ None → shows_in p sight late bytes ≡ None
 in_partial phase.Greeting sight early late bytes grows e = e
 in_partial (phase.Asked option) sight early late bytes grows e = e
 in_partial phase.OptMode sight early late bytes grows e = e
 in_partial phase.AskedByName sight early late bytes grows e = e
-in_partial phase.Ready sight early late bytes grows e = frame_partial sight.structured early late bytes grows e
+in_partial phase.Ready sight early late bytes grows e = frame_partial sight.structured sight.extended early late bytes grows e
 in_partial (phase.Refused code) sight early late bytes grows e = e
 
 shows_partial : (s : Stage) (sight : Sight) (early late : ℕ → Option Waiting) (bytes : List ℕ) → Grows early late → shows_at s sight early bytes ≡ None → shows_at s sight late bytes ≡ None
@@ -134,6 +166,7 @@ module _ {K : Type 0} where
   set_partial (Name name) machine e = e
   set_partial (Context name) machine e = e
   set_partial (Structured on) machine e = e
+  set_partial (Extended on) machine e = e
   set_partial (OptMode on) machine e = e
 
   start_partial : (machine : Machine K) → machine.known.stage ≡ Created → IsPartial machine → IsPartial (step machine Start)
@@ -151,16 +184,16 @@ module _ {K : Type 0} where
   disconnect_partial : (machine : Machine K) → machine.known.stage ≡ Open → IsPartial machine → IsPartial (step machine Disconnect)
   disconnect_partial machine is e = same (sym (ap (λ t. shows_at t (sight machine.known) (waited machine.known) machine.pending) is) ∙ e)
     where
-      in_same : (p : Phase) (old new : Sight) (w : ℕ → Option Waiting) (bytes : List ℕ) → old.no_zeroes ≡ new.no_zeroes → old.structured ≡ new.structured → (shows_option old bytes ≡ shows_option new bytes) → shows_in p old w bytes ≡ None → shows_in p new w bytes ≡ None
-      in_same phase.Greeting old new w bytes z s o e = e
-      in_same (phase.Asked option) old new w bytes z s o e = sym o ∙ e
-      in_same phase.OptMode old new w bytes z s o e = sym o ∙ e
-      in_same phase.AskedByName old new w bytes z s o e = sym (ap (λ (x : Bool). shows_in phase.AskedByName (record new { no_zeroes = x }) w bytes) z) ∙ e
-      in_same phase.Ready old new w bytes z s o e = sym (ap (λ (x : Bool). shows_frame x w bytes) s) ∙ e
-      in_same (phase.Refused code) old new w bytes z s o e = e
+      in_same : (p : Phase) (old new : Sight) (w : ℕ → Option Waiting) (bytes : List ℕ) → old.no_zeroes ≡ new.no_zeroes → old.structured ≡ new.structured → old.extended ≡ new.extended → (shows_option old bytes ≡ shows_option new bytes) → shows_in p old w bytes ≡ None → shows_in p new w bytes ≡ None
+      in_same phase.Greeting old new w bytes z s x o e = e
+      in_same (phase.Asked option) old new w bytes z s x o e = sym o ∙ e
+      in_same phase.OptMode old new w bytes z s x o e = sym o ∙ e
+      in_same phase.AskedByName old new w bytes z s x o e = sym (ap (λ (x : Bool). shows_in phase.AskedByName (record new { no_zeroes = x }) w bytes) z) ∙ e
+      in_same phase.Ready old new w bytes z s x o e = sym (ap (λ (b : Bool). shows_frame b old.extended w bytes) s ∙ ap (λ (b : Bool). shows_frame new.structured b w bytes) x) ∙ e
+      in_same (phase.Refused code) old new w bytes z s x o e = e
 
       same : shows_in machine.known.talk.phase (sight machine.known) (waited machine.known) machine.pending ≡ None → IsPartial (step machine Disconnect)
-      same e = in_same machine.known.talk.phase (sight machine.known) (sight (step machine Disconnect).known) (waited machine.known) machine.pending refl refl (option_same Disconnecting (sight machine.known) machine.pending) e
+      same e = in_same machine.known.talk.phase (sight machine.known) (sight (step machine Disconnect).known) (waited machine.known) machine.pending refl refl refl (option_same Disconnecting (sight machine.known) machine.pending) e
 
   none_held : (state : State K) → shows_at state.stage (sight state) (waited state) [] ≡ None
   none_held state = none_at state.stage (sight state) (waited state)
@@ -183,6 +216,7 @@ module _ {K : Type 0} where
 
   pub step_partial : EventsKeepPartial K
   step_partial (Set setting) machine keeps e = set_partial setting machine e
+  step_partial (StrictMode bits) machine keeps e = e
   step_partial Start machine keeps e = start_partial machine keeps e
   step_partial (Opt option) machine keeps e = opt_partial option machine keeps.0 keeps.1 e
   step_partial Abort machine keeps e = none_held (step machine Abort).known

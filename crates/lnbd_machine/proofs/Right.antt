@@ -1,5 +1,5 @@
 -- The machine answers as the history says.
-use Rattle.std.proofs.Common.{◌≡◌, ℕ, zero, suc, ◌+◌, ◌≤◌, Bool, true, false, not, ◌&&◌, List, [], ◌∷◌, ◌++◌, length, Option, Some, None, is_some, refl, ap, sym, subst, ◌∙◌, arith}
+use Rattle.std.proofs.Common.{◌≡◌, ℕ, zero, suc, ◌+◌, ◌≤◌, Bool, true, false, not, ◌&&◌, ◌||◌, List, [], ◌∷◌, ◌++◌, length, Option, Some, None, is_some, refl, ap, sym, subst, ◌∙◌, arith}
 use Rattle.std.proofs.lemmas.Bool.{false≢true}
 use Rattle.std.proofs.lemmas.List.{append-nil}
 use Rattle.lnbd_model.specs.declared.refusal.Why.{Why}
@@ -11,14 +11,15 @@ use Rattle.lnbd_stream.proofs.Stream.{feed_alike}
 use Rattle.lnbd_history.specs.declared.kinds.Phase.{Phase}
 use Rattle.lnbd_history.specs.declared.kinds.Stage.{Stage}
 use Rattle.lnbd_history.specs.declared.kinds.Stage.TheVariants.{Created, Open, Disconnecting, Aborting, Closed, Dead}
-use Rattle.lnbd_history.specs.Agreement.{Turn, Opted, phase, steps, export, contexts, structured}
+use Rattle.lnbd_history.specs.Agreement.{Turn, Opted, phase, steps, export, contexts, structured, extended}
 use Rattle.lnbd_history.specs.Agreement as turn
-use Rattle.lnbd_history.specs.Answers.{state_at, direction_of, is_living, info_of, completed_of, completed_as, peeked_of, held_of, out_after, done_after, held_after, state_after}
+use Rattle.lnbd_history.specs.Answers.{state_at, direction_of, is_living, info_of, completed_as, peeked_of, held_of, outcome_of, out_after, done_after, held_after, state_after}
 use Rattle.lnbd_history.specs.Commands.{Command, Request, flight_of, callbacks}
+use Rattle.lnbd_outcome.specs.Outcome.{failure_of}
 use Rattle.lnbd_history.specs.Entries.{Filing, Entry, own, is_ended, is_retired, kept_in}
 use Rattle.lnbd_history.specs.Entries as entries
-use Rattle.lnbd_history.specs.Events.{Setting, Name, Context, Structured, OptMode, Answer, Event, History, Set, Start, Opt, Abort, Issue, Refuse, Disconnect, Wrote, Arrived, End, LinkFailed, Retire, ClearLog, Close}
-use Rattle.lnbd_history.specs.History.{Known, asked, request, is_taken, is_gone, in_flight, rules, with_answers, reading, waits}
+use Rattle.lnbd_history.specs.Events.{Setting, Name, Context, Structured, Extended, OptMode, Answer, Event, History, Set, StrictMode, Start, Opt, Abort, Issue, Refuse, Disconnect, Wrote, Arrived, End, LinkFailed, Retire, ClearLog, Close}
+use Rattle.lnbd_history.specs.History.{Known, asked, request, is_taken, is_gone, in_flight, rules, agreed_contexts, is_extended, with_answers, reading, waits}
 use Rattle.lnbd_history.specs.History as h
 use Rattle.lnbd_history.specs.Laws.{may_name, CanSet, CanFollow, Lawful}
 use Rattle.lnbd_history.specs.Outgoing.{Part, command_parts, disconnect_part, abort_part, out}
@@ -30,12 +31,12 @@ use Rattle.lnbd_history.proofs.Sums.{upto, upto_same}
 use Rattle.lnbd_machine.specs.Laws.{MachineIsRight, CallsAreTold}
 use Rattle.lnbd_machine.specs.Machine.{Row, State, Machine, Doing, on_state, table_rules, begin, course, step, machine}
 use Rattle.lnbd_machine.specs.Machine as m
-use Rattle.lnbd_machine.specs.Now.{completed_row, terms_now}
+use Rattle.lnbd_machine.specs.Now.{completed_row, failure_row, terms_now}
 use Rattle.lnbd_machine.proofs.Bytes.{alike}
 use Rattle.lnbd_machine.proofs.Count.{one_when, none_when, one_flying, one_held, flying_upto, length_upto}
 use Rattle.lnbd_machine.proofs.Filing.{Stands, Same, kill_good, close_good}
-use Rattle.lnbd_machine.proofs.Fold.{row_flight, row_kept, flight_if}
-use Rattle.lnbd_machine.proofs.Speaking.{created_stage, opt_mode_stage, ready_stage, not_refused_ready, speaks_parts, speaks_turned, speaks_stage, speaks_closed, speaks_wrote}
+use Rattle.lnbd_machine.proofs.Fold.{row_flight, row_completed, row_failed, flight_if, EndsLast, Settled, parts}
+use Rattle.lnbd_machine.proofs.Speaking.{created_stage, opt_mode_stage, ready_stage, not_refused_ready, speaks_parts, speaks_parts_as, speaks_turned, speaks_stage, speaks_closed, speaks_wrote}
 use Rattle.lnbd_machine.proofs.Table.{row_at, issued_same, refused_same, cleared_same, retired_same}
 
 -- Stages by what may follow.
@@ -55,6 +56,7 @@ set_alive : {K : Type 0} (before : History K) (setting : Setting) → CanSet bef
 set_alive before (Name name) can = named_alive (reading before).known.stage (phase (reading before).known.turns) can
 set_alive before (Context name) can = named_alive (reading before).known.stage (phase (reading before).known.turns) can.0
 set_alive before (Structured on) can = stage_alive (reading before).known.stage Created (created_stage (reading before).known.stage (phase (reading before).known.turns) can) refl
+set_alive before (Extended on) can = stage_alive (reading before).known.stage Created (created_stage (reading before).known.stage (phase (reading before).known.turns) can) refl
 set_alive before (OptMode on) can = stage_alive (reading before).known.stage Created (created_stage (reading before).known.stage (phase (reading before).known.turns) can) refl
 
 module _ {K : Type 0} where
@@ -124,15 +126,28 @@ module _ {K : Type 0} (limit : ℕ) (before : History K) (left : Machine K) (pai
 
   given : (answers : List Answer) → Same before earlier (begin answers left).known (with_answers answers know)
   unfolding know earlier
-  given answers = record { stands = record { speaks = pair.stands.speaks; tabled = pair.stands.tabled }; answers_are = refl; calls_are = no_calls }
+  given answers = record { stands = record { speaks = pair.stands.speaks; strict_is = pair.stands.strict_is; tabled = pair.stands.tabled }; answers_are = refl; calls_are = no_calls }
 
   set_both : (setting : Setting) → CanSet before setting → Both (Set setting ∷ before) earlier (course left (Set setting)) (reading (Set setting ∷ before))
   unfolding know earlier
   set_both setting can = record {
-    stands = record { speaks = speaks_turned _ _ _ _ _ _ _ _ _ _ _ _ (turn.Set setting) (set_alive before setting can) pair.stands.speaks; tabled = pair.stands.tabled };
+    stands = record { speaks = speaks_turned _ _ _ _ _ _ _ _ _ _ _ _ (turn.Set setting) (set_alive before setting can) pair.stands.speaks; strict_is = pair.stands.strict_is; tabled = pair.stands.tabled };
     calls = no_calls;
     pending = pair.pending;
   }
+
+  strict_both : (bits : ℕ) → Both (StrictMode bits ∷ before) earlier (course left (StrictMode bits)) (reading (StrictMode bits ∷ before))
+  unfolding know earlier
+  strict_both bits = record {
+    stands = record { speaks = pair.stands.speaks; strict_is = refl; tabled = pair.stands.tabled };
+    calls = no_calls;
+    pending = pair.pending;
+  }
+
+  -- whether extended headers are on
+  extended_is : left.known.talk.extended ≡ is_extended know
+  unfolding know
+  extended_is = ap (λ (t : Talk). t.extended) pair.stands.speaks.talk_is
 
   living : (s new : Stage) (parts : List Part) (n : ℕ) → s ≡ Open → h.waiting_at Open parts n ≡ h.waiting_at new parts n → h.waiting_at s parts n ≡ h.waiting_at new parts n
   living s new parts n e same = ap (λ t. h.waiting_at t parts n) e ∙ same
@@ -142,6 +157,7 @@ module _ {K : Type 0} (limit : ℕ) (before : History K) (left : Machine K) (pai
   start_both can = record {
     stands = record {
       speaks = speaks_stage _ _ _ _ _ _ _ _ _ _ _ _ pair.stands.speaks Open (ap (λ t. h.waiting_at t know.parts (asked before).wrote) (created_stage know.stage (phase know.turns) can));
+      strict_is = pair.stands.strict_is;
       tabled = pair.stands.tabled;
     };
     calls = no_calls;
@@ -151,7 +167,7 @@ module _ {K : Type 0} (limit : ℕ) (before : History K) (left : Machine K) (pai
   opt_both : (option : ℕ) → state_after before ≡ state.OptMode → Both (Opt option ∷ before) earlier (course left (Opt option)) (reading (Opt option ∷ before))
   unfolding know earlier
   opt_both option can = record {
-    stands = record { speaks = speaks_turned _ _ _ _ _ _ _ _ _ _ _ _ (Opted option) (stage_alive know.stage Open (opt_mode_stage know.stage (phase know.turns) can) refl) pair.stands.speaks; tabled = pair.stands.tabled };
+    stands = record { speaks = speaks_turned _ _ _ _ _ _ _ _ _ _ _ _ (Opted option) (stage_alive know.stage Open (opt_mode_stage know.stage (phase know.turns) can) refl) pair.stands.speaks; strict_is = pair.stands.strict_is; tabled = pair.stands.tabled };
     calls = no_calls;
     pending = pair.pending;
   }
@@ -162,6 +178,7 @@ module _ {K : Type 0} (limit : ℕ) (before : History K) (left : Machine K) (pai
     stands = record {
       speaks = speaks_parts _ _ _ _ _ _ _ _ _ _ _ _
           (speaks_stage _ _ _ _ _ _ _ _ _ _ _ _ pair.stands.speaks Aborting (living know.stage Aborting know.parts (asked before).wrote (opt_mode_stage know.stage (phase know.turns) can) refl)) (abort_part ∷ []) refl;
+      strict_is = pair.stands.strict_is;
       tabled = pair.stands.tabled;
     };
     calls = no_calls;
@@ -172,9 +189,11 @@ module _ {K : Type 0} (limit : ℕ) (before : History K) (left : Machine K) (pai
   unfolding know earlier
   disconnect_both can = record {
     stands = record {
-      speaks = speaks_parts _ _ _ _ _ _ _ _ _ _ _ _
+      speaks = speaks_parts_as _ _ _ _ _ _ _ _ _ _ _ _
           (speaks_stage _ _ _ _ _ _ _ _ _ _ _ _ pair.stands.speaks Disconnecting
-          (living know.stage Disconnecting know.parts (asked before).wrote (ready_stage know.stage (phase know.turns) (not_refused_ready (state_after before) None can)) refl)) (disconnect_part ∷ []) refl;
+          (living know.stage Disconnecting know.parts (asked before).wrote (ready_stage know.stage (phase know.turns) (not_refused_ready (state_after before) None can)) refl)) _ _
+          (ap (λ (on : Bool). disconnect_part on ∷ []) extended_is) refl;
+      strict_is = pair.stands.strict_is;
       tabled = pair.stands.tabled;
     };
     calls = no_calls;
@@ -185,11 +204,12 @@ module _ {K : Type 0} (limit : ℕ) (before : History K) (left : Machine K) (pai
   unfolding know earlier
   issue_both command can =
       let alive = stage_alive know.stage Open (ready_stage know.stage (phase know.turns) (not_refused_ready (state_after before) _ can)) refl in
-      let parts = speaks_parts _ _ _ _ _ _ _ _ _ _ _ _ pair.stands.speaks (command_parts ((asked before).issued + 1) command) alive in
       let numbered : left.known.issued ≡ (asked before).issued = pair.stands.tabled.issued_is in
       record {
         stands = record {
-          speaks = rw numbered parts;
+          speaks = speaks_parts_as _ _ _ _ _ _ _ _ _ _ _ _ pair.stands.speaks _ _
+              (ap (λ (on : Bool). command_parts on (left.known.issued + 1) command) extended_is ∙ ap (λ (n : ℕ). command_parts (is_extended know) (n + 1) command) numbered) alive;
+          strict_is = pair.stands.strict_is;
           tabled = issued_same _ _ _ _ _ _ _ _ _ _ _ pair.stands.tabled command (callbacks command.first) (request_past before ((asked before).issued + 1) (omega arith));
         };
         calls = no_calls;
@@ -203,12 +223,12 @@ module _ {K : Type 0} (limit : ℕ) (before : History K) (left : Machine K) (pai
       let flight = flight_of (asked before).admitted command.first command.done in
       let tabled = refused_same _ _ _ _ _ _ _ _ _ _ _ pair.stands.tabled flight (callbacks command.first) in
       subst (λ (n : ℕ). Both (Refuse command why ∷ before) earlier (m.change (m.refused (flight_of n command.first command.done) (callbacks command.first)) (begin [] left)) (reading (Refuse command why ∷ before))) (sym numbered)
-      (record { stands = record { speaks = pair.stands.speaks; tabled = tabled }; calls = refl; pending = pair.pending })
+      (record { stands = record { speaks = pair.stands.speaks; strict_is = pair.stands.strict_is; tabled = tabled }; calls = refl; pending = pair.pending })
 
   wrote_both : (n : ℕ) → n ≤ length (out_after before) → Both (Wrote n ∷ before) earlier (course left (Wrote n)) (reading (Wrote n ∷ before))
   unfolding know earlier
   wrote_both n can = record {
-    stands = record { speaks = speaks_wrote _ _ _ _ _ _ _ _ _ _ _ _ pair.stands.speaks n can; tabled = pair.stands.tabled };
+    stands = record { speaks = speaks_wrote _ _ _ _ _ _ _ _ _ _ _ _ pair.stands.speaks n can; strict_is = pair.stands.strict_is; tabled = pair.stands.tabled };
     calls = no_calls;
     pending = pair.pending;
   }
@@ -217,14 +237,14 @@ module _ {K : Type 0} (limit : ℕ) (before : History K) (left : Machine K) (pai
   unfolding know earlier
   arrived_both bytes answers =
       let fed = feed_alike table_rules (rules before) (Same before earlier) (alike before earlier) (begin answers left) (h.change (with_answers answers) (reading before)) bytes (given answers) pair.pending in
-      record { stands = record { speaks = fed.0.stands.speaks; tabled = fed.0.stands.tabled }; calls = fed.0.calls_are; pending = fed.1 }
+      record { stands = record { speaks = fed.0.stands.speaks; strict_is = fed.0.stands.strict_is; tabled = fed.0.stands.tabled }; calls = fed.0.calls_are; pending = fed.1 }
 
   -- the state of an event that is ended by the peer or by the link, where what is read of the stage is given apart
   Ends : Held (Doing K) → Held (Known K) → Type 0
   Ends doing known = Same before earlier doing.known known.known × (doing.pending ≡ known.pending)
 
   closing_good : (n : ℕ) (answers : List Answer) → Same before earlier (m.ended_closing n (begin answers left).known) (h.ended_closing n before (with_answers answers know))
-  closing_good zero answers = record { stands = record { speaks = speaks_closed _ _ _ _ _ _ _ _ _ _ _ _ (given answers).stands.speaks; tabled = (given answers).stands.tabled }; answers_are = (given answers).answers_are; calls_are = (given answers).calls_are }
+  closing_good zero answers = record { stands = record { speaks = speaks_closed _ _ _ _ _ _ _ _ _ _ _ _ (given answers).stands.speaks; strict_is = (given answers).stands.strict_is; tabled = (given answers).stands.tabled }; answers_are = (given answers).answers_are; calls_are = (given answers).calls_are }
   closing_good (suc n) answers = kill_good before earlier cause.Ended (begin answers left).known (with_answers answers know) (given answers)
 
   closing_as : (answers : List Answer) → Same before earlier (m.ended_closing (m.flying left.known.rows) (begin answers left).known) (h.ended_closing (h.flying before know.entries (asked before).issued) before (with_answers answers know))
@@ -255,18 +275,18 @@ module _ {K : Type 0} (limit : ℕ) (before : History K) (left : Machine K) (pai
   unfolding Ends know
   end_both answers =
       let done = subst (λ s. Ends (m.ended_at s (begin answers left)) (reading (End answers ∷ before))) (sym pair.stands.speaks.stage_is) (end_good know.stage answers) in
-      record { stands = record { speaks = done.0.stands.speaks; tabled = done.0.stands.tabled }; calls = done.0.calls_are; pending = done.1 }
+      record { stands = record { speaks = done.0.stands.speaks; strict_is = done.0.stands.strict_is; tabled = done.0.stands.tabled }; calls = done.0.calls_are; pending = done.1 }
 
   fail_both : (answers : List Answer) → Both (LinkFailed answers ∷ before) earlier (course left (LinkFailed answers)) (reading (LinkFailed answers ∷ before))
   unfolding Ends know
   fail_both answers =
       let done = subst (λ s. Ends (m.failed_at s (begin answers left)) (reading (LinkFailed answers ∷ before))) (sym pair.stands.speaks.stage_is) (fail_good know.stage answers) in
-      record { stands = record { speaks = done.0.stands.speaks; tabled = done.0.stands.tabled }; calls = done.0.calls_are; pending = done.1 }
+      record { stands = record { speaks = done.0.stands.speaks; strict_is = done.0.stands.strict_is; tabled = done.0.stands.tabled }; calls = done.0.calls_are; pending = done.1 }
 
   retire_both : (cookie : ℕ) → is_ended (own cookie know.entries) ≡ true → Both (Retire cookie ∷ before) earlier (course left (Retire cookie)) (reading (Retire cookie ∷ before))
   unfolding know earlier
   retire_both cookie can = record {
-    stands = record { speaks = pair.stands.speaks; tabled = retired_same _ _ _ _ _ _ _ _ _ _ _ pair.stands.tabled cookie can };
+    stands = record { speaks = pair.stands.speaks; strict_is = pair.stands.strict_is; tabled = retired_same _ _ _ _ _ _ _ _ _ _ _ pair.stands.tabled cookie can };
     calls = no_calls;
     pending = pair.pending;
   }
@@ -274,7 +294,7 @@ module _ {K : Type 0} (limit : ℕ) (before : History K) (left : Machine K) (pai
   clear_both : Both (ClearLog ∷ before) earlier (course left ClearLog) (reading (ClearLog ∷ before))
   unfolding know earlier
   clear_both = record {
-    stands = record { speaks = pair.stands.speaks; tabled = cleared_same _ _ _ _ _ _ _ _ _ _ _ pair.stands.tabled };
+    stands = record { speaks = pair.stands.speaks; strict_is = pair.stands.strict_is; tabled = cleared_same _ _ _ _ _ _ _ _ _ _ _ pair.stands.tabled };
     calls = no_calls;
     pending = pair.pending;
   }
@@ -283,15 +303,16 @@ module _ {K : Type 0} (limit : ℕ) (before : History K) (left : Machine K) (pai
   unfolding know
   close_both =
       let done = close_good before earlier (begin [] left).known (with_answers [] know) (given []) in
-      record { stands = record { speaks = done.stands.speaks; tabled = done.stands.tabled }; calls = done.calls_are; pending = refl }
+      record { stands = record { speaks = done.stands.speaks; strict_is = done.stands.strict_is; tabled = done.stands.tabled }; calls = done.calls_are; pending = refl }
 
   event_both : (event : Event K) → CanFollow limit before event → Both (event ∷ before) earlier (course left event) (reading (event ∷ before))
   unfolding know
   event_both (Set setting) can = set_both setting can
+  event_both (StrictMode bits) can = strict_both bits
   event_both Start can = start_both can
   event_both (Opt option) can = opt_both option can.0
   event_both Abort can = abort_both can
-  event_both (Issue command) can = issue_both command can
+  event_both (Issue command) can = issue_both command can.0
   event_both (Refuse command why) can = refuse_both command why
   event_both Disconnect can = disconnect_both can
   event_both (Wrote n) can = wrote_both n can
@@ -302,12 +323,16 @@ module _ {K : Type 0} (limit : ℕ) (before : History K) (left : Machine K) (pai
   event_both ClearLog can = clear_both
   event_both Close can = close_both
 
+terms_in : Stage → ℕ → Talk → ℕ → Terms
+terms_in stage held talk strict = terms_of (state_at stage talk.phase) held talk.export talk.contexts talk.structured talk.extended strict
+
 module _ {K : Type 0} where
   begins : Pair {K = K} [] (machine []) (reading [])
   begins = record {
     stands = record {
       speaks = record { stage_is = refl; flags_are = refl; passed_is = refl; talk_is = refl; waits_are = refl; within = omega arith; written_is = refl };
-      tabled = record { issued_is = refl; admitted_is = refl; freed_is = refl; rows_are = λ c. refl; rising = tt; above = tt; below = tt; done_is = refl; told_is = refl; past = λ c none. refl; over = λ c left. absurd (false≢true left) };
+      strict_is = refl;
+      tabled = record { issued_is = refl; admitted_is = refl; freed_is = refl; rows_are = λ c. refl; rising = tt; above = tt; below = tt; done_is = refl; told_is = refl; past = λ c none. refl; over = λ c left. absurd (false≢true left); last = λ c. tt; settled = λ c there. there };
     };
     pending = refl;
   }
@@ -324,19 +349,34 @@ module _ {K : Type 0} where
 
   -- The answers.
 
-  completed_is : (gone : Bool) (mine : List (Filing K)) (asks : Option (Request K)) → completed_row (row_at gone mine asks) ≡ completed_as (is_some asks && not gone) (kept_in mine)
-  completed_is true mine None = refl
-  completed_is true mine (Some q) = refl
-  completed_is false mine None = refl
-  completed_is false mine (Some q) = ap completed_of (row_kept q mine)
+  completed_is : (taken : Bool) (mine : List (Filing K)) (asks : Option (Request K)) → Settled mine →
+      completed_row (row_at (taken || is_retired mine) mine asks) ≡ completed_as (is_some asks && not (taken || is_retired mine)) (outcome_of asks mine) (kept_in mine)
+  completed_is taken mine asks settled = go (taken || is_retired mine) refl asks
+    where
+      go : (gone : Bool) → (taken || is_retired mine) ≡ gone → (asks : Option (Request K)) → completed_row (row_at gone mine asks) ≡ completed_as (is_some asks && not gone) (outcome_of asks mine) (kept_in mine)
+      go true e None = refl
+      go true e (Some q) = refl
+      go false e None = refl
+      go false e (Some q) = row_completed q mine (parts taken (is_retired mine) e).1 settled
 
-  terms_are : (state : State K) (talk : Talk) (stage : Stage) (held : ℕ) → state.talk ≡ talk → state.stage ≡ stage → length state.rows ≡ held → terms_now state ≡ terms_of (state_at stage talk.phase) held talk.export talk.contexts talk.structured
-  terms_are state talk stage held t s l =
-      ap (λ (x : Stage). terms_of (state_at x state.talk.phase) (length state.rows) state.talk.export state.talk.contexts state.talk.structured) s
-      ∙ ap (λ (x : ℕ). terms_of (state_at stage state.talk.phase) x state.talk.export state.talk.contexts state.talk.structured) l
-      ∙ ap (λ (x : Talk). terms_of (state_at stage x.phase) held x.export x.contexts x.structured) t
+  failed_is : (taken : Bool) (mine : List (Filing K)) (asks : Option (Request K)) → EndsLast mine → Settled mine → (taken || is_retired mine) ≡ false →
+      failure_row (row_at (taken || is_retired mine) mine asks) ≡ failure_of (outcome_of asks mine)
+  failed_is taken mine asks last settled e = ap (λ (gone : Bool). failure_row (row_at gone mine asks)) e ∙ go asks
+    where
+      go : (asks : Option (Request K)) → failure_row (row_at false mine asks) ≡ failure_of (outcome_of asks mine)
+      go None = refl
+      go (Some q) = row_failed q mine (parts taken (is_retired mine) e).1 settled last
+
+  terms_are : (state : State K) (talk : Talk) (stage : Stage) (held strict : ℕ) → state.talk ≡ talk → state.stage ≡ stage → length state.rows ≡ held → state.strict ≡ strict → terms_now state ≡ terms_in stage held talk strict
+  unfolding terms_in
+  terms_are state talk stage held strict t s l m =
+      ap (λ (x : Stage). terms_in x (length state.rows) state.talk state.strict) s
+      ∙ ap (λ (x : ℕ). terms_in stage x state.talk state.strict) l
+      ∙ ap (λ (x : Talk). terms_in stage held x state.strict) t
+      ∙ ap (λ (x : ℕ). terms_in stage held talk x) m
 
   pub machine_is_right : MachineIsRight K
+  unfolding terms_in
   machine_is_right limit history lawful =
       let pair = pair_at limit history lawful in
       let now = (machine history).known in
@@ -351,14 +391,16 @@ module _ {K : Type 0} where
         out = ap out s.waits_are;
         direction = ap (λ x. direction_of (is_living x) (out now.waits)) s.stage_is ∙ ap (λ (x : List Part). direction_of (is_living known.stage) (out x)) s.waits_are;
         peeked = ap (λ (x : List ℕ). peeked_of x (length now.rows)) t.done_is ∙ ap (λ (x : ℕ). peeked_of (done_after history) x) held;
-        completed = λ c. ap completed_row (t.rows_are c) ∙ completed_is (is_gone history known.entries c) (own c known.entries) (request history c);
-        info = ap (λ (x : Talk). info_of x.export x.contexts x.structured) s.talk_is;
+        completed = λ c. ap completed_row (t.rows_are c) ∙ completed_is (is_taken history c) (own c known.entries) (request history c) (t.settled c);
+        failure = λ c here. ap failure_row (t.rows_are c) ∙ failed_is (is_taken history c) (own c known.entries) (request history c) (t.last c) (t.settled c) here;
+        info = ap (λ (x : Talk). info_of x.export x.contexts x.structured x.extended) s.talk_is;
         listed = ap (λ (x : Talk). x.listing) s.talk_is;
         opt_answer = ap (λ (x : Talk). x.answer) s.talk_is;
         log = t.told_is;
         issued = t.issued_is;
         admitted = t.admitted_is;
         freed = t.freed_is;
-        refusal = λ most command. ap (λ (x : Terms). refusal most x command.kind command.flags command.offset command.length) (terms_are now (agreed known.turns) known.stage (held_after history) s.talk_is s.stage_is held);
+        strict = pair.stands.strict_is;
+        refusal = λ most command. ap (λ (x : Terms). refusal most x command.kind command.flags command.offset command.length) (terms_are now (agreed known.turns) known.stage (held_after history) (h.strict_mode history) s.talk_is s.stage_is held pair.stands.strict_is);
         pending = pair.pending;
       }

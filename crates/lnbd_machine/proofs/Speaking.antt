@@ -124,6 +124,18 @@ module _ (gone : ℕ) (stage : Stage) (flags passed : ℕ) (talk : Talk) (waits 
     written_is = speaks.written_is ∙ sym (whole-append parts qs gone speaks.within);
   }
 
+  -- the same where the parts that wait are said in other words
+  pub speaks_parts_as : (qs rs : List Part) → rs ≡ qs → is_over stage2 ≡ false → Speaks gone stage flags passed talk (waits ++ rs) written stage2 flags2 passed2 turns (parts ++ qs)
+  speaks_parts_as qs rs same alive = record {
+    stage_is = speaks.stage_is;
+    flags_are = speaks.flags_are;
+    passed_is = speaks.passed_is;
+    talk_is = speaks.talk_is;
+    waits_are = ap (λ (w : List Part). waits ++ w) same ∙ (speaks_parts qs alive).waits_are;
+    within = (speaks_parts qs alive).within;
+    written_is = (speaks_parts qs alive).written_is;
+  }
+
   pub speaks_turn : (turn : Turn) → Speaks gone stage flags passed (taking turn talk) waits written stage2 flags2 passed2 (turn ∷ turns) parts
   speaks_turn turn = record {
     stage_is = speaks.stage_is;

@@ -1,5 +1,5 @@
 -- The table and what was filed: each row is the fold over its command's own entries.
-use Rattle.std.proofs.Common.{◌≡◌, ℕ, ◌+◌, Bool, true, false, cond, not, ◌&&◌, ◌||◌, List, [], ◌∷◌, ◌++◌, filter, length, Option, Some, None, is_some, option_map, refl, ap, sym, subst, ◌∙◌, arith, ◌==◌, ◌≢◌, ◌⊎◌, inl, inr, nat_eq, if◌then◌else◌}
+use Rattle.std.proofs.Common.{◌≡◌, ℕ, ◌+◌, Bool, true, false, cond, not, ◌&&◌, ◌||◌, List, [], ◌∷◌, ◌++◌, filter, map, length, Option, Some, None, is_some, option_map, refl, ap, sym, subst, ◌∙◌, arith, ◌==◌, ◌≢◌, ◌⊎◌, inl, inr, nat_eq, if◌then◌else◌}
 use Rattle.std.proofs.lemmas.Bool.{eq-eqb, ne_eqb, cases_eq, false≢true}
 use Rattle.std.proofs.lemmas.List.Elements.{filter-append}
 use Rattle.lnbd_model.specs.declared.note.Note.{Note}
@@ -8,13 +8,18 @@ use Rattle.lnbd_keyed.specs.Keyed.{value_at, without, IsAbove, IsBelow, IsRising
 use Rattle.lnbd_keyed.proofs.OrderLaws.{IsAbove_with, IsAbove_without, IsAbove_append, IsBelow_with, IsBelow_without, IsBelow_append, IsBelow_less, IsRising_with, IsRising_without, IsRising_append}
 use Rattle.lnbd_keyed.proofs.LookupLaws.{value_at_with, value_at_with_other, value_at_without, value_at_without_other, value_at_last, value_at_last_other}
 use Rattle.lnbd_history.specs.Commands.{Command, Flight, Request, request_of}
-use Rattle.lnbd_history.specs.Entries.{Filing, Entry, Filed, Freed, Cleared, ends, kept_by, own, is_ended, retires, is_retired, notes_of, notes, log, kept_cookies, free_notes, frees}
+use Rattle.lnbd_outcome.specs.Pieces.{is_completed}
+use Rattle.lnbd_history.specs.Entries.{Filing, Entry, Filed, Freed, Cleared, completes, ends, kept_by, kept_in, own, pieces, is_ended, retires, is_retired, acts_of, note_of, notes, log, kept_cookies, free_acts, frees}
 use Rattle.lnbd_machine.specs.Machine.{Row, new_row, add, filed, marked, dropped}
-use Rattle.lnbd_machine.proofs.Fold.{row_of}
+use Rattle.lnbd_machine.proofs.Fold.{row_of, EndsLast, Settled}
 
 or_false : (a : Bool) → (a || false) ≡ a
 or_false true = refl
 or_false false = refl
+
+or_true : (a : Bool) → (a || true) ≡ true
+or_true true = refl
+or_true false = refl
 
 pub or_parts : (a b : Bool) → (a || b) ≡ false → (a ≡ false) × (b ≡ false)
 or_parts true b e = absurd (false≢true (sym e))
@@ -42,7 +47,8 @@ module _ {K : Type 0} where
   own_other : (c : ℕ) (f : Filing K) (entries : List (Entry K)) → f.cookie ≢ c → own c (Filed f ∷ entries) ≡ own c entries
   own_other c f entries other = ap (λ (b : Bool). if b then f ∷ own c entries else own c entries) (ne_eqb f.cookie c other)
 
--- Rows are compared by cookie. Nothing is filed under what was not asked, and what is retired has ended.
+-- Rows are compared by cookie. Nothing is filed under what was not asked, nor under what has ended, what is retired has ended, and
+-- what is kept is completed.
 pub record Tabled {K : Type 0} (issued2 admitted2 : ℕ) (asks : ℕ → Option (Request K)) (taken : ℕ → Bool) (issued admitted freed : ℕ) (rows : List (ℕ × Row K)) (done : List ℕ) (told : List Note) (entries : List (Entry K)) : Type 0 where
   pub issued_is : issued ≡ issued2
   pub admitted_is : admitted ≡ admitted2
@@ -55,6 +61,8 @@ pub record Tabled {K : Type 0} (issued2 admitted2 : ℕ) (asks : ℕ → Option 
   pub told_is : told ≡ log entries
   pub past : (c : ℕ) → asks c ≡ None → own c entries ≡ []
   pub over : (c : ℕ) → (taken c || is_retired (own c entries)) ≡ true → is_ended (own c entries) ≡ true
+  pub last : (c : ℕ) → EndsLast (own c entries)
+  pub settled : (c : ℕ) → Settled (own c entries)
 
 -- a command in flight
 pub record Flies {K : Type 0} (asks : ℕ → Option (Request K)) (taken : ℕ → Bool) (entries : List (Entry K)) (c : ℕ) (q : Request K) : Type 0 where
@@ -64,7 +72,7 @@ pub record Flies {K : Type 0} (asks : ℕ → Option (Request K)) (taken : ℕ �
 
 module _ {K : Type 0} (issued2 admitted2 : ℕ) (asks : ℕ → Option (Request K)) (taken : ℕ → Bool) (issued admitted freed : ℕ) (rows : List (ℕ × Row K)) (done : List ℕ) (told : List Note) (entries : List (Entry K)) (same : Tabled issued2 admitted2 asks taken issued admitted freed rows done told entries) where
   -- One entry more, under a command in flight.
-  module _ (f : Filing K) (flies : Flies asks taken entries f.cookie f.request) where
+  module _ (f : Filing K) (flies : Flies asks taken entries f.cookie f.request) (decided : is_some (kept_by f.verdict) ≡ true → completes f.item ≡ true) where
     gone_now : (taken f.cookie || is_retired (own f.cookie (Filed f ∷ entries))) ≡ retires f
     gone_now =
         let parts = or_parts (taken f.cookie) (is_retired (own f.cookie entries)) flies.here in
@@ -76,7 +84,7 @@ module _ {K : Type 0} (issued2 admitted2 : ℕ) (asks : ℕ → Option (Request 
     row_here = same.rows_are f.cookie ∙ ap (λ (b : Bool). row_at b (own f.cookie entries) (asks f.cookie)) flies.here ∙ ap (λ q. row_at false (own f.cookie entries) q) flies.asked_for
 
     new_row_here : Row K
-    new_row_here = add (row_of f.request (own f.cookie entries)) f.item f.heard f.verdict
+    new_row_here = add (row_of f.request (own f.cookie entries)) f.contexts f.item f.heard f.verdict
 
     rows_here : (b : Bool) → value_at f.cookie (filed b f.cookie new_row_here rows) ≡ row_at b (own f.cookie (Filed f ∷ entries)) (asks f.cookie)
     unfolding new_row_here
@@ -127,22 +135,39 @@ module _ {K : Type 0} (issued2 admitted2 : ℕ) (asks : ℕ → Option (Request 
     over_now c left (inl is) = subst (λ (x : ℕ). (taken x || is_retired (own x (Filed f ∷ entries))) ≡ true → is_ended (own x (Filed f ∷ entries)) ≡ true) is over_here left
     over_now c left (inr other) = ap is_ended (own_other c f entries other) ∙ same.over c (ap (λ o. taken c || is_retired o) (sym (own_other c f entries other)) ∙ left)
 
-    pub filed_same : Tabled issued2 admitted2 asks taken issued admitted (freed + frees (notes_of f (own f.cookie entries)))
-        (filed (retires f) f.cookie (add (row_of f.request (own f.cookie entries)) f.item f.heard f.verdict) rows)
-        (marked (is_some (kept_by f.verdict)) f.cookie done) (told ++ notes_of f (own f.cookie entries)) (Filed f ∷ entries)
+    last_now : (c : ℕ) → (f.cookie ≡ c) ⊎ (f.cookie ≡ c → ⊥) → EndsLast (own c (Filed f ∷ entries))
+    last_now c (inl is) = subst (λ (x : ℕ). EndsLast (own x (Filed f ∷ entries))) is (subst EndsLast (sym (own_same f entries)) flies.going)
+    last_now c (inr other) = subst EndsLast (sym (own_other c f entries other)) (same.last c)
+
+    settled_as : (b : Bool) → ends f.item ≡ b → is_some (if b then kept_by f.verdict else kept_in (own f.cookie entries)) ≡ true → (completes f.item || is_completed (pieces (own f.cookie entries))) ≡ true
+    settled_as true e there = ap (λ (b : Bool). b || is_completed (pieces (own f.cookie entries))) (decided there)
+    settled_as false e there = ap (λ (b : Bool). completes f.item || b) (same.settled f.cookie there) ∙ or_true (completes f.item)
+
+    settled_here : Settled (f ∷ own f.cookie entries)
+    settled_here = settled_as (ends f.item) refl
+
+    settled_now : (c : ℕ) → (f.cookie ≡ c) ⊎ (f.cookie ≡ c → ⊥) → Settled (own c (Filed f ∷ entries))
+    settled_now c (inl is) = subst (λ (x : ℕ). Settled (own x (Filed f ∷ entries))) is (subst Settled (sym (own_same f entries)) settled_here)
+    settled_now c (inr other) = subst Settled (sym (own_other c f entries other)) (same.settled c)
+
+    pub filed_same : Tabled issued2 admitted2 asks taken issued admitted (freed + frees (map note_of (acts_of f (own f.cookie entries))))
+        (filed (retires f) f.cookie (add (row_of f.request (own f.cookie entries)) f.contexts f.item f.heard f.verdict) rows)
+        (marked (is_some (kept_by f.verdict)) f.cookie done) (told ++ map note_of (acts_of f (own f.cookie entries))) (Filed f ∷ entries)
     unfolding new_row_here
     filed_same = record {
       issued_is = same.issued_is;
       admitted_is = same.admitted_is;
-      freed_is = ap (λ (n : ℕ). n + frees (notes_of f (own f.cookie entries))) same.freed_is ∙ sym (frees-append (notes entries) (notes_of f (own f.cookie entries)));
+      freed_is = ap (λ (n : ℕ). n + frees (map note_of (acts_of f (own f.cookie entries)))) same.freed_is ∙ sym (frees-append (notes entries) (map note_of (acts_of f (own f.cookie entries))));
       rows_are = λ c. rows_now c (cases_eq f.cookie c);
       rising = rising_now (retires f);
       above = above_now (retires f);
       below = below_now (retires f);
       done_is = done_now (is_some (kept_by f.verdict));
-      told_is = ap (λ (t : List Note). t ++ notes_of f (own f.cookie entries)) same.told_is;
+      told_is = ap (λ (t : List Note). t ++ map note_of (acts_of f (own f.cookie entries))) same.told_is;
       past = λ c none. past_now c none (cases_eq f.cookie c);
       over = λ c left. over_now c left (cases_eq f.cookie c);
+      last = λ c. last_now c (cases_eq f.cookie c);
+      settled = λ c. settled_now c (cases_eq f.cookie c);
     }
 
   -- A command that is issued.
@@ -188,6 +213,8 @@ module _ {K : Type 0} (issued2 admitted2 : ℕ) (asks : ℕ → Option (Request 
       told_is = same.told_is;
       past = λ c none. issued_past c none (cases_eq (issued2 + 1) c);
       over = same.over;
+      last = same.last;
+      settled = same.settled;
     }
 
     pub issued_same : Tabled (issued2 + 1) (admitted2 + count) (λ c. if issued2 + 1 == c then Some (request_of admitted2 command) else asks c) taken (issued + 1) (admitted + count) freed (rows ++ (issued + 1, new_row (request_of admitted command)) ∷ []) done told entries
@@ -197,24 +224,26 @@ module _ {K : Type 0} (issued2 admitted2 : ℕ) (asks : ℕ → Option (Request 
         (subst (λ (n : ℕ). Tabled (issued2 + 1) (admitted2 + count) asks_now taken (issued + 1) (admitted + count) freed (rows ++ (issued2 + 1, new_row (request_of n command)) ∷ []) done told entries) (sym same.admitted_is) issued_table)
 
   -- The callbacks of a refused command.
-  pub refused_same : (flight : Flight K) (count : ℕ) → Tabled issued2 (admitted2 + count) asks taken issued (admitted + count) (freed + frees (free_notes flight)) rows done (told ++ free_notes flight) (Freed flight ∷ entries)
+  pub refused_same : (flight : Flight K) (count : ℕ) → Tabled issued2 (admitted2 + count) asks taken issued (admitted + count) (freed + frees (map note_of (free_acts flight))) rows done (told ++ map note_of (free_acts flight)) (Freed flight ∷ entries)
   refused_same flight count = record {
     issued_is = same.issued_is;
     admitted_is = ap (λ (n : ℕ). n + count) same.admitted_is;
-    freed_is = ap (λ (n : ℕ). n + frees (free_notes flight)) same.freed_is ∙ sym (frees-append (notes entries) (free_notes flight));
+    freed_is = ap (λ (n : ℕ). n + frees (map note_of (free_acts flight))) same.freed_is ∙ sym (frees-append (notes entries) (map note_of (free_acts flight)));
     rows_are = same.rows_are;
     rising = same.rising;
     above = same.above;
     below = same.below;
     done_is = same.done_is;
-    told_is = ap (λ (t : List Note). t ++ free_notes flight) same.told_is;
+    told_is = ap (λ (t : List Note). t ++ map note_of (free_acts flight)) same.told_is;
     past = same.past;
     over = same.over;
+    last = same.last;
+    settled = same.settled;
   }
 
   -- A log that is cleared.
   pub cleared_same : Tabled issued2 admitted2 asks taken issued admitted freed rows done [] (Cleared ∷ entries)
-  cleared_same = record { issued_is = same.issued_is; admitted_is = same.admitted_is; freed_is = same.freed_is; rows_are = same.rows_are; rising = same.rising; above = same.above; below = same.below; done_is = same.done_is; told_is = refl; past = same.past; over = same.over }
+  cleared_same = record { issued_is = same.issued_is; admitted_is = same.admitted_is; freed_is = same.freed_is; rows_are = same.rows_are; rising = same.rising; above = same.above; below = same.below; done_is = same.done_is; told_is = refl; past = same.past; over = same.over; last = same.last; settled = same.settled }
 
   -- A result that is taken.
   module _ (k : ℕ) (finished : is_ended (own k entries) ≡ true) where
@@ -261,4 +290,6 @@ module _ {K : Type 0} (issued2 admitted2 : ℕ) (asks : ℕ → Option (Request 
       told_is = same.told_is;
       past = same.past;
       over = λ c left. retired_over c left (cases_eq k c);
+      last = same.last;
+      settled = same.settled;
     }

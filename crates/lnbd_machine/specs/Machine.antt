@@ -4,6 +4,8 @@ use Rattle.lnbd_model.specs.declared.kind.Kind.{Kind}
 use Rattle.lnbd_model.specs.declared.note.Note.{Note}
 use Rattle.lnbd_model.specs.declared.state.Cause.{Cause}
 use Rattle.lnbd_model.specs.declared.state.Cause.TheVariants as cause
+use Rattle.lnbd_records.specs.Flags.{flag_no_zeroes}
+use Rattle.lnbd_records.specs.Options.{opt_go}
 use Rattle.lnbd_keyed.specs.Keyed.{value_at, with_value, without, keys}
 use Rattle.lnbd_stream.specs.Stream.{Rules, Held, feed}
 use Rattle.lnbd_callbacks.specs.Calls.{Call}
@@ -13,20 +15,26 @@ use Rattle.lnbd_history.specs.declared.kinds.Phase.{Phase}
 use Rattle.lnbd_history.specs.declared.kinds.Phase.TheVariants as phase
 use Rattle.lnbd_history.specs.declared.kinds.Stage.{Stage}
 use Rattle.lnbd_history.specs.declared.kinds.Stage.TheVariants.{Created, Open, Disconnecting, Aborting, Closed, Dead}
+use Rattle.lnbd_model.specs.declared.export.Context.{Context as MetaContext}
+use Rattle.lnbd_outcome.specs.Pieces.{Query, content_of, is_content, has_place, byte_of}
+use Rattle.lnbd_outcome.specs.Outcome.{error_number, each, buffer}
+use Rattle.lnbd_outcome.specs.Hearing.{Hearing}
+use Rattle.lnbd_outcome.specs.Facts.{Facts, no_facts, is_bad, facts_with, heard_by}
+use Rattle.lnbd_history.specs.Strict.{all_strict}
 use Rattle.lnbd_history.specs.Commands.{Command, Flight, Request, request_of, flight_of, callbacks, is_read, is_write}
-use Rattle.lnbd_history.specs.Events.{Answer, Event, History, Start, Opt, Abort, Issue, Refuse, Disconnect, Wrote, Arrived, End, LinkFailed, Retire, ClearLog, Close}
+use Rattle.lnbd_history.specs.Events.{Answer, Event, History, StrictMode, Start, Opt, Abort, Issue, Refuse, Disconnect, Wrote, Arrived, End, LinkFailed, Retire, ClearLog, Close}
 use Rattle.lnbd_history.specs.Events as event
 use Rattle.lnbd_history.specs.Agreement.{Turn, Replied, ByName, Opted}
 use Rattle.lnbd_history.specs.Agreement as turn
 use Rattle.lnbd_history.specs.Talk.{Talk, taking, sent}
 use Rattle.lnbd_history.specs.Talk as talk
 use Rattle.lnbd_history.specs.Outgoing.{Part, plain, client_flags, command_parts, disconnect_part, abort_part, wrote, ended}
-use Rattle.lnbd_history.specs.Arrivals.{Shown, Hello, OptionReply, ExportReply, Reply, Broken, Passed, Ignored, Waiting, Sight, has_bit, shows_at}
-use Rattle.lnbd_history.specs.Entries.{Item, Framed, Lost, Dropped, Kept, completes, ends, hears, is_data, or_else, told_error, heard_error, tells, byte_of, each, buffer, kept_by, free_notes, free_calls, filing_notes, filing_calls, frees}
+use Rattle.lnbd_history.specs.Arrivals.{Content, Shown, Hello, OptionReply, ExportReply, Reply, Broken, Passed, Ignored, Waiting, Sight, has_bit, shows_at}
+use Rattle.lnbd_history.specs.Entries.{Item, Framed, Lost, Dropped, Kept, Act, completes, ends, hears, heard_error, kept_by, free_acts, filing_acts, note_of, call_of, frees}
 use Rattle.lnbd_history.specs.History.{next_heard, next_verdict, left}
 
--- A command's row: what was asked, its callbacks while it is in flight, its buffer until it ends, its first error (0 for none),
--- and what its completion callback kept.
+-- A command's row: what was asked, its callbacks while it is in flight, its buffer and what was told of it until it ends, its first
+-- error, and what its completion callback kept.
 pub record Row (K : Type 0) : Type 0 where
   pub kind : Kind
   pub flags : ℕ
@@ -34,11 +42,13 @@ pub record Row (K : Type 0) : Type 0 where
   pub length : ℕ
   pub flight : Option (Flight K)
   pub bytes : List ℕ
-  pub error : ℕ
+  pub facts : Facts
   pub kept : Option Kept
 
 pub record State (K : Type 0) : Type 0 where
   pub stage : Stage
+  -- the bits of strict mode
+  pub strict : ℕ
   -- the hello's flags
   pub flags : ℕ
   pub talk : Talk
@@ -76,10 +86,10 @@ first_bytes kind length payload =
     else if is_write kind then payload
     else []
 
--- the buffer of a read with the content of an item
-abbrev pub told_bytes : Kind → (offset length : ℕ) → Item → List ℕ → List ℕ
-told_bytes kind offset length item old =
-    if is_read kind && is_data item then each (λ p. if tells item p then byte_of item p else get_or old (p - offset) 0) offset length
+-- the buffer of a read with content that has no fault
+abbrev pub told_bytes : (bad : Bool) → Kind → (offset length : ℕ) → Content → List ℕ → List ℕ
+told_bytes bad kind offset length content old =
+    if is_read kind && is_content content && not bad then each (λ p. if has_place content p then byte_of content p else get_or old (p - offset) 0) offset length
     else old
 
 -- A command that ends and isn't kept is retired.
@@ -95,28 +105,39 @@ module _ {K : Type 0} where
     length = asks.length;
     flight = Some asks.flight;
     bytes = first_bytes asks.kind asks.length asks.payload;
-    error = 0;
+    facts = no_facts;
     kept = None;
   }
 
-  -- the row with what an item tells, and with the answer of the chunk callback
-  abbrev pub hearing : Row K → Item → Option Heard → Row K
-  hearing row item heard = record row {
-    bytes = told_bytes row.kind row.offset row.length item row.bytes;
-    error = or_else (or_else row.error (told_error row.kind item)) (heard_error heard);
+  -- what was asked, less the bytes to be written
+  abbrev pub query_in : Row K → Query
+  query_in row = record { kind = row.kind; flags = row.flags; offset = row.offset; length = row.length; payload = [] }
+
+  -- what an item tells the chunk or extents callback, where these meta contexts are agreed
+  abbrev pub heard_in : Row K → List MetaContext → Item → Option Hearing
+  heard_in row contexts item = heard_by (query_in row) row.facts contexts item
+
+  -- the row with what an item tells, and with the answer of the chunk or extents callback
+  abbrev pub hearing : Row K → List MetaContext → Item → Option Heard → Row K
+  hearing row contexts item heard = record row {
+    bytes = told_bytes (is_bad (query_in row) contexts row.facts (content_of item)) row.kind row.offset row.length (content_of item) row.bytes;
+    facts = facts_with (query_in row) contexts item (heard_error heard) row.facts;
   }
 
-  -- the row after its end: its buffer went to the completion callback
+  abbrev pub error_of_row : Row K → ℕ
+  error_of_row row = error_number row.facts.failure
+
+  -- the row after its end: its buffer went to the completion callback, and of what was told only its first error stays
   abbrev pub ending : Bool → Option Verdict → Row K → Row K
   ending false verdict row = row
-  ending true verdict row = record row { flight = None; bytes = []; kept = kept_by verdict }
+  ending true verdict row = record row { flight = None; bytes = []; facts = record no_facts { failure = row.facts.failure }; kept = kept_by verdict }
 
-  abbrev pub add : Row K → Item → Option Heard → Option Verdict → Row K
-  add row item heard verdict = ending (ends item) verdict (hearing row item heard)
+  abbrev pub add : Row K → List MetaContext → Item → Option Heard → Option Verdict → Row K
+  add row contexts item heard verdict = ending (ends item) verdict (hearing row contexts item heard)
 
   -- the bytes that go to the completion callback
   abbrev pub result_bytes : Row K → List ℕ
-  result_bytes row = buffer row.kind row.length row.bytes row.error row.bytes
+  result_bytes row = buffer row.kind row.length row.bytes (error_of_row row) row.bytes
 
   -- the table after an item: the command is retired where it ended and nothing was kept
   abbrev pub filed : Bool → ℕ → Row K → List (ℕ × Row K) → List (ℕ × Row K)
@@ -134,29 +155,43 @@ marked false cookie done = done
 module _ {K : Type 0} where
   -- Filing.
 
-  abbrev pub file_state : ℕ → Row K → Flight K → Item → Option Heard → Option Verdict → State K → State K
-  file_state cookie row flight item heard verdict state = record state {
-    rows = filed (is_retiring item verdict) cookie (add row item heard verdict) state.rows;
+  -- the calls of one filing under a row in flight
+  abbrev pub acts_in : Row K → Flight K → List MetaContext → Item → Option Heard → Option Verdict → List (Act K)
+  acts_in row flight contexts item heard verdict =
+      filing_acts flight (heard_in row contexts item) item heard verdict (error_of_row (hearing row contexts item heard)) (result_bytes (hearing row contexts item heard))
+
+  -- the state after these calls, of which this row was left
+  abbrev pub file_state : ℕ → Row K → Item → Option Verdict → List (Act K) → State K → State K
+  file_state cookie row item verdict acts state = record state {
+    rows = filed (is_retiring item verdict) cookie row state.rows;
     done = marked (is_some (kept_by verdict)) cookie state.done;
-    notes = state.notes ++ filing_notes flight item heard verdict row.error (hearing row item heard).error;
-    freed = state.freed + frees (filing_notes flight item heard verdict row.error (hearing row item heard).error);
+    notes = state.notes ++ map note_of acts;
+    freed = state.freed + frees (map note_of acts);
   }
 
   abbrev pub file_with : ℕ → Row K → Flight K → Item → Option Heard → Option Verdict → List Answer → Doing K → Doing K
-  file_with cookie row flight item heard verdict rest doing = record {
-    state = file_state cookie row flight item heard verdict doing.state;
-    answers = rest;
-    calls = doing.calls ++ filing_calls flight item heard verdict row.error (hearing row item heard).error (result_bytes (hearing row item heard));
-  }
+  file_with cookie row flight item heard verdict rest doing =
+      let contexts = doing.state.talk.contexts in
+      let acts = acts_in row flight contexts item heard verdict in
+      record {
+        state = file_state cookie (add row contexts item heard verdict) item verdict acts doing.state;
+        answers = rest;
+        calls = doing.calls ++ map call_of acts;
+      }
+
+  -- whether an item calls the chunk or extents callback of a row in flight
+  abbrev pub hears_in : Row K → Flight K → List MetaContext → Item → Bool
+  hears_in row flight contexts item = hears flight (heard_in row contexts item)
 
   -- an item under a command in flight, with the next answers for the callbacks that it calls
   abbrev pub file_flight : Option (Flight K) → Row K → ℕ → Item → Doing K → Doing K
   file_flight None row cookie item doing = doing
   file_flight (Some flight) row cookie item doing =
+      let calls_first = hears_in row flight doing.state.talk.contexts item in
       file_with cookie row flight item
-      (next_heard (hears flight item) doing.answers)
-      (next_verdict (completes item) (left (hears flight item) doing.answers))
-      (left (completes item) (left (hears flight item) doing.answers))
+      (next_heard calls_first doing.answers)
+      (next_verdict (completes item) (left calls_first doing.answers))
+      (left (completes item) (left calls_first doing.answers))
       doing
 
   abbrev pub file_row : Option (Row K) → ℕ → Item → Doing K → Doing K
@@ -187,7 +222,7 @@ module _ {K : Type 0} where
   turned turn state = record state { talk = taking turn state.talk; waits = state.waits ++ map plain (sent turn state.talk) }
 
   abbrev pub if_refused : Phase → Doing K → Doing K
-  if_refused (phase.Refused code) doing = kill (cause.Refused 7 code) doing
+  if_refused (phase.Refused code) doing = kill (cause.Refused opt_go code) doing
   if_refused other doing = doing
 
   abbrev pub greeted : ℕ → State K → State K
@@ -213,14 +248,15 @@ module _ {K : Type 0} where
     phase = state.talk.phase;
     count = state.talk.pending.count;
     size = state.talk.pending.size;
-    no_zeroes = has_bit 2 state.flags;
+    no_zeroes = has_bit flag_no_zeroes state.flags;
     structured = state.talk.structured;
+    extended = state.talk.extended;
     passed = state.passed;
   }
 
   abbrev pub waiting_row : Option (Flight K) → Row K → Option Waiting
   waiting_row None row = None
-  waiting_row (Some flight) row = Some (record { kind = row.kind; offset = row.offset; length = row.length })
+  waiting_row (Some flight) row = Some (record { kind = row.kind; offset = row.offset; length = row.length; faults = row.facts.faults })
 
   abbrev pub waited_of : Bool → Option (Row K) → Option Waiting
   waited_of true (Some row) = waiting_row row.flight row
@@ -238,7 +274,7 @@ module _ {K : Type 0} where
 
   abbrev pub issued : Command K → State K → State K
   issued command state = record state {
-    waits = state.waits ++ command_parts (state.issued + 1) command;
+    waits = state.waits ++ command_parts state.talk.extended (state.issued + 1) command;
     issued = state.issued + 1;
     rows = state.rows ++ (state.issued + 1, new_row (request_of state.admitted command)) ∷ [];
     admitted = state.admitted + callbacks command.first;
@@ -248,12 +284,12 @@ module _ {K : Type 0} where
   abbrev pub refused : Flight K → ℕ → Doing K → Doing K
   refused flight count doing = record {
     state = record doing.state {
-      notes = doing.state.notes ++ free_notes flight;
+      notes = doing.state.notes ++ map note_of (free_acts flight);
       admitted = doing.state.admitted + count;
-      freed = doing.state.freed + frees (free_notes flight);
+      freed = doing.state.freed + frees (map note_of (free_acts flight));
     };
     answers = doing.answers;
-    calls = doing.calls ++ free_calls flight;
+    calls = doing.calls ++ map call_of (free_acts flight);
   }
 
   abbrev pub writing : ℕ → State K → State K
@@ -304,12 +340,13 @@ module _ {K : Type 0} where
   -- An event from its beginning to its end.
   abbrev pub course : Machine K → Event K → Held (Doing K)
   course machine (event.Set setting) = change (on_state (turned (turn.Set setting))) (begin [] machine)
+  course machine (StrictMode bits) = change (on_state (λ state. record state { strict = bits })) (begin [] machine)
   course machine Start = change (on_state (λ state. record state { stage = Open })) (begin [] machine)
   course machine (Opt option) = change (on_state (turned (Opted option))) (begin [] machine)
   course machine Abort = finish (on_state (λ state. asking (abort_part ∷ []) (record state { stage = Aborting }))) (begin [] machine)
   course machine (Issue command) = change (on_state (issued command)) (begin [] machine)
   course machine (Refuse command why) = change (refused (flight_of machine.known.admitted command.first command.done) (callbacks command.first)) (begin [] machine)
-  course machine Disconnect = change (on_state (λ state. asking (disconnect_part ∷ []) (record state { stage = Disconnecting }))) (begin [] machine)
+  course machine Disconnect = change (on_state (λ state. asking (disconnect_part state.talk.extended ∷ []) (record state { stage = Disconnecting }))) (begin [] machine)
   course machine (Wrote n) = change (on_state (writing n)) (begin [] machine)
   course machine (Arrived bytes answers) = feed table_rules (begin answers machine) bytes
   course machine (End answers) = ended_at machine.known.stage (begin answers machine)
@@ -329,6 +366,7 @@ module _ {K : Type 0} where
   created = record {
     known = record {
       stage = Created;
+      strict = all_strict;
       flags = 0;
       talk = talk.begun;
       passed = 0;

@@ -19,7 +19,7 @@ use Rattle.lnbd_negotiate.specs.declared.kinds.TalkFault.TheVariants.{NoMemory, 
 
 -- a talk of these settings that has not begun
 abbrev pub begun_with : Config → Talk
-begun_with config = record begun { name = config.name; wanted = config.contexts; asks_structured = config.structured; opt_mode = config.opt_mode }
+begun_with config = record begun { name = config.name; wanted = config.contexts; asks_structured = config.structured; asks_extended = config.extended; opt_mode = config.opt_mode }
 
 -- what comes next, but for a refusal
 abbrev pub next_of : Phase → Option Next
@@ -85,13 +85,13 @@ asked_at phase.Ready = None
 asked_at (phase.Refused code) = None
 
 -- what was told of the export, with what is agreed now
-abbrev pub info_with : Bool → List Context → Option Export → Option ExportInfo
-info_with structured contexts None = None
-info_with structured contexts (Some e) =
-    Some (record { size = e.size; flags = e.flags; blocks = e.blocks; name = e.name; description = e.description; contexts = contexts; structured = structured })
+abbrev pub info_with : (structured extended : Bool) → List Context → Option Export → Option ExportInfo
+info_with structured extended contexts None = None
+info_with structured extended contexts (Some e) =
+    Some (record { size = e.size; flags = e.flags; blocks = e.blocks; name = e.name; description = e.description; contexts = contexts; structured = structured; extended = extended })
 
 abbrev pub info_of : Talk → Option ExportInfo
-info_of t = info_with t.structured t.contexts t.export
+info_of t = info_with t.structured t.extended t.contexts t.export
 
 -- what comes next at a phase that an answer to this option led to
 abbrev pub IsNext : ℕ → Phase → Result Next TalkFault → Type 0

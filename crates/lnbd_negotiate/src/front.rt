@@ -1,10 +1,11 @@
 //! An option reply at the front of a buffer.
 
 ghost use Rattle.std.specs.Prelude.{◌≡◌};
-ghost use Rattle.lnbd_history.specs.Agreement.{is_info};
+ghost use Rattle.lnbd_records.specs.Requests.{is_info};
 ghost use Rattle.lnbd_history.specs.Arrivals.{Sight, is_asked, is_named};
 ghost use Rattle.lnbd_negotiate.specs.Reading.{SeenAs};
 
+use crate::options::{GO, INFO, LIST, SET_META_CONTEXT};
 use lnbd_history::Phase;
 use lnbd_model::Breach;
 use lnbd_options::OptionHead;
@@ -38,7 +39,7 @@ pub fn is_asked(option: u32, phase: Phase) -> bool
 pub fn is_info(option: u32) -> bool
     ensures { result ≡ is_info option }
 {
-    option == 6 || option == 7
+    option == INFO || option == GO
 }
 
 pub fn is_named(option: u32, kind: u32) -> bool
@@ -46,9 +47,9 @@ pub fn is_named(option: u32, kind: u32) -> bool
 {
     kind >= 0x80000000
         || kind == 1
-        || (kind == 2 && option == 3)
+        || (kind == 2 && option == LIST)
         || (kind == 3 && is_info(option))
-        || (kind == 4 && option == 10)
+        || (kind == 4 && option == SET_META_CONTEXT)
 }
 
 /// What the bytes at the front show, where negotiation stands at this phase (NBD protocol, "Option

@@ -6,6 +6,7 @@ ghost use Rattle.lnbd_negotiate.specs.Told.{told_of};
 ghost use Rattle.lnbd_negotiate.specs.Reading.{JudgedAs, IsToldTo, is_over};
 
 use crate::front::{LIMIT, is_asked, is_info, is_named};
+use crate::options::LIST;
 use crate::told::{Told, read_told};
 use lnbd_history::Phase;
 use lnbd_model::Breach;
@@ -19,11 +20,21 @@ pub enum Ruling {
     Told(Told),
 }
 
+/// How many exports a server may list.
+const MAX_LISTED: u32 = 10000;
+
+/// How many replies another option may have before its last.
+const MAX_REPLIES: u32 = 1024;
+
 /// How many replies that neither acknowledge nor refuse an option may have.
 fn limit(option: u32) -> u32
     ensures { result ≡ limit option }
 {
-    if option == 3 { 10000 } else { 1024 }
+    if option == LIST {
+        MAX_LISTED
+    } else {
+        MAX_REPLIES
+    }
 }
 
 fn is_over(option: u32, kind: u32, count: u32) -> bool

@@ -15,6 +15,8 @@ pub struct Config {
     pub contexts: Texts,
     /// Whether structured replies are asked for.
     pub structured: bool,
+    /// Whether extended headers are asked for.
+    pub extended: bool,
     /// Whether the caller decides which option comes next.
     pub opt_mode: bool,
 }

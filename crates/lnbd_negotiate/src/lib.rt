@@ -7,6 +7,7 @@ mod front;
 mod greeting;
 mod judge;
 mod kinds;
+mod options;
 mod order;
 mod pending;
 mod requests;

@@ -1,32 +1,54 @@
 //! The order in which options are asked.
 
 ghost use Rattle.std.specs.Prelude.{◌≡◌};
-ghost use Rattle.lnbd_history.specs.Agreement.{after_hello, after_structured, after_answer};
+ghost use Rattle.lnbd_history.specs.Agreement.{after_hello, after_extended, after_structured, after_answer, settles_replies};
 ghost use Rattle.lnbd_negotiate.specs.Told.{end};
 
+use crate::options::{EXTENDED_HEADERS, GO, SET_META_CONTEXT, STRUCTURED_REPLY};
 use lnbd_history::Phase;
 use lnbd_model::Texts;
 
-/// STRUCTURED_REPLY was answered, or isn't asked for.
+/// UNSUP: the server doesn't know the option (NBD protocol, "Option reply types").
+const UNSUP: u32 = 1;
+
+/// Whether the option settles how the server replies. Such options are asked without the caller.
+pub fn settles_replies(option: u32) -> bool
+    ensures { result ≡ settles_replies option }
+{
+    option == STRUCTURED_REPLY || option == EXTENDED_HEADERS
+}
+
+/// How the server replies is settled.
 fn after_structured(opt_mode: bool, wanted: &Texts, on: bool) -> Phase
     ensures { result ≡ after_structured opt_mode wanted.now on }
 {
     if opt_mode {
         Phase::OptMode
     } else if on && wanted.len() != 0 {
-        Phase::Asked(10)
+        Phase::Asked(SET_META_CONTEXT)
     } else {
-        Phase::Asked(7)
+        Phase::Asked(GO)
     }
 }
 
-pub fn after_hello(structured: bool, opt_mode: bool, wanted: &Texts) -> Phase
-    ensures { result ≡ after_hello structured opt_mode wanted.now }
+/// EXTENDED_HEADERS was answered, or isn't asked for.
+fn after_extended(structured: bool, opt_mode: bool, wanted: &Texts, on: bool) -> Phase
+    ensures { result ≡ after_extended structured opt_mode wanted.now on }
 {
-    if structured {
-        Phase::Asked(8)
+    if !on && structured {
+        Phase::Asked(STRUCTURED_REPLY)
     } else {
-        after_structured(opt_mode, wanted, false)
+        after_structured(opt_mode, wanted, on)
+    }
+}
+
+pub fn after_hello(extended: bool, structured: bool, opt_mode: bool, wanted: &Texts) -> Phase
+    ensures { result ≡ after_hello extended structured opt_mode wanted.now }
+{
+    if extended {
+        Phase::Asked(EXTENDED_HEADERS)
+    } else {
+        after_extended(structured, opt_mode, wanted, false)
     }
 }
 
@@ -39,7 +61,7 @@ fn after_go(opt_mode: bool, code: Option<u32>) -> Phase
         Some(code) => {
             if opt_mode {
                 Phase::OptMode
-            } else if code == 1 {
+            } else if code == UNSUP {
                 Phase::AskedByName
             } else {
                 Phase::Refused(code)
@@ -49,16 +71,24 @@ fn after_go(opt_mode: bool, code: Option<u32>) -> Phase
 }
 
 /// An answer to this option ended by ACK, or by an error with its code.
-pub fn after_answer(opt_mode: bool, wanted: &Texts, option: u32, code: Option<u32>) -> Phase
-    ensures { result ≡ after_answer opt_mode wanted.now option (end code) }
+pub fn after_answer(
+    structured: bool,
+    opt_mode: bool,
+    wanted: &Texts,
+    option: u32,
+    code: Option<u32>,
+) -> Phase
+    ensures { result ≡ after_answer structured opt_mode wanted.now option (end code) }
 {
-    if option == 8 {
+    if option == EXTENDED_HEADERS {
+        after_extended(structured, opt_mode, wanted, code.is_none())
+    } else if option == STRUCTURED_REPLY {
         after_structured(opt_mode, wanted, code.is_none())
-    } else if option == 7 {
+    } else if option == GO {
         after_go(opt_mode, code)
     } else if opt_mode {
         Phase::OptMode
     } else {
-        Phase::Asked(7)
+        Phase::Asked(GO)
     }
 }

@@ -2,8 +2,12 @@
 
 ghost use Rattle.std.specs.Prelude.{◌≡◌, ◌++◌, [], ◌≤◌, OnOk, OnErr, IfOk, length};
 ghost use Rattle.std.specs.List.{concat};
-ghost use Rattle.lnbd_history.specs.Outgoing.{client_flags, option_request, option_body, request_at};
+ghost use Rattle.lnbd_records.specs.Handshake.{option_request};
+ghost use Rattle.lnbd_records.specs.Limits.{max_contexts};
+ghost use Rattle.lnbd_history.specs.Outgoing.{client_flags, option_body, request_at};
 
+use crate::front::is_info;
+use crate::options::{EXPORT_NAME, SET_META_CONTEXT};
 use lnbd_history::Phase;
 use lnbd_model::{NoMemory, Text, Texts};
 use lnbd_options::{put_info, put_meta, put_option};
@@ -28,15 +32,15 @@ pub fn abort_request() -> [u8; 16]
 
 /// The body of an option's request.
 fn body(alloc: Global, option: u32, name: &Text, wanted: &Texts) -> Result<Vec<u8>, NoMemory>
-    requires { length wanted.now ≤ 16 }
+    requires { length wanted.now ≤ max_contexts }
     ensures { IfOk result (λ v. v.items ≡ option_body option name.now wanted.now) }
 {
     let mut body = Vec::new(alloc);
-    if option == 6 || option == 7 {
+    if is_info(option) {
         put_info(alloc, name, &mut body)?;
-    } else if option == 10 {
+    } else if option == SET_META_CONTEXT {
         put_meta(alloc, name, wanted, &mut body)?;
-    } else if option == 1 {
+    } else if option == EXPORT_NAME {
         body.extend_from_slice(name.as_bytes())?;
     }
     Ok(body)
@@ -50,7 +54,7 @@ fn put_request(
     wanted: &Texts,
     out: &mut Vec<u8>,
 ) -> Result<(), NoMemory>
-    requires { length wanted.now ≤ 16 }
+    requires { length wanted.now ≤ max_contexts }
     ensures ok { OnOk result (out.new.items ≡ out.old.items ++ option_request option (option_body option name.now wanted.now)) }
     ensures err { OnErr result (out.new.items ≡ out.old.items) }
 {
@@ -69,13 +73,13 @@ pub fn put_request_at(
     wanted: &Texts,
     out: &mut Vec<u8>,
 ) -> Result<(), NoMemory>
-    requires { length wanted.now ≤ 16 }
+    requires { length wanted.now ≤ max_contexts }
     ensures ok { OnOk result (out.new.items ≡ out.old.items ++ concat (request_at phase name.now wanted.now)) }
     ensures err { OnErr result (out.new.items ≡ out.old.items) }
 {
     match phase {
         Phase::Asked(option) => put_request(alloc, option, name, wanted, out),
-        Phase::AskedByName => put_request(alloc, 1, name, wanted, out),
+        Phase::AskedByName => put_request(alloc, EXPORT_NAME, name, wanted, out),
         _ => Ok(()),
     }
 }

@@ -3,9 +3,11 @@
 ghost use Rattle.std.specs.Prelude.{◌≡◌, ◌++◌, ◌≤◌, ◌<◌, [], Some, if◌then◌else◌, OnOk, OnErr, length, true, not, ◌&&◌, ◌||◌, ◌==◌};
 ghost use Rattle.std.specs.List.{concat};
 ghost use Rattle.std.specs.Option.{option_copied};
+ghost use Rattle.lnbd_records.specs.Limits.{max_contexts};
+ghost use Rattle.lnbd_records.specs.Requests.{is_info};
 ghost use Rattle.lnbd_history.specs.declared.kinds.Phase.TheVariants.{Greeting, AskedByName, OptMode};
 ghost use Rattle.lnbd_history.specs.Events as setting;
-ghost use Rattle.lnbd_history.specs.Agreement.{Turn, Hello, Replied, Set, Opted, export_of, opt_answer_of, after_answer, is_info};
+ghost use Rattle.lnbd_history.specs.Agreement.{Turn, Hello, Replied, Set, Opted, export_of, opt_answer_of, after_answer, settles_replies};
 ghost use Rattle.lnbd_history.specs.Arrivals.{Sight, is_asked, reply_verdict};
 ghost use Rattle.lnbd_history.specs.Outgoing.{request_at};
 ghost use Rattle.lnbd_history.specs.Talk.{Talk, taking, pending_with, answered};
@@ -15,7 +17,8 @@ ghost use Rattle.lnbd_negotiate.specs.Means.{begun_with, Takes, Stays, Greets, I
 use crate::front::is_info;
 use crate::judge::{Ruling, judge};
 use crate::kinds::{Config, Next, TalkFault};
-use crate::order::{after_answer, after_hello};
+use crate::options::{EXPORT_NAME, EXTENDED_HEADERS, LIST, SET_META_CONTEXT};
+use crate::order::{after_answer, after_hello, settles_replies};
 use crate::pending::{Pending, nothing};
 use crate::requests::put_request_at;
 use crate::told::{Size, Told, end_of};
@@ -33,6 +36,7 @@ pub struct Talk {
     name: Text,
     wanted: Texts,
     asks_structured: bool,
+    asks_extended: bool,
     opt_mode: bool,
     phase: Phase,
     pending: Pending,
@@ -44,6 +48,7 @@ pub struct Talk {
 
 impl Model for Talk {
     ghost use Rattle.std.specs.Prelude.{length, ◌≤◌};
+    ghost use Rattle.lnbd_records.specs.Limits.{max_contexts};
     ghost use Rattle.lnbd_history.specs.Talk.{Talk};
     ghost use Rattle.lnbd_negotiate.specs.Told.{pending_of, export_told};
 
@@ -53,23 +58,25 @@ impl Model for Talk {
       name = t.name;
       wanted = t.wanted;
       asks_structured = t.asks_structured;
+      asks_extended = t.asks_extended;
       opt_mode = t.opt_mode;
       phase = t.phase;
       pending = pending_of t.pending;
       structured = t.info.structured;
+      extended = t.info.extended;
       contexts = t.info.contexts;
       export = export_told t.has_info t.info;
       listing = t.listing;
       answer = t.answer;
     } };
 
-    ghost invariant = { λ t. length t.wanted ≤ 16 };
+    ghost invariant = { λ t. length t.wanted ≤ max_contexts };
 }
 
 impl Talk {
     /// A talk that has not begun.
     pub fn new(alloc: Global, config: Config) -> Talk
-        requires { length config.contexts ≤ 16 }
+        requires { length config.contexts ≤ max_contexts }
         ensures { result ≡ begun_with config }
     {
         Talk {
@@ -77,6 +84,7 @@ impl Talk {
             name: config.name,
             wanted: config.contexts,
             asks_structured: config.structured,
+            asks_extended: config.extended,
             opt_mode: config.opt_mode,
             phase: Phase::Greeting,
             pending: nothing(alloc),
@@ -88,6 +96,7 @@ impl Talk {
                 description: None,
                 contexts: Contexts::new(alloc),
                 structured: false,
+                extended: false,
             },
             has_info: false,
             listing: Listing::new(alloc),
@@ -105,14 +114,22 @@ impl Talk {
 
     /// Adds a context to those that later requests ask for.
     pub fn add_context(&mut self, name: Text) -> Result<(), NoMemory>
-        requires { length self.old.wanted < 16 }
+        requires { length self.old.wanted < max_contexts }
         ensures ok { OnOk result (self.new ≡ taking (Set (setting.Context name)) self.old) }
         ensures err { OnErr result (self.new ≡ self.old) }
     {
         self.wanted.push(name)
     }
 
-    /// Sets whether structured replies are asked for after the hello.
+    /// Sets whether extended headers are asked for after the hello.
+    pub fn set_extended(&mut self, on: bool)
+        ensures { self.new ≡ taking (Set (setting.Extended on)) self.old }
+    {
+        self.asks_extended = on;
+    }
+
+    /// Sets whether structured replies are asked for after the hello, where extended headers don't come
+    /// with them.
     pub fn set_structured(&mut self, on: bool)
         ensures { self.new ≡ taking (Set (setting.Structured on)) self.old }
     {
@@ -135,10 +152,15 @@ impl Talk {
         if flags & 1 == 0 {
             return Err(TalkFault::Cause(Cause::Broke(Breach::NotFixed)));
         }
-        let phase = after_hello(self.asks_structured, self.opt_mode, &self.wanted);
+        let phase = after_hello(
+            self.asks_extended,
+            self.asks_structured,
+            self.opt_mode,
+            &self.wanted,
+        );
         put_request_at(self.alloc, phase, &self.name, &self.wanted, out)?;
         self.phase = phase;
-        if self.opt_mode && !self.asks_structured {
+        if self.opt_mode && !self.asks_structured && !self.asks_extended {
             Ok(Next::Caller)
         } else {
             Ok(Next::Wait)
@@ -235,7 +257,7 @@ impl Talk {
     {
         match self.phase {
             Phase::Asked(option) => Some(option),
-            Phase::AskedByName => Some(1),
+            Phase::AskedByName => Some(EXPORT_NAME),
             _ => None,
         }
     }
@@ -254,10 +276,17 @@ impl Talk {
         self.info.structured
     }
 
+    /// Whether extended headers are on; structured replies are then on too.
+    pub fn extended(&self) -> bool
+        ensures { result ≡ self.now.extended }
+    {
+        self.info.extended
+    }
+
     /// How many contexts later requests ask for.
     pub fn wanted(&self) -> usize
         ensures count { result ≡ length self.now.wanted }
-        ensures limit { result ≤ 16 }
+        ensures limit { result ≤ max_contexts }
     {
         self.wanted.len()
     }
@@ -299,7 +328,13 @@ impl Talk {
             × (out.new.items ≡ out.old.items ++ concat (request_at self.new.phase self.old.name self.old.wanted))) }
         ensures err { OnErr result (Stays self.old self.new out.old.items out.new.items) }
     {
-        let phase = after_answer(self.opt_mode, &self.wanted, option, code);
+        let phase = after_answer(
+            self.asks_structured,
+            self.opt_mode,
+            &self.wanted,
+            option,
+            code,
+        );
         put_request_at(self.alloc, phase, &self.name, &self.wanted, out)?;
         self.close(option, code, phase);
         Ok(())
@@ -307,7 +342,7 @@ impl Talk {
 
     /// The answer to this option ends, and negotiation comes to this phase.
     fn close(&mut self, option: u32, code: Option<u32>, phase: Phase)
-        ensures { phase ≡ after_answer self.old.opt_mode self.old.wanted option (end code) → self.new ≡ answered option (end code) self.old }
+        ensures { phase ≡ after_answer self.old.asks_structured self.old.opt_mode self.old.wanted option (end code) → self.new ≡ answered option (end code) self.old }
     {
         let Pending {
             count: _,
@@ -320,6 +355,7 @@ impl Talk {
         } = replace(&mut self.pending, nothing(self.alloc));
         let acknowledged = code.is_none();
         self.close_structured(option, acknowledged);
+        self.close_extended(option, acknowledged);
         self.close_contexts(option, acknowledged, contexts);
         self.close_info(option, acknowledged, size, blocks, name, description);
         self.close_listing(option, acknowledged, servers);
@@ -328,17 +364,25 @@ impl Talk {
     }
 
     fn close_structured(&mut self, option: u32, acknowledged: bool)
-        ensures { self.new ≡ record self.old { structured = ((option == 8) && acknowledged) || self.old.structured } }
+        ensures { self.new ≡ record self.old { structured = (settles_replies option && acknowledged) || self.old.structured } }
     {
-        if option == 8 && acknowledged {
+        if settles_replies(option) && acknowledged {
             self.info.structured = true;
+        }
+    }
+
+    fn close_extended(&mut self, option: u32, acknowledged: bool)
+        ensures { self.new ≡ record self.old { extended = ((option == 11) && acknowledged) || self.old.extended } }
+    {
+        if option == EXTENDED_HEADERS && acknowledged {
+            self.info.extended = true;
         }
     }
 
     fn close_contexts(&mut self, option: u32, acknowledged: bool, told: Contexts)
         ensures { self.new ≡ record self.old { contexts = if option == 10 then if acknowledged then told else [] else self.old.contexts } }
     {
-        if option == 10 {
+        if option == SET_META_CONTEXT {
             if acknowledged {
                 self.info.contexts = told;
             } else {
@@ -376,15 +420,15 @@ impl Talk {
     fn close_listing(&mut self, option: u32, acknowledged: bool, servers: Listing)
         ensures { self.new ≡ record self.old { listing = if (option == 3) && acknowledged then servers else self.old.listing } }
     {
-        if option == 3 && acknowledged {
+        if option == LIST && acknowledged {
             self.listing = servers;
         }
     }
 
     fn close_answer(&mut self, option: u32, code: Option<u32>)
-        ensures { self.new ≡ record self.old { answer = if self.old.opt_mode && not (option == 8) then Some (opt_answer_of option (end code)) else self.old.answer } }
+        ensures { self.new ≡ record self.old { answer = if self.old.opt_mode && not (settles_replies option) then Some (opt_answer_of option (end code)) else self.old.answer } }
     {
-        if self.opt_mode && option != 8 {
+        if self.opt_mode && !settles_replies(option) {
             self.answer = Some(match code {
                 None => OptAnswer::Ok,
                 Some(code) => OptAnswer::Refused { option, code },

@@ -26,6 +26,7 @@ fn talk(alloc: Global, structured: bool, opt_mode: bool) -> Talk {
             name: Text::empty(alloc),
             contexts: Texts::new(alloc),
             structured: false,
+            extended: false,
             opt_mode: false,
         },
     );
@@ -137,6 +138,47 @@ fn contexts(talk: &mut Talk, out: &mut Vec<u8>) -> Result<bool, TalkFault> {
     let led = lead(talk, &structured, out)?;
     let want = b"IHAVEOPT\0\0\0\x0a\0\0\0\x1c\0\0\0\x01d\0\0\0\x01\0\0\0\x0fbase:allocation";
     Ok(led && went(out, want))
+}
+
+/// Extended headers are agreed, and GO is asked: structured replies come with them.
+fn extended(talk: &mut Talk, out: &mut Vec<u8>) -> Result<bool, TalkFault> {
+    hello(talk, 3, out)?;
+    let first = went(out, b"IHAVEOPT\0\0\0\x0b\0\0\0\0");
+    let acknowledged: [Row; 1] = [(11, 1, &[], Next::Wait)];
+    let led = lead(talk, &acknowledged, out)?;
+    Ok(first && led && went(out, &GO))
+}
+
+/// Extended headers are refused, and structured replies too.
+fn not_extended(talk: &mut Talk, out: &mut Vec<u8>) -> Result<bool, TalkFault> {
+    hello(talk, 3, out)?;
+    let first = went(out, b"IHAVEOPT\0\0\0\x0b\0\0\0\0");
+    let extended: [Row; 1] = [(11, 0x80000001, &[], Next::Wait)];
+    let led = lead(talk, &extended, out)?;
+    let second = went(out, b"IHAVEOPT\0\0\0\x08\0\0\0\0");
+    let structured: [Row; 1] = [(8, 0x80000001, &[], Next::Wait)];
+    let on = lead(talk, &structured, out)?;
+    Ok(first && led && second && on && went(out, &GO))
+}
+
+#[test]
+fn extended_headers_bring_structured_replies(rt: HostRuntime) -> Result<(), Fail> {
+    let mut out = Vec::new(rt.alloc());
+    let mut told = talk(rt.alloc(), true, false);
+    told.set_extended(true);
+    assert_eq!(rt; extended(&mut told, &mut out), Ok(true));
+    assert_eq!(rt; (told.extended(), told.structured()), (true, true));
+    Ok(())
+}
+
+#[test]
+fn refused_extended_headers_leave_structured_replies_to_ask(rt: HostRuntime) -> Result<(), Fail> {
+    let mut out = Vec::new(rt.alloc());
+    let mut told = talk(rt.alloc(), true, false);
+    told.set_extended(true);
+    assert_eq!(rt; not_extended(&mut told, &mut out), Ok(true));
+    assert_eq!(rt; (told.extended(), told.structured()), (false, false));
+    Ok(())
 }
 
 #[test]

@@ -4,6 +4,7 @@ use Rattle.std.specs.Prelude.{IsUtf8}
 use Rattle.std.specs.Str.{is_utf8}
 use Rattle.std.specs.List.{list_all}
 use Rattle.std.proofs.lemmas.Str.{is_utf8-from_IsUtf8, IsUtf8-from_is_utf8}
+use Rattle.lnbd_records.specs.Limits.{max_text}
 use Rattle.lnbd_records.specs.Told.{Told, Body}
 use Rattle.lnbd_records.specs.Replies.{is_text}
 use Rattle.lnbd_records.specs.Requests.{Asked, asks_texts, with_name}
@@ -20,13 +21,13 @@ not_utf8 bytes never = go (is_utf8 bytes) refl
     go true e = absurd (never (IsUtf8-from_is_utf8 bytes e))
     go false e = rw e refl
 
-pub too_long : (bytes : List ℕ) → 4096 < length bytes → is_text bytes ≡ false
+pub too_long : (bytes : List ℕ) → max_text < length bytes → is_text bytes ≡ false
 too_long bytes h = grind (arith, h)
 
-pub is_a_text : (bytes : List ℕ) → IsUtf8 bytes → length bytes ≤ 4096 → is_text bytes ≡ true
+pub is_a_text : (bytes : List ℕ) → IsUtf8 bytes → length bytes ≤ max_text → is_text bytes ≡ true
 is_a_text bytes u short =
     let e : is_utf8 bytes ≡ true = is_utf8-from_IsUtf8 bytes u in
-    let f : nat_le (length bytes) 4096 ≡ true = grind (arith, short) in
+    let f : nat_le (length bytes) max_text ≡ true = grind (arith, short) in
     rw (e, f) refl
 
 -- A text that can't be read is what is told of the body.

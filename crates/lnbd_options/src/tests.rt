@@ -60,6 +60,8 @@ fn requests_are_refused(rt: HostRuntime) -> Result<(), Fail> {
         (1, &long[..], Some(OptionFault::BadText)),
         (1, &long[..4096], None),
         (3, &b"x"[..], Some(OptionFault::BadOptionLength)),
+        (11, &b"x"[..], Some(OptionFault::BadOptionLength)),
+        (11, &[], None),
         (5, &b"x"[..], None),
         (
             6,
@@ -93,13 +95,14 @@ fn requests_are_refused(rt: HostRuntime) -> Result<(), Fail> {
     Ok(())
 }
 
-// Requests without a body: EXPORT_NAME for the empty name, LIST and STRUCTURED_REPLY.
+// Requests without a body: EXPORT_NAME for the empty name, LIST, STRUCTURED_REPLY and EXTENDED_HEADERS.
 #[test]
 fn requests_without_a_body_are_put(rt: HostRuntime) -> Result<(), Fail> {
     let cases = [
         (1, b"IHAVEOPT\0\0\0\x01\0\0\0\0"),
         (3, b"IHAVEOPT\0\0\0\x03\0\0\0\0"),
         (8, b"IHAVEOPT\0\0\0\x08\0\0\0\0"),
+        (11, b"IHAVEOPT\0\0\0\x0b\0\0\0\0"),
     ];
     for (option, request) in cases {
         let mut out = Vec::new(rt.alloc());
@@ -109,7 +112,7 @@ fn requests_without_a_body_are_put(rt: HostRuntime) -> Result<(), Fail> {
     Ok(())
 }
 
-// INFO and ACK to GO, UNSUP and TLS_REQD to GO, ACK to STRUCTURED_REPLY, SERVER to LIST, UNKNOWN to INFO.
+// INFO and ACK to GO, UNSUP and TLS_REQD to GO, ACK to STRUCTURED_REPLY and to EXTENDED_HEADERS, SERVER to LIST, UNKNOWN to INFO.
 #[test]
 fn heads_are_read(rt: HostRuntime) {
     let heads = [
@@ -142,6 +145,12 @@ fn heads_are_read(rt: HostRuntime) {
             1,
             0,
             b"\0\x03\xe8\x89\x04\x55\x65\xa9\0\0\0\x08\0\0\0\x01\0\0\0\0",
+        ),
+        (
+            11,
+            1,
+            0,
+            b"\0\x03\xe8\x89\x04\x55\x65\xa9\0\0\0\x0b\0\0\0\x01\0\0\0\0",
         ),
         (
             3,

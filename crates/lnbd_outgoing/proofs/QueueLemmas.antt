@@ -35,8 +35,8 @@ waits_push ps n p w writes = ap (cut n) (map_push writes ps p) ∙ cut_push writ
 pub fits_length : (writes : Writes) (p : Piece) → Fits writes p → length (part_of writes p).bytes ≡ size_of p
 fits_length writes (Text bytes) fits = refl
 fits_length writes (Abort bytes) fits = refl
-fits_length writes (Whole bytes) fits = refl
-fits_length writes (Head bytes) fits = refl
+fits_length writes (Whole head) fits = refl
+fits_length writes (Head head) fits = refl
 fits_length writes (Own cookie size) fits = fits
 
 -- bytes of the first part that go out, and leave some
@@ -63,8 +63,8 @@ others_wait old new q agree = ap (cut q.cursor) (same_parts old new q.pieces agr
 still_fits : (old new : Writes) (piece : Piece) → part_of new piece ≡ part_of old piece → Fits old piece → Fits new piece
 still_fits old new (Text bytes) e fits = tt
 still_fits old new (Abort bytes) e fits = tt
-still_fits old new (Whole bytes) e fits = tt
-still_fits old new (Head bytes) e fits = tt
+still_fits old new (Whole head) e fits = tt
+still_fits old new (Head head) e fits = tt
 still_fits old new (Own cookie size) e fits = ap (λ (p : Part). length p.bytes) e ∙ fits
 
 pub others_fit : OthersFit

@@ -9,7 +9,7 @@ mod piece;
 mod queue;
 
 pub use laws::{other_writes_may_change, what_is_left_is_offered};
-pub use piece::Piece;
+pub use piece::{Piece, RequestBytes};
 pub use queue::Queue;
 
 #[cfg(test)]

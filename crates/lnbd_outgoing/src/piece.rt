@@ -1,9 +1,29 @@
 //! The pieces of a queue, and where their bytes are.
 
 ghost use Rattle.std.specs.Prelude.{◌≡◌, ◌≤◌, length};
-ghost use Rattle.lnbd_outgoing.specs.Pieces.{Writes, part_of, size_of, write_of, AreOwn};
+ghost use Rattle.lnbd_outgoing.specs.Pieces.{Writes, head_bytes, part_of, size_of, write_of, AreOwn};
 
 use lnbd_model::Bytes;
+
+/// The head of a request (NBD protocol, "Request message" and "Extended request message").
+#[derive(Clone, Copy, Debug, PartialEq, Eq)]
+pub enum RequestBytes {
+    /// While extended headers are off.
+    Compact([u8; 28]),
+    /// While they are on.
+    Extended([u8; 32]),
+}
+
+impl RequestBytes {
+    pub(crate) fn as_slice(&self) -> &[u8]
+        ensures { result.now ≡ head_bytes self.now }
+    {
+        match self {
+            RequestBytes::Compact(bytes) => bytes,
+            RequestBytes::Extended(bytes) => bytes,
+        }
+    }
+}
 
 /// What is to be sent, and where its bytes are.
 #[derive(Debug, Drop)]
@@ -13,9 +33,9 @@ pub enum Piece {
     /// The request of ABORT.
     Abort([u8; 16]),
     /// A command's head, with which the command ends.
-    Whole([u8; 28]),
+    Whole(RequestBytes),
     /// A command's head before its own bytes, or the head of DISC.
-    Head([u8; 28]),
+    Head(RequestBytes),
     /// So many bytes of the write with this cookie, which stay in its buffer.
     Own { cookie: u64, size: usize },
 }
@@ -30,8 +50,8 @@ impl Piece {
         match self {
             Piece::Text(bytes) => bytes.len(),
             Piece::Abort(bytes) => bytes.as_slice().len(),
-            Piece::Whole(bytes) => bytes.as_slice().len(),
-            Piece::Head(bytes) => bytes.as_slice().len(),
+            Piece::Whole(head) => head.as_slice().len(),
+            Piece::Head(head) => head.as_slice().len(),
             Piece::Own { cookie: _, size } => *size,
         }
     }
@@ -43,8 +63,8 @@ impl Piece {
         match self {
             Piece::Text(bytes) => bytes.as_slice(),
             Piece::Abort(bytes) => bytes,
-            Piece::Whole(bytes) => bytes,
-            Piece::Head(bytes) => bytes,
+            Piece::Whole(head) => head.as_slice(),
+            Piece::Head(head) => head.as_slice(),
             Piece::Own { cookie: _, size: _ } => own,
         }
     }

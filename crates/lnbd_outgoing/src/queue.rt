@@ -3,10 +3,10 @@
 ghost use Rattle.std.specs.Prelude.{◌≡◌, ◌≤◌, ◌<◌, ◌-◌, ◌↔◌, ◌++◌, ◌∷◌, [], length, max, false, true, IsTrue, OnOk, OnErr, IfOk, IfErr};
 ghost use Rattle.lnbd_history.specs.Outgoing.{out, wrote, ended, one_if, plain, last_of};
 ghost use Rattle.lnbd_outgoing.specs.declared.piece.Piece.TheVariants.{Head, Own};
-ghost use Rattle.lnbd_outgoing.specs.Pieces.{Writes, part_of, size_of, Fits};
+ghost use Rattle.lnbd_outgoing.specs.Pieces.{Writes, head_bytes, part_of, size_of, Fits};
 ghost use Rattle.lnbd_outgoing.specs.Queue.{Queue, waits, left, first_write, pushed, AllFit, AreFirstOwn};
 
-use crate::piece::Piece;
+use crate::piece::{Piece, RequestBytes};
 use lnbd_model::{Bytes, NoMemory};
 use std::alloc::Global;
 use std::collections::VecDeque;
@@ -117,12 +117,12 @@ impl Queue {
 
     /// Queues a write: its head, and its own bytes, which stay with the command.
     #[tactic(auto, using(crate::proofs::QueueLemmas::full_push, crate::proofs::QueueLemmas::waits_push, crate::proofs::QueueLemmas::fit_push))]
-    pub fn push_write(&mut self, head: [u8; 28], cookie: u64, size: usize)
+    pub fn push_write(&mut self, head: RequestBytes, cookie: u64, size: usize)
         requires open { self.old.ended ≡ false }
         requires room { 2 ≤ self.old.room }
         requires some { 0 < size }
         ensures queued { self.new ≡ record (pushed (Own cookie size) (pushed (Head head) self.old)) { room = self.old.room - 2 } }
-        ensures waits { (writes : Writes) → waits writes self.new ≡ waits writes self.old ++ plain head ∷ last_of (writes cookie) ∷ [] }
+        ensures waits { (writes : Writes) → waits writes self.new ≡ waits writes self.old ++ plain (head_bytes head) ∷ last_of (writes cookie) ∷ [] }
         ensures fits { (writes : Writes) → length (writes cookie) ≡ size → AllFit writes self.old.pieces → AllFit writes self.new.pieces }
     {
         self.room -= 2;

@@ -1,6 +1,6 @@
 //! The bytes of whole sessions, in the parts in which they go out.
 
-use crate::{Piece, Queue};
+use crate::{Piece, Queue, RequestBytes};
 use lnbd_model::Bytes;
 use std::test::Fail;
 
@@ -11,6 +11,10 @@ const READ: [u8; 28] = *b"\x25\x60\x95\x13\0\0\0\0\0\0\0\0\0\0\0\x01\0\0\0\0\0\0
 
 const DISC: [u8; 28] = *b"\x25\x60\x95\x13\0\0\0\x02\0\0\0\0\0\0\0\0\0\0\0\0\0\0\0\0\0\0\0\0";
 
+/// WRITE of 3 bytes at 0 with the cookie 1 and the flag PAYLOAD_LEN, with extended headers.
+const WRITE: [u8; 32] =
+    *b"\x21\xe4\x1c\x71\0\x20\0\x01\0\0\0\0\0\0\0\x01\0\0\0\0\0\0\0\0\0\0\0\0\0\0\0\x03";
+
 #[test]
 fn parts_go_out_in_order(rt: HostRuntime) -> Result<(), Fail> {
     let mut queue = Queue::new(rt.alloc())?;
@@ -19,8 +23,8 @@ fn parts_go_out_in_order(rt: HostRuntime) -> Result<(), Fail> {
     queue.reserve(3)?;
     queue.push(Piece::Text(Bytes::from_vec(flags)));
     queue.push(Piece::Text(Bytes::from_vec(go)));
-    queue.push(Piece::Whole(READ));
-    queue.push_last(Piece::Head(DISC));
+    queue.push(Piece::Whole(RequestBytes::Compact(READ)));
+    queue.push_last(Piece::Head(RequestBytes::Compact(DISC)));
     let parts: [&[u8]; 4] = [&[0, 0, 0, 3], &GO, &READ, &DISC];
     for part in parts {
         assert_eq!(rt; queue.out(&[]), part);
@@ -36,8 +40,9 @@ fn parts_go_out_in_order(rt: HostRuntime) -> Result<(), Fail> {
 fn a_write_offers_its_own_bytes(rt: HostRuntime) -> Result<(), Fail> {
     let mut queue = Queue::new(rt.alloc())?;
     queue.reserve(2)?;
-    queue.push_write(READ, 1, 3);
+    queue.push_write(RequestBytes::Extended(WRITE), 1, 3);
     assert_eq!(rt; queue.first_write(), None);
+    assert_eq!(rt; queue.out(&[]), WRITE.as_slice());
     let left = queue.left();
     assert_eq!(rt; queue.wrote(left), false);
     assert_eq!(rt; queue.first_write(), Some(1));

@@ -1,3 +1,4 @@
 pub mod TextLemmas
+pub mod FollowLemmas
 pub mod WalkLemmas
 pub mod StandingLemmas

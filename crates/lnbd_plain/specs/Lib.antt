@@ -1,4 +1,5 @@
 pub mod Shown
+pub mod Followed
 pub mod Standing
 pub mod Walked
 pub mod Laws

@@ -1,10 +1,12 @@
 -- What the plain values stand for.
-use Rattle.std.specs.Prelude.{Option, Some, None}
+use Rattle.std.specs.Prelude.{ℕ, Bool, Option, Some, None}
 use Rattle.lnbd_records.specs.Told.{Told as TheTold, Size as TheSize, Body}
 use Rattle.lnbd_records.specs.Told as spec
 use Rattle.lnbd_records.specs.Replies.{are_texts}
+use Rattle.lnbd_chunks.specs.Chunk.{Head as TheHead, descriptors_in, extended_descriptors_in}
 use Rattle.lnbd_history.specs.Arrivals.{Shown as TheShown, Content as TheContent}
 use Rattle.lnbd_history.specs.Arrivals as arrivals
+use Rattle.lnbd_plain.specs.declared.chunks.Head.{Head}
 use Rattle.lnbd_plain.specs.declared.shown.Size.{Size}
 use Rattle.lnbd_plain.specs.declared.shown.Told.{Told}
 use Rattle.lnbd_plain.specs.declared.shown.Told.TheVariants as told
@@ -34,8 +36,21 @@ body_as (Some told) = Some (record { told = told_of told; texts = are_texts (tol
 
 abbrev pub content_of : Content → TheContent
 content_of (content.Data offset bytes) = arrivals.Data offset bytes.now
+content_of (content.Hole offset size) = arrivals.Hole offset size
+content_of (content.Status context count bytes) = arrivals.Status context (descriptors_in count bytes.now)
+content_of (content.ExtendedStatus context count bytes) = arrivals.Status context (extended_descriptors_in count bytes.now)
 content_of (content.Error number) = arrivals.Error number
+content_of (content.ErrorAt number offset) = arrivals.ErrorAt number offset
+content_of content.Nothing = arrivals.Nothing
 content_of content.Bare = arrivals.Bare
+
+-- a reply to the command of this cookie that tells this, and whether it is the last
+abbrev pub telling : (cookie : ℕ) (last : Bool) → TheContent → TheShown
+telling cookie last content = arrivals.Reply (record { cookie = cookie; content = content; last = last })
+
+-- the head of a chunk
+abbrev pub head_of : Head → TheHead
+head_of head = record { flags = head.flags; type = head.kind; length = head.length }
 
 abbrev pub shown_of : Shown → TheShown
 shown_of (shown.Hello flags) = arrivals.Hello flags

@@ -9,11 +9,17 @@ use lnbd_model::Blocks;
 use lnbd_records::{u16_at, u32_at, u64_at};
 use std::str::from_utf8;
 
+/// The most bytes that a text has.
+const MAX_TEXT: usize = 4096;
+
+/// The greatest minimum size of a block that counts.
+const MAX_MINIMUM: u32 = 65536;
+
 #[tactic(auto, using(crate::proofs::TextLemmas::not_utf8, crate::proofs::TextLemmas::of_utf8))]
 fn is_text(bytes: &[u8]) -> bool
     ensures { result ≡ is_text bytes.now }
 {
-    from_utf8(bytes).is_ok() && bytes.len() <= 4096
+    from_utf8(bytes).is_ok() && bytes.len() <= MAX_TEXT
 }
 
 /// Whether the texts that are told are texts: UTF-8 of at most 4,096 bytes.
@@ -69,7 +75,7 @@ fn blocks(minimum: u32, preferred: u32, maximum: u32) -> Told<'static>
 {
     let counts = minimum.is_power_of_two()
         && preferred.is_power_of_two()
-        && minimum <= 65536
+        && minimum <= MAX_MINIMUM
         && minimum <= preferred
         && (maximum == 0xffffffff || (maximum > 0 && maximum % minimum == 0));
     if counts {

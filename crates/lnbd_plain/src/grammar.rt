@@ -13,13 +13,16 @@ use crate::standing::Standing;
 use lnbd_history::{Phase, Stage};
 use lnbd_model::Breach;
 
+/// How many bytes are passed over after an abort.
+const MAX_PASSED: u64 = 65536;
+
 /// After an abort so many bytes are passed over.
 fn passed<'a>(passed: u64, bytes: &'a [u8]) -> Option<Shown<'a>>
     ensures { shows_passed passed bytes.now ≡ shown_as result }
 {
     if bytes.is_empty() {
         None
-    } else if passed < 65536 {
+    } else if passed < MAX_PASSED {
         Some(Shown::Passed)
     } else {
         Some(Shown::Broken(Breach::TooManyReplies))
@@ -37,21 +40,26 @@ fn ignored<'a>(bytes: &'a [u8]) -> Option<Shown<'a>>
 }
 
 fn spoken<'a>(standing: &Standing, bytes: &'a [u8]) -> Option<Shown<'a>>
-    ensures { shows_in standing.now.phase (standing_of standing.now).sight (waited_in standing.now.asked.items) bytes.now ≡ shown_as result }
+    ensures { shows_in standing.now.phase (standing_of standing.now).sight (waited_in (standing_of standing.now).asked) bytes.now ≡ shown_as result }
 {
     match standing.phase {
         Phase::Greeting => hello(bytes),
         Phase::Asked(_) => option_reply(standing, bytes),
         Phase::OptMode => option_reply(standing, bytes),
         Phase::AskedByName => export_reply(standing.no_zeroes, bytes),
-        Phase::Ready => reply(standing.structured, &standing.asked, bytes),
+        Phase::Ready => reply(
+            standing.structured,
+            standing.extended,
+            &standing.asked,
+            bytes,
+        ),
         Phase::Refused(_) => ignored(bytes),
     }
 }
 
 /// What bytes show where a connection stands so. None where they show nothing yet.
 pub fn seen<'a>(standing: &Standing, bytes: &'a [u8]) -> Option<Shown<'a>>
-    ensures { shows_at standing.now.stage (standing_of standing.now).sight (waited_in standing.now.asked.items) bytes.now ≡ shown_as result }
+    ensures { shows_at standing.now.stage (standing_of standing.now).sight (waited_in (standing_of standing.now).asked) bytes.now ≡ shown_as result }
 {
     match standing.stage {
         Stage::Created => ignored(bytes),

@@ -5,6 +5,8 @@
 
 mod arrival;
 mod body;
+mod chunks;
+mod follow;
 mod grammar;
 mod greeting;
 mod laws;
@@ -16,13 +18,14 @@ mod standing;
 
 pub use arrival::{Arrival, arrive};
 pub use body::told;
+pub use chunks::{Head, chunk};
 pub use grammar::seen;
 pub use greeting::hello;
 pub use laws::standings_are_alike;
 pub use options::{export_reply, option_reply};
 pub use replies::reply;
 pub use shown::{Content, Shown, Size, Told};
-pub use standing::{Asked, Settings, Standing};
+pub use standing::{Asked, Settings, Standing, Waited};
 
 #[cfg(test)]
 mod tests;

@@ -1,7 +1,7 @@
 //! The bytes of option replies, and of the reply to EXPORT_NAME.
 
 ghost use Rattle.std.specs.Prelude.{◌≡◌, Some};
-ghost use Rattle.lnbd_history.specs.Agreement.{is_info};
+ghost use Rattle.lnbd_records.specs.Requests.{is_info};
 ghost use Rattle.lnbd_history.specs.Arrivals.{shows_option, shows_by_name, shows_whole, is_asked, is_named, limit, counts, is_too_big, is_ack};
 ghost use Rattle.lnbd_plain.specs.Shown.{told_of, shown_of, shown_as, body_as};
 ghost use Rattle.lnbd_plain.specs.Standing.{standing_of};
@@ -46,11 +46,20 @@ fn counts(kind: u32) -> bool
     !(kind >= 0x80000000 || kind == 1)
 }
 
+/// The longest body of an option reply.
+const MAX_OPTION_REPLY: u32 = 65536;
+
+/// How many exports a server may list.
+const MAX_LISTED: u64 = 10000;
+
+/// How many replies another option may have before its last.
+const MAX_REPLIES: u64 = 1024;
+
 /// How many such replies an option may have.
 fn limit(option: u32) -> u64
     ensures { result ≡ limit option }
 {
-    if option == 3 { 10000 } else { 1024 }
+    if option == 3 { MAX_LISTED } else { MAX_REPLIES }
 }
 
 fn is_ack(told: &Told) -> bool
@@ -114,7 +123,7 @@ pub fn option_reply<'a>(standing: &Standing, bytes: &'a [u8]) -> Option<Shown<'a
     if !is_asked(option, standing.phase) {
         return Some(Shown::Broken(Breach::WrongOption));
     }
-    if length > 65536 {
+    if length > MAX_OPTION_REPLY {
         return Some(Shown::Broken(Breach::BadOptionLength));
     }
     if !is_named(option, kind) {

@@ -31,12 +31,39 @@ pub enum Told<'a> {
     },
 }
 
-/// What a frame tells its command.
+/// What a frame tells its command (NBD protocol, "Simple reply message" and "Structured reply types").
 #[derive(Clone, Copy, Debug, PartialEq, Eq)]
 pub enum Content<'a> {
     /// Content of the export from this place on.
-    Data { offset: u64, bytes: &'a [u8] },
+    Data {
+        offset: u64,
+        bytes: &'a [u8],
+    },
+    /// So many zeros from this place on.
+    Hole {
+        offset: u64,
+        size: u32,
+    },
+    /// So many descriptors of 8 bytes, which these bytes begin with.
+    Status {
+        context: u32,
+        count: u64,
+        bytes: &'a [u8],
+    },
+    /// The same with descriptors of 16 bytes.
+    ExtendedStatus {
+        context: u32,
+        count: u64,
+        bytes: &'a [u8],
+    },
     Error(u32),
+    /// An error with a place of the export.
+    ErrorAt {
+        number: u32,
+        offset: u64,
+    },
+    /// A chunk that tells nothing.
+    Nothing,
     /// Neither.
     Bare,
 }

@@ -5,6 +5,9 @@ use lnbd_history::{Phase, Stage};
 use lnbd_model::{Blocks, Breach, Kind, NoMemory, Texts};
 use std::alloc::Global;
 
+/// A command in flight: its cookie, kind, flags, offset and length.
+type Row = (u64, Kind, u32, u64, u64);
+
 /// Where a connection stands before its bytes come.
 #[derive(Clone, Copy)]
 struct Place<'a> {
@@ -13,8 +16,9 @@ struct Place<'a> {
     count: u64,
     passed: u64,
     structured: bool,
+    extended: bool,
     opt_mode: bool,
-    asked: &'a [Asked],
+    asked: &'a [Row],
 }
 
 const OPENED: Place<'static> = Place {
@@ -23,6 +27,7 @@ const OPENED: Place<'static> = Place {
     count: 0,
     passed: 0,
     structured: false,
+    extended: false,
     opt_mode: false,
     asked: &[],
 };
@@ -42,7 +47,7 @@ fn answers_to<'a>(option: u32) -> Place<'a> {
     }
 }
 
-fn ready<'a>(asked: &'a [Asked]) -> Place<'a> {
+fn ready<'a>(asked: &'a [Row]) -> Place<'a> {
     Place {
         phase: Phase::Ready,
         asked,
@@ -50,13 +55,8 @@ fn ready<'a>(asked: &'a [Asked]) -> Place<'a> {
     }
 }
 
-fn command(cookie: u64, kind: Kind, offset: u64, length: u64) -> Asked {
-    Asked {
-        cookie,
-        kind,
-        offset,
-        length,
-    }
+fn command(cookie: u64, kind: Kind, offset: u64, length: u64) -> Row {
+    (cookie, kind, 0, offset, length)
 }
 
 fn stands(alloc: Global, place: &Place) -> Result<Standing, NoMemory> {
@@ -64,6 +64,7 @@ fn stands(alloc: Global, place: &Place) -> Result<Standing, NoMemory> {
         alloc,
         Settings {
             structured: place.structured,
+            extended: place.extended,
             opt_mode: place.opt_mode,
             contexts: Texts::new(alloc),
         },
@@ -73,7 +74,13 @@ fn stands(alloc: Global, place: &Place) -> Result<Standing, NoMemory> {
     standing.count = place.count;
     standing.passed = place.passed;
     standing.structured = place.structured;
-    standing.asked.extend_from_slice(place.asked)?;
+    standing.extended = place.extended;
+    for row in place.asked {
+        let (cookie, kind, flags, offset, length) = *row;
+        standing
+            .asked
+            .push(Asked::new(alloc, cookie, kind, flags, offset, length))?;
+    }
     Ok(standing)
 }
 
@@ -136,6 +143,18 @@ fn export(place: usize, size: u64) -> (usize, Shown<'static>) {
 
 fn reply<'a>(place: usize, cookie: u64, content: Content<'a>) -> (usize, Shown<'a>) {
     let last = true;
+    (
+        place,
+        Shown::Reply {
+            cookie,
+            content,
+            last,
+        },
+    )
+}
+
+fn chunk<'a>(place: usize, cookie: u64, content: Content<'a>) -> (usize, Shown<'a>) {
+    let last = false;
     (
         place,
         Shown::Reply {
@@ -605,4 +624,163 @@ fn bytes_after_an_abort_are_passed_over_up_to_a_limit(rt: HostRuntime) {
             0
         )
     );
+}
+
+/// Places of replies that are awaited with structured replies, and with extended headers.
+fn structured<'a>(asked: &'a [Row]) -> Place<'a> {
+    Place {
+        structured: true,
+        ..ready(asked)
+    }
+}
+
+fn extended<'a>(asked: &'a [Row]) -> Place<'a> {
+    Place {
+        extended: true,
+        ..structured(asked)
+    }
+}
+
+#[test]
+fn extended_headers_are_asked_first(rt: HostRuntime) {
+    assert!(rt;
+        reads(
+            rt.alloc(),
+            &Place {
+                structured: true,
+                extended: true,
+                ..OPENED
+            },
+            b"NBDMAGICIHAVEOPT\0\x03\
+        \0\x03\xe8\x89\x04\x55\x65\xa9\0\0\0\x0b\0\0\0\x01\0\0\0\0\
+        \0\x03\xe8\x89\x04\x55\x65\xa9\0\0\0\x07\0\0\0\x03\0\0\0\x0c\0\0\0\0\0\0\0\x10\0\0\0\x01\
+        \0\x03\xe8\x89\x04\x55\x65\xa9\0\0\0\x07\0\0\0\x01\0\0\0\0",
+            &[(18, Shown::Hello(3)), (38, ACK), (70, EXPORT), (90, ACK)],
+            0
+        )
+    );
+}
+
+#[test]
+fn chunks_show_what_they_tell(rt: HostRuntime) {
+    let asked = [command(1, Kind::Read, 4096, 8)];
+    assert!(rt;
+        reads(
+            rt.alloc(),
+            &structured(&asked),
+            b"\x66\x8e\x33\xef\0\0\0\x01\0\0\0\0\0\0\0\x01\0\0\0\x0c\0\0\0\0\0\0\x10\x04\x11\x22\x33\x44\
+        \x66\x8e\x33\xef\0\x01\0\x02\0\0\0\0\0\0\0\x01\0\0\0\x0c\0\0\0\0\0\0\x10\0\0\0\0\x04",
+            &[
+                chunk(
+                    32,
+                    1,
+                    Content::Data {
+                        offset: 4100,
+                        bytes: b"\x11\x22\x33\x44"
+                    }
+                ),
+                reply(
+                    64,
+                    1,
+                    Content::Hole {
+                        offset: 4096,
+                        size: 4
+                    }
+                )
+            ],
+            0
+        )
+    );
+}
+
+#[test]
+fn an_extended_status_is_shown(rt: HostRuntime) {
+    let asked = [command(1, Kind::BlockStatus, 0, 8192)];
+    assert!(rt;
+        reads(
+            rt.alloc(),
+            &extended(&asked),
+            b"\x6e\x8a\x27\x8c\0\x01\0\x06\0\0\0\0\0\0\0\x01\0\0\0\0\0\0\0\0\0\0\0\0\0\0\0\x18\
+        \0\0\0\x01\0\0\0\x01\0\0\0\0\0\0\x20\0\0\0\0\0\0\0\0\x03",
+            &[reply(
+                56,
+                1,
+                Content::ExtendedStatus {
+                    context: 1,
+                    count: 1,
+                    bytes: b"\0\0\0\0\0\0\x20\0\0\0\0\0\0\0\0\x03"
+                }
+            )],
+            0
+        )
+    );
+}
+
+#[test]
+fn faulty_chunks_show_their_fault(rt: HostRuntime) {
+    let asked = [command(1, Kind::Read, 4096, 512)];
+    let rows: [(bool, &[u8], usize, Breach); 8] = [
+        (true, b"\x67\x44\x66\x98", 4, Breach::MixedHeaders),
+        (false, b"\x6e\x8a\x27\x8c", 4, Breach::BadReplyMagic),
+        (
+            false,
+            b"\x66\x8e\x33\xef\0\x01\0\0\0\0\0\0\0\0\0\x02\0\0\0\0",
+            20,
+            Breach::UnknownCookie,
+        ),
+        (
+            false,
+            b"\x66\x8e\x33\xef\0\x01\0\0\0\0\0\0\0\0\0\x01\0\0\0\x01",
+            20,
+            Breach::BadChunkLength,
+        ),
+        (
+            false,
+            b"\x66\x8e\x33\xef\0\0\0\0\0\0\0\0\0\0\0\x01\0\0\0\0",
+            20,
+            Breach::BadChunkType,
+        ),
+        (
+            false,
+            b"\x66\x8e\x33\xef\0\0\0\x01\0\0\0\0\0\0\0\x01\0\0\0\x0c\0\0\0\0\0\0\x11\xfd",
+            28,
+            Breach::OutOfRange,
+        ),
+        (
+            false,
+            b"\x66\x8e\x33\xef\0\x01\x80\x01\0\0\0\0\0\0\0\x01\0\0\0\x06\0\0\0\0\0\0",
+            26,
+            Breach::ZeroError,
+        ),
+        (
+            false,
+            b"\x66\x8e\x33\xef\0\x01\x80\x01\0\0\0\0\0\0\0\x01\0\0\0\x06\0\0\0\x05\0\x01",
+            26,
+            Breach::BadChunkLength,
+        ),
+    ];
+    for (on, bytes, place, breach) in rows {
+        let stands = if on {
+            extended(&asked)
+        } else {
+            structured(&asked)
+        };
+        assert!(rt; reads(rt.alloc(), &stands, bytes, &[broken(place, breach)], 0));
+    }
+}
+
+#[test]
+fn faults_are_counted(rt: HostRuntime) -> Result<(), NoMemory> {
+    let mut standing = stands(rt.alloc(), &structured(&[command(1, Kind::Read, 0, 8)]))?;
+    let hole = b"\x66\x8e\x33\xef\0\0\0\x02\0\0\0\0\0\0\0\x01\0\0\0\x0c\0\0\0\0\0\0\0\0\0\0\0\x04";
+    let failed = b"\x66\x8e\x33\xef\0\0\x80\x01\0\0\0\0\0\0\0\x01\0\0\0\x06\0\0\0\x05\0\0";
+    let mut faults = Vec::new(rt.alloc());
+    for bytes in [hole.as_slice(), hole, failed] {
+        let _ = arrive(rt.alloc(), &mut standing, bytes, 0)?;
+        for one in &standing.asked {
+            faults.push(one.faults)?;
+        }
+    }
+    assert_eq!(rt; faults.as_slice(), [0, 1, 2].as_slice());
+    Ok(())
 }

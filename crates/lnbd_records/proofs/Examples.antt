@@ -7,7 +7,7 @@ use Rattle.lnbd_records.specs.Told.{Told, Body}
 use Rattle.lnbd_records.specs.Told as told
 use Rattle.lnbd_records.specs.Replies.{is_text, are_blocks, body_of}
 use Rattle.lnbd_records.specs.Requests.{info_request, Info, Meta, asked_of}
-use Rattle.lnbd_records.specs.Transmission.{request}
+use Rattle.lnbd_records.specs.Transmission.{request, disconnect, extended_request, extended_disconnect, extended_chunk_head, extended_block_status}
 
 hello_bytes : row (hello 3) ≡ 0x4e ∷ 0x42 ∷ 0x44 ∷ 0x4d ∷ 0x41 ∷ 0x47 ∷ 0x49 ∷ 0x43 ∷ 0x49 ∷ 0x48 ∷ 0x41 ∷ 0x56 ∷ 0x45 ∷ 0x4f ∷ 0x50 ∷ 0x54 ∷ 0 ∷ 3 ∷ []
 unfolding row
@@ -72,3 +72,26 @@ large_minimum = refl
 read_request : row (request 0 0 1 0 512) ≡ 0x25 ∷ 0x60 ∷ 0x95 ∷ 0x13 ∷ 0 ∷ 0 ∷ 0 ∷ 0 ∷ 0 ∷ 0 ∷ 0 ∷ 0 ∷ 0 ∷ 0 ∷ 0 ∷ 1 ∷ 0 ∷ 0 ∷ 0 ∷ 0 ∷ 0 ∷ 0 ∷ 0 ∷ 0 ∷ 0 ∷ 0 ∷ 2 ∷ 0 ∷ []
 unfolding row
 read_request = refl
+
+session_end : row disconnect ≡ 0x25 ∷ 0x60 ∷ 0x95 ∷ 0x13 ∷ 0 ∷ 0 ∷ 0 ∷ 2 ∷ 0 ∷ 0 ∷ 0 ∷ 0 ∷ 0 ∷ 0 ∷ 0 ∷ 0 ∷ 0 ∷ 0 ∷ 0 ∷ 0 ∷ 0 ∷ 0 ∷ 0 ∷ 0 ∷ 0 ∷ 0 ∷ 0 ∷ 0 ∷ []
+unfolding row
+session_end = refl
+
+-- a request of 6 GiB of zeroes, with extended headers
+extended_zero : row (extended_request 0 6 1 0 0x180000000) ≡ 0x21 ∷ 0xe4 ∷ 0x1c ∷ 0x71 ∷ 0 ∷ 0 ∷ 0 ∷ 6 ∷ 0 ∷ 0 ∷ 0 ∷ 0 ∷ 0 ∷ 0 ∷ 0 ∷ 1 ∷ 0 ∷ 0 ∷ 0 ∷ 0 ∷ 0 ∷ 0 ∷ 0 ∷ 0 ∷ 0 ∷ 0 ∷ 0 ∷ 1 ∷ 0x80 ∷ 0 ∷ 0 ∷ 0 ∷ []
+unfolding row
+extended_zero = refl
+
+extended_session_end : row extended_disconnect ≡ 0x21 ∷ 0xe4 ∷ 0x1c ∷ 0x71 ∷ 0 ∷ 0 ∷ 0 ∷ 2 ∷ 0 ∷ 0 ∷ 0 ∷ 0 ∷ 0 ∷ 0 ∷ 0 ∷ 0 ∷ 0 ∷ 0 ∷ 0 ∷ 0 ∷ 0 ∷ 0 ∷ 0 ∷ 0 ∷ 0 ∷ 0 ∷ 0 ∷ 0 ∷ 0 ∷ 0 ∷ 0 ∷ 0 ∷ []
+unfolding row
+extended_session_end = refl
+
+-- the last chunk for it, which tells nothing
+extended_done : row (extended_chunk_head 1 0 1 0 0) ≡ 0x6e ∷ 0x8a ∷ 0x27 ∷ 0x8c ∷ 0 ∷ 1 ∷ 0 ∷ 0 ∷ 0 ∷ 0 ∷ 0 ∷ 0 ∷ 0 ∷ 0 ∷ 0 ∷ 1 ∷ 0 ∷ 0 ∷ 0 ∷ 0 ∷ 0 ∷ 0 ∷ 0 ∷ 0 ∷ 0 ∷ 0 ∷ 0 ∷ 0 ∷ 0 ∷ 0 ∷ 0 ∷ 0 ∷ []
+unfolding row
+extended_done = refl
+
+-- of the context 1 one descriptor: 8,192 bytes with the flags 3
+extended_status : row (extended_block_status 1 (record { length = 8192; flags = 3 } ∷ [])) ≡ 0 ∷ 0 ∷ 0 ∷ 1 ∷ 0 ∷ 0 ∷ 0 ∷ 1 ∷ 0 ∷ 0 ∷ 0 ∷ 0 ∷ 0 ∷ 0 ∷ 0x20 ∷ 0 ∷ 0 ∷ 0 ∷ 0 ∷ 0 ∷ 0 ∷ 0 ∷ 0 ∷ 3 ∷ []
+unfolding row
+extended_status = refl

@@ -45,7 +45,7 @@ same_number (suc n) (x ∷ xs) (y ∷ ys) p q d e h =
 pub bytes_of_drop : (n : ℕ) (bytes : List ℕ) → IsBytes bytes → IsBytes (drop n bytes)
 bytes_of_drop n bytes h = λ i. rw get_or-drop (h (n + i))
 
-bytes_of_take : (n : ℕ) (bytes : List ℕ) → IsBytes bytes → n ≤ length bytes → IsBytes (take n bytes)
+pub bytes_of_take : (n : ℕ) (bytes : List ℕ) → IsBytes bytes → n ≤ length bytes → IsBytes (take n bytes)
 bytes_of_take zero bytes h e = no_bytes
 bytes_of_take (suc n) [] h e = absurd (omega arith)
 bytes_of_take (suc n) (x ∷ xs) h e = cons_bytes _ _ (h 0) (bytes_of_take n xs (λ i. h (suc i)) (omega arith))

@@ -1,6 +1,10 @@
+pub mod Content
+pub mod Flags
 pub mod Fronts
 pub mod Handshake
+pub mod Limits
 pub mod Numbers
+pub mod Options
 pub mod Replies
 pub mod Requests
 pub mod Told

@@ -1,16 +1,18 @@
 -- The bodies of option replies.
-use Rattle.std.specs.Prelude.{◌≡◌, ℕ, ◌+◌, ◌-◌, ◌%◌, ◌^◌, ◌≤◌, ◌⊎◌, Bool, true, false, ◌&&◌, ◌||◌, List, [], ◌∷◌, ◌++◌, length, take, drop, Option, Some, None, if◌then◌else◌, ◌==◌, nat_lt, nat_le}
+use Rattle.std.specs.Prelude.{◌≡◌, ℕ, ◌+◌, ◌-◌, ◌%◌, ◌≤◌, ◌⊎◌, Bool, true, false, ◌&&◌, ◌||◌, List, [], ◌∷◌, ◌++◌, length, take, drop, Option, Some, None, if◌then◌else◌, ◌==◌, nat_lt, nat_le}
 use Rattle.std.specs.Int.{is_power_of_two}
 use Rattle.std.specs.Str.{is_utf8}
+use Rattle.lnbd_records.specs.Limits.{max_text, max_minimum_block}
 use Rattle.lnbd_records.specs.Numbers.{Field, number, IsRow, IsRowThen, number_at}
 use Rattle.lnbd_records.specs.Told.{Told, Size, Body}
+use Rattle.lnbd_records.specs.Options.{rep_ack, rep_server, rep_info, rep_meta_context, first_rep_error, info_export, info_name, info_description, info_block_size}
 use Rattle.lnbd_records.specs.Told as told
 
 -- Texts.
 
--- UTF-8 of at most 4,096 bytes
+-- UTF-8 that isn't too long
 abbrev pub is_text : List ℕ → Bool
-is_text bytes = is_utf8 bytes && nat_le (length bytes) 4096
+is_text bytes = is_utf8 bytes && nat_le (length bytes) max_text
 
 -- whether the texts that are told are texts
 abbrev pub are_texts : Told → Bool
@@ -29,7 +31,7 @@ are_texts told.Passed = true
 -- What told sizes of blocks must be to count. The highest maximum means that there is none.
 unfoldable pub are_blocks : ℕ → ℕ → ℕ → Bool
 are_blocks minimum preferred maximum =
-    is_power_of_two minimum && is_power_of_two preferred && nat_le minimum 65536 && nat_le minimum preferred
+    is_power_of_two minimum && is_power_of_two preferred && nat_le minimum max_minimum_block && nat_le minimum preferred
     && ((maximum == 0xffffffff) || (nat_lt 0 maximum && (maximum % minimum == 0)))
 
 abbrev pub blocks_told : ℕ → ℕ → ℕ → Told
@@ -58,10 +60,10 @@ context_body bytes = fits (nat_le 4 (length bytes)) (told.Context (record { id =
 -- or the minimum, preferred and maximum size of a block (32 bits each)
 abbrev pub info_of_type : ℕ → List ℕ → Option Body
 info_of_type type bytes =
-    if type == 0 then fits (length bytes == 12) (told.Export (record { size = number_at 2 8 bytes; flags = number_at 10 2 bytes }))
-    else if type == 1 then fits true (told.Name (drop 2 bytes))
-    else if type == 2 then fits true (told.Description (drop 2 bytes))
-    else if type == 3 then fits (length bytes == 14) (blocks_told (number_at 2 4 bytes) (number_at 6 4 bytes) (number_at 10 4 bytes))
+    if type == info_export then fits (length bytes == 12) (told.Export (record { size = number_at 2 8 bytes; flags = number_at 10 2 bytes }))
+    else if type == info_name then fits true (told.Name (drop 2 bytes))
+    else if type == info_description then fits true (told.Description (drop 2 bytes))
+    else if type == info_block_size then fits (length bytes == 14) (blocks_told (number_at 2 4 bytes) (number_at 6 4 bytes) (number_at 10 4 bytes))
     else fits true told.Passed
 
 abbrev pub info_body : List ℕ → Option Body
@@ -70,20 +72,20 @@ info_body bytes = if nat_le 2 (length bytes) then info_of_type (number_at 0 2 by
 -- a reply's body, by the reply's type; none where the bytes don't fit the type's form
 unfoldable pub body_of : ℕ → List ℕ → Option Body
 body_of type bytes =
-    if nat_le (2 ^ 31) type then fits true (told.Error (type - 2 ^ 31))
-    else if type == 1 then fits (length bytes == 0) told.Ack
-    else if type == 2 then server_body bytes
-    else if type == 3 then info_body bytes
-    else if type == 4 then context_body bytes
+    if nat_le first_rep_error type then fits true (told.Error (type - first_rep_error))
+    else if type == rep_ack then fits (length bytes == 0) told.Ack
+    else if type == rep_server then server_body bytes
+    else if type == rep_info then info_body bytes
+    else if type == rep_meta_context then context_body bytes
     else None
 
 -- The same bodies by their fields.
 
 abbrev pub export : Size → List Field
-export size = number 2 0 ∷ number 8 size.size ∷ number 2 size.flags ∷ []
+export size = number 2 info_export ∷ number 8 size.size ∷ number 2 size.flags ∷ []
 
 abbrev pub block_size : ℕ → ℕ → ℕ → List Field
-block_size minimum preferred maximum = number 2 3 ∷ number 4 minimum ∷ number 4 preferred ∷ number 4 maximum ∷ []
+block_size minimum preferred maximum = number 2 info_block_size ∷ number 4 minimum ∷ number 4 preferred ∷ number 4 maximum ∷ []
 
 -- information of a type that isn't known, or sizes of blocks that don't count
 abbrev pub IsPassed : List ℕ → Type 0
@@ -93,14 +95,14 @@ IsPassed bytes =
 
 -- a reply of this type with this body tells this
 abbrev pub Tells : ℕ → List ℕ → Told → Type 0
-Tells type bytes told.Ack = (type ≡ 1) × (bytes ≡ [])
-Tells type bytes (told.Error code) = type ≡ 2 ^ 31 + code
-Tells type bytes (told.Server listed) = (type ≡ 2) × IsRowThen (number 4 (length listed.name) ∷ []) (listed.name ++ listed.description) bytes
-Tells type bytes (told.Export size) = (type ≡ 3) × IsRow (export size) bytes
-Tells type bytes (told.Name name) = (type ≡ 3) × IsRowThen (number 2 1 ∷ []) name bytes
-Tells type bytes (told.Description description) = (type ≡ 3) × IsRowThen (number 2 2 ∷ []) description bytes
+Tells type bytes told.Ack = (type ≡ rep_ack) × (bytes ≡ [])
+Tells type bytes (told.Error code) = type ≡ first_rep_error + code
+Tells type bytes (told.Server listed) = (type ≡ rep_server) × IsRowThen (number 4 (length listed.name) ∷ []) (listed.name ++ listed.description) bytes
+Tells type bytes (told.Export size) = (type ≡ rep_info) × IsRow (export size) bytes
+Tells type bytes (told.Name name) = (type ≡ rep_info) × IsRowThen (number 2 info_name ∷ []) name bytes
+Tells type bytes (told.Description description) = (type ≡ rep_info) × IsRowThen (number 2 info_description ∷ []) description bytes
 Tells type bytes (told.Blocks blocks) =
-    (type ≡ 3) × (are_blocks blocks.minimum blocks.preferred blocks.maximum ≡ true)
+    (type ≡ rep_info) × (are_blocks blocks.minimum blocks.preferred blocks.maximum ≡ true)
     × IsRow (block_size blocks.minimum blocks.preferred blocks.maximum) bytes
-Tells type bytes told.Passed = (type ≡ 3) × IsPassed bytes
-Tells type bytes (told.Context context) = (type ≡ 4) × IsRowThen (number 4 context.id ∷ []) context.name bytes
+Tells type bytes told.Passed = (type ≡ rep_info) × IsPassed bytes
+Tells type bytes (told.Context context) = (type ≡ rep_meta_context) × IsRowThen (number 4 context.id ∷ []) context.name bytes

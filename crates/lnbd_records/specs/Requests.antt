@@ -3,6 +3,7 @@ use Rattle.std.specs.Prelude.{◌≡◌, ℕ, zero, suc, ◌+◌, ◌*◌, ◌^�
 use Rattle.std.specs.List.{list_all}
 use Rattle.lnbd_records.specs.Numbers.{Field, number, row, AllFit, number_at, counted}
 use Rattle.lnbd_records.specs.Replies.{is_text}
+use Rattle.lnbd_records.specs.Options.{opt_abort, opt_export_name, opt_extended_headers, opt_go, opt_info, opt_list, opt_set_meta_context, opt_structured_reply}
 
 -- What a client puts.
 
@@ -36,22 +37,22 @@ pub data Asked : Type 0 where
   Plain : Asked
 
 abbrev pub is_info : ℕ → Bool
-is_info option = (option == 6) || (option == 7)
+is_info option = (option == opt_info) || (option == opt_go)
 
 -- ABORT, LIST, STRUCTURED_REPLY and EXTENDED_HEADERS have no data.
 abbrev pub has_no_data : ℕ → Bool
-has_no_data option = (option == 2) || (option == 3) || (option == 8) || (option == 11)
+has_no_data option = (option == opt_abort) || (option == opt_list) || (option == opt_structured_reply) || (option == opt_extended_headers)
 
 -- an option request with this body asks this
 abbrev pub Asks : ℕ → List ℕ → Asked → Type 0
-Asks option bytes (Name name) = (option ≡ 1) × (bytes ≡ name)
+Asks option bytes (Name name) = (option ≡ opt_export_name) × (bytes ≡ name)
 Asks option bytes (Info name types) =
     (is_info option ≡ true) × (length name < 2 ^ 32) × AllFit (information_types types) × (bytes ≡ info_request name types)
 Asks option bytes (Meta name queries) =
-    (option ≡ 10) × (length name < 2 ^ 32) × (length queries < 2 ^ 32) × All (λ query. length query < 2 ^ 32) queries
+    (option ≡ opt_set_meta_context) × (length name < 2 ^ 32) × (length queries < 2 ^ 32) × All (λ query. length query < 2 ^ 32) queries
     × (bytes ≡ meta_request name queries)
 Asks option bytes Plain =
-    ((option == 1) || is_info option || (option == 10) ≡ false) × ((has_no_data option ≡ true) → bytes ≡ [])
+    ((option == opt_export_name) || is_info option || (option == opt_set_meta_context) ≡ false) × ((has_no_data option ≡ true) → bytes ≡ [])
 
 -- whether the texts of a request are texts
 abbrev pub asks_texts : Asked → Bool
@@ -102,8 +103,8 @@ meta_asked bytes =
 -- a request's body, by the option; none where the bytes don't fit the option's form
 unfoldable pub asked_of : ℕ → List ℕ → Option Asked
 asked_of option bytes =
-    if option == 1 then Some (Name bytes)
+    if option == opt_export_name then Some (Name bytes)
     else if is_info option then info_asked bytes
-    else if option == 10 then meta_asked bytes
+    else if option == opt_set_meta_context then meta_asked bytes
     else if has_no_data option && not (length bytes == 0) then None
     else Some Plain

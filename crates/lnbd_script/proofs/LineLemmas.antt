@@ -12,7 +12,7 @@ use Rattle.lnbd_history.specs.declared.kinds.Phase.{Phase}
 use Rattle.lnbd_history.specs.declared.kinds.Phase.TheVariants as phase
 use Rattle.lnbd_history.specs.declared.kinds.Stage.{Stage}
 use Rattle.lnbd_history.specs.declared.kinds.Stage.TheVariants as stage
-use Rattle.lnbd_history.specs.Commands.{Command}
+use Rattle.lnbd_history.specs.Commands.{Command, is_write}
 use Rattle.lnbd_history.specs.Events.{Event as Happening, Start, Set, Name, Issue, Refuse, Disconnect, Wrote, Retire}
 use Rattle.lnbd_history.specs.Answers.{state_after, completed_after, out_after, state_at}
 use Rattle.lnbd_history.specs.Laws.{may_name}
@@ -181,12 +181,12 @@ result_taken seen old handle cookie answer at is done =
 
 -- A read that is issued or refused.
 
-pub issued : (seen : Seen) (old : Session) (handle : Machine Keeper) (heeded : Heeded) (command : Command Keeper) (cookie : ℕ) → heeded ≡ old.heeded → IsAt seen old → refusal_now 1024 old.handle.known command ≡ None → handle ≡ step old.handle (Issue command) → cookie ≡ handle.known.issued
+pub issued : (seen : Seen) (old : Session) (handle : Machine Keeper) (heeded : Heeded) (command : Command Keeper) (cookie : ℕ) → heeded ≡ old.heeded → IsAt seen old → is_write command.kind ≡ false → refusal_now 1024 old.handle.known command ≡ None → handle ≡ step old.handle (Issue command) → cookie ≡ handle.known.issued
     → (x : Seen) × Issues (refusal_after 1024 seen.history command) command seen [] x (Ok (told.Cookie cookie)) × IsAt x (record { handle = handle; link = old.link; heeded = heeded; first = old.first })
-issued seen old handle heeded command cookie same at may is number =
+issued seen old handle heeded command cookie same at reads may is number =
     let right = answers_at seen old at in
     let may' : refusal_after 1024 seen.history command ≡ None = sym (right.refusal 1024 command) ∙ may in
-    let on = add seen old _ handle old.heeded (Issue command) at may refl (quiet old.handle handle old.heeded (Issue command) is refl) refl in
+    let on = add seen old _ handle old.heeded (Issue command) at (may, λ writes. absurd (false≢true (sym reads ∙ writes))) refl (quiet old.handle handle old.heeded (Issue command) is refl) refl in
     let number' = number ∙ (answers_at (adding (Issue command) seen) (record { handle = handle; link = old.link; heeded = old.heeded; first = old.first }) on).issued in (
       adding (Issue command) seen,
       subst (λ (w : Option Why). Issues w command seen [] (adding (Issue command) seen) (Ok (told.Cookie cookie))) (sym may') (refl, refl, ap (λ (n : ℕ). Ok (told.Cookie n)) number'),

@@ -2,7 +2,7 @@
 use Rattle.std.proofs.Common.{IfOk, ◌≡◌, inl, inr, ◌<◌, ◌+◌, add-one, drop-cons, ℕ, Bool, true, false, List, [], ◌∷◌, ◌++◌, length, drop, get_or, Option, None, Result, Ok, Err, refl, sym, ◌∙◌, ap, subst, arith, append_assoc}
 use Rattle.std.proofs.lemmas.Bool.{false≢true}
 use Rattle.std.proofs.lemmas.List.{append-nil}
-use Rattle.lnbd_history.specs.Events.{History, Set, Start, Opt, Abort, Issue, Refuse, Disconnect, Wrote, Arrived, End, LinkFailed, Retire, ClearLog, Close}
+use Rattle.lnbd_history.specs.Events.{History, Set, StrictMode, Start, Opt, Abort, Issue, Refuse, Disconnect, Wrote, Arrived, End, LinkFailed, Retire, ClearLog, Close}
 use Rattle.lnbd_history.specs.History.{asked}
 use Rattle.lnbd_history.specs.Laws.{AllFreed, is_closed}
 use Rattle.lnbd_history.proofs.Freed.{close_frees_all}
@@ -278,6 +278,7 @@ closed_freed history e = go history e
     go : (h : History Keeper) → is_closed h ≡ true → AllFreed h
     go [] e = absurd (false≢true e)
     go (Set setting ∷ before) e = absurd (false≢true e)
+    go (StrictMode bits ∷ before) e = absurd (false≢true e)
     go (Start ∷ before) e = absurd (false≢true e)
     go (Opt option ∷ before) e = absurd (false≢true e)
     go (Abort ∷ before) e = absurd (false≢true e)

@@ -26,6 +26,7 @@ use Rattle.lnbd_script.specs.declared.told.Told.TheVariants as told
 use Rattle.lnbd_script.specs.Kept.{or_first}
 use Rattle.lnbd_script.specs.Seen.{Seen, adding}
 use Rattle.lnbd_script.specs.Turns.{Reads, ReadsShort, Writes, Settles, is_reading, is_waiting, read_call, write_call}
+use Rattle.lnbd_handle.specs.Histories.{max_unretired}
 
 -- what a line tells, or what ends the script in it
 abbrev pub LineEnd : Type 0
@@ -141,7 +142,7 @@ closing before = record { history = Close ∷ before.history; link = None; first
 -- what a line does on a handle that is not closed
 abbrev pub Does : Line → Seen → List Call → Seen → LineEnd → Type 0
 Does (line.Connect to) before calls after end = Connects (is_created (state_after before.history)) to before calls after end
-Does (line.Pread size offset) before calls after end = Issues (refusal_after 1024 before.history (read_of size offset)) (read_of size offset) before calls after end ⊎ Lacks before calls after end
+Does (line.Pread size offset) before calls after end = Issues (refusal_after max_unretired before.history (read_of size offset)) (read_of size offset) before calls after end ⊎ Lacks before calls after end
 Does line.Settle before calls after end = SettlesOn before.link before calls after end
 Does line.Read before calls after end = ReadsOn (is_reading before.history) before.link before calls after end
 Does line.Write before calls after end = WritesOn (is_waiting before.history) before.link before calls after end

@@ -20,6 +20,11 @@ use Rattle.lnbd_script.specs.declared.event.Event.TheVariants.{Link, Broke, Peer
 use Rattle.lnbd_model.specs.declared.breach.Broken.TheVariants as broken
 use Rattle.lnbd_script.specs.declared.session.Session.{Session}
 use Rattle.lnbd_script.specs.Kept.{IsAsHanded, first_error, or_first}
+use Rattle.lnbd_handle.specs.Histories.{max_unretired}
+
+-- how many waits in vain are borne
+abbrev pub patience : ℕ
+patience = 1000000000
 
 pub record Seen : Type 0 where
   -- the latest happening first
@@ -79,7 +84,7 @@ adding happening seen = record { history = happening ∷ seen.history; link = se
 
 -- The session of a script stands where the script does.
 pub record IsAt (seen : Seen) (session : Session) : Type 0 where
-  pub stands : StandsFor 1024 seen.history session.handle
+  pub stands : StandsFor max_unretired seen.history session.handle
   pub link : session.link ≡ seen.link
   pub first : session.first ≡ seen.first
   pub kept : All IsAsHanded (callbacks_of seen.history)

@@ -8,11 +8,12 @@ ghost use Rattle.lnbd_history.specs.Laws.{may_name};
 ghost use Rattle.lnbd_history.specs.Refusals.{by_state, refusal_after};
 ghost use Rattle.lnbd_link.specs.Count.{Rises};
 ghost use Rattle.lnbd_script.specs.Lines.{Adds, Connects, Disconnects, Does, Issues, Names, ReadsOn, SettlesOn, WritesOn, connected, is_created, read_of, taking};
-ghost use Rattle.lnbd_script.specs.Seen.{Counts, Goes, IsAt, Seen, adding};
+ghost use Rattle.lnbd_script.specs.Seen.{Counts, Goes, IsAt, Seen, adding, patience};
 ghost use Rattle.lnbd_script.specs.Steps.{Becomes, halted, is_alone, is_close, linked_told, moved_end, settled_end};
 ghost use Rattle.lnbd_script.specs.Turns.{is_reading, is_waiting};
 ghost use Rattle.lnbd_script.specs.declared.told.Halt.TheVariants as halt;
 ghost use Rattle.lnbd_script.specs.declared.told.Told.TheVariants as told;
+ghost use Rattle.lnbd_handle.specs.Histories.{max_unretired};
 
 use crate::event::Event;
 use crate::keeper::Keeper;
@@ -45,7 +46,7 @@ impl Session {
 
     /// Issues a read.
     fn issue_read(&mut self, alloc: Global, size: u32, offset: u64) -> Result<Told, NoMemory>
-        ensures ok { IfOk result (λ tells. Becomes self.old self.new (λ before after. Issues (refusal_after 1024 before.history (read_of size offset)) (read_of size offset) before [] after (Ok tells))) }
+        ensures ok { IfOk result (λ tells. Becomes self.old self.new (λ before after. Issues (refusal_after max_unretired before.history (read_of size offset)) (read_of size offset) before [] after (Ok tells))) }
         ensures lacks { OnErr result (Becomes self.old self.new (λ before after. after ≡ before)) }
         ensures first { self.new.first ≡ self.old.first }
     {
@@ -200,7 +201,7 @@ fn write_once<W: Wires>(session: &mut Session, wires: &mut W) -> Moved
 fn settle_once<W: Wires>(session: &mut Session, wires: &mut W) -> Result<(), Halt>
     requires reached { (seen : Seen) × IsAt seen session.old }
     ensures told { Goes (W.told wires.old) (W.told wires.new) session.old session.new (λ before calls after. SettlesOn before.link before calls after (settled_end result)) }
-    ensures silent { result ≡ Err halt.Silent → Rises 1000000000 (W.idles wires.old) (W.idles wires.new) }
+    ensures silent { result ≡ Err halt.Silent → Rises patience (W.idles wires.old) (W.idles wires.new) }
     ensures counts { Counts session.old.first session.new.first (W.faults wires.old) (W.faults wires.new) (W.idles wires.old) (W.idles wires.new) }
 {
     match session.link {
@@ -255,7 +256,7 @@ pub(crate) fn act<W: Wires>(
     requires open { is_close line.now ≡ false }
     requires reached { (seen : Seen) × IsAt seen session.old }
     ensures told { Goes (W.told wires.old) (W.told wires.new) session.old session.new (λ before calls after. Does line.now before calls after result) }
-    ensures silent { result ≡ Err halt.Silent → Rises 1000000000 (W.idles wires.old) (W.idles wires.new) }
+    ensures silent { result ≡ Err halt.Silent → Rises patience (W.idles wires.old) (W.idles wires.new) }
     ensures counts { Counts session.old.first session.new.first (W.faults wires.old) (W.faults wires.new) (W.idles wires.old) (W.idles wires.new) }
 {
     match line {

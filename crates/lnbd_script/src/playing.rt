@@ -5,7 +5,7 @@ ghost use Rattle.lnbd_link.specs.Count.{Rises};
 ghost use Rattle.lnbd_link.specs.Part.{Grows};
 ghost use Rattle.lnbd_script.specs.Lines.{Answers, closing, shut_calls};
 ghost use Rattle.lnbd_script.specs.Plays.{HasPlayed, HasPlayedPart, Finished, Silent, closing_at_end, first_fault, is_cut, is_played};
-ghost use Rattle.lnbd_script.specs.Seen.{Counts, IsAt, Seen, is_link};
+ghost use Rattle.lnbd_script.specs.Seen.{Counts, IsAt, Seen, is_link, patience};
 ghost use Rattle.lnbd_script.specs.Steps.{AllPlayed, Finishes, GoesNow, IsNow, IsOver, LinesPlayed, Shows, WentNow, first_in, first_of, is_open, is_question, stop_of, stop_unshown};
 ghost use Rattle.lnbd_script.specs.Texts.{ended, last_text, text_of};
 ghost use Rattle.lnbd_script.specs.declared.told.Halt.TheVariants as halt;
@@ -95,7 +95,7 @@ fn step_open<W: Wires>(
 ) -> (Current, Result<Told, Halt>)
     requires reached { (seen : Seen) × IsAt seen session }
     ensures told { (seen : Seen) → IsAt seen session → WentNow (W.told wires.old) (W.told wires.new) result.0 (λ calls after. Answers line.now seen calls after result.1) }
-    ensures silent { result.1 ≡ Err halt.Silent → Rises 1000000000 (W.idles wires.old) (W.idles wires.new) }
+    ensures silent { result.1 ≡ Err halt.Silent → Rises patience (W.idles wires.old) (W.idles wires.new) }
     ensures asks { IfOk result.1 (λ tells. is_question tells ≡ true → is_open result.0 ≡ true) }
     ensures counts { Counts session.first (first_of result.0) (W.faults wires.old) (W.faults wires.new) (W.idles wires.old) (W.idles wires.new) }
 {
@@ -121,7 +121,7 @@ fn step<W: Wires>(
 ) -> (Current, Result<Told, Halt>)
     requires reached { (seen : Seen) × IsNow seen current }
     ensures told { GoesNow (W.told wires.old) (W.told wires.new) current result.0 (λ before calls after. Answers line.now before calls after result.1) }
-    ensures silent { result.1 ≡ Err halt.Silent → Rises 1000000000 (W.idles wires.old) (W.idles wires.new) }
+    ensures silent { result.1 ≡ Err halt.Silent → Rises patience (W.idles wires.old) (W.idles wires.new) }
     ensures asks { IfOk result.1 (λ tells. is_question tells ≡ true → is_open result.0 ≡ true) }
     ensures counts { Counts (first_of current) (first_of result.0) (W.faults wires.old) (W.faults wires.new) (W.idles wires.old) (W.idles wires.new) }
 {
@@ -230,7 +230,7 @@ fn play_lines<W: Wires, O: Sink>(
 ) -> (Current, Result<(), Stop>)
     requires reached { (seen : Seen) × IsNow seen current }
     ensures played { (seen : Seen) → IsNow seen current → LinesPlayed lines.now seen (W.told wires.old) (W.told wires.new) (O.taken out.old) (O.taken out.new) result.0 result.1 }
-    ensures silent { result.1 ≡ Err Stop.Silent → Rises 1000000000 (W.idles wires.old) (W.idles wires.new) }
+    ensures silent { result.1 ≡ Err Stop.Silent → Rises patience (W.idles wires.old) (W.idles wires.new) }
     ensures output { result.1 ≡ Err Stop.Output → Rises 1 (O.faults out.old) (O.faults out.new) }
     ensures later { O.faults out.old ≤ O.faults out.new }
     ensures counts { Counts (first_of current) (first_of result.0) (W.faults wires.old) (W.faults wires.new) (W.idles wires.old) (W.idles wires.new) }
@@ -272,7 +272,7 @@ fn play_all<W: Wires, O: Sink>(
     out: &mut O,
 ) -> Result<Option<Event>, Stop>
     ensures played { AllPlayed lines.now (W.told wires.old) (W.told wires.new) (O.taken out.old) (O.taken out.new) result }
-    ensures silent { result ≡ Err Stop.Silent → Rises 1000000000 (W.idles wires.old) (W.idles wires.new) }
+    ensures silent { result ≡ Err Stop.Silent → Rises patience (W.idles wires.old) (W.idles wires.new) }
     ensures output { result ≡ Err Stop.Output → Rises 1 (O.faults out.old) (O.faults out.new) }
     ensures blames { is_link (first_in result) ≡ true → Rises 1 (W.faults wires.old) (W.faults wires.new) }
 {
@@ -307,7 +307,7 @@ pub fn play<W: Wires, O: Sink>(
 
     // Causes.
     ensures link { result ≡ Err PlayFault.Link → Rises 1 (W.faults wires.old) (W.faults wires.new) }
-    ensures silent { result ≡ Err PlayFault.Silent → Rises 1000000000 (W.idles wires.old) (W.idles wires.new) }
+    ensures silent { result ≡ Err PlayFault.Silent → Rises patience (W.idles wires.old) (W.idles wires.new) }
     ensures output { result ≡ Err PlayFault.Output → Rises 1 (O.faults out.old) (O.faults out.new) }
 {
     match play_all(alloc, script.lines(), wires, out) {

@@ -3,7 +3,7 @@
 ghost use Rattle.std.specs.Prelude.{◌≡◌, ◌≤◌, ◌<◌, ◌+◌, ◌||◌, IfOk, OnErr, Err, length, true, false};
 ghost use Rattle.std.specs.List.{list_any};
 ghost use Rattle.lnbd_link.specs.Count.{Rises};
-ghost use Rattle.lnbd_script.specs.Seen.{Counts, Goes, IsAt, Seen};
+ghost use Rattle.lnbd_script.specs.Seen.{Counts, Goes, IsAt, Seen, patience};
 ghost use Rattle.lnbd_script.specs.Steps.{TurnsOnce, is_bytes, is_stirring};
 ghost use Rattle.lnbd_script.specs.Turns.{Settles, TurnsShort, WritesAll, stirs};
 ghost use Rattle.lnbd_script.specs.declared.told.Halt.TheVariants as halt;
@@ -35,8 +35,8 @@ fn is_stirring(moved: Moved) -> bool
 /// Whether the waiting rose by as much as is borne.
 fn is_long(start: u64, now: u64) -> bool
     requires { start ≤ now }
-    ensures long { result ≡ true → Rises 1000000000 start now }
-    ensures short { result ≡ false → now < start + 1000000000 }
+    ensures long { result ≡ true → Rises patience start now }
+    ensures short { result ≡ false → now < start + patience }
     ensures open { result ≡ false → now < 18446744073709551615 }
 {
     now - start >= PATIENCE || now == u64::MAX
@@ -95,7 +95,7 @@ fn either(a: bool, b: bool) -> bool
 pub(crate) fn settle<W: Wires>(session: &mut Session, wires: &mut W, link: u32) -> Result<(), Halt>
     requires reached { (seen : Seen) × IsAt seen session.old }
     ensures settles { Goes (W.told wires.old) (W.told wires.new) session.old session.new (λ before calls after. Settles link before calls after result) }
-    ensures silent { result ≡ Err halt.Silent → Rises 1000000000 (W.idles wires.old) (W.idles wires.new) }
+    ensures silent { result ≡ Err halt.Silent → Rises patience (W.idles wires.old) (W.idles wires.new) }
     ensures counts { Counts session.old.first session.new.first (W.faults wires.old) (W.faults wires.new) (W.idles wires.old) (W.idles wires.new) }
     ensures link { session.new.link ≡ session.old.link }
 {

@@ -8,14 +8,14 @@ use Rattle.lnbd_history.specs.declared.kinds.Phase.TheVariants as phase
 use Rattle.lnbd_history.specs.declared.kinds.Stage.{Stage}
 use Rattle.lnbd_history.specs.declared.kinds.Stage.TheVariants.{Created, Open, Disconnecting, Aborting, Closed, Dead}
 use Rattle.lnbd_history.specs.Agreement.{phase}
-use Rattle.lnbd_history.specs.Answers.{state_at, is_living, completed_as}
+use Rattle.lnbd_outcome.specs.Outcome.{Outcome, Unfinished, Failed, Done}
+use Rattle.lnbd_history.specs.Answers.{state_at, is_living, completed_of, completed_as, outcome_after}
 use Rattle.lnbd_history.specs.Entries.{Filing, Kept, ends, kept_by, own, is_ended, kept_in}
 use Rattle.lnbd_history.specs.Entries as entries
-use Rattle.lnbd_history.specs.Events.{Setting, Name, Context, Structured, OptMode, Event, History, Set, Start, Opt, Abort, Issue, Refuse, Disconnect, Wrote, Arrived, End, LinkFailed, Retire, ClearLog, Close}
+use Rattle.lnbd_history.specs.Events.{Setting, Name, Context, Structured, Extended, OptMode, Event, History, Set, StrictMode, Start, Opt, Abort, Issue, Refuse, Disconnect, Wrote, Arrived, End, LinkFailed, Retire, ClearLog, Close}
 use Rattle.lnbd_history.specs.History.{request, is_gone, reading}
 use Rattle.lnbd_history.specs.Laws.{may_name, CanSet, CanFollow, Lawful}
 use Rattle.lnbd_history.specs.Refusals.{by_state}
-use Rattle.lnbd_machine.specs.Laws.{IsRight}
 use Rattle.lnbd_machine.specs.Machine.{Machine, machine, step, calls}
 use Rattle.lnbd_machine.proofs.Right.{machine_is_right, calls_are_told}
 use Rattle.lnbd_standing.specs.Standing.{is_result, MaySet, May, AnswersAs, StandingGoesOn, StandingIsRight, ClosingIsRight, StandingCalls, CreatedStands}
@@ -47,10 +47,16 @@ life_is (Dead cause) p = refl
 
 -- Results that were kept.
 
-result_there : (held : Bool) (kept : Option Kept) → is_result (completed_as held kept) ≡ true → (held ≡ true) × (is_some kept ≡ true)
-result_there false kept e = absurd (false≢true e)
-result_there true None e = absurd (false≢true e)
-result_there true (Some kept) e = (refl, refl)
+result_kept : (outcome : Outcome) (kept : Option Kept) → is_result (completed_of outcome kept) ≡ true → is_some kept ≡ true
+result_kept Unfinished kept e = absurd (false≢true e)
+result_kept (Failed failure bytes) None e = absurd (false≢true e)
+result_kept (Failed failure bytes) (Some kept) e = refl
+result_kept (Done bytes) None e = absurd (false≢true e)
+result_kept (Done bytes) (Some kept) e = refl
+
+result_there : (held : Bool) (outcome : Outcome) (kept : Option Kept) → is_result (completed_as held outcome kept) ≡ true → (held ≡ true) × (is_some kept ≡ true)
+result_there false outcome kept e = absurd (false≢true e)
+result_there true outcome kept e = (refl, result_kept outcome kept e)
 
 both : (a b : Bool) → (a && not b) ≡ true → (a ≡ true) × (b ≡ false)
 both true false e = (refl, refl)
@@ -66,43 +72,25 @@ module _ {K : Type 0} where
       go true some more = refl
       go false some more = more some
 
-  as_right : (history : History K) → IsRight history → AnswersAs history (machine history)
-  as_right history right = record {
-    state = right.state;
-    in_flight = right.in_flight;
-    waits = right.waits;
-    out = right.out;
-    direction = right.direction;
-    peeked = right.peeked;
-    completed = right.completed;
-    info = right.info;
-    listed = right.listed;
-    opt_answer = right.opt_answer;
-    log = right.log;
-    issued = right.issued;
-    admitted = right.admitted;
-    freed = right.freed;
-    refusal = right.refusal;
-    pending = right.pending;
-  }
-
   pub stands_right : StandingIsRight K
   stands_right limit history now stands =
-      subst (AnswersAs history) (sym stands.same) (as_right history (machine_is_right limit history stands.lawful))
+      subst (AnswersAs history) (sym stands.same) (machine_is_right limit history stands.lawful)
 
   can_set : (history : History K) (now : Machine K) (setting : Setting) → AnswersAs history now → MaySet now setting → CanSet history setting
   can_set history now (Name name) right may = ap may_name (sym right.state) ∙ may
   can_set history now (Context name) right may = absurd may
-  can_set history now (Structured on) right may = sym right.state ∙ may
+  can_set history now (Structured on) right may = absurd may
+  can_set history now (Extended on) right may = absurd may
   can_set history now (OptMode on) right may = sym right.state ∙ may
 
   pub can_follow : (limit : ℕ) (history : History K) (now : Machine K) (event : Event K) → AnswersAs history now → May limit now event → CanFollow limit history event
   unfolding has_life
   can_follow limit history now (Set setting) right may = can_set history now setting right may
+  can_follow limit history now (StrictMode bits) right may = absurd may
   can_follow limit history now Start right may = sym right.state ∙ ap (λ s. state_at s now.known.talk.phase) may
   can_follow limit history now (Opt option) right may = (sym right.state ∙ may.0, may.1, λ is. absurd (may.2 is))
   can_follow limit history now Abort right may = sym right.state ∙ may
-  can_follow limit history now (Issue command) right may = sym (right.refusal limit command) ∙ may
+  can_follow limit history now (Issue command) right may = (sym (right.refusal limit command) ∙ may.0, may.1)
   can_follow limit history now (Refuse command why) right may = sym (right.refusal limit command) ∙ may
   can_follow limit history now Disconnect right may = ap (λ s. by_state s None) (sym right.state) ∙ may
   can_follow limit history now (Wrote n) right may = subst (λ (out : List ℕ). n ≤ length out) right.out may
@@ -113,7 +101,7 @@ module _ {K : Type 0} where
   can_follow limit history now (LinkFailed answers) right may = tt
   can_follow limit history now (Retire cookie) right may =
       let known = (reading history).known in
-      let there = result_there (is_some (request history cookie) && not (is_gone history known.entries cookie)) (kept_in (own cookie known.entries)) (ap is_result (sym (right.completed cookie)) ∙ may) in
+      let there = result_there (is_some (request history cookie) && not (is_gone history known.entries cookie)) (outcome_after history cookie) (kept_in (own cookie known.entries)) (ap is_result (sym (right.completed cookie)) ∙ may) in
       let held = both (is_some (request history cookie)) (is_gone history known.entries cookie) there.0 in
       (held.0, kept_ended (own cookie known.entries) there.1, held.1)
   can_follow limit history now ClearLog right may = tt
@@ -129,7 +117,7 @@ module _ {K : Type 0} where
   pub closing_right : ClosingIsRight K
   closing_right limit history now stands =
       let on = goes_on limit history now Close stands tt in
-      subst (AnswersAs (Close ∷ history)) (sym on.same) (as_right (Close ∷ history) (machine_is_right limit (Close ∷ history) on.lawful))
+      subst (AnswersAs (Close ∷ history)) (sym on.same) (machine_is_right limit (Close ∷ history) on.lawful)
 
   pub stands_calls : StandingCalls K
   stands_calls limit history now event stands may =

@@ -165,6 +165,7 @@ fn information_has_its_lines(rt: HostRuntime) -> Result<(), Fail> {
         description: None,
         contexts: Contexts::new(rt.alloc()),
         structured: false,
+        extended: false,
     };
     push_info(&mut text, Some(&info))?;
     text.push_str("; ")?;

@@ -2,14 +2,16 @@
 use Rattle.std.proofs.Common.{◌≡◌, ◌↔◌, ℕ, List, [], ◌∷◌, refl, subst}
 use Rattle.lnbd_records.specs.Numbers.{Field}
 use Rattle.lnbd_records.specs.Fronts.{IsFront}
-use Rattle.lnbd_records.specs.Transmission.{simple_reply_magic, request_magic, structured_reply_magic}
+use Rattle.lnbd_records.specs.Transmission.{simple_reply_magic, request_magic, structured_reply_magic, extended_request_magic, extended_reply_magic}
 use Rattle.lnbd_records.proofs.FrontLemmas.{IsHead, one_front, number_of, nth}
 use Rattle.lnbd_wire.specs.declared.read.Read.{Read}
 use Rattle.lnbd_wire.specs.declared.read.Read.TheVariants.{Value, NeedMore, BadMagic}
 use Rattle.lnbd_wire.specs.declared.simple.SimpleHead.{SimpleHead}
 use Rattle.lnbd_wire.specs.declared.request.RequestHead.{RequestHead}
 use Rattle.lnbd_wire.specs.declared.chunk.ChunkHead.{ChunkHead}
-use Rattle.lnbd_wire.specs.Heads.{simple_fields, request_fields, chunk_fields, front_of}
+use Rattle.lnbd_wire.specs.declared.extended_request.ExtRequest.{ExtRequest}
+use Rattle.lnbd_wire.specs.declared.extended_chunk.ExtHead.{ExtHead}
+use Rattle.lnbd_wire.specs.Heads.{simple_fields, request_fields, chunk_fields, extended_request_fields, extended_chunk_fields, front_of}
 
 same_read : {T : Type 0} (a b : Read T) → front_of a ≡ front_of b → a ≡ b
 same_read (Value x) (Value y) e = cc
@@ -51,6 +53,26 @@ chunk_head = record {
 pub request_head : IsHead RequestHead request_fields 4 request_magic 28 (4 ∷ 2 ∷ 2 ∷ 8 ∷ 8 ∷ 4 ∷ [])
 unfolding number_of nth
 request_head = record {
+  first = λ head. (_, refl);
+  wide = λ head. refl;
+  whole = refl;
+  back = λ fs. record { flags = nth 1 fs; kind = nth 2 fs; cookie = nth 3 fs; offset = nth 4 fs; length = nth 5 fs };
+  undone = λ head. refl;
+}
+
+pub extended_chunk_head : IsHead ExtHead extended_chunk_fields 4 extended_reply_magic 32 (4 ∷ 2 ∷ 2 ∷ 8 ∷ 8 ∷ 8 ∷ [])
+unfolding number_of nth
+extended_chunk_head = record {
+  first = λ head. (_, refl);
+  wide = λ head. refl;
+  whole = refl;
+  back = λ fs. record { flags = nth 1 fs; kind = nth 2 fs; cookie = nth 3 fs; offset = nth 4 fs; length = nth 5 fs };
+  undone = λ head. refl;
+}
+
+pub extended_request_head : IsHead ExtRequest extended_request_fields 4 extended_request_magic 32 (4 ∷ 2 ∷ 2 ∷ 8 ∷ 8 ∷ 8 ∷ [])
+unfolding number_of nth
+extended_request_head = record {
   first = λ head. (_, refl);
   wide = λ head. refl;
   whole = refl;

@@ -2,8 +2,10 @@
 use Rattle.std.specs.Prelude.{ℕ, ◌≤◌, List, [], ◌∷◌, length}
 use Rattle.lnbd_records.specs.Numbers.{Field, number, IsRow, Begins}
 use Rattle.lnbd_records.specs.Fronts.{Front, Whole, Short, Other, IsShort, HasOther}
-use Rattle.lnbd_records.specs.Transmission.{request, simple_reply, chunk_head}
+use Rattle.lnbd_records.specs.Transmission.{request, simple_reply, chunk_head, extended_request, extended_chunk_head}
 use Rattle.lnbd_wire.specs.declared.chunk.ChunkHead.{ChunkHead}
+use Rattle.lnbd_wire.specs.declared.extended_chunk.ExtHead.{ExtHead}
+use Rattle.lnbd_wire.specs.declared.extended_request.ExtRequest.{ExtRequest}
 use Rattle.lnbd_wire.specs.declared.request.RequestHead.{RequestHead}
 use Rattle.lnbd_wire.specs.declared.simple.SimpleHead.{SimpleHead}
 use Rattle.lnbd_wire.specs.declared.read.Judged.{Judged}
@@ -20,9 +22,11 @@ chunk_fields head = chunk_head head.flags head.kind head.cookie head.length
 abbrev pub request_fields : RequestHead → List Field
 request_fields head = request head.flags head.kind head.cookie head.offset head.length
 
--- DISC: type 2, and all else is 0
-abbrev pub disconnect : List Field
-disconnect = request 0 2 0 0 0
+abbrev pub extended_chunk_fields : ExtHead → List Field
+extended_chunk_fields head = extended_chunk_head head.flags head.kind head.cookie head.offset head.length
+
+abbrev pub extended_request_fields : ExtRequest → List Field
+extended_request_fields head = extended_request head.flags head.kind head.cookie head.offset head.length
 
 -- what is said of the front of some bytes
 abbrev pub front_of : {T : Type 0} → Read T → Front T

@@ -4,6 +4,8 @@
 #![tactic(auto)]
 
 mod chunk;
+mod extended_chunk;
+mod extended_request;
 mod hello;
 mod law;
 mod put;
@@ -12,6 +14,8 @@ mod request;
 mod simple;
 
 pub use chunk::{ChunkHead, put_chunk_head, read_chunk_head};
+pub use extended_chunk::{ExtHead, put_chunk_head_ext, read_chunk_head_ext};
+pub use extended_request::{ExtRequest, put_disconnect_ext, put_request_ext, read_request_ext};
 pub use hello::{HelloRead, read_hello};
 pub use law::read_again;
 pub use read::Read;

@@ -4,10 +4,10 @@ ghost use Rattle.std.specs.Prelude.{◌≡◌, ◌↔◌};
 ghost use Rattle.lnbd_model.specs.Kind.{type_of};
 ghost use Rattle.lnbd_records.specs.Numbers.{row};
 ghost use Rattle.lnbd_records.specs.Fronts.{IsFront};
-ghost use Rattle.lnbd_records.specs.Transmission.{request, request_magic};
+ghost use Rattle.lnbd_records.specs.Transmission.{request, disconnect, request_magic};
 ghost use Rattle.lnbd_wire.specs.declared.read.Read.{Read};
 ghost use Rattle.lnbd_wire.specs.declared.request.RequestHead.{RequestHead};
-ghost use Rattle.lnbd_wire.specs.Heads.{disconnect, request_fields, front_of};
+ghost use Rattle.lnbd_wire.specs.Heads.{request_fields, front_of};
 
 use crate::put::{put_u16, put_u32, put_u64};
 use crate::read::{Judged, Read, judge};

@@ -1,6 +1,8 @@
 use crate::{
-    ChunkHead, HelloRead, Read, RequestHead, SimpleHead, put_chunk_head, put_disconnect,
-    put_request, put_simple, read_chunk_head, read_hello, read_request, read_simple,
+    ChunkHead, ExtHead, ExtRequest, HelloRead, Read, RequestHead, SimpleHead, put_chunk_head,
+    put_chunk_head_ext, put_disconnect, put_disconnect_ext, put_request, put_request_ext,
+    put_simple, read_chunk_head, read_chunk_head_ext, read_hello, read_request, read_request_ext,
+    read_simple,
 };
 use lnbd_model::Kind;
 
@@ -99,6 +101,79 @@ fn chunk_heads_are_put_and_read(rt: HostRuntime) {
     assert_eq!(rt;
         read_chunk_head(b"\x67\x44\x66\x98"),
         Read::BadMagic(0x67446698)
+    );
+}
+
+// 6 GiB of zeroes, a write of 4 bytes far into an export, and the end of a session, with extended headers.
+#[test]
+fn extended_requests_are_put_and_read(rt: HostRuntime) {
+    let zero = *b"\x21\xe4\x1c\x71\0\0\0\x06\0\0\0\0\0\0\0\x01\0\0\0\0\0\0\0\0\0\0\0\x01\x80\0\0\0";
+    let write =
+        *b"\x21\xe4\x1c\x71\0\x20\0\x01\0\0\0\0\0\0\0\x02\0\0\0\x02\0\0\x10\0\0\0\0\0\0\0\0\x04";
+    let end = *b"\x21\xe4\x1c\x71\0\0\0\x02\0\0\0\0\0\0\0\0\0\0\0\0\0\0\0\0\0\0\0\0\0\0\0\0";
+    let mut out = [0; 32];
+    put_request_ext(Kind::Zero, 0, 1, 0, 6442450944, &mut out);
+    assert_eq!(rt; out, zero);
+    put_request_ext(Kind::Write, 32, 2, 0x200001000, 4, &mut out);
+    assert_eq!(rt; out, write);
+    put_disconnect_ext(&mut out);
+    assert_eq!(rt; out, end);
+    let heads = [
+        (zero, 0, 6, 1, 0, 6442450944),
+        (write, 32, 1, 2, 0x200001000, 4),
+        (end, 0, 2, 0, 0, 0),
+    ];
+    for (bytes, flags, kind, cookie, offset, length) in heads {
+        let head = ExtRequest {
+            flags,
+            kind,
+            cookie,
+            offset,
+            length,
+        };
+        assert_eq!(rt; read_request_ext(&bytes), Read::Value(head));
+        assert_eq!(rt; read_request_ext(&bytes[..28]), Read::NeedMore);
+        assert_eq!(rt; read_request_ext(&bytes[..3]), Read::NeedMore);
+        assert_eq!(rt; read_request(&bytes), Read::BadMagic(0x21e41c71));
+    }
+    assert_eq!(rt;
+        read_request_ext(b"\x25\x60\x95\x13"),
+        Read::BadMagic(0x25609513)
+    );
+}
+
+// The last chunk of a command without data, a block status of one descriptor, and data far into an export.
+#[test]
+fn extended_chunk_heads_are_put_and_read(rt: HostRuntime) {
+    let none = *b"\x6e\x8a\x27\x8c\0\x01\0\0\0\0\0\0\0\0\0\x01\0\0\0\0\0\0\0\0\0\0\0\0\0\0\0\0";
+    let status =
+        *b"\x6e\x8a\x27\x8c\0\x01\0\x06\0\0\0\0\0\0\0\x01\0\0\0\0\0\0\0\0\0\0\0\0\0\0\0\x18";
+    let data =
+        *b"\x6e\x8a\x27\x8c\0\0\0\x01\0\0\0\0\0\0\0\x02\0\0\0\x02\0\0\x10\0\0\0\0\0\0\0\0\x0c";
+    let heads = [
+        (none, 1, 0, 1, 0, 0),
+        (status, 1, 6, 1, 0, 24),
+        (data, 0, 1, 2, 0x200001000, 12),
+    ];
+    for (bytes, flags, kind, cookie, offset, length) in heads {
+        let head = ExtHead {
+            flags,
+            kind,
+            cookie,
+            offset,
+            length,
+        };
+        let mut out = [0; 32];
+        put_chunk_head_ext(&head, &mut out);
+        assert_eq!(rt; out, bytes);
+        assert_eq!(rt; read_chunk_head_ext(&bytes), Read::Value(head));
+        assert_eq!(rt; read_chunk_head_ext(&bytes[..31]), Read::NeedMore);
+        assert_eq!(rt; read_chunk_head_ext(&bytes[..3]), Read::NeedMore);
+        assert_eq!(rt; read_chunk_head(&bytes), Read::BadMagic(0x6e8a278c));
+    }
+    assert_eq!(rt;
+        read_chunk_head_ext(b"\x66\x8e\x33\xef"),
+        Read::BadMagic(0x668e33ef)
     );
 }
 

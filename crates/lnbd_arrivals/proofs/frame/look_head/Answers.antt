@@ -1,6 +1,6 @@
 use Rattle.std.proofs.Common.{◌≡◌, ◌++◌, true, sym, subst, ap, ◌∙◌, arith}
 use Rattle.std.specs.Option.{option_map}
-use Rattle.lnbd_history.specs.Commands.{is_read}
+use Rattle.lnbd_model.specs.Kind.{is_read}
 use Rattle.lnbd_commands.specs.Seen.{seen_waiting}
 use Rattle.lnbd_arrivals.specs.Frames.{IsReply}
 use Rattle.lnbd_arrivals.proofs.Frames.{announced_whole, announced_partial}
@@ -14,7 +14,7 @@ returns-else-not-is_read-clause-announces c waited e =
     let read : is_read command.kind ≡ true = sym c.is_read.ensures ∙ c.if-not-is_read.false in
     record {
       sized = success.sized;
-      partial = λ content short. announced_partial c.args.structured waited c.args.head.now command success waits c.if-structured.false read content short;
-      whole = λ content long. subst (λ n. IsReply c.args.structured waited (c.args.head.now ++ content) n 0 command.length) (sym c.u64_at.ensures)
-          (announced_whole c.args.structured waited c.args.head.now command success waits c.if-structured.false read content long);
+      partial = λ content short. announced_partial waited c.args.head.now command success waits read content short;
+      whole = λ content long. subst (λ n. IsReply waited (c.args.head.now ++ content) n 0 command.length) (sym c.u64_at.ensures)
+          (announced_whole waited c.args.head.now command success waits read content long);
     }

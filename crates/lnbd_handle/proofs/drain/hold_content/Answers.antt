@@ -18,8 +18,8 @@ returns-then-len-announced-clause-means g c =
     let joined : got ≡ content ++ front = ok_of c.hold_content.result (sym c.if-is_err.ensures.value) c.hold_content.ensures.ok in
     let short : length got < c.args.announced.size = omega (arith, c.if-len-announced.true, c.len.ensures, c.hold_content.new.self.content.ok.0) in
     subst (λ h. Runs g.K.Caller.steps (arriving front) (machine_of old (head ++ content)) (machine_of old (h ++ got)) c.args.world.now c.args.world.now × ShowsNothing (state_of old) (h ++ got)) (sym c.hold_content.ensures.head) (
-      data_held g.K.Caller.steps g.met.K.Caller.empty g.met.K.Caller.append old head content front got c.args.announced c.requires.brings c.requires.partial joined c.args.world.now short,
-      data_shown g.K.Caller.steps g.met.K.Caller.empty g.met.K.Caller.append old head content front got c.args.announced c.requires.brings c.requires.partial joined short,
+      data_held g.K.Caller.steps g.met.K.Caller.empty g.met.K.Caller.append old c.requires.sound.plain head content front got c.args.announced c.requires.brings c.requires.partial joined c.args.world.now short,
+      data_shown g.K.Caller.steps g.met.K.Caller.empty g.met.K.Caller.append old c.requires.sound.plain head content front got c.args.announced c.requires.brings c.requires.partial joined short,
     )
 
 -- The reply whose data is there is filed.
@@ -33,7 +33,7 @@ filed g c =
     let filled : got ≡ c.hold_content.new.self.content.items = ap (λ v. v.items) c.replace-buffer.ensures.value in
     let joined : got ≡ content ++ front = filled ∙ ok_of c.hold_content.result (sym c.if-is_err.ensures.value) c.hold_content.ensures.ok in
     let long : length got ≡ c.args.announced.size = omega (arith, ap length filled, ap length joined, length-append content front, c.requires.fits, c.if-len-announced.false, c.len.ensures, c.hold_content.new.self.content.ok.0) in
-    data_filed g.K.Caller.steps g.met.K.Caller.empty g.met.K.Caller.append c.args.connection.now c.args.pending.now.head.items content front got c.args.announced c.requires.brings c.requires.partial joined c.reply_filled.new.self c.args.world.now c.reply_filled.new.world long c.in-Ok.ensures.ok
+    data_filed g.K.Caller.steps g.met.K.Caller.empty g.met.K.Caller.append c.args.connection.now c.requires.sound.plain c.args.pending.now.head.items content front got c.args.announced c.requires.brings c.requires.partial joined c.reply_filled.new.self c.args.world.now c.reply_filled.new.world long c.in-Ok.ensures.ok
 
 pub returns-in-Ok-clause-means : goal.returns-in-Ok-clause-means
 returns-in-Ok-clause-means g c = (omega arith, (filed g c).0, c.clear.ensures)

@@ -7,6 +7,7 @@ use Rattle.lnbd_outgoing.specs.Queue.{waits, AllFit}
 use Rattle.lnbd_handle.specs.Seen.{no_writes, ends_in}
 use Rattle.lnbd_handle.proofs.TurnLemmas.{open_queue}
 use Rattle.lnbd_handle.proofs.GreetLemmas.{ends_append, flags_size, greeted_state, queue_sound}
+use Rattle.lnbd_handle.proofs.PlainLemmas.{plain_hello, plain_as}
 use Rattle.lnbd_handle.proofs.greet.greet.Goals as goal
 
 pub reserve-requires : goal.reserve-requires
@@ -33,6 +34,7 @@ returns-clause-greets g c = (
 
 pub returns-clause-sound : goal.returns-clause-sound
 returns-clause-sound g c = queue_sound c.args.connection.now c.args.flags c.hello.new.self c.push_request.new.queue c.requires.open c.requires.sound
+    (plain_as c.in_ok-hello.ensures.1.talk (plain_hello c.args.connection.now.talk c.requires.sound.plain))
     (c.push_request.ensures.fits (c.push.ensures.fits no_writes tt (subst (λ q. AllFit no_writes q.pieces) (sym c.in_ok-reserve.ensures.ok) c.requires.sound.fits)))
     c.push_request.ensures.ended
     (c.push_request.ensures.ends ∙ ap ends_in (c.push.ensures.waits no_writes) ∙ ends_append (waits no_writes c.reserve.new.self) (plain c.in_ok-head.head) ∙ add-zero (ends_in (waits no_writes c.reserve.new.self)) ∙ ap (λ q. ends_in (waits no_writes q)) c.in_ok-reserve.ensures.ok)

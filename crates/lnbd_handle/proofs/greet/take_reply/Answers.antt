@@ -1,12 +1,14 @@
-use Rattle.std.proofs.Common.{◌++◌, map, Ok, Err, refl, ap, subst, ◌∙◌}
+use Rattle.std.proofs.Common.{◌++◌, map, Ok, Err, refl, ap, sym, subst, ◌∙◌}
 use Rattle.lnbd_history.specs.Arrivals.{reply_verdict}
 use Rattle.lnbd_history.specs.Outgoing.{plain, request_at}
 use Rattle.lnbd_machine.specs.Machine.{sight}
 use Rattle.lnbd_negotiate.specs.Means.{Applies}
 use Rattle.lnbd_negotiate.specs.declared.kinds.TalkFault.TheVariants as fault
-use Rattle.lnbd_outgoing.specs.Queue.{waits}
-use Rattle.lnbd_handle.specs.Seen.{no_writes, state_of}
-use Rattle.lnbd_handle.proofs.GreetLemmas.{replied_well, replied_ill}
+use Rattle.lnbd_outgoing.specs.Queue.{waits, AllFit}
+use Rattle.lnbd_handle.specs.Seen.{no_writes, ends_in, state_of}
+use Rattle.lnbd_handle.proofs.TurnLemmas.{open_queue}
+use Rattle.lnbd_handle.proofs.PlainLemmas.{plain_as, plain_well, plain_ill}
+use Rattle.lnbd_handle.proofs.GreetLemmas.{queue_sound, replied_well, replied_ill}
 use Rattle.lnbd_handle.proofs.greet.take_reply.Goals as goal
 
 pub returns-in-Err-NoMemory-clause-replies : goal.returns-in-Err-NoMemory-clause-replies
@@ -35,3 +37,37 @@ returns-in-Ok-clause-replies g c =
     let d = subst (λ o. Applies old.talk verdict o (Ok c.in-Ok.field-0) c.apply.new.self c.apply.new.out.items) c.new-request.ensures.items a in
     replied_well old c.apply.new.self c.push_request-in-Ok.new.queue verdict c.apply.new.out.items c.in-Ok.field-0 d
     (λ at name wanted e. c.push_request-in-Ok.ensures.waits at name wanted e ∙ ap (λ q. waits no_writes q ++ map plain (request_at at name wanted)) c.in_ok-reserve.ensures.ok)
+
+pub returns-in-Err-NoMemory-clause-sound : goal.returns-in-Err-NoMemory-clause-sound
+returns-in-Err-NoMemory-clause-sound g c =
+    let old = c.args.connection.now in
+    let verdict = reply_verdict (sight (state_of old)) c.args.head.now.option c.args.head.now.kind c.args.head.now.length c.args.body.now in
+    let a = c.in-Err-NoMemory.ensures (sight (state_of old)) (record { phase = refl; count = refl; size = refl }) in
+    let stays = subst (λ r. Applies old.talk verdict c.new-request.result.items r c.apply.new.self c.apply.new.out.items) (ap Err c.in-Err-NoMemory.field-0-is) a in
+    queue_sound old old.flags c.apply.new.self c.reserve.new.self c.requires.open c.requires.sound (plain_as stays.talk c.requires.sound.plain)
+    (subst (λ q. AllFit no_writes q.pieces) (sym c.in_ok-reserve.ensures.ok) c.requires.sound.fits)
+    (ap (λ q. q.ended) c.in_ok-reserve.ensures.ok ∙ open_queue old c.requires.sound c.requires.open)
+    (ap (λ q. ends_in (waits no_writes q)) c.in_ok-reserve.ensures.ok)
+
+pub returns-in-Err-Cause-clause-sound : goal.returns-in-Err-Cause-clause-sound
+returns-in-Err-Cause-clause-sound g c =
+    let old = c.args.connection.now in
+    let verdict = reply_verdict (sight (state_of old)) c.args.head.now.option c.args.head.now.kind c.args.head.now.length c.args.body.now in
+    let a = c.in-Err-Cause.ensures (sight (state_of old)) (record { phase = refl; count = refl; size = refl }) in
+    let b = subst (λ r. Applies old.talk verdict c.new-request.result.items r c.apply.new.self c.apply.new.out.items) (ap Err c.in-Err-Cause.field-0-is) a in
+    queue_sound old old.flags c.apply.new.self c.push_request.new.queue c.requires.open c.requires.sound
+    (plain_ill old.talk c.apply.new.self verdict c.new-request.result.items c.apply.new.out.items c.in-Err-Cause.cause b c.requires.sound.plain)
+    (c.push_request.ensures.fits (subst (λ q. AllFit no_writes q.pieces) (sym c.in_ok-reserve.ensures.ok) c.requires.sound.fits))
+    c.push_request.ensures.ended
+    (c.push_request.ensures.ends ∙ ap (λ q. ends_in (waits no_writes q)) c.in_ok-reserve.ensures.ok)
+
+pub returns-in-Ok-clause-sound : goal.returns-in-Ok-clause-sound
+returns-in-Ok-clause-sound g c =
+    let old = c.args.connection.now in
+    let verdict = reply_verdict (sight (state_of old)) c.args.head.now.option c.args.head.now.kind c.args.head.now.length c.args.body.now in
+    let a = c.in-Ok.ensures (sight (state_of old)) (record { phase = refl; count = refl; size = refl }) in
+    queue_sound old old.flags c.apply.new.self c.push_request-in-Ok.new.queue c.requires.open c.requires.sound
+    (plain_well old.talk c.apply.new.self verdict c.new-request.result.items c.apply.new.out.items c.in-Ok.field-0 a c.requires.sound.plain)
+    (c.push_request-in-Ok.ensures.fits (subst (λ q. AllFit no_writes q.pieces) (sym c.in_ok-reserve.ensures.ok) c.requires.sound.fits))
+    c.push_request-in-Ok.ensures.ended
+    (c.push_request-in-Ok.ensures.ends ∙ ap (λ q. ends_in (waits no_writes q)) c.in_ok-reserve.ensures.ok)

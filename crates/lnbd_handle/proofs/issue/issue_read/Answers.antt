@@ -1,8 +1,6 @@
-use Rattle.std.proofs.Common.{◌≡◌, ◌+◌, ◌∷◌, ◌++◌, [], false, ap, sym, ◌∙◌, max, subst}
+use Rattle.std.proofs.Common.{◌≡◌, ℕ, Bool, ◌+◌, ◌∷◌, ◌++◌, [], false, ap, sym, ◌∙◌, max, subst}
 use Rattle.std.specs.Prelude.{is_err}
-use Rattle.lnbd_model.specs.Kind.{type_of}
-use Rattle.lnbd_records.specs.Numbers.{row}
-use Rattle.lnbd_records.specs.Transmission.{request}
+use Rattle.lnbd_model.specs.declared.kind.Kind.{Kind}
 use Rattle.lnbd_history.specs.Commands.{is_write}
 use Rattle.lnbd_history.specs.Outgoing.{last_of, head_of}
 use Rattle.lnbd_outgoing.specs.Queue.{waits, AllFit}
@@ -17,9 +15,9 @@ returns-clause-ok g c =
     let failed : is_err c.reserve.result ≡ false = cc in
     let room : c.reserve.new.self ≡ record old.queue { room = max old.queue.room 1 } = when_ok _ c.reserve.result failed c.reserve.ensures.ok in
     let cookie : c.in-Ok.cookie ≡ old.commands.issued + 1 = c.in-Ok.ensures.cookie ∙ ap (λ x. x.issued) c.in-Ok.ensures.ok in
-    let head : c.read_head-head.result ≡ head_of (old.commands.issued + 1) (command_of c.args.asked) =
-    c.read_head-head.ensures ∙ ap (λ k. row (request c.args.asked.flags (type_of k) c.in-Ok.cookie c.args.asked.offset c.args.asked.length)) (sym c.requires.kind)
-    ∙ ap (λ n. row (request c.args.asked.flags (type_of c.args.asked.kind) n c.args.asked.offset c.args.asked.length)) cookie in
+    let head : c.read_head-head.result ≡ head_of old.talk.extended (old.commands.issued + 1) (command_of c.args.asked) =
+    c.read_head-head.ensures ∙ ap (λ (k : Kind). head_of false c.in-Ok.cookie (record (command_of c.args.asked) { kind = k })) (sym c.requires.kind)
+    ∙ ap (λ (n : ℕ). head_of false n (command_of c.args.asked)) cookie ∙ ap (λ (x : Bool). head_of x (old.commands.issued + 1) (command_of c.args.asked)) (sym c.requires.sound.plain.extended) in
     let queued : IsQueued old (command_of c.args.asked) c.push.new.self =
     c.push.ensures.waits no_writes ∙ ap (λ q. waits no_writes q ++ last_of c.read_head-head.result ∷ []) room ∙ ap (λ h. waits no_writes old.queue ++ last_of h ∷ []) head in
     issue_does old (command_of c.args.asked) c.push.new.self c.issue.new.self (ap is_write c.requires.kind) queued c.in-Ok.ensures.ok
@@ -30,9 +28,9 @@ returns-clause-sound g c =
     let failed : is_err c.reserve.result ≡ false = cc in
     let room : c.reserve.new.self ≡ record old.queue { room = max old.queue.room 1 } = when_ok _ c.reserve.result failed c.reserve.ensures.ok in
     let cookie : c.in-Ok.cookie ≡ old.commands.issued + 1 = c.in-Ok.ensures.cookie ∙ ap (λ x. x.issued) c.in-Ok.ensures.ok in
-    let head : c.read_head-head.result ≡ head_of (old.commands.issued + 1) (command_of c.args.asked) =
-    c.read_head-head.ensures ∙ ap (λ k. row (request c.args.asked.flags (type_of k) c.in-Ok.cookie c.args.asked.offset c.args.asked.length)) (sym c.requires.kind)
-    ∙ ap (λ n. row (request c.args.asked.flags (type_of c.args.asked.kind) n c.args.asked.offset c.args.asked.length)) cookie in
+    let head : c.read_head-head.result ≡ head_of old.talk.extended (old.commands.issued + 1) (command_of c.args.asked) =
+    c.read_head-head.ensures ∙ ap (λ (k : Kind). head_of false c.in-Ok.cookie (record (command_of c.args.asked) { kind = k })) (sym c.requires.kind)
+    ∙ ap (λ (n : ℕ). head_of false n (command_of c.args.asked)) cookie ∙ ap (λ (x : Bool). head_of x (old.commands.issued + 1) (command_of c.args.asked)) (sym c.requires.sound.plain.extended) in
     let queued : IsQueued old (command_of c.args.asked) c.push.new.self =
     c.push.ensures.waits no_writes ∙ ap (λ q. waits no_writes q ++ last_of c.read_head-head.result ∷ []) room ∙ ap (λ h. waits no_writes old.queue ++ last_of h ∷ []) head in
     issue_sound old (command_of c.args.asked) c.push.new.self c.issue.new.self queued c.in-Ok.ensures.ok

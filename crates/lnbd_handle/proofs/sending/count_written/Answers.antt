@@ -28,6 +28,7 @@ returns-then-wrote-clause-sound g c =
     record {
       fits = c.wrote.ensures.fit no_writes c.requires.sound.fits;
       stands = subst (λ e. Stands old.stage old.talk.phase e) (sym c.wrote.ensures.ended) c.requires.sound.stands;
+      plain = c.requires.sound.plain;
       counted = omega (arith, one, now, ends_wrote parts c.args.n, c.requires.sound.counted);
     }
 
@@ -48,5 +49,6 @@ returns-else-wrote-clause-sound g c =
     record {
       fits = c.wrote.ensures.fit no_writes c.requires.sound.fits;
       stands = subst (λ e. Stands old.stage old.talk.phase e) (sym c.wrote.ensures.ended) c.requires.sound.stands;
+      plain = c.requires.sound.plain;
       counted = omega (arith, now, ends_wrote parts c.args.n, c.requires.sound.counted);
     }

@@ -1,6 +1,6 @@
-use Rattle.std.proofs.Common.{◌≡◌, ◌∷◌, ◌++◌, [], ap, ◌∙◌, arith, add-zero}
+use Rattle.std.proofs.Common.{◌≡◌, Bool, ◌∷◌, ◌++◌, [], ap, sym, ◌∙◌, arith, add-zero}
 use Rattle.lnbd_history.specs.declared.kinds.Stage.TheVariants.{Disconnecting}
-use Rattle.lnbd_history.specs.Outgoing.{plain}
+use Rattle.lnbd_history.specs.Outgoing.{plain, disconnect_part}
 use Rattle.lnbd_outgoing.specs.Queue.{waits}
 use Rattle.lnbd_handle.specs.Seen.{no_writes, ends_in, state_of}
 use Rattle.lnbd_handle.proofs.GreetLemmas.{ends_append}
@@ -9,7 +9,7 @@ use Rattle.lnbd_handle.proofs.sending.say_goodbye.Goals as goal
 pub returns-clause-state : goal.returns-clause-state
 returns-clause-state g c =
     let old = c.args.connection.now in
-    ap (λ w. record (state_of old) { stage = Disconnecting; waits = w }) (c.push_last.ensures.waits no_writes ∙ ap (λ b. waits no_writes old.queue ++ plain b ∷ []) c.disconnect.ensures)
+    ap (λ w. record (state_of old) { stage = Disconnecting; waits = w }) (c.push_last.ensures.waits no_writes ∙ ap (λ b. waits no_writes old.queue ++ plain b ∷ []) c.disconnect.ensures ∙ ap (λ (e : Bool). waits no_writes old.queue ++ disconnect_part e ∷ []) (sym c.requires.sound.plain.extended))
 
 pub returns-clause-sound : goal.returns-clause-sound
 returns-clause-sound g c =
@@ -19,5 +19,6 @@ returns-clause-sound g c =
     record {
       fits = c.push_last.ensures.fits no_writes tt c.requires.sound.fits;
       stands = c.requires.ready;
+      plain = c.requires.sound.plain;
       counted = omega (arith, same, c.requires.sound.counted);
     }

@@ -30,7 +30,7 @@ reply-requires g c =
 pub returns-in-Broken-clause-means : goal.returns-in-Broken-clause-means
 returns-in-Broken-clause-means g c =
     turn_broken g.K.Caller.steps c.args.connection.now c.args.connection.now c.die.new.connection c.args.world.now c.die.new.world c.args.rest.now c.in-Broken.breach (Broke c.in-Broken.breach) refl
-    (λ answers made. shown_frame c.args.connection.now c.args.rest.now c.structured.result c.requires.speaking c.requires.ready c.structured.ensures answers made ∙ c.in-Broken.ensures (waited (state_of c.args.connection.now)) c.waiting_at-waiting.ensures) refl
+    (λ answers made. shown_frame c.args.connection.now c.args.rest.now c.requires.speaking c.requires.ready c.requires.sound.plain answers made ∙ c.in-Broken.ensures (waited (state_of c.args.connection.now)) c.waiting_at-waiting.ensures) refl
     c.die.ensures.acts c.die.ensures.dead
 
 pub returns-in-Ok-clause-means : goal.returns-in-Ok-clause-means
@@ -39,13 +39,13 @@ returns-in-Ok-clause-means g c =
     let there : c.split_at-in-Whole.result.0.now ≡ take c.in-Whole.size (drop 16 c.args.rest.now) = c.split_at-in-Whole.ensures.front ∙ ap (take c.in-Whole.size) c.split_at.ensures.back in (
       omega arith,
       is.there,
-      (turn_reply g.K.Caller.steps c.args.connection.now c.reply.new.self c.args.world.now c.reply.new.world c.args.rest.now c.structured.result c.in-Whole.cookie c.in-Whole.error c.in-Whole.size c.split_at-in-Whole.result.0.now
-          c.requires.speaking c.requires.ready c.structured.ensures is there c.in-Ok.ensures.ok).0,
+      (turn_reply g.K.Caller.steps c.args.connection.now c.reply.new.self c.args.world.now c.reply.new.world c.args.rest.now c.in-Whole.cookie c.in-Whole.error c.in-Whole.size c.split_at-in-Whole.result.0.now
+          c.requires.speaking c.requires.ready c.requires.sound.plain is there c.in-Ok.ensures.ok).0,
     )
 
 pub returns-in-Ok-clause-sound : goal.returns-in-Ok-clause-sound
 returns-in-Ok-clause-sound g c =
     let is = c.in-Whole.ensures (waited (state_of c.args.connection.now)) c.waiting_at-waiting.ensures in
     let there : c.split_at-in-Whole.result.0.now ≡ take c.in-Whole.size (drop 16 c.args.rest.now) = c.split_at-in-Whole.ensures.front ∙ ap (take c.in-Whole.size) c.split_at.ensures.back in
-    commands_sound c.args.connection.now c.reply.new.self (turn_reply g.K.Caller.steps c.args.connection.now c.reply.new.self c.args.world.now c.reply.new.world c.args.rest.now c.structured.result c.in-Whole.cookie c.in-Whole.error c.in-Whole.size c.split_at-in-Whole.result.0.now
-    c.requires.speaking c.requires.ready c.structured.ensures is there c.in-Ok.ensures.ok).1 c.requires.sound
+    commands_sound c.args.connection.now c.reply.new.self (turn_reply g.K.Caller.steps c.args.connection.now c.reply.new.self c.args.world.now c.reply.new.world c.args.rest.now c.in-Whole.cookie c.in-Whole.error c.in-Whole.size c.split_at-in-Whole.result.0.now
+    c.requires.speaking c.requires.ready c.requires.sound.plain is there c.in-Ok.ensures.ok).1 c.requires.sound

@@ -6,8 +6,8 @@ use Rattle.lnbd_commands.specs.Takes.{Takes}
 use Rattle.lnbd_commands.proofs.commands.Commands.lose_all.Given as goal
 
 -- the commands up to here are lost, in order
-abbrev pub invariant-loop-lost : goal.invariant-loop-lost
-invariant-loop-lost g l = (l.lost ≤ l.last) × (l.last ≡ l.fn.self.issued) × Takes g.K.Caller.steps (file_all Lost (cookies l.lost)) l.fn.self l.self l.fn.world l.world
+abbrev pub invariant-loop-cookie : goal.invariant-loop-cookie
+invariant-loop-cookie g l = (l.lost ≤ l.fn.self.issued) × (l.self.issued ≡ l.fn.self.issued) × Takes g.K.Caller.steps (file_all Lost (cookies l.lost)) l.fn.self l.self l.fn.world l.world
 
-abbrev pub decreases-loop-lost : goal.decreases-loop-lost
-decreases-loop-lost g l = l.last - l.lost
+abbrev pub decreases-loop-cookie : goal.decreases-loop-cookie
+decreases-loop-cookie g l = l.fn.self.issued - l.lost

@@ -1,4 +1,4 @@
-use Rattle.std.proofs.Common.{◌≡◌, ◌-◌, ◌<◌, false, None, ap, ◌∙◌, arith, bit_and}
+use Rattle.std.proofs.Common.{◌≡◌, ◌-◌, ◌<◌, false, None, refl, ap, ◌∙◌, arith, bit_and}
 use Rattle.std.specs.Prelude.{is_some}
 use Rattle.lnbd_model.specs.declared.kind.Kind.TheVariants.{Read}
 use Rattle.lnbd_history.specs.Answers.{state_at}
@@ -17,7 +17,7 @@ returns-then-excess-ne0 g c =
     let few : terms.held < 1024 = omega (arith, c.held.ensures, c.if-held-ge1024.false) in
     let all : c.read_flags.result ≡ allowed terms Read = c.read_flags.ensures terms.state terms.held ∙ ap (λ t. allowed t Read) (c.known-known.ensures terms.state terms.held) in
     let e : c.excess-excess.result ≡ c.args.flags - bit_and c.args.flags (allowed terms Read) = c.excess-excess.ensures ∙ ap (λ n. c.args.flags - bit_and c.args.flags n) all in
-    flags_refused terms c.args.flags c.args.offset c.args.length c.excess-excess.result ready few e c.if-excess-ne0.true
+    flags_refused terms c.args.flags c.args.offset c.args.length c.excess-excess.result refl ready few e c.if-excess-ne0.true
 
 pub returns : goal.returns
 returns g c =
@@ -28,5 +28,5 @@ returns g c =
     let few : terms.held < 1024 = omega (arith, c.held.ensures, c.if-held-ge1024.false) in
     let all : c.read_flags.result ≡ allowed terms Read = c.read_flags.ensures terms.state terms.held ∙ ap (λ t. allowed t Read) (c.known-known.ensures terms.state terms.held) in
     let e : c.excess-excess.result ≡ c.args.flags - bit_and c.args.flags (allowed terms Read) = c.excess-excess.ensures ∙ ap (λ n. c.args.flags - bit_and c.args.flags n) all in
-    range_judged terms c.args.flags c.args.offset c.args.length c.excess-excess.result c.range_refusal.result ready few e c.if-excess-ne0.false
+    range_judged terms c.args.flags c.args.offset c.args.length c.excess-excess.result c.range_refusal.result refl ready few e c.if-excess-ne0.false
     (c.range_refusal.ensures terms.state terms.held ∙ ap (λ t. by_range t Read c.args.offset c.args.length) (c.known-known.ensures terms.state terms.held))

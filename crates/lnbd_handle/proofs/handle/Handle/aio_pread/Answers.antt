@@ -1,4 +1,4 @@
-use Rattle.std.proofs.Common.{rules, None}
+use Rattle.std.proofs.Common.{rules, refl, None}
 use Rattle.lnbd_model.specs.declared.kind.Kind.TheVariants.{Read}
 use Rattle.lnbd_commands.specs.Asks.{command_of}
 use Rattle.lnbd_handle.specs.Held.{held_in}
@@ -34,4 +34,4 @@ returns-in-Some-clause-fault_stands g c =
 
 pub returns-clause-stands : goal.returns-clause-stands
 returns-clause-stands g c =
-    issue_adds (read_of c.args.buf.items c.args.offset c.args.done c.args.flags) c.args.self.now (machine_of c.issue_read.new.connection (held_in c.self.inside.pending)) c.match-issue_read.result (search rules) (search rules)
+    issue_adds (read_of c.args.buf.items c.args.offset c.args.done c.args.flags) c.args.self.now (machine_of c.issue_read.new.connection (held_in c.self.inside.pending)) c.match-issue_read.result refl (search rules) (search rules)

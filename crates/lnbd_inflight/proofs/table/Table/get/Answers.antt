@@ -1,18 +1,36 @@
-use Rattle.std.proofs.Common.{sym}
-use Rattle.lnbd_inflight.proofs.Rows.{rising_rows}
-use Rattle.lnbd_inflight.proofs.Changes.{row_found, row_absent}
+use Rattle.std.proofs.Common.{nat_eq, ap, sym, ◌∙◌, arith}
+use Rattle.std.specs.Option.{option_map, option_copied}
+use Rattle.indexmap.specs.IndexMap.{get}
+use Rattle.lnbd_inflight.specs.declared.rows.Held.{Held}
+use Rattle.lnbd_inflight.specs.Marks.{order_of}
+use Rattle.lnbd_inflight.proofs.Changes.{value_at_kept, slot_within, slot_at}
+use Rattle.lnbd_inflight.proofs.Placing.{row_of}
 use Rattle.lnbd_inflight.proofs.table.Table.get.Goals as goal
 
-pub place_of-requires : goal.place_of-requires
-place_of-requires g c = rw c.deref.ensures.value (rising_rows c.self.inside.rows.items c.self.invariant.sound.rising)
+pub returns-in_err-key : goal.returns-in_err-key
+returns-in_err-key g c =
+    let a = c.self.inside in
+    rw (← c.self.view_is) (ap option_copied c.from_residual.ensures ∙ sym (value_at_kept a.spots (get nat_eq a.index) a.rows.items a.order.items (order_of a.done.items) c.self.invariant.placed c.args.cookie ∙ ap (row_of a.rows.items) (sym c.in_err-key.ensures.value)))
+
+pub index-requires : goal.index-requires
+index-requires g c =
+    let less = slot_within c.in_ok-key.field-0.now c.self.inside.rows.items (c.self.invariant.placed.filled c.args.cookie c.in_ok-key.field-0.now (sym c.in_ok-key.ensures.value)) in
+    omega (arith, c.self.inside.rows.ok.0)
 
 pub returns-in-Some : goal.returns-in-Some
 returns-in-Some g c =
-    let held = rw c.deref.ensures.value at c.in-Some.ensures.held in
-    let place = rw c.deref.ensures.value at c.in-Some.ensures.place in
-    rw (← c.self.view_is) (row_found c.args.cookie c.in-Some.at c.index.result.now c.self.inside.rows.items held place c.index.ensures)
+    let a = c.self.inside in
+    let k = c.in_ok-key.field-0.now in
+    let less = slot_within k a.rows.items (c.self.invariant.placed.filled c.args.cookie k (sym c.in_ok-key.ensures.value)) in
+    let at = slot_at k c.index.result.now a.rows.items less c.index.ensures ∙ c.in-Some.is in
+    rw (← c.self.view_is) (sym (value_at_kept a.spots (get nat_eq a.index) a.rows.items a.order.items (order_of a.done.items) c.self.invariant.placed c.args.cookie
+    ∙ ap (row_of a.rows.items) (sym c.in_ok-key.ensures.value) ∙ ap (option_map (λ (h : Held g.row.R.Denot). h.row)) at))
 
 pub returns-in-None : goal.returns-in-None
 returns-in-None g c =
-    let none = rw c.deref.ensures.value at c.in-None.ensures.none in
-    rw (← c.self.view_is) (sym (row_absent c.args.cookie c.self.inside.rows.items none))
+    let a = c.self.inside in
+    let k = c.in_ok-key.field-0.now in
+    let less = slot_within k a.rows.items (c.self.invariant.placed.filled c.args.cookie k (sym c.in_ok-key.ensures.value)) in
+    let at = slot_at k c.index.result.now a.rows.items less c.index.ensures ∙ c.in-None.is in
+    rw (← c.self.view_is) (sym (value_at_kept a.spots (get nat_eq a.index) a.rows.items a.order.items (order_of a.done.items) c.self.invariant.placed c.args.cookie
+    ∙ ap (row_of a.rows.items) (sym c.in_ok-key.ensures.value) ∙ ap (option_map (λ (h : Held g.row.R.Denot). h.row)) at))

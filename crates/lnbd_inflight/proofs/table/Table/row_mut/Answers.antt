@@ -1,29 +1,45 @@
-use Rattle.std.proofs.Common.{◌≡◌, arith, refl, sym, ◌∙◌}
-use Rattle.lnbd_keyed.specs.Keyed.{place}
-use Rattle.lnbd_keyed.proofs.KeyedLemmas.{place_within}
+use Rattle.std.proofs.Common.{Some, nat_eq, refl, ap, sym, ◌∙◌, arith, slice_set}
+use Rattle.std.specs.Option.{option_map, option_copied_mut}
+use Rattle.indexmap.specs.IndexMap.{get}
+use Rattle.lnbd_inflight.specs.declared.rows.Held.{Held}
+use Rattle.lnbd_inflight.specs.Inside.{view_of}
 use Rattle.lnbd_inflight.specs.Marks.{order_of}
-use Rattle.lnbd_inflight.proofs.Rows.{held_rows, place_rows}
-use Rattle.lnbd_inflight.proofs.Changes.{row_found, written, kept_write}
+use Rattle.lnbd_keyed.proofs.KeyedLemmas.{length_with}
+use Rattle.lnbd_inflight.proofs.Changes.{held_kept, slot_within, slot_at, slot_set, value_at_kept}
+use Rattle.lnbd_inflight.proofs.Placing.{row_of}
+use Rattle.lnbd_inflight.proofs.Sound.{sound_with}
+use Rattle.lnbd_inflight.proofs.Writes.{written, written_rows}
 use Rattle.lnbd_inflight.proofs.table.Table.row_mut.Goals as goal
 
-pub index_mut-pair-requires : goal.index_mut-pair-requires
-index_mut-pair-requires g c =
-    let held = held_rows c.args.cookie c.self.inside.rows.items (rw (← c.self.view_is) at c.requires.held) in
-    let less = place_within c.args.cookie c.self.inside.rows.items held in
-    let spot : c.args.at ≡ place c.args.cookie c.self.inside.rows.items = rw (← c.self.view_is) at c.requires.place ∙ place_rows c.args.cookie c.self.inside.rows.items in
-    omega (arith, c.self.inside.rows.ok.0)
+pub key_of-key-requires : goal.key_of-key-requires
+key_of-key-requires g c =
+    let a = c.self.inside in
+    held_kept a.spots (get nat_eq a.index) a.rows.items a.order.items (order_of a.done.items) c.self.invariant.placed c.args.cookie (rw (← c.self.view_is) at c.requires)
+
+pub index_mut-slot-requires : goal.index_mut-slot-requires
+index_mut-slot-requires g c = let less = slot_within c.key_of-key.result c.self.inside.rows.items (c.self.invariant.placed.filled c.args.cookie c.key_of-key.result c.key_of-key.ensures) in omega (arith, c.self.inside.rows.ok.0)
 
 pub invariant_of-self-lent : goal.invariant_of-self-lent
 invariant_of-self-lent g c w =
-    let held = held_rows c.args.cookie c.self.inside.rows.items (rw (← c.self.view_is) at c.requires.held) in
-    let spot : c.args.at ≡ place c.args.cookie c.self.inside.rows.items = rw (← c.self.view_is) at c.requires.place ∙ place_rows c.args.cookie c.self.inside.rows.items in
-    kept_write c.args.cookie c.args.at w c.index_mut-pair.result.now (order_of c.self.inside.done.items) c.self.inside.rows.items _ c.self.invariant held spot c.index_mut-pair.ensures.value
+    let a = c.self.inside in
+    let k = c.key_of-key.result in
+    let less = slot_within k a.rows.items (c.self.invariant.placed.filled c.args.cookie k c.key_of-key.ensures) in
+    let held : Held g.row.R.Denot = record { stamp = c.unwrap-held.result.now.stamp; row = w } in
+    let changes = slot_set k (Some held) a.rows.items less in
+    let rows = written_rows a.spots (get nat_eq a.index) a.rows.items (slice_set a.rows.items k (Some held)) a.order.items (order_of a.done.items) c.args.cookie k held c.self.invariant.placed c.key_of-key.ensures changes in
+    record {
+      placed = written a.spots (get nat_eq a.index) a.rows.items (slice_set a.rows.items k (Some held)) a.order.items (order_of a.done.items) c.args.cookie k held c.self.invariant.placed c.key_of-key.ensures changes;
+      sound = rw rows (sound_with c.args.cookie w (view_of a) c.self.invariant.sound);
+      fits = rw rows (let most = c.self.invariant.fits in omega (arith, length_with c.args.cookie w (view_of a).rows));
+    }
 
 pub returns : goal.returns
 returns g c =
-    let held = held_rows c.args.cookie c.self.inside.rows.items (rw (← c.self.view_is) at c.requires.held) in
-    let spot : c.args.at ≡ place c.args.cookie c.self.inside.rows.items = rw (← c.self.view_is) at c.requires.place ∙ place_rows c.args.cookie c.self.inside.rows.items in
-    let row = row_found c.args.cookie c.args.at c.index_mut-pair.result.now c.self.inside.rows.items held spot c.index_mut-pair.ensures.value in (
-      (refl, λ w. rw (← c.self.view_is) (λ i. record { rows = written c.args.cookie c.args.at w c.index_mut-pair.result.now c.self.inside.rows.items held spot c.index_mut-pair.ensures.value i; done = order_of c.self.inside.done.items })),
-      record { writes_back = tt; value = rw (← c.self.view_is) (sym row) },
+    let a = c.self.inside in
+    let k = c.key_of-key.result in
+    let less = slot_within k a.rows.items (c.self.invariant.placed.filled c.args.cookie k c.key_of-key.ensures) in
+    let at = slot_at k c.index_mut-slot.result.now a.rows.items less c.index_mut-slot.ensures.value ∙ sym c.as_mut.ensures.value ∙ ap option_copied_mut c.unwrap-held.ensures in
+    let row = value_at_kept a.spots (get nat_eq a.index) a.rows.items a.order.items (order_of a.done.items) c.self.invariant.placed c.args.cookie ∙ ap (row_of a.rows.items) c.key_of-key.ensures ∙ ap (option_map (λ (h : Held g.row.R.Denot). h.row)) at in (
+      (refl, λ w. rw (← c.self.view_is) (λ i. record { rows = written_rows a.spots (get nat_eq a.index) a.rows.items (slice_set a.rows.items k (Some (record { stamp = c.unwrap-held.result.now.stamp; row = w }))) a.order.items (order_of a.done.items) c.args.cookie k (record { stamp = c.unwrap-held.result.now.stamp; row = w }) c.self.invariant.placed c.key_of-key.ensures (slot_set k (Some (record { stamp = c.unwrap-held.result.now.stamp; row = w })) a.rows.items less) i; done = order_of a.done.items })),
+      record { writes_back = tt; value = rw (← c.self.view_is) row },
     )

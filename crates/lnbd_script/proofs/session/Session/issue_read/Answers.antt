@@ -1,4 +1,4 @@
-use Rattle.std.proofs.Common.{◌≡◌, Some, None, ◌∙◌, ap, subst}
+use Rattle.std.proofs.Common.{◌≡◌, Some, None, refl, ◌∙◌, ap, subst}
 use Rattle.lnbd_history.specs.Commands.{Command}
 use Rattle.lnbd_history.specs.Events.{Issue, Refuse}
 use Rattle.lnbd_machine.specs.Does.{Does}
@@ -13,7 +13,7 @@ use Rattle.lnbd_script.proofs.session.Session.issue_read.Goals as goal
 pub returns-in-Ok-clause-ok : goal.returns-in-Ok-clause-ok
 returns-in-Ok-clause-ok c seen at =
     let same = read_command c.args.size c.args.offset c.in_ok-buf.buf.items (c.in_ok-buf.ensures.items_if_clones_equal (λ y h. h)) in
-    issued seen c.args.self.now _ _ (read_of c.args.size c.args.offset) c.in-Ok.cookie c.in-Ok.ensures.ok_world at
+    issued seen c.args.self.now _ _ (read_of c.args.size c.args.offset) c.in-Ok.cookie c.in-Ok.ensures.ok_world at refl
     (subst (λ (command : Command Keeper). refusal_now 1024 c.args.self.now.handle.known command ≡ None) same c.in-Ok.ensures.accepted)
     (c.in-Ok.ensures.ok ∙ ap (λ (command : Command Keeper). step c.args.self.now.handle (Issue command)) same)
     c.in-Ok.ensures.cookie

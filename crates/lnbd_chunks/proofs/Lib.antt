@@ -1,0 +1,5 @@
+pub mod Steady
+pub mod Decides
+pub mod Payloads
+pub mod Whole
+mod Example

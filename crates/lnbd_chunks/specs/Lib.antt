@@ -1,0 +1,4 @@
+pub mod Chunk
+pub mod Reply
+pub mod Whole
+pub mod Laws

@@ -1,0 +1,6 @@
+pub mod Shift
+pub mod Asked
+pub mod Assembly
+pub mod Steps
+pub mod Laws
+pub mod Placed

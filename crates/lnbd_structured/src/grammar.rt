@@ -1,0 +1,264 @@
+//! Which breach the head of a chunk and the first bytes behind it show. What was told before is not known here.
+
+ghost use Rattle.std.specs.Prelude.{◌≡◌, Some, None, true};
+ghost use Rattle.lnbd_chunks.specs.Chunk.{form_of, is_error, fits_length, fits_command, may_come, lies_within, fits_message, is_done, shows_data, shows_hole, shows_extended_status, shows_error, shows_payload};
+ghost use Rattle.lnbd_chunks.specs.Laws.{breach_in, breach_of};
+ghost use Rattle.lnbd_structured.specs.Assembly.{head_of};
+ghost use Rattle.lnbd_structured.specs.Asked.{waiting_in};
+
+use lnbd_chunks::Form;
+use lnbd_model::{Breach, Kind};
+use lnbd_records::{u16_at, u32_at, u64_at};
+use lnbd_wire::ExtHead;
+
+/// The most bytes of data in a chunk.
+const MAX_DATA: u64 = 33_554_432;
+
+/// The most descriptors in a chunk.
+const MAX_DESCRIPTORS: u64 = 1_048_576;
+
+/// The longest message of an error.
+const MAX_TEXT: u64 = 4_096;
+
+/// The longest payload of an error of another type.
+const MAX_OTHER_ERROR: u64 = 65_536;
+
+/// How many chunks of a command may be errors or have a content fault before its last.
+const MAX_FAULTS: u32 = 1_024;
+
+/// By what a command's chunks are judged.
+#[derive(Clone, Copy, Debug, PartialEq, Eq)]
+pub(crate) struct Asked {
+    pub(crate) kind: Kind,
+    pub(crate) offset: u64,
+    pub(crate) length: u64,
+    pub(crate) faults: u32,
+}
+
+/// Whether the chunk is the last of its command.
+pub(crate) fn is_done(head: &ExtHead) -> bool
+    ensures { result ≡ is_done (head_of head.now) }
+{
+    head.flags & 1 != 0
+}
+
+/// The form of a chunk of this type (NBD protocol, "Structured reply types").
+pub(crate) fn form_of(extended: bool, kind: u16) -> Form
+    ensures { result ≡ form_of extended kind }
+{
+    if kind == 0 {
+        Form::Empty
+    } else if kind == 1 {
+        Form::Data
+    } else if kind == 2 {
+        Form::Hole
+    } else if kind == 5 {
+        if extended {
+            Form::Unknown
+        } else {
+            Form::Status
+        }
+    } else if kind == 6 {
+        if extended {
+            Form::ExtendedStatus
+        } else {
+            Form::Unknown
+        }
+    } else if kind == 0x8001 {
+        Form::Error
+    } else if kind == 0x8002 {
+        Form::ErrorAt
+    } else if kind >= 0x8000 {
+        Form::OtherError
+    } else {
+        Form::Unknown
+    }
+}
+
+fn is_error(form: Form) -> bool
+    ensures { result ≡ is_error form }
+{
+    match form {
+        Form::Error => true,
+        Form::ErrorAt => true,
+        Form::OtherError => true,
+        Form::Empty => false,
+        Form::Data => false,
+        Form::Hole => false,
+        Form::Status => false,
+        Form::ExtendedStatus => false,
+        Form::Unknown => false,
+    }
+}
+
+/// Whether a payload of this form may be so long.
+fn fits_length(form: Form, n: u64) -> bool
+    ensures { result ≡ fits_length form n }
+{
+    match form {
+        Form::Empty => n == 0,
+        Form::Data => 9 <= n && n <= 8 + MAX_DATA,
+        Form::Hole => n == 12,
+        Form::Status => 12 <= n && n <= 4 + 8 * MAX_DESCRIPTORS && n % 8 == 4,
+        Form::ExtendedStatus => 24 <= n && n <= 8 + 16 * MAX_DESCRIPTORS && n % 16 == 8,
+        Form::Error => 6 <= n && n <= 6 + MAX_TEXT,
+        Form::ErrorAt => 14 <= n && n <= 14 + MAX_TEXT,
+        Form::OtherError => 6 <= n && n <= MAX_OTHER_ERROR,
+        Form::Unknown => true,
+    }
+}
+
+/// Whether a chunk of this form may be for a command of this kind.
+fn fits_command(form: Form, done: bool, kind: Kind) -> bool
+    ensures { result ≡ fits_command form done kind }
+{
+    match form {
+        Form::Empty => done,
+        Form::Data => kind == Kind::Read,
+        Form::Hole => kind == Kind::Read,
+        Form::Status => kind == Kind::BlockStatus,
+        Form::ExtendedStatus => kind == Kind::BlockStatus,
+        Form::Error => true,
+        Form::ErrorAt => true,
+        Form::OtherError => true,
+        Form::Unknown => false,
+    }
+}
+
+/// Whether a chunk of this form may come after so many faults.
+fn may_come(faults: u32, form: Form, done: bool) -> bool
+    ensures { result ≡ may_come faults form done }
+{
+    faults < MAX_FAULTS || (done && !is_error(form))
+}
+
+/// Whether so many bytes from this place on lie within what the command asked for.
+fn lies_within(asked: &Asked, offset: u64, size: u64) -> bool
+    ensures { result ≡ lies_within (waiting_in asked.now) offset size }
+{
+    if offset < asked.offset {
+        return false;
+    }
+    let skipped = offset - asked.offset;
+    skipped <= asked.length && size <= asked.length - skipped
+}
+
+/// Whether a message of so many bytes fits an error whose payload has n bytes.
+fn fits_message(form: Form, n: u64, message: u16) -> bool
+    ensures { result ≡ fits_message form n message }
+{
+    let message = u64::from(message);
+    match form {
+        Form::Error => n == 6 + message,
+        Form::ErrorAt => n == 14 + message,
+        _ => message <= MAX_TEXT && 6 + message <= n,
+    }
+}
+
+/// The breach of a place whose data have n bytes less its own.
+#[tactic(auto, unfolding(lnbd_chunks::specs::Chunk::shows_data, lnbd_stream::specs::Grammar::once, lnbd_stream::specs::Grammar::wants))]
+fn data_breach(asked: &Asked, n: u64, fixed: &[u8]) -> Option<Breach>
+    ensures { result ≡ breach_in (shows_data (λ breach. Some breach) (λ content. None) (waiting_in asked.now) n fixed.now) }
+{
+    if fixed.len() < 8 {
+        return None;
+    }
+    if !lies_within(asked, u64_at(fixed, 0), n.saturating_sub(8)) {
+        return Some(Breach::OutOfRange);
+    }
+    None
+}
+
+/// The breach of zeros: their place is judged first.
+#[tactic(auto, unfolding(lnbd_chunks::specs::Chunk::shows_hole, lnbd_stream::specs::Grammar::once, lnbd_stream::specs::Grammar::wants))]
+fn hole_breach(asked: &Asked, fixed: &[u8]) -> Option<Breach>
+    ensures { result ≡ breach_in (shows_hole (λ breach. Some breach) (λ content. None) (waiting_in asked.now) fixed.now) }
+{
+    if fixed.len() < 8 {
+        return None;
+    }
+    let offset = u64_at(fixed, 0);
+    if !lies_within(asked, offset, 0) {
+        return Some(Breach::OutOfRange);
+    }
+    if fixed.len() < 12 {
+        return None;
+    }
+    if !lies_within(asked, offset, u64::from(u32_at(fixed, 8))) {
+        return Some(Breach::OutOfRange);
+    }
+    None
+}
+
+/// The breach of a count of descriptors.
+#[tactic(auto, unfolding(lnbd_chunks::specs::Chunk::shows_extended_status, lnbd_stream::specs::Grammar::once, lnbd_stream::specs::Grammar::wants))]
+fn count_breach(n: u64, fixed: &[u8]) -> Option<Breach>
+    ensures { result ≡ breach_in (shows_extended_status (λ breach. Some breach) (λ content. None) n fixed.now) }
+{
+    if fixed.len() < 8 {
+        return None;
+    }
+    if 8 + 16 * u64::from(u32_at(fixed, 4)) != n {
+        return Some(Breach::BadChunkLength);
+    }
+    None
+}
+
+/// The breach of an error's front: the length of its message is judged first.
+#[tactic(auto, unfolding(lnbd_chunks::specs::Chunk::shows_error, lnbd_stream::specs::Grammar::once, lnbd_stream::specs::Grammar::wants))]
+fn error_breach(form: Form, n: u64, fixed: &[u8]) -> Option<Breach>
+    ensures { result ≡ breach_in (shows_error (λ breach. Some breach) (λ content. None) form n fixed.now) }
+{
+    if fixed.len() < 6 {
+        return None;
+    }
+    if !fits_message(form, n, u16_at(fixed, 4)) {
+        return Some(Breach::BadChunkLength);
+    }
+    if u32_at(fixed, 0) == 0 {
+        return Some(Breach::ZeroError);
+    }
+    None
+}
+
+/// The breach that a payload of n bytes shows by its first ones.
+#[tactic(auto, unfolding(lnbd_chunks::specs::Chunk::shows_status, lnbd_stream::specs::Grammar::once))]
+fn payload_breach(asked: &Asked, form: Form, n: u64, fixed: &[u8]) -> Option<Breach>
+    ensures { result ≡ breach_in (shows_payload (λ breach. Some breach) (λ content. None) form (waiting_in asked.now) n fixed.now) }
+{
+    match form {
+        Form::Empty => None,
+        Form::Data => data_breach(asked, n, fixed),
+        Form::Hole => hole_breach(asked, fixed),
+        Form::Status => None,
+        Form::ExtendedStatus => count_breach(n, fixed),
+        Form::Error => error_breach(Form::Error, n, fixed),
+        Form::ErrorAt => error_breach(Form::ErrorAt, n, fixed),
+        Form::OtherError => error_breach(Form::OtherError, n, fixed),
+        Form::Unknown => Some(Breach::BadChunkType),
+    }
+}
+
+/// The breach that a chunk shows by its head and the first bytes behind it.
+#[tactic(auto, unfolding(lnbd_chunks::specs::Chunk::shows_chunk, lnbd_stream::specs::Grammar::wants))]
+pub(crate) fn breach_shown(
+    asked: &Asked,
+    extended: bool,
+    head: &ExtHead,
+    fixed: &[u8],
+) -> Option<Breach>
+    ensures { result ≡ breach_of extended (waiting_in asked.now) (head_of head.now) fixed.now }
+{
+    let form = form_of(extended, head.kind);
+    let done = is_done(head);
+    if !fits_length(form, head.length) {
+        return Some(Breach::BadChunkLength);
+    }
+    if !fits_command(form, done, asked.kind) {
+        return Some(Breach::BadChunkType);
+    }
+    if !may_come(asked.faults, form, done) {
+        return Some(Breach::TooManyErrors);
+    }
+    payload_breach(asked, form, head.length, fixed)
+}
