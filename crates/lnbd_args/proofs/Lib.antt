@@ -1,0 +1,14 @@
+pub mod Scan
+pub mod ClapLemmas
+pub mod StepLemmas
+pub mod LawLemmas
+pub mod LevelLemmas
+pub mod LookLemmas
+pub mod FaceLemmas
+pub mod SpellLemmas
+pub mod OnceLemmas
+pub mod ReadLemmas
+pub mod NumberLemmas
+pub mod ToolLemmas
+pub mod InfoLemmas
+pub mod OneReading

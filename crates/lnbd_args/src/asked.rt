@@ -1,0 +1,115 @@
+//! What the words ask for. How it is spelled stands in `specs/Tools.antt`, and no reading of words
+//! here.
+
+use lnbd_model::{Place, Text};
+
+/// The options of a copy. Their names and meanings are those of nbdcopy(1); each limit is this
+/// program's own.
+#[derive(Clone, Copy, Debug, PartialEq, Eq)]
+pub struct CopyOptions {
+    /// Connections to each side, 1 to 16.
+    pub connections: u32,
+    /// Requests in flight on each connection, 1 to 512.
+    pub requests: u32,
+    /// The most bytes of a request: a power of two from 4,096 to 33,554,432.
+    pub request_size: u32,
+    /// The fewest zero bytes that are written as zeroes: 0, or a power of two from 512 to
+    /// 33,554,432.
+    pub sparse: u32,
+    /// The source is asked for its extents.
+    pub extents: bool,
+    /// Zeroes are written as allocated.
+    pub allocated: bool,
+    /// The destination is known to read as zeroes.
+    pub destination_is_zero: bool,
+    /// The destination is flushed in the end.
+    pub flush: bool,
+}
+
+/// A yes or no question about an export (nbdinfo(1), `--is` and `--can`).
+#[derive(Clone, Copy, Debug, PartialEq, Eq)]
+pub enum Predicate {
+    /// `--is read-only`
+    IsReadOnly,
+    /// `--is rotational`
+    IsRotational,
+    /// `--is tls`
+    IsTls,
+    /// `--can cache`
+    CanCache,
+    /// `--can df`
+    CanDf,
+    /// `--can fast-zero`
+    CanFastZero,
+    /// `--can flush`
+    CanFlush,
+    /// `--can fua`
+    CanFua,
+    /// `--can multi-conn`
+    CanMultiConn,
+    /// `--can trim`
+    CanTrim,
+    /// `--can zero`
+    CanZero,
+    /// `--can write`
+    CanWrite,
+    /// `--can read`
+    CanRead,
+    /// `--can connect`
+    CanConnect,
+    /// `--can structured-reply`
+    CanStructuredReply,
+}
+
+/// What nbdinfo tells.
+#[derive(Debug, Drop)]
+pub enum What {
+    /// The one export.
+    Listing,
+    /// `--list`: each export of the server.
+    List,
+    /// `--size`
+    Size,
+    /// `--map`: the extents of this context.
+    Map(Text),
+    /// `--map --totals`: the sums of the extents of this context.
+    Totals(Text),
+    /// `--is` or `--can`
+    Test(Predicate),
+}
+
+/// What the words ask for.
+#[derive(Debug, Drop)]
+pub enum Asked {
+    /// nbdcalls
+    Calls,
+    /// nbdcopy
+    Copy {
+        options: CopyOptions,
+        from: Place,
+        to: Place,
+    },
+    /// nbdinfo
+    Info {
+        what: What,
+        /// It is told as JSON, and else as text.
+        json: bool,
+        place: Place,
+    },
+    /// serve
+    Serve {
+        place: Place,
+        /// Bytes, 1,073,741,824 at most.
+        size: u64,
+        /// The number that the content is made from.
+        seed: u64,
+        read_only: bool,
+        /// How many clients are served, 1 to 1,000,000.
+        sessions: u32,
+    },
+    /// selftest: the number that the content is made from, and its bytes, which have no limit here.
+    Selftest {
+        seed: u64,
+        size: u64,
+    },
+}

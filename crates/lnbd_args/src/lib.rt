@@ -1,0 +1,28 @@
+//! The words of the program's command line: from them to what they ask for, by the rules of the tool
+//! that the first word names. clap reads each tool's options and places; numbers, limits and which
+//! options stand together are judged here, addresses by `lnbd_uri`. Nothing is connected or printed
+//! here.
+#![tactic(auto)]
+
+mod address;
+mod asked;
+mod command;
+mod copy;
+mod fair;
+mod fault;
+mod info;
+mod laws;
+mod look;
+mod number;
+mod rule;
+mod selftest;
+mod serve;
+mod words;
+
+pub use asked::{Asked, CopyOptions, Predicate, What};
+pub use fault::ArgsFault;
+pub use laws::one_reading;
+pub use words::read_words;
+
+#[cfg(test)]
+mod tests;
