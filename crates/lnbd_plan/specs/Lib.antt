@@ -1,0 +1,5 @@
+pub mod Slices
+pub mod Blocks
+pub mod Laws
+pub mod Plans
+pub mod Walks
