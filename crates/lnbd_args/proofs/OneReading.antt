@@ -9,7 +9,7 @@ use Rattle.lnbd_uri.proofs.AnswerLemmas.{address_has_no_fault, fault_once}
 use Rattle.lnbd_uri.proofs.ReadingLemmas.{place_once}
 use Rattle.lnbd_args.specs.declared.asked.Asked.{Asked}
 use Rattle.lnbd_args.specs.declared.asked.Asked.TheVariants as asked
-use Rattle.lnbd_args.specs.declared.asked.CopyOptions.{CopyOptions}
+use Rattle.lnbd_plan.specs.declared.options.CopyOptions.{CopyOptions}
 use Rattle.lnbd_args.specs.declared.asked.Predicate.{Predicate}
 use Rattle.lnbd_args.specs.declared.asked.Predicate.TheVariants.{IsReadOnly, IsRotational, IsTls, CanCache, CanDf, CanFastZero, CanFlush, CanFua, CanMultiConn, CanTrim, CanZero, CanWrite, CanRead, CanConnect, CanStructuredReply}
 use Rattle.lnbd_args.specs.declared.asked.What.{What}

@@ -7,7 +7,7 @@ use Rattle.clap.specs.Walk.{Row, first_of}
 use Rattle.lnbd_model.specs.declared.target.Place.{Place}
 use Rattle.lnbd_uri.specs.Address.{IsAddress}
 use Rattle.lnbd_uri.specs.declared.fault.UriFault.{UriFault}
-use Rattle.lnbd_args.specs.declared.asked.CopyOptions.{CopyOptions}
+use Rattle.lnbd_plan.specs.declared.options.CopyOptions.{CopyOptions}
 use Rattle.lnbd_args.specs.declared.asked.What.{What}
 use Rattle.lnbd_args.specs.declared.fault.ArgsFault.{ArgsFault}
 use Rattle.lnbd_args.specs.declared.fault.ArgsFault.TheVariants.{Uri}

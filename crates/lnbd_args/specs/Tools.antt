@@ -12,7 +12,7 @@ use Rattle.lnbd_args.specs.declared.fault.ArgsFault.{ArgsFault}
 use Rattle.lnbd_args.specs.declared.fault.ArgsFault.TheVariants.{NoMemory, Usage, Uri}
 use Rattle.lnbd_args.specs.declared.asked.Asked.{Asked}
 use Rattle.lnbd_args.specs.declared.asked.Asked.TheVariants.{Calls, Copy, Info, Serve, Selftest}
-use Rattle.lnbd_args.specs.declared.asked.CopyOptions.{CopyOptions}
+use Rattle.lnbd_plan.specs.declared.options.CopyOptions.{CopyOptions}
 use Rattle.lnbd_args.specs.declared.asked.Predicate.{Predicate}
 use Rattle.lnbd_args.specs.declared.asked.Predicate.TheVariants.{IsReadOnly, IsRotational, IsTls, CanCache, CanDf, CanFastZero, CanFlush, CanFua, CanMultiConn, CanTrim, CanZero, CanWrite, CanRead, CanConnect, CanStructuredReply}
 use Rattle.lnbd_args.specs.declared.asked.What.{What}

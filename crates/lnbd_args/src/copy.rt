@@ -6,16 +6,17 @@ ghost use Rattle.clap.specs.Walk.{first_of, rows_of};
 ghost use Rattle.lnbd_args.specs.Clap.{Tells};
 ghost use Rattle.lnbd_args.specs.Tools.{Asks, IsCopyOptions, IsMisplaced, IsRequestSize, IsSparse, Reads, Wanted, copy, copy_rules};
 ghost use Rattle.lnbd_args.specs.Words.{Part};
-ghost use Rattle.lnbd_args.specs.declared.asked.CopyOptions.{CopyOptions};
+ghost use Rattle.lnbd_plan.specs.declared.options.CopyOptions.{CopyOptions};
 ghost use Rattle.lnbd_uri.specs.declared.fault.UriFault.{UriFault};
 
 use crate::address::place;
-use crate::asked::{Asked, CopyOptions};
+use crate::asked::Asked;
 use crate::command::read_parts;
 use crate::fault::ArgsFault;
 use crate::look::{is_given, value, within};
 use crate::rule::copy_rules;
 use clap::ArgMatches;
+use lnbd_plan::CopyOptions;
 use std::alloc::Global;
 
 /// `--request-size`

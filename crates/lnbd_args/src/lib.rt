@@ -19,9 +19,10 @@ mod selftest;
 mod serve;
 mod words;
 
-pub use asked::{Asked, CopyOptions, Predicate, What};
+pub use asked::{Asked, Predicate, What};
 pub use fault::ArgsFault;
 pub use laws::one_reading;
+pub use lnbd_plan::CopyOptions;
 pub use words::read_words;
 
 #[cfg(test)]

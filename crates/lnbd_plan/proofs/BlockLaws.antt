@@ -1,11 +1,11 @@
 -- Whether a block is zero, byte by byte.
-use Rattle.std.proofs.Common.{◌≡◌, ℕ, zero, suc, ◌+◌, ◌-◌, ◌*◌, ◌/◌, ◌%◌, ◌<◌, ◌≤◌, ◌⊎◌, ◌↔◌, ◌==◌, ◌&&◌, ◌||◌, Bool, true, false, not, List, [], ◌∷◌, length, get_or, take, drop, subst, sym, ◌∙◌, ap, refl, inl, inr, arith, min, IsTrue, EachIndex, slice_index, add-zero}
-use Rattle.std.proofs.lemmas.Grind.{common_steps, same_number_lists}
+use Rattle.std.proofs.Common.{◌≡◌, ℕ, zero, suc, ◌+◌, ◌-◌, ◌/◌, ◌%◌, ◌<◌, ◌≤◌, ◌⊎◌, ◌↔◌, ◌==◌, ◌&&◌, ◌||◌, Bool, true, false, not, List, [], ◌∷◌, length, get_or, take, drop, subst, sym, ◌∙◌, ap, refl, inl, inr, arith, IsTrue, add-zero}
+use Rattle.std.proofs.lemmas.Grind.{same_number_lists}
 use mathlib.Core.Bool.{beq}
 use Rattle.std.proofs.lemmas.Bool.{eq-eqb, eqb-true}
 use Rattle.std.proofs.Math.Nat.{mod-lt}
 use Rattle.std.proofs.lemmas.List.{get_or-drop, get_or-take, length-drop, length-take}
-use Rattle.lnbd_plan.specs.Blocks.{are_zero_in, in_zero_block, Begins, IsBlockEnd, IsPieceEnd}
+use Rattle.lnbd_plan.specs.Blocks.{are_zero_in, in_zero_block, Begins, IsBlockEnd}
 use Rattle.lnbd_plan.proofs.GridLaws.{same_cell, before_end, from_begin, end_begins}
 
 pub both_true : (a b : Bool) → a && b ≡ true → (a ≡ true) × (b ≡ true)

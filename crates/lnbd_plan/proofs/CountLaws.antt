@@ -1,11 +1,11 @@
 -- How many slices a run has.
-use Rattle.std.proofs.Common.{◌≡◌, ℕ, zero, suc, ◌+◌, ◌-◌, ◌/◌, ◌%◌, ◌<◌, ◌≤◌, ◌⊎◌, ◌||◌, Bool, true, false, not, List, [], ◌∷◌, ◌++◌, length, subst, sym, ◌∙◌, ap, refl, inl, inr, arith, cond, min}
+use Rattle.std.proofs.Common.{◌≡◌, ℕ, zero, suc, ◌+◌, ◌-◌, ◌/◌, ◌%◌, ◌<◌, ◌≤◌, ◌||◌, Bool, true, false, not, List, [], ◌∷◌, ◌++◌, length, subst, ◌∙◌, ap, refl, inl, inr, arith, cond}
 use Rattle.std.proofs.lemmas.List.{length-append}
 use Rattle.std.proofs.lemmas.Bool.{eq-eqb, eqb-true}
 use Rattle.lnbd_plan.specs.declared.grid.Slice.{Slice}
 use Rattle.lnbd_plan.specs.declared.cells.Cells.{Cells}
 use Rattle.lnbd_plan.specs.Slices.{slice, unlike, growing, slices_of}
-use Rattle.lnbd_plan.specs.Plans.{is_multiple, is_cut, copied, run_slices, runs_slices, window_slices}
+use Rattle.lnbd_plan.specs.Plans.{is_multiple, is_cut, copied, run_slices, window_slices}
 use Rattle.lnbd_plan.proofs.SliceLaws.{unlike_same}
 use Rattle.lnbd_plan.proofs.CutLaws.{one_slice, slices_some}
 use Rattle.lnbd_plan.proofs.GridLaws.{cell_step}

@@ -1,6 +1,5 @@
 -- Runs of positions told alike, and the slices of each.
-use Rattle.std.proofs.Common.{◌≡◌, ℕ, zero, suc, ◌+◌, ◌-◌, ◌%◌, ◌<◌, ◌≤◌, ◌⊎◌, ◌||◌, ◌==◌, Bool, true, false, not, List, [], ◌∷◌, ◌++◌, length, subst, sym, ◌∙◌, ap, refl, inl, inr, arith, cond, filter, append_assoc, if◌then◌else◌, min, take, drop}
-use Rattle.std.proofs.lemmas.Grind.{common_steps}
+use Rattle.std.proofs.Common.{◌≡◌, ℕ, zero, suc, ◌+◌, ◌-◌, ◌%◌, ◌<◌, ◌≤◌, ◌||◌, Bool, true, false, not, List, [], ◌∷◌, ◌++◌, length, subst, sym, ◌∙◌, ap, refl, inl, inr, arith, cond, append_assoc, min, take, drop}
 use Rattle.std.proofs.lemmas.Bool.{eq-eqb, eqb-true}
 use Rattle.std.proofs.Math.Nat.{mod-lt}
 use Rattle.std.proofs.lemmas.List.{append-nil}
@@ -9,7 +8,7 @@ use Rattle.lnbd_plan.specs.declared.grid.Slice.{Slice}
 use Rattle.lnbd_plan.specs.declared.cells.Cells.{Cells}
 use Rattle.lnbd_plan.specs.Slices.{slice, unlike, growing, slices_of}
 use Rattle.lnbd_plan.specs.Plans.{is_multiple, is_cut, copied, window_slices, run_slices, runs_slices, AreRuns, IsRun}
-use Rattle.lnbd_plan.proofs.SliceLaws.{Ends, run_first, unlike_same, both_false}
+use Rattle.lnbd_plan.proofs.SliceLaws.{Ends, run_first, unlike_same}
 use Rattle.lnbd_plan.proofs.SliceLaws.Ends.{Nothing, Cut, Other}
 use Rattle.lnbd_plan.proofs.BlockLaws.{choose}
 use Rattle.lnbd_plan.proofs.PieceLaws.{kept_on}

@@ -1,7 +1,7 @@
 -- Cells of a grid: x / b is the number of the cell that has x.
-use Rattle.std.proofs.Common.{zero, suc, ◌⊎◌, inl, inr, ◌≡◌, ℕ, ◌+◌, ◌-◌, ◌*◌, ◌/◌, ◌%◌, ◌<◌, ◌≤◌, subst, sym, ◌∙◌, ap, arith}
+use Rattle.std.proofs.Common.{zero, suc, ◌⊎◌, inl, inr, ◌≡◌, ℕ, ◌+◌, ◌-◌, ◌*◌, ◌/◌, ◌%◌, ◌<◌, ◌≤◌, subst, arith}
 use Rattle.std.proofs.lemmas.Nat.{div-add-mod', div-mul-add}
-use Rattle.std.proofs.Math.Nat.{mod-lt, lt-div-mul-add, div-mul-le_self, mul-mod_left, suc-mul}
+use Rattle.std.proofs.Math.Nat.{mod-lt, lt-div-mul-add, div-mul-le_self, mul-mod_left}
 
 -- positions from x up to the end of its cell are in its cell
 pub same_cell : (b x p : ℕ) → 0 < b → x ≤ p → p < x + (b - x % b) → p / b ≡ x / b

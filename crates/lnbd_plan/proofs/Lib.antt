@@ -3,6 +3,7 @@ pub mod BlockLaws
 pub mod SliceLaws
 pub mod PieceLaws
 pub mod LongestLaws
+pub mod OnceLaws
 pub mod CutLaws
 pub mod WalkLaws
 pub mod CountLaws

@@ -1,8 +1,8 @@
 -- Slices are the longest runs.
-use Rattle.std.proofs.Common.{◌≡◌, ℕ, zero, suc, ◌+◌, ◌-◌, ◌<◌, ◌≤◌, ◌⊎◌, ◌||◌, Bool, true, false, not, List, [], ◌∷◌, subst, sym, ◌∙◌, ap, refl, inl, inr, arith, cond, if◌then◌else◌}
+use Rattle.std.proofs.Common.{◌≡◌, ℕ, zero, suc, ◌+◌, ◌≤◌, ◌⊎◌, ◌||◌, Bool, true, false, not, List, [], ◌∷◌, subst, sym, ◌∙◌, ap, refl, inl, inr, arith, if◌then◌else◌}
 use Rattle.lnbd_plan.specs.declared.grid.Slice.{Slice}
 use Rattle.lnbd_plan.specs.Slices.{slice, unlike, growing, slices_of}
-use Rattle.lnbd_plan.specs.Laws.{LieBetween, IsWhole, AreWhole, ArePartedBy, AreLongest, SlicesAreLongest}
+use Rattle.lnbd_plan.specs.Laws.{LieBetween, IsWhole, AreWhole, ArePartedBy, SlicesAreLongest}
 
 -- the slices begin here, and what the first one is told
 abbrev pub BeginWith : ℕ → Bool → List Slice → Type 0

@@ -1,12 +1,12 @@
 -- Pieces, one after another.
-use Rattle.std.proofs.Common.{◌≡◌, ℕ, ◌+◌, ◌-◌, ◌%◌, ◌<◌, ◌≤◌, ◌↔◌, ◌⊎◌, Bool, true, false, not, List, [], ◌∷◌, ◌++◌, length, get_or, take, drop, subst, sym, ◌∙◌, ap, refl, inl, inr, arith, IsTrue, add-zero, append_assoc}
+use Rattle.std.proofs.Common.{◌≡◌, ℕ, ◌+◌, ◌-◌, ◌<◌, ◌≤◌, ◌↔◌, Bool, false, List, [], ◌∷◌, ◌++◌, length, get_or, take, subst, sym, ◌∙◌, ap, refl, inl, inr, arith, IsTrue, append_assoc}
 use Rattle.std.proofs.lemmas.List.{take-append-le, length-take, append-nil}
 use Rattle.lnbd_plan.specs.declared.grid.Slice.{Slice}
 use Rattle.lnbd_plan.specs.Slices.{slice, slices_of}
-use Rattle.lnbd_plan.specs.Blocks.{in_zero_block, Begins, IsBlockEnd, IsPieceEnd}
+use Rattle.lnbd_plan.specs.Blocks.{in_zero_block, IsBlockEnd, IsPieceEnd}
 use Rattle.lnbd_plan.proofs.BlockLaws.{look_told, choose}
-use Rattle.lnbd_plan.proofs.SliceLaws.{Ends, run_first}
-use Rattle.lnbd_plan.proofs.SliceLaws.Ends.{Nothing, Cut, Other}
+use Rattle.lnbd_plan.proofs.SliceLaws.{run_first}
+use Rattle.lnbd_plan.proofs.SliceLaws.Ends.{Nothing, Other}
 
 pub first_told : (b start : ℕ) (bytes : List ℕ) (end : ℕ) (z : Bool) → 0 < b → IsBlockEnd b start (length bytes) 0 end
     → (IsTrue z ↔ ((i : ℕ) → i < length (take end bytes) → get_or (take end bytes) i 0 ≡ 0))

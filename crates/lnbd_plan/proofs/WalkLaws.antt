@@ -1,14 +1,13 @@
 -- A walk over ranges, run by run.
-use Rattle.std.proofs.Common.{◌≡◌, ℕ, zero, suc, ◌+◌, ◌-◌, ◌^◌, ◌<◌, ◌≤◌, ◌⊎◌, ◌||◌, ◌&&◌, Bool, true, false, not, List, [], ◌∷◌, length, get_or, subst, sym, ◌∙◌, ap, refl, inl, inr, arith, cond, min, nat_le, nat_lt, slice_get, Some}
+use Rattle.std.proofs.Common.{◌≡◌, ℕ, zero, suc, ◌+◌, ◌-◌, ◌^◌, ◌<◌, ◌≤◌, ◌⊎◌, ◌||◌, true, false, List, [], ◌∷◌, length, get_or, subst, sym, ap, refl, inl, inr, arith, min, nat_lt, slice_get, Some}
 use Rattle.std.proofs.lemmas.Grind.{common_steps}
-use Rattle.std.proofs.lemmas.Option.{get_or_from_slice_get, slice_get-get_or}
+use Rattle.std.proofs.lemmas.Option.{get_or_from_slice_get, slice_get-get_or, slice_get_within}
 use Rattle.lnbd_extents.specs.Positions.{within, holds}
 use Rattle.lnbd_extents.specs.Ranges.{IsFrom, AreUpTo}
 use Rattle.lnbd_extents.proofs.SpotLaws.{start_le, some_length, up_to_at}
-use Rattle.lnbd_plan.specs.declared.grid.Slice.{Slice}
 use Rattle.lnbd_plan.specs.Slices.{slice}
 use Rattle.lnbd_plan.specs.Plans.{IsRun}
-use Rattle.lnbd_plan.specs.Walks.{end_in_front, start_behind}
+use Rattle.lnbd_plan.specs.Walks.{end_in_front, start_behind, IsPlace}
 use Rattle.lnbd_plan.proofs.BlockLaws.{choose}
 
 pub is_within : (r : ℕ × ℕ) (p : ℕ) → r.0 ≤ p → p < r.0 + r.1 → within r p ≡ true
@@ -54,13 +53,6 @@ pub held_between : (rs : List (ℕ × ℕ)) (place p : ℕ) (d : ℕ × ℕ)
 held_between rs place p d front behind =
     held_nowhere rs p d (λ i lt. elim (choose i place) [ inl h ↦ is_behind (get_or rs i d) p (front i h lt) | inr h ↦ is_before (get_or rs i d) p (behind i h lt) ])
 
--- what is known of the place of a position among the ranges
-pub record IsPlace (rs : List (ℕ × ℕ)) (at place : ℕ) : Type 0 where
-  pub from : IsFrom 0 rs
-  pub within_list : place ≤ length rs
-  pub before : (i : ℕ) (r : ℕ × ℕ) → i < place → slice_get rs i ≡ Some r → r.0 ≤ at
-  pub behind : (i : ℕ) (r : ℕ × ℕ) → place ≤ i → slice_get rs i ≡ Some r → at < r.0
-
 -- the ranges in front of a place end where the last of them does, or before
 pub front_ends : (rs : List (ℕ × ℕ)) (place i : ℕ) → IsFrom 0 rs → place ≤ length rs → i < place → (get_or rs i (0, 0)).0 + (get_or rs i (0, 0)).1 ≤ end_in_front rs place
 front_ends rs zero i from le lt = absurd (omega arith)
@@ -74,7 +66,7 @@ pub zero_run : (rs : List (ℕ × ℕ)) (at end place : ℕ) → IsPlace rs at p
     → IsRun (holds rs) at end (slice at (min (end_in_front rs place) end - at) true)
 zero_run rs at end zero is some more = absurd (omega arith)
 zero_run rs at end (suc k) is some more =
-    let inside : k < length rs = omega (arith, is.within_list) in
+    let inside : k < length rs = omega (arith, is.bounded) in
     let low : (get_or rs k (0, 0)).0 ≤ at = is.before k (get_or rs k (0, 0)) (omega arith) (slice_get-get_or rs k (0, 0) inside) in
     record {
       begins = refl;
@@ -82,7 +74,7 @@ zero_run rs at end (suc k) is some more =
       within = omega arith;
       alike = λ p le lt. held_at rs k p (0, 0) inside (is_within (get_or rs k (0, 0)) p (omega arith) (omega arith));
       otherwise = λ lt. held_between rs (suc k) (at + (min (end_in_front rs (suc k)) end - at)) (0, 0)
-          (λ i less l. let f = front_ends rs (suc k) i is.from is.within_list less in omega arith)
+          (λ i less l. let f = front_ends rs (suc k) i is.from is.bounded less in omega arith)
           (λ i less l. let o = in_order 0 rs i k (0, 0) is.from (omega arith) l in omega arith);
     }
 
@@ -133,7 +125,7 @@ data_run rs at end place is some less =
       some = omega arith;
       within = omega arith;
       alike = λ p le lt. held_between rs place p (0, 0)
-          (λ i h l. let f = front_ends rs place i is.from is.within_list h in omega arith)
+          (λ i h l. let f = front_ends rs place i is.from is.bounded h in omega arith)
           (λ i h l. let o = start_least rs place end i is.from h l in omega arith);
       otherwise = λ lt. let e : start_behind rs place end ≡ at + (start_behind rs place end - at) = omega arith in
           subst (λ (n : ℕ). holds rs n ≡ true) e (start_held rs place end is.from (omega arith));
@@ -150,3 +142,56 @@ pub range_room : (rs : List (ℕ × ℕ)) (i : ℕ) (r : ℕ × ℕ) → AreUpTo
 range_room rs i r up lt at =
     let is : get_or rs i (0, 0) ≡ r = get_or_from_slice_get rs i r (0, 0) at in
     subst (λ (x : ℕ × ℕ). x.0 + x.1 ≤ 2 ^ 63) is (up_to_at (2 ^ 63) i rs up lt)
+
+-- the place behind a run that the range in front of the place holds
+pub place_behind_zero : (rs : List (ℕ × ℕ)) (at end place : ℕ) → IsPlace rs at place → at < end_in_front rs place
+    → at + (min (end_in_front rs place) end - at) < end → IsPlace rs (at + (min (end_in_front rs place) end - at)) place
+place_behind_zero rs at end zero is more less = absurd (omega arith)
+place_behind_zero rs at end (suc k) is more less =
+    record {
+      from = is.from;
+      bounded = is.bounded;
+      before = λ i r low found. let h = is.before i r low found in omega arith;
+      behind = λ i r high found.
+          let there : i < length rs = slice_get_within rs i r found in
+          let o = in_order 0 rs i k (0, 0) is.from (omega arith) there in
+          let same : get_or rs i (0, 0) ≡ r = get_or_from_slice_get rs i r (0, 0) found in
+          let h : (get_or rs i (0, 0)).0 ≡ r.0 = ap (λ (x : ℕ × ℕ). x.0) same in
+          omega arith;
+    }
+
+-- the place behind a run up to the start of the range at the place
+pub place_behind_data : (rs : List (ℕ × ℕ)) (at end place : ℕ) → IsPlace rs at place → at < end
+    → at + (start_behind rs place end - at) < end → IsPlace rs (at + (start_behind rs place end - at)) (place + 1)
+place_behind_data rs at end place is some less =
+    let size = start_some rs at place end is some in
+    let low = size.0 in
+    elim (choose place (length rs)) [
+      | inl there ↦
+          let test : nat_lt place (length rs) ≡ true = grind (arith, common_steps) in
+          let start : start_behind rs place end ≡ min (get_or rs place (0, 0)).0 end = rw test refl in
+          record {
+            from = is.from;
+            bounded = omega arith;
+            before = λ i r under found.
+                let same : get_or rs i (0, 0) ≡ r = get_or_from_slice_get rs i r (0, 0) found in
+                let h : (get_or rs i (0, 0)).0 ≡ r.0 = ap (λ (x : ℕ × ℕ). x.0) same in
+                elim (same_or_apart i place) [
+                  | inl k ↦ let b = is.before i r k found in omega arith
+                  | inr k ↦ elim k [
+                    | inl e ↦ let g : (get_or rs i (0, 0)).0 ≡ (get_or rs place (0, 0)).0 = ap (λ (n : ℕ). (get_or rs n (0, 0)).0) e in omega arith
+                    | inr l ↦ absurd (omega arith)
+                  ]
+                ];
+            behind = λ i r over found.
+                let inside : i < length rs = slice_get_within rs i r found in
+                let o = in_order 0 rs i place (0, 0) is.from (omega arith) inside in
+                let same : get_or rs i (0, 0) ≡ r = get_or_from_slice_get rs i r (0, 0) found in
+                let h : (get_or rs i (0, 0)).0 ≡ r.0 = ap (λ (x : ℕ × ℕ). x.0) same in
+                omega arith;
+          }
+      | inr past ↦
+          let test : nat_lt place (length rs) ≡ false = grind (arith, common_steps) in
+          let start : start_behind rs place end ≡ end = rw test refl in
+          absurd (omega arith)
+    ]

@@ -1,5 +1,5 @@
 -- Blocks of a grid, which lie between the multiples of their size.
-use Rattle.std.specs.Prelude.{◌≡◌, ℕ, ◌+◌, ◌-◌, ◌/◌, ◌%◌, ◌<◌, ◌≤◌, ◌⊎◌, List, [], ◌∷◌, Bool, true, false, not, ◌&&◌, ◌||◌, ◌==◌, length, min}
+use Rattle.std.specs.Prelude.{◌≡◌, ℕ, ◌+◌, ◌-◌, ◌/◌, ◌%◌, ◌<◌, ◌≤◌, ◌⊎◌, List, [], ◌∷◌, Bool, true, not, ◌&&◌, ◌||◌, ◌==◌, length, min}
 
 -- whether each byte is zero that lies in the block of this number, where the bytes begin at this position
 unfoldable pub are_zero_in : ℕ → ℕ → ℕ → List ℕ → Bool

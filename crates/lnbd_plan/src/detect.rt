@@ -11,7 +11,10 @@ use lnbd_model::NoMemory;
 ///
 /// The grid's blocks are those between multiples of `block`; the first and the last are cut by the ends
 /// of the bytes. Neighbouring blocks whose bytes are all zero are one zero piece, neighbouring others one
-/// data piece. Each block is looked at once, up to its first byte that isn't zero.
+/// data piece.
+///
+/// The bytes are looked at once, many at a time, and the rest of a block is passed over behind the first
+/// of these groups that isn't all zero. It takes memory for the list alone: one place for each piece.
 ///
 /// On `NoMemory` the list is as before.
 pub fn pieces(start: u64, bytes: &[u8], block: u32, out: &mut Vec<Slice>) -> Result<(), NoMemory>

@@ -3,7 +3,7 @@
 
 ghost use Rattle.std.specs.Prelude.{◌≡◌, ℕ, ◌+◌, ◌-◌, ◌<◌, ◌≤◌, ◌^◌, [], ◌∷◌, ◌++◌, OnOk, OnErr, IsSome, IfOk, IfNone, option_to_list, ◌↔◌, ◌||◌, not, if◌then◌else◌, length, take};
 ghost use Rattle.lnbd_extents.specs.Positions.{holds};
-ghost use Rattle.lnbd_plan.specs.Walks.{end_in_front, start_behind};
+ghost use Rattle.lnbd_plan.specs.Walks.{end_in_front, start_behind, place_behind, IsPlace};
 ghost use Rattle.lnbd_plan.specs.Plans.{window_slices, run_slices, runs_slices, AreCells, AreRuns, Planned, IsRun};
 
 use crate::cells::Cells;
@@ -61,6 +61,9 @@ impl Plan {
 
     /// Plans one window more, which begins where the last one ended.
     ///
+    /// It searches for the window's first range and then walks along its ranges once. It takes memory for
+    /// the runs between their ends, however many slices these have.
+    ///
     /// On `NoMemory` the plan is as before.
     pub fn window(&mut self, start: u64, length: u64, zero: &Ranges) -> Result<(), NoMemory>
         requires begins { start ≡ self.old.end }
@@ -78,7 +81,7 @@ impl Plan {
         Ok(())
     }
 
-    /// The next slice, if one is planned.
+    /// The next slice, if one is planned. It costs the same however many there are.
     pub fn next(&mut self) -> Option<Slice>
         ensures slices { self.old.slices ≡ option_to_list result ++ self.new.slices }
         ensures some { IsSome result ↔ (0 < length self.old.slices) }
@@ -173,12 +176,15 @@ fn append_runs(
     ensures runs { OnOk result (AreRuns (2 ^ 63) runs.new.items) }
     ensures err { take (length runs.old.items) runs.new.items ≡ runs.old.items }
 {
+    zero.are_longest();
     let mut at = start;
+    let mut place = zero.place(start);
     let mut count = 0;
     while at < end {
-        let run = run_at(zero, at, end);
+        let run = run_at(zero, place, at, end);
         count += append_run(runs, cells, run)?;
         at += run.length;
+        place = place_behind(zero, place, run.zero);
     }
     Ok(count)
 }
@@ -210,19 +216,30 @@ fn count_of(run: Slice, cells: Cells) -> u64
     (run.start + (run.length - 1)) / cell - run.start / cell + 1
 }
 
-/// The run of positions from here on that are told alike, up to an end.
-fn run_at(zero: &Ranges, at: u64, end: u64) -> Slice
+/// The run of positions from here on that are told alike, up to an end. The place is that of the first
+/// range that starts behind this position.
+fn run_at(zero: &Ranges, place: usize, at: u64, end: u64) -> Slice
+    requires place { IsPlace zero.now at place }
     requires some { at < end }
     requires room { end ≤ 2 ^ 63 }
-    ensures { IsRun (holds zero.now) at end result }
+    ensures run { IsRun (holds zero.now) at end result }
+    ensures behind { at + result.length < end → IsPlace zero.now (at + result.length) (place_behind result.zero place) }
 {
-    zero.are_longest();
-    let place = zero.place(at);
     let until = end_before(zero, place);
     if at < until {
         return run(at, until.min(end), true);
     }
     run(at, start_from(zero, place, end), false)
+}
+
+/// The place behind a run: where one ends that isn't zero, the range at its place starts.
+fn place_behind(zero: &Ranges, place: usize, told: bool) -> usize
+    ensures { place_behind told place ≤ length zero.now → result ≡ place_behind told place }
+{
+    if told || place >= zero.count() {
+        return place;
+    }
+    place + 1
 }
 
 /// Where the range in front of a place ends, or 0.

@@ -1,6 +1,6 @@
 //! Each call once, and worked examples.
 
-use crate::{Plan, Slice, pieces};
+use crate::{CopyFault, Plan, Rule, Slice, pieces};
 use lnbd_extents::Ranges;
 use lnbd_model::NoMemory;
 use std::alloc::Global;
@@ -9,6 +9,9 @@ use std::test::Fail;
 const DATA: bool = false;
 
 const ZERO: bool = true;
+
+/// The greatest position.
+const LAST: u64 = (1 << 63) - 1;
 
 fn slice(start: u64, length: u64, zero: bool) -> Slice {
     Slice {
@@ -44,13 +47,16 @@ fn pieces_at_the_edges(rt: HostRuntime) -> Result<(), NoMemory> {
     pieces(5, &[], 1, &mut found)?;
     assert_eq!(rt; found.len(), 0);
 
-    // One block is greater than the bytes; and blocks of one byte.
+    // One block is greater than the bytes, or they lie in two such blocks; and blocks of one byte.
     pieces(1, &[0, 0, 9], 4096, &mut found)?;
-    pieces((1 << 63) - 3, &[0, 0, 9], 1, &mut found)?;
+    pieces(4294967294, &[0, 0, 9], 4294967295, &mut found)?;
+    pieces(LAST - 2, &[0, 0, 9], 1, &mut found)?;
     let wanted = [
         slice(1, 3, DATA),
-        slice((1 << 63) - 3, 2, ZERO),
-        slice((1 << 63) - 1, 1, DATA),
+        slice(4294967294, 1, ZERO),
+        slice(4294967295, 2, DATA),
+        slice(LAST - 2, 2, ZERO),
+        slice(LAST, 1, DATA),
     ];
     assert_eq!(rt; found.as_slice(), wanted.as_slice());
     Ok(())
@@ -108,6 +114,42 @@ fn slices_without_zeros(rt: HostRuntime) -> Result<(), Fail> {
     Ok(())
 }
 
+// Windows of no positions, of one, and of all that are left, with ranges at both ends.
+#[test]
+fn slices_at_the_edges(rt: HostRuntime) -> Result<(), Fail> {
+    let mut zero = Ranges::new(rt.alloc());
+    zero.add(0, 1)?;
+    zero.add(LAST, 1)?;
+    let mut plan = Plan::new(rt.alloc(), 4294967295, 1 << 27, true);
+    plan.window(0, 0, &zero)?;
+    assert_eq!(rt; plan.left(), 0);
+    assert_eq!(rt; plan.next(), None);
+    plan.window(0, 1, &zero)?;
+    assert_eq!(rt; plan.left(), 1);
+    assert_eq!(rt; plan.next(), Some(slice(0, 1, ZERO)));
+    plan.window(1, LAST, &zero)?;
+    assert_eq!(rt; plan.next(), Some(slice(1, 4294967294, DATA)));
+    Ok(())
+}
+
+// Where zeros are copied they are cut, too: each position is a slice here.
+#[test]
+fn slices_of_one_position(rt: HostRuntime) -> Result<(), Fail> {
+    let mut zero = Ranges::new(rt.alloc());
+    zero.add(1, 2)?;
+    let mut plan = Plan::new(rt.alloc(), 1, 1, true);
+    plan.window(0, 4, &zero)?;
+    let wanted = [
+        slice(0, 1, DATA),
+        slice(1, 1, ZERO),
+        slice(2, 1, ZERO),
+        slice(3, 1, DATA),
+    ];
+    let slices = planned(&mut plan, rt.alloc())?;
+    assert_eq!(rt; slices.as_slice(), wanted.as_slice());
+    Ok(())
+}
+
 // A window of the greatest length.
 #[test]
 fn slices_of_the_greatest_window(rt: HostRuntime) -> Result<(), Fail> {
@@ -116,5 +158,34 @@ fn slices_of_the_greatest_window(rt: HostRuntime) -> Result<(), Fail> {
     plan.window(0, 1 << 63, &zero)?;
     assert_eq!(rt; plan.left(), 1 << 32);
     assert_eq!(rt; plan.next(), Some(slice(0, 1 << 31, DATA)));
+    Ok(())
+}
+
+// The text of each rule, as the program prints it.
+#[test]
+fn rules_are_printed(rt: HostRuntime) -> Result<(), Fail> {
+    let smaller = Rule::Smaller {
+        source: 513,
+        destination: 512,
+    };
+    let uneven = Rule::Uneven {
+        length: 513,
+        block: 512,
+    };
+    let unfit = Rule::Unfit {
+        minimum: 1024,
+        maximum: 512,
+    };
+    let printed = format!(in rt.alloc();
+        "{}, {}, {}, {}, {}",
+        CopyFault::Rule(Rule::ReadOnly),
+        CopyFault::Rule(smaller),
+        CopyFault::Rule(uneven),
+        CopyFault::Rule(unfit),
+        CopyFault::from(NoMemory)
+    )?;
+    let wanted =
+        "rule read-only, rule smaller 513 512, rule uneven 513 512, rule unfit 1024 512, no memory";
+    assert_eq!(rt; printed.as_str(), wanted);
     Ok(())
 }

@@ -1,9 +1,8 @@
-use Rattle.std.proofs.Common.{◌≡◌, ℕ, ◌+◌, ◌-◌, ◌<◌, ◌≤◌, List, [], ◌∷◌, ◌++◌, length, take, false, arith, inl, inr, sym, ◌∙◌, ap, refl, subst, add-zero, append_assoc}
+use Rattle.std.proofs.Common.{◌+◌, ◌-◌, List, ◌++◌, length, false, arith, inl, inr, ap, refl}
 use Rattle.std.proofs.Math.Seq.{take-length}
 use Rattle.lnbd_plan.specs.declared.grid.Slice.{Slice}
-use Rattle.lnbd_plan.specs.Slices.{slices_of, slice}
+use Rattle.lnbd_plan.specs.Slices.{slice}
 use Rattle.lnbd_plan.specs.Blocks.{in_zero_block}
-use Rattle.lnbd_plan.proofs.BlockLaws.{look_told}
 use Rattle.lnbd_plan.proofs.PieceLaws.{piece_first, pieces_on, first_told, from_start, none_left, kept_on}
 use Rattle.lnbd_plan.proofs.detect.append_pieces.Goals as goal
 

@@ -1,4 +1,4 @@
-use Rattle.std.proofs.Common.{◌≡◌, ℕ, ◌+◌, ◌<◌, ◌≤◌, length, take, drop, arith, inr, sym, ◌∙◌, ap}
+use Rattle.std.proofs.Common.{◌+◌, length, arith, inr, ◌∙◌}
 use Rattle.lnbd_plan.specs.Blocks.{in_zero_block}
 use Rattle.lnbd_plan.proofs.BlockLaws.{block_alike, block_next, block_some, look_told, not_beq, not_not_beq, alike_on}
 use Rattle.lnbd_plan.proofs.detect.piece_end.Goals as goal

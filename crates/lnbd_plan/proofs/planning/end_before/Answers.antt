@@ -1,4 +1,4 @@
-use Rattle.std.proofs.Common.{◌+◌, ◌-◌, ◌≤◌, ◌^◌, arith, refl, length}
+use Rattle.std.proofs.Common.{◌+◌, ◌-◌, ◌≤◌, ◌^◌, arith, refl}
 use Rattle.lnbd_plan.proofs.WalkLaws.{front_room, range_room}
 use Rattle.lnbd_plan.proofs.planning.end_before.Goals as goal
 

@@ -1,32 +1,42 @@
-use Rattle.std.proofs.Common.{◌+◌, ◌-◌, ◌≤◌, ◌<◌, arith, refl, subst, sym, ◌∙◌, ap, min, true, false, length, ℕ}
+use Rattle.std.proofs.Common.{◌+◌, ◌-◌, ◌<◌, arith, subst, sym, ◌∙◌, ap, min, true, false, ℕ}
 use Rattle.lnbd_extents.specs.Positions.{holds}
 use Rattle.lnbd_plan.specs.declared.grid.Slice.{Slice}
 use Rattle.lnbd_plan.specs.Slices.{slice}
 use Rattle.lnbd_plan.specs.Plans.{IsRun}
-use Rattle.lnbd_plan.specs.Walks.{end_in_front, start_behind}
-use Rattle.lnbd_plan.proofs.WalkLaws.{IsPlace, zero_run, data_run, start_some}
+use Rattle.lnbd_plan.specs.Walks.{place_behind, IsPlace}
+use Rattle.lnbd_plan.proofs.WalkLaws.{zero_run, data_run, start_some, place_behind_zero, place_behind_data}
 use Rattle.lnbd_plan.proofs.planning.run_at.Goals as goal
 
-pub returns-then-at-until : goal.returns-then-at-until
-returns-then-at-until c =
-    let place : IsPlace c.args.zero.now c.args.at c.place-place.result = record { from = c.are_longest.ensures.longest; within_list = c.place-place.ensures.within; before = c.place-place.ensures.before; behind = c.place-place.ensures.behind } in
+pub returns-then-at-until-clause-run : goal.returns-then-at-until-clause-run
+returns-then-at-until-clause-run c =
     let until = c.end_before-until.ensures in
     let same = c.run.ensures ∙ ap (λ (n : ℕ). slice c.args.at (n - c.args.at) true) (c.min.ensures ∙ ap (λ (n : ℕ). min n c.args.end) until) in
     subst (λ (r : Slice). IsRun (holds c.args.zero.now) c.args.at c.args.end r) (sym same)
-    (zero_run c.args.zero.now c.args.at c.args.end c.place-place.result place c.requires.some (omega arith))
+    (zero_run c.args.zero.now c.args.at c.args.end c.args.place c.requires.place c.requires.some (omega arith))
+
+pub returns-then-at-until-clause-behind : goal.returns-then-at-until-clause-behind
+returns-then-at-until-clause-behind c =
+    let until = c.end_before-until.ensures in
+    let same = c.run.ensures ∙ ap (λ (n : ℕ). slice c.args.at (n - c.args.at) true) (c.min.ensures ∙ ap (λ (n : ℕ). min n c.args.end) until) in
+    subst (λ (r : Slice). c.args.at + r.length < c.args.end → IsPlace c.args.zero.now (c.args.at + r.length) (place_behind r.zero c.args.place)) (sym same)
+    (place_behind_zero c.args.zero.now c.args.at c.args.end c.args.place c.requires.place (omega arith))
 
 pub run-requires-2 : goal.run-requires-2
 run-requires-2 c =
-    let place : IsPlace c.args.zero.now c.args.at c.place-place.result = record { from = c.are_longest.ensures.longest; within_list = c.place-place.ensures.within; before = c.place-place.ensures.before; behind = c.place-place.ensures.behind } in
-    let size = start_some c.args.zero.now c.args.at c.place-place.result c.args.end place c.requires.some in
+    let size = start_some c.args.zero.now c.args.at c.args.place c.args.end c.requires.place c.requires.some in
     let low = size.0 in
     let start = c.start_from.ensures in
     omega arith
 
-pub returns : goal.returns
-returns c =
-    let place : IsPlace c.args.zero.now c.args.at c.place-place.result = record { from = c.are_longest.ensures.longest; within_list = c.place-place.ensures.within; before = c.place-place.ensures.before; behind = c.place-place.ensures.behind } in
+pub returns-clause-run : goal.returns-clause-run
+returns-clause-run c =
     let same = c.run-2.ensures ∙ ap (λ (n : ℕ). slice c.args.at (n - c.args.at) false) c.start_from.ensures in
     let until = c.end_before-until.ensures in
     subst (λ (r : Slice). IsRun (holds c.args.zero.now) c.args.at c.args.end r) (sym same)
-    (data_run c.args.zero.now c.args.at c.args.end c.place-place.result place c.requires.some (omega arith))
+    (data_run c.args.zero.now c.args.at c.args.end c.args.place c.requires.place c.requires.some (omega arith))
+
+pub returns-clause-behind : goal.returns-clause-behind
+returns-clause-behind c =
+    let same = c.run-2.ensures ∙ ap (λ (n : ℕ). slice c.args.at (n - c.args.at) false) c.start_from.ensures in
+    subst (λ (r : Slice). c.args.at + r.length < c.args.end → IsPlace c.args.zero.now (c.args.at + r.length) (place_behind r.zero c.args.place)) (sym same)
+    (place_behind_data c.args.zero.now c.args.at c.args.end c.args.place c.requires.place c.requires.some)

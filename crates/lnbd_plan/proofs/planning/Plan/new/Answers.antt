@@ -1,4 +1,4 @@
-use Rattle.std.proofs.Common.{ℕ, ◌^◌, [], false, List, ◌∙◌, ap, refl, subst, sym, arith, length}
+use Rattle.std.proofs.Common.{false, List, ◌∙◌, ap, refl, subst, sym, arith, length}
 use Rattle.lnbd_plan.specs.declared.grid.Slice.{Slice}
 use Rattle.lnbd_plan.specs.declared.cells.Cells.{Cells}
 use Rattle.lnbd_plan.specs.Slices.{slice}
