@@ -1,0 +1,7 @@
+pub mod WalkLaws
+pub mod StatusLaws
+pub mod PutLaws
+pub mod Made
+pub mod Allowed
+pub mod Exact
+pub mod Example

@@ -1,0 +1,100 @@
+-- The contents that a seed gives, block by block.
+use Rattle.std.proofs.Common.{◌≡◌, ℕ, ◌+◌, ◌-◌, ◌*◌, ◌/◌, ◌%◌, ◌<◌, ◌≤◌, ◌&&◌, ◌||◌, Bool, true, false, List, [], ◌∷◌, ◌++◌, length, get_or, refl, ap, sym, subst, ◌∙◌, arith, inl, inr, nat_lt, nat_le, cond}
+use Rattle.std.proofs.lemmas.Bool.{cases_lt, lt-ltb, le-ltb, ltb-true}
+use Rattle.std.proofs.lemmas.Bool.Decides.{nat_tests}
+use Rattle.std.proofs.lemmas.List.{get_or_append_left, get_or-append_right, get_or_default}
+use Rattle.lnbd_extents.specs.Positions.{within}
+use Rattle.lnbd_export.specs.Export.{Export, AreZeros, flags}
+use Rattle.lnbd_export.proofs.PutLaws.{get_or-flags}
+use Rattle.lnbd_export.specs.Generated.{mixed, is_zero_block, byte_in, byte_at, IsGenerated}
+
+pub at_block : (seed block i : ℕ) → i < 4096 → byte_at seed (block * 4096 + i) ≡ byte_in seed block i
+at_block seed block i less =
+    let whole : (block * 4096 + i) / 4096 ≡ block = omega arith in
+    let rest : (block * 4096 + i) % 4096 ≡ i = omega arith in
+    ap (λ (b : ℕ). byte_in seed b ((block * 4096 + i) % 4096)) whole ∙ ap (λ (k : ℕ). byte_in seed block k) rest
+
+pub byte_more : (seed n byte : ℕ) (items new : List ℕ) → length items ≡ n → new ≡ items ++ byte ∷ [] → byte ≡ byte_at seed n → ((p : ℕ) → p < n → get_or items p 0 ≡ byte_at seed p) →
+    (p : ℕ) → p < n + 1 → get_or new p 0 ≡ byte_at seed p
+byte_more seed n byte items new size e is below p less = ap (λ (xs : List ℕ). get_or xs p 0) e ∙ elim (cases_lt p n) [
+  | inl h ↦ get_or_append_left items (byte ∷ []) 0 p (omega arith) ∙ below p h
+  | inr h ↦
+      let here : p ≡ n = omega arith in
+      let first : p - length items ≡ 0 = omega arith in
+      get_or-append_right items (byte ∷ []) (length items) p 0 refl (omega arith) ∙ ap (λ (k : ℕ). get_or (byte ∷ []) k 0) first ∙ is ∙ ap (byte_at seed) (sym here)
+]
+
+both_false : (b : Bool) → b && false ≡ false
+both_false true = refl
+both_false false = refl
+
+pub zeros_more : (seed start n p : ℕ) → start % 4096 ≡ 0 → n ≤ 4096 → is_zero_block seed (start / 4096) ≡ true →
+    within (start, n) p || (nat_lt p start && is_zero_block seed (p / 4096)) ≡ nat_lt p (start + n) && is_zero_block seed (p / 4096)
+zeros_more seed start n p aligned few is = elim (cases_lt p start) [
+  | inl h ↦
+      let out : nat_le start p ≡ false = grind (arith, nat_tests) in
+      let one : nat_lt p start ≡ true = lt-ltb p start h in
+      let two : nat_lt p (start + n) ≡ true = lt-ltb p (start + n) (omega arith) in
+      rw (out, one, two) refl
+  | inr h ↦
+      let in_ : nat_le start p ≡ true = grind (arith, nat_tests) in
+      let one : nat_lt p start ≡ false = le-ltb p start h in
+      elim (cases_lt p (start + n)) [
+        | inl k ↦
+            let two : nat_lt p (start + n) ≡ true = lt-ltb p (start + n) k in
+            let same : p / 4096 ≡ start / 4096 = omega arith in
+            let zero_here : is_zero_block seed (p / 4096) ≡ true = ap (is_zero_block seed) same ∙ is in
+            rw (in_, one, two, zero_here) refl
+        | inr k ↦
+            let two : nat_lt p (start + n) ≡ false = le-ltb p (start + n) k in
+            rw (in_, one, two) refl
+      ]
+]
+
+pub zeros_same : (seed start n p : ℕ) → start % 4096 ≡ 0 → n ≤ 4096 → is_zero_block seed (start / 4096) ≡ false →
+    nat_lt p start && is_zero_block seed (p / 4096) ≡ nat_lt p (start + n) && is_zero_block seed (p / 4096)
+zeros_same seed start n p aligned few is = elim (cases_lt p start) [
+  | inl h ↦
+      let one : nat_lt p start ≡ true = lt-ltb p start h in
+      let two : nat_lt p (start + n) ≡ true = lt-ltb p (start + n) (omega arith) in
+      rw (one, two) refl
+  | inr h ↦
+      let one : nat_lt p start ≡ false = le-ltb p start h in
+      elim (cases_lt p (start + n)) [
+        | inl k ↦
+            let same : p / 4096 ≡ start / 4096 = omega arith in
+            let data_here : is_zero_block seed (p / 4096) ≡ false = ap (is_zero_block seed) same ∙ is in
+            ap (λ b. b && is_zero_block seed (p / 4096)) one ∙ sym (ap (λ b. nat_lt p (start + n) && b) data_here ∙ both_false (nat_lt p (start + n)))
+        | inr k ↦
+            let two : nat_lt p (start + n) ≡ false = le-ltb p (start + n) k in
+            rw (one, two) refl
+      ]
+]
+
+both_true : (a b : Bool) → a && b ≡ true → (a ≡ true) × (b ≡ true)
+both_true true true e = (refl, refl)
+both_true true false e = cc
+both_true false b e = cc
+
+-- the zero blocks are zero
+pub made_zeros : (seed n : ℕ) (items : List ℕ) (zeros : ℕ → Bool) → length items ≡ n → ((p : ℕ) → p < n → get_or items p 0 ≡ byte_at seed p) →
+    ((p : ℕ) → zeros p ≡ nat_lt p n && is_zero_block seed (p / 4096)) → AreZeros items zeros
+made_zeros seed n items zeros size bytes held p e =
+    let both = both_true (nat_lt p n) (is_zero_block seed (p / 4096)) (sym (held p) ∙ e) in
+    let less : p < n = ltb-true p n both.0 in
+    let is : byte_at seed p ≡ 0 = ap (λ (b : Bool). cond b 0 ((mixed seed (p / 4096) / 256 + p % 4096) % 256)) both.1 in
+    get_or_default items p 1 0 (omega arith) ∙ bytes p less ∙ is
+
+pub made : (called description : List ℕ) (seed n : ℕ) (locked : Bool) (items : List ℕ) (told : ℕ → Bool) (export : Export) → length items ≡ n →
+    ((p : ℕ) → p < n → get_or items p 0 ≡ byte_at seed p) → ((p : ℕ) → told p ≡ nat_lt p n && is_zero_block seed (p / 4096)) → description ≡ [] →
+    export ≡ record { name = called; description = description; bytes = items; zeros = flags told 0 (length items); read_only = locked } → IsGenerated called seed n locked export
+made called description seed n locked items told export size bytes held none seen = subst (IsGenerated called seed n locked) (sym seen) (record {
+  name = refl;
+  description = none;
+  size = size;
+  bytes = bytes;
+  zeros = λ p less.
+      let here : 0 + p ≡ p = omega arith in
+      get_or-flags told 0 (length items) p (omega arith) ∙ ap told here ∙ held p ∙ ap (λ b. b && is_zero_block seed (p / 4096)) (lt-ltb p n less);
+  read_only = refl;
+})

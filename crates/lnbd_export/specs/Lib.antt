@@ -1,0 +1,5 @@
+pub mod Export
+pub mod Requests
+pub mod Statuses
+pub mod Walks
+pub mod Generated

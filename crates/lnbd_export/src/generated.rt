@@ -1,0 +1,107 @@
+//! The contents that a seed gives.
+
+ghost use Rattle.std.specs.Prelude.{◌≡◌, ℕ, ◌+◌, ◌-◌, ◌*◌, ◌/◌, ◌%◌, ◌<◌, ◌≤◌, ◌^◌, ◌&&◌, IfOk, OnOk, nat_lt, length, get_or};
+ghost use Rattle.lnbd_extents.specs.Positions.{holds};
+ghost use Rattle.lnbd_export.specs.Generated.{mixed, is_zero_block, byte_in, byte_at, block_size, IsGenerated};
+
+use crate::export::Export;
+use lnbd_extents::Ranges;
+use lnbd_model::{NoMemory, Text};
+use std::alloc::Global;
+
+/// How many bytes a block has; the last may have fewer.
+const BLOCK: u64 = 4096;
+
+/// What a block's number is multiplied with.
+const FACTOR: u64 = 2_654_435_761;
+
+/// Below this number a block is zero.
+const ZERO_BELOW: u64 = 1 << 30;
+
+/// An export whose contents and zero ranges a seed gives, with an empty description.
+pub fn generate(
+    alloc: Global,
+    name: Text,
+    seed: u64,
+    size: u64,
+    read_only: bool,
+) -> Result<Export, NoMemory>
+    requires { size ≤ 2 ^ 30 }
+    ensures { IfOk result (λ export. IsGenerated name seed size read_only export) }
+{
+    let content = content(alloc, seed, size)?;
+    let zeros = zeros(alloc, seed, size)?;
+    Ok(Export::new(name, Text::empty(alloc), content, zeros, read_only))
+}
+
+/// The number of a block, below 2^32.
+fn mixed(seed: u64, block: u64) -> u64
+    requires { block < 2 ^ 63 }
+    ensures number { result ≡ mixed seed block }
+    ensures small { result < 2 ^ 32 }
+{
+    let odd = seed.wrapping_mul(2).wrapping_add(1);
+    odd.wrapping_mul(block + 1).wrapping_mul(FACTOR) % (1 << 32)
+}
+
+fn content(alloc: Global, seed: u64, size: u64) -> Result<Vec<u8>, NoMemory>
+    requires { size ≤ 2 ^ 30 }
+    ensures length { IfOk result (λ v. length v.items ≡ size) }
+    ensures bytes { IfOk result (λ v. (p : ℕ) → p < size → get_or v.items p 0 ≡ byte_at seed p) }
+{
+    let mut content = Vec::new(alloc);
+    let mut start = 0;
+    while start < size {
+        let block = start / BLOCK;
+        let count = BLOCK.min(size - start);
+        push_block(&mut content, seed, block, count)?;
+        start += count;
+    }
+    Ok(content)
+}
+
+/// Pushes the first bytes of a block.
+fn push_block(content: &mut Vec<u8>, seed: u64, block: u64, count: u64) -> Result<(), NoMemory>
+    requires block { block < 2 ^ 18 }
+    requires count { count ≤ block_size }
+    requires place { length content.old.items ≡ block * block_size }
+    requires bytes { (p : ℕ) → p < length content.old.items → get_or content.old.items p 0 ≡ byte_at seed p }
+    ensures length { OnOk result (length content.new.items ≡ length content.old.items + count) }
+    ensures bytes { OnOk result ((p : ℕ) → p < length content.old.items + count → get_or content.new.items p 0 ≡ byte_at seed p) }
+{
+    let number = mixed(seed, block);
+    for i in 0..count {
+        let byte = byte_of(number, i);
+        content.push(byte)?;
+    }
+    Ok(())
+}
+
+/// The byte at a place of the block with this number.
+fn byte_of(number: u64, i: u64) -> u8
+    requires place { i < block_size }
+    requires small { number < 2 ^ 32 }
+    ensures { (seed block : ℕ) → number ≡ mixed seed block → result ≡ byte_in seed block i }
+{
+    if number < ZERO_BELOW {
+        return 0;
+    }
+    ((number / 256 + i) % 256) as u8
+}
+
+/// The ranges of the zero blocks.
+fn zeros(alloc: Global, seed: u64, size: u64) -> Result<Ranges, NoMemory>
+    requires { size ≤ 2 ^ 30 }
+    ensures { IfOk result (λ zeros. (p : ℕ) → holds zeros p ≡ nat_lt p size && is_zero_block seed (p / block_size)) }
+{
+    let mut zeros = Ranges::new(alloc);
+    let mut start = 0;
+    while start < size {
+        let count = BLOCK.min(size - start);
+        if mixed(seed, start / BLOCK) < ZERO_BELOW {
+            zeros.hold(start, count)?;
+        }
+        start += count;
+    }
+    Ok(zeros)
+}
