@@ -7,12 +7,12 @@ trap 'rm -rf "$dir"' EXIT
 
 # The lines of the page, with values in the places of its capitals.
 sed -n "/^    a script's lines:$/,/^$/s/^      \(.*[^ ]\)   .*/\1/p" "$page" | sed 's/ *$//; s/, /\n/g' |
-  sed 's/LEN OFF/512 0/; s/COOKIE/1/; s/HOST PORT/127.0.0.1 1/; s/PATH\|NAME\|TEXT/x/; s/^close$//' >"$dir/script"
+  sed 's/LEN OFF/512 0/; s/BYTES OFF/hex:00 0/; s/COOKIE/1/; s/^strict N$/strict 31/; s/HOST PORT/127.0.0.1 1/; s/PATH\|NAME\|TEXT/x/; s/^close$//' >"$dir/script"
 count=$(grep -c . "$dir/script")
 "$program" nbdcalls <"$dir/script" >"$dir/out" 2>"$dir/err"
 code=$?
 # (the two connects find no server)
-if [ "$count" -ge 17 ] && [ "$code" -eq 5 ]; then
+if [ "$count" -ge 23 ] && [ "$code" -eq 5 ]; then
   echo "ok: each of $count lines of the page is a line of a script"
 else
   echo "failed: of $count lines of the page: the program ended with $code and wrote '$(cat "$dir/out" "$dir/err")'"

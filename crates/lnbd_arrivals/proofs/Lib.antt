@@ -1,2 +1,3 @@
+pub mod Chunks
+pub mod Headed
 pub mod Frames
-pub mod Fronts

@@ -1,33 +1,70 @@
--- What is seen at the front of some bytes, where structured replies and extended headers are off.
-use Rattle.std.specs.Prelude.{◌≡◌, ℕ, ◌+◌, ◌<◌, ◌≤◌, true, false, List, ◌++◌, length, take, drop, Option, Some, None}
+-- What is seen at the front of some bytes, by how the server replies.
+use Rattle.std.specs.Prelude.{◌≡◌, ℕ, ◌+◌, ◌<◌, ◌≤◌, Bool, true, false, List, ◌++◌, length, take, drop, Option, Some, None}
 use Rattle.lnbd_records.specs.Numbers.{number_at}
-use Rattle.lnbd_chunks.specs.Chunk.{Waiting}
+use Rattle.lnbd_chunks.specs.Chunk.{Waiting, is_done}
 use Rattle.lnbd_chunks.specs.Reply.{content_size, simple_content}
-use Rattle.lnbd_history.specs.Arrivals.{Shown, Reply, Broken, shows_frame}
+use Rattle.lnbd_commands.specs.Takes.{MayCome}
+use Rattle.lnbd_history.specs.Arrivals.{Shown, Reply, Broken, shows_frame, reply}
 use Rattle.lnbd_records.specs.Transmission.{simple_reply_magic}
-use Rattle.lnbd_arrivals.specs.declared.frame.Announced.{Announced}
+use Rattle.lnbd_structured.specs.Assembly.{head_of}
+use Rattle.lnbd_arrivals.specs.Heads.{head_size}
+use Rattle.lnbd_arrivals.specs.Payloads.{told_in, payload_in, IsPayload}
+use Rattle.lnbd_arrivals.specs.declared.announced.Announced.{Announced}
+use Rattle.lnbd_arrivals.specs.declared.chunk.Chunk.{Chunk}
 use Rattle.lnbd_arrivals.specs.declared.frame.Seen.{Seen}
 use Rattle.lnbd_arrivals.specs.declared.frame.Seen.TheVariants as seen
+use Rattle.lnbd_arrivals.specs.declared.replies.Replies.{Replies}
+use Rattle.lnbd_arrivals.specs.declared.replies.Replies.TheVariants.{Simple, Structured, Extended}
+
+-- structured replies are on
+abbrev pub is_structured : Replies → Bool
+is_structured Simple = false
+is_structured Structured = true
+is_structured Extended = true
+
+-- extended headers are on
+abbrev pub is_extended : Replies → Bool
+is_extended Simple = false
+is_extended Structured = false
+is_extended Extended = true
 
 -- what bytes show there
-abbrev pub shows_plain : (ℕ → Option Waiting) → List ℕ → Option Shown
-shows_plain waited bytes = shows_frame false false waited bytes
+abbrev pub shows_by : Replies → (ℕ → Option Waiting) → List ℕ → Option Shown
+shows_by replies waited bytes = shows_frame (is_structured replies) (is_extended replies) waited bytes
 
--- A whole reply to the command that waits under this cookie: its head, and as many bytes as that command gets.
-pub record IsReply (waited : ℕ → Option Waiting) (bytes : List ℕ) (cookie error size : ℕ) : Type 0 where
+-- A whole simple reply to the command that waits under this cookie: its head, and as many bytes as that command gets.
+pub record IsReply (replies : Replies) (waited : ℕ → Option Waiting) (bytes : List ℕ) (cookie error size : ℕ) : Type 0 where
   pub command : Waiting
   pub waits : waited cookie ≡ Some command
   pub sized : size ≡ content_size command error
   pub there : 16 + size ≤ length bytes
   pub cookie_is : cookie ≡ number_at 8 8 bytes
   pub error_is : error ≡ number_at 4 4 bytes
-  pub shown : shows_plain waited bytes ≡ Some (Reply (record { cookie = cookie; content = simple_content command error (take size (drop 16 bytes)); last = true }))
+  -- it is shown by its last byte, and nothing is by fewer bytes
+  pub shown : shows_by replies waited (take (16 + size) bytes) ≡ Some (Reply (record { cookie = cookie; content = simple_content command error (take size (drop 16 bytes)); last = true }))
+  pub before : (front more : List ℕ) → bytes ≡ front ++ more → length front < 16 + size → shows_by replies waited front ≡ None
+
+-- A whole chunk, where chunks come, to the command that waits under its cookie: its head and the payload that it announces. It may be filed.
+pub record IsChunk (replies : Replies) (waited : ℕ → Option Waiting) (bytes : List ℕ) (chunk : Chunk) : Type 0 where
+  pub agreed : is_structured replies ≡ true
+  pub extended : chunk.extended ≡ is_extended replies
+  pub command : Waiting
+  pub waits : waited chunk.head.cookie ≡ Some command
+  pub cookie_is : chunk.head.cookie ≡ number_at 8 8 bytes
+  pub sized : chunk.size ≡ head_size chunk.extended + chunk.head.length
+  pub there : chunk.size ≤ length bytes
+  pub payload : IsPayload chunk (payload_in chunk bytes)
+  pub may_come : MayCome command (told_in chunk (payload_in chunk bytes)) (is_done (head_of chunk.head))
+  -- it is shown by its last byte, and nothing is by fewer bytes
+  pub shown : shows_by replies waited (take chunk.size bytes) ≡ Some (reply chunk.head.cookie (told_in chunk (payload_in chunk bytes)) (is_done (head_of chunk.head)))
+  pub before : (front more : List ℕ) → bytes ≡ front ++ more → length front < chunk.size → shows_by replies waited front ≡ None
 
 -- What was seen is what the bytes show.
-abbrev pub SeenAs : (ℕ → Option Waiting) → List ℕ → Seen → Type 0
-SeenAs waited bytes seen.Nothing = shows_plain waited bytes ≡ None
-SeenAs waited bytes (seen.Broken breach) = shows_plain waited bytes ≡ Some (Broken breach)
-SeenAs waited bytes (seen.Whole cookie error size) = IsReply waited bytes cookie error size
+abbrev pub SeenAs : Replies → (ℕ → Option Waiting) → List ℕ → Seen → Type 0
+SeenAs replies waited bytes seen.Nothing = shows_by replies waited bytes ≡ None
+SeenAs replies waited bytes (seen.Broken breach) = shows_by replies waited bytes ≡ Some (Broken breach)
+SeenAs replies waited bytes (seen.Whole cookie error size) = IsReply replies waited bytes cookie error size
+SeenAs replies waited bytes (seen.Chunk chunk) = IsChunk replies waited bytes chunk
 
 -- the head of a simple reply without error, and nothing else
 pub record IsSuccess (head : List ℕ) : Type 0 where
@@ -35,8 +72,8 @@ pub record IsSuccess (head : List ℕ) : Type 0 where
   pub magic : number_at 0 4 head ≡ simple_reply_magic
   pub error : number_at 4 4 head ≡ 0
 
--- The head of a reply that brings so many bytes of data: with fewer bytes behind it nothing is shown yet, and with so many the whole reply is there.
+-- The head of a reply that brings so many bytes of data, where simple replies alone come: with fewer bytes behind it nothing is shown yet, and with so many the whole reply is there.
 pub record Announces (waited : ℕ → Option Waiting) (head : List ℕ) (announced : Announced) : Type 0 where
   pub sized : length head ≡ 16
-  pub partial : (content : List ℕ) → length content < announced.size → shows_plain waited (head ++ content) ≡ None
-  pub whole : (content : List ℕ) → length content ≡ announced.size → IsReply waited (head ++ content) announced.cookie 0 announced.size
+  pub partial : (content : List ℕ) → length content < announced.size → shows_by Simple waited (head ++ content) ≡ None
+  pub whole : (content : List ℕ) → length content ≡ announced.size → IsReply Simple waited (head ++ content) announced.cookie 0 announced.size

@@ -1,45 +1,50 @@
-//! A simple reply at the front of some bytes, where structured replies and extended headers are off. Of other connections nothing is
-//! said here.
+//! What stands at the front of some bytes where replies may come: nothing yet, a breach, a simple reply or a chunk. What comes is judged by the
+//! command that waits for its cookie.
 
-ghost use Rattle.std.specs.Prelude.{◌≡◌, ◌≤◌, ◌&&◌, ℕ, Option, Some, None, IfSome, IsSome, IsTrue, ◌↔◌, true, false, if◌then◌else◌, nat_lt, length};
+ghost use Rattle.std.specs.Prelude.{◌≡◌, ◌≢◌, ◌≤◌, ℕ, Option, Some, None, ◌&&◌, true, false, if◌then◌else◌, nat_lt, length, drop};
 ghost use Rattle.std.specs.Option.{option_map};
 ghost use Rattle.lnbd_records.specs.Numbers.{number_at};
 ghost use Rattle.lnbd_chunks.specs.Chunk.{Waiting as Known};
 ghost use Rattle.lnbd_chunks.specs.Reply.{content_size};
 ghost use Rattle.lnbd_model.specs.Kind.{is_read};
+ghost use Rattle.lnbd_records.specs.Transmission.{simple_reply_magic};
 ghost use Rattle.lnbd_commands.specs.Seen.{seen_waiting};
-ghost use Rattle.lnbd_arrivals.specs.Frames.{Announces, IsSuccess, SeenAs};
+ghost use Rattle.lnbd_structured.specs.Asked.{waiting_in};
+ghost use Rattle.lnbd_arrivals.specs.Frames.{SeenAs, is_extended, is_structured};
+ghost use Rattle.lnbd_arrivals.specs.declared.replies.Replies.TheVariants.{Extended};
+ghost use Rattle.lnbd_arrivals.specs.Heads.{IsHead, IsOther, IsSimple, magic_breach};
 
+use crate::chunk::Chunk;
+use crate::heads::{chunk_head, head_size, simple_head};
+use crate::replies::Replies;
 use lnbd_commands::Waiting;
 use lnbd_model::{Breach, Kind};
-use lnbd_records::{u32_at, u64_at};
+use lnbd_records::u64_at;
+use lnbd_structured::{Asked, breach_shown};
+use lnbd_wire::{ExtHead, Read, SimpleHead};
 
-const MAGIC: u32 = 0x67446698;
+const SIMPLE_MAGIC: u32 = 0x67446698;
 
-/// What the bytes at the front show of a simple reply.
+const STRUCTURED_MAGIC: u32 = 0x668e33ef;
+
+/// What the bytes at the front show.
 #[derive(Clone, Copy, Debug, PartialEq, Eq)]
 pub enum Seen {
     /// Nothing yet: more bytes are needed.
     Nothing,
-    /// A whole reply of 16 bytes and `size` bytes of data.
+    /// A whole simple reply of 16 bytes and `size` bytes of data.
     Whole {
         cookie: u64,
         error: u32,
         size: usize,
     },
+    /// A whole chunk, which breaks no rule of the protocol.
+    Chunk(Chunk),
     /// A breach.
     Broken(Breach),
 }
 
-/// A reply without error that brings `size` bytes of data to a read: its head is there, and nothing else.
-#[derive(Clone, Copy, Debug, PartialEq, Eq)]
-pub struct Announced {
-    pub cookie: u64,
-    /// In bytes.
-    pub size: usize,
-}
-
-/// The cookie of the reply, where its head is whole.
+/// The cookie of a reply, where its head is whole, or of a chunk, whose head may lack bytes behind it: it stands in the same place of all.
 #[tactic(auto, unfolding(lnbd_records::specs::Numbers::number_at))]
 pub fn cookie_in(bytes: &[u8]) -> Option<u64>
     ensures { result ≡ (if nat_lt (length bytes.now) 16 then None else Some (number_at 8 8 bytes.now)) }
@@ -51,13 +56,13 @@ pub fn cookie_in(bytes: &[u8]) -> Option<u64>
     }
 }
 
-fn is_read(kind: Kind) -> bool
+pub(crate) fn is_read(kind: Kind) -> bool
     ensures { result ≡ is_read kind }
 {
     matches!(kind, Kind::Read)
 }
 
-/// How many bytes follow the head of a reply with this error.
+/// How many bytes follow the head of a simple reply with this error.
 pub fn content_size(command: &Waiting, error: u32) -> u64
     ensures { result ≡ content_size (seen_waiting command.now) error }
 {
@@ -68,32 +73,44 @@ pub fn content_size(command: &Waiting, error: u32) -> u64
     }
 }
 
-/// What the bytes at the front show, where the command of their cookie, if it waits, is this one (NBD
-/// protocol, "Simple reply message").
-pub fn look_frame(waiting: Option<Waiting>, bytes: &[u8]) -> Seen
-    ensures { (waited : ℕ → Option Known) → (16 ≤ length bytes.now → waited (number_at 8 8 bytes.now) ≡ option_map seen_waiting waiting) → SeenAs waited bytes.now result }
+/// By what the chunks of a command are judged.
+fn asked(command: &Waiting) -> Asked
+    ensures { waiting_in result ≡ seen_waiting command.now }
 {
-    if bytes.len() < 4 {
-        return Seen::Nothing;
+    Asked {
+        kind: command.kind,
+        offset: command.offset,
+        length: command.length,
+        faults: u64::from(command.faults),
     }
-    if u32_at(bytes, 0) != MAGIC {
-        return Seen::Broken(Breach::BadReplyMagic);
-    }
-    if bytes.len() < 16 {
-        return Seen::Nothing;
-    }
-    let error = u32_at(bytes, 4);
-    let cookie = u64_at(bytes, 8);
+}
+
+/// Whether a command of this kind is answered by chunks alone.
+fn wants_chunks(replies: Replies, kind: Kind) -> bool
+    ensures { result ≡ (is_structured replies && is_read kind) }
+{
+    replies.is_structured() && is_read(kind)
+}
+
+/// A simple reply with this head, where extended headers are off.
+fn look_simple(replies: Replies, waiting: Option<Waiting>, head: &SimpleHead, bytes: &[u8]) -> Seen
+    requires compact { is_extended replies ≡ false }
+    requires head { IsSimple bytes.now head.now }
+    ensures { (waited : ℕ → Option Known) → waited (number_at 8 8 bytes.now) ≡ option_map seen_waiting waiting → SeenAs replies waited bytes.now result }
+{
     match waiting {
         None => Seen::Broken(Breach::UnknownCookie),
         Some(command) => {
-            let size = content_size(&command, error);
+            if wants_chunks(replies, command.kind) {
+                return Seen::Broken(Breach::SimpleForRead);
+            }
+            let size = content_size(&command, head.error);
             if ((bytes.len() - 16) as u64) < size {
                 Seen::Nothing
             } else {
                 Seen::Whole {
-                    cookie,
-                    error,
+                    cookie: head.cookie,
+                    error: head.error,
                     size: size as usize,
                 }
             }
@@ -101,33 +118,90 @@ pub fn look_frame(waiting: Option<Waiting>, bytes: &[u8]) -> Seen
     }
 }
 
-/// Whether these 16 bytes are the head of a simple reply that tells no error.
-fn is_success(head: &[u8]) -> bool
-    ensures { IsTrue result ↔ IsSuccess head.now }
+/// A chunk with this head, where structured replies are on.
+fn look_chunk(replies: Replies, waiting: Option<Waiting>, head: &ExtHead, bytes: &[u8]) -> Seen
+    requires agreed { is_structured replies ≡ true }
+    requires head { IsHead (is_extended replies) bytes.now head.now }
+    ensures { (waited : ℕ → Option Known) → waited (number_at 8 8 bytes.now) ≡ option_map seen_waiting waiting → SeenAs replies waited bytes.now result }
 {
-    head.len() == 16 && u32_at(head, 0) == MAGIC && u32_at(head, 4) == 0
-}
-
-/// The reply whose head these bytes are, where it brings data to the command that waits for its cookie.
-pub fn look_head(waiting: Option<Waiting>, head: &[u8]) -> Option<Announced>
-    ensures announces { IfSome result (λ announced. (waited : ℕ → Option Known) → (16 ≤ length head.now → waited (number_at 8 8 head.now) ≡ option_map seen_waiting waiting) → Announces waited head.now announced) }
-
-    // Each head of a reply without error to a read that waits is told.
-    ensures all { (command : Known) → option_map seen_waiting waiting ≡ Some command → is_read command.kind ≡ true → IsSuccess head.now → IsSome result }
-{
-    if !is_success(head) {
-        return None;
-    }
     match waiting {
-        None => None,
+        None => Seen::Broken(Breach::UnknownCookie),
         Some(command) => {
-            if !is_read(command.kind) {
-                return None;
+            let extended = replies.is_extended();
+            let (_, payload) = bytes.split_at(head_size(extended));
+            if let Some(breach) = breach_shown(&asked(&command), extended, head, payload) {
+                return Seen::Broken(breach);
             }
-            Some(Announced {
-                cookie: u64_at(head, 8),
-                size: command.length as usize,
+            if (payload.len() as u64) < head.length {
+                return Seen::Nothing;
+            }
+            Seen::Chunk(Chunk {
+                extended,
+                head: *head,
+                size: head_size(extended) + head.length as usize,
             })
         }
+    }
+}
+
+/// What bytes show while extended headers are off and no simple reply begins them.
+fn look_structured(replies: Replies, waiting: Option<Waiting>, bytes: &[u8]) -> Seen
+    requires compact { is_extended replies ≡ false }
+    requires other { IsOther simple_reply_magic bytes.now }
+    ensures { (waited : ℕ → Option Known) → (16 ≤ length bytes.now → waited (number_at 8 8 bytes.now) ≡ option_map seen_waiting waiting) → SeenAs replies waited bytes.now result }
+{
+    if !replies.is_structured() {
+        return Seen::Broken(Breach::BadReplyMagic);
+    }
+    match chunk_head(false, bytes) {
+        Read::Value(head) => look_chunk(replies, waiting, &head, bytes),
+        Read::NeedMore => Seen::Nothing,
+        Read::BadMagic(_) => Seen::Broken(Breach::BadReplyMagic),
+    }
+}
+
+/// What bytes show while extended headers are off.
+fn look_compact(replies: Replies, waiting: Option<Waiting>, bytes: &[u8]) -> Seen
+    requires { is_extended replies ≡ false }
+    ensures { (waited : ℕ → Option Known) → (16 ≤ length bytes.now → waited (number_at 8 8 bytes.now) ≡ option_map seen_waiting waiting) → SeenAs replies waited bytes.now result }
+{
+    match simple_head(bytes) {
+        Read::Value(head) => look_simple(replies, waiting, &head, bytes),
+        Read::NeedMore => Seen::Nothing,
+        Read::BadMagic(_) => look_structured(replies, waiting, bytes),
+    }
+}
+
+/// The breach of a magic that is no extended chunk's, while extended headers are on.
+fn magic_breach(magic: u32) -> Breach
+    ensures { result ≡ magic_breach magic }
+{
+    if magic == SIMPLE_MAGIC || magic == STRUCTURED_MAGIC {
+        Breach::MixedHeaders
+    } else {
+        Breach::BadReplyMagic
+    }
+}
+
+/// What bytes show while extended headers are on.
+fn look_extended(waiting: Option<Waiting>, bytes: &[u8]) -> Seen
+    ensures { (waited : ℕ → Option Known) → (16 ≤ length bytes.now → waited (number_at 8 8 bytes.now) ≡ option_map seen_waiting waiting) → SeenAs Extended waited bytes.now result }
+{
+    match chunk_head(true, bytes) {
+        Read::Value(head) => look_chunk(Replies::Extended, waiting, &head, bytes),
+        Read::NeedMore => Seen::Nothing,
+        Read::BadMagic(magic) => Seen::Broken(magic_breach(magic)),
+    }
+}
+
+/// What the bytes at the front show where the server replies so and the command of their cookie, if it waits, is this one. A breach is shown
+/// by the byte that shows it, and what is whole by its last byte.
+pub fn look_frame(replies: Replies, waiting: Option<Waiting>, bytes: &[u8]) -> Seen
+    ensures { (waited : ℕ → Option Known) → (16 ≤ length bytes.now → waited (number_at 8 8 bytes.now) ≡ option_map seen_waiting waiting) → SeenAs replies waited bytes.now result }
+{
+    match replies {
+        Replies::Extended => look_extended(waiting, bytes),
+        Replies::Simple => look_compact(Replies::Simple, waiting, bytes),
+        Replies::Structured => look_compact(Replies::Structured, waiting, bytes),
     }
 }

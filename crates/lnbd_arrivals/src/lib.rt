@@ -1,8 +1,18 @@
-//! What stands at the front of the bytes that arrived in the transmission phase. Pure functions: they
-//! keep nothing, and know of a command only what they are told of it. Replies to options, the hello and
-//! the reply to EXPORT_NAME are read by `lnbd_negotiate`.
+//! What stands at the front of the bytes that arrived in the transmission phase: a simple reply, or a chunk with extended headers or without.
+//! Pure functions: they keep nothing, and know of a command only what they are told of it. Heads are read by `lnbd_wire`, and chunks are
+//! judged by the grammar of `lnbd_structured`. Replies to options, the hello and the reply to EXPORT_NAME are read by `lnbd_negotiate`.
 #![tactic(auto)]
 
+mod announced;
+mod chunk;
 mod frame;
+mod heads;
+mod replies;
 
-pub use frame::{Announced, Seen, content_size, cookie_in, look_frame, look_head};
+pub use announced::{Announced, look_head};
+pub use chunk::Chunk;
+pub use frame::{Seen, content_size, cookie_in, look_frame};
+pub use replies::Replies;
+
+#[cfg(test)]
+mod tests;

@@ -17,15 +17,22 @@ use Rattle.lnbd_machine.specs.Machine.{Row, heard_in, hearing}
 use Rattle.lnbd_commands.specs.Lands.{reply_item}
 use Rattle.lnbd_commands.proofs.SimpleLemmas.{told_failing}
 
-pub record Alike {K : Type 0} (row : Row K) (item : Item) : Type 0 where
-  pub heard : (contexts : List MetaContext) → heard_in row contexts item ≡ heard_in row [] item
-  pub comes : (contexts : List MetaContext) (heard : Option Heard) → hearing row contexts item heard ≡ hearing row [] item heard
+-- an item says the same under these meta contexts and under those
+pub record Alike {K : Type 0} (row : Row K) (item : Item) (these those : List MetaContext) : Type 0 where
+  pub heard : heard_in row these item ≡ heard_in row those item
+  pub comes : (heard : Option Heard) → hearing row these item heard ≡ hearing row those item heard
 
-pub alike_lost : {K : Type 0} (row : Row K) → Alike row Lost
-alike_lost row = record { heard = λ contexts. refl; comes = λ contexts heard. refl }
+pub alike_same : {K : Type 0} (row : Row K) (item : Item) (these those : List MetaContext) → these ≡ those → Alike row item these those
+alike_same row item these those e = record {
+  heard = ap (λ (contexts : List MetaContext). heard_in row contexts item) e;
+  comes = λ heard. ap (λ (contexts : List MetaContext). hearing row contexts item heard) e;
+}
 
-pub alike_dropped : {K : Type 0} (row : Row K) → Alike row Dropped
-alike_dropped row = record { heard = λ contexts. refl; comes = λ contexts heard. refl }
+pub alike_lost : {K : Type 0} (row : Row K) (contexts : List MetaContext) → Alike row Lost contexts []
+alike_lost row contexts = record { heard = refl; comes = λ heard. refl }
+
+pub alike_dropped : {K : Type 0} (row : Row K) (contexts : List MetaContext) → Alike row Dropped contexts []
+alike_dropped row contexts = record { heard = refl; comes = λ heard. refl }
 
 module _ (flags offset size : ℕ) (facts : Facts) (contexts : List MetaContext) (bytes : List ℕ) (heard : ℕ) where
   abbrev asked : Kind → Query
@@ -100,10 +107,10 @@ module _ (flags offset size : ℕ) (facts : Facts) (contexts : List MetaContext)
       done Zero = refl
       done BlockStatus = refl
 
-pub alike_reply : {K : Type 0} (row : Row K) (error : ℕ) (bytes : List ℕ) → Alike row (reply_item row error bytes)
-alike_reply {K} row error bytes = record {
-  heard = λ contexts. heard_same row.flags row.offset row.length row.facts contexts bytes 0 row.kind error;
-  comes = λ contexts heard.
+pub alike_reply : {K : Type 0} (row : Row K) (error : ℕ) (bytes : List ℕ) (contexts : List MetaContext) → Alike row (reply_item row error bytes) contexts []
+alike_reply {K} row error bytes contexts = record {
+  heard = heard_same row.flags row.offset row.length row.facts contexts bytes 0 row.kind error;
+  comes = λ heard.
       ap (λ (f : Facts). record (hearing row contexts (reply_item row error bytes) heard) { facts = f }) (facts_same row.flags row.offset row.length row.facts contexts bytes (heard_error heard) row.kind error)
       ∙ ap (λ (bad : Bool). record (hearing row [] (reply_item row error bytes) heard) {
         bytes = Rattle.lnbd_machine.specs.Machine.told_bytes bad row.kind row.offset row.length (Rattle.lnbd_outcome.specs.Pieces.content_of (reply_item row error bytes)) row.bytes;

@@ -89,7 +89,7 @@ module _ {K : Type 0} where
         cookies = IsRising_append c r m.rows s.cookies s.issued;
         positive = IsAbove_append 0 c r m.rows s.positive (omega arith);
         issued = IsBelow_append (c + 1) c r m.rows (IsBelow_less c (c + 1) m.rows (omega arith) s.issued) (omega arith);
-        rows = rows_append c r m.done m.rows s.rows (record { flies = none; fresh = a.fresh; kept = refl });
+        rows = rows_append c r m.done m.rows s.rows (record { flies = none; fresh = a.fresh; kept = refl; few = omega arith });
         counted =
             let x = ap length l in
             let y = length-append (live_numbers m.rows) (flight_numbers f) in

@@ -94,9 +94,9 @@ module _ {K : Type 0} where
 
   -- A command ends: its row landed as s, and was kept or retired; its callbacks were called and freed.
   pub sound_ended : (m : Commands K) (c e : ℕ) (v : Verdict) (r s : Row K) (f : Flight K) (log : Log) (room : ℕ) → IsSound m → value_at c m.rows ≡ Some r → r.flight ≡ Some f →
-      s.flight ≡ None → is_some s.kept ≡ true → log.live ≡ m.log.live → log.admitted ≡ m.log.admitted →
+      s.flight ≡ None → is_some s.kept ≡ true → s.facts.faults ≤ 1024 → log.live ≡ m.log.live → log.admitted ≡ m.log.admitted →
       IsSound (record { issued = m.issued; rows = (ended v c (record { rows = with_value c s m.rows; done = m.done })).rows; done = (ended v c (record { rows = with_value c s m.rows; done = m.done })).done; log = completing f e v log; freed = m.freed + flight_count f; room = room })
-  sound_ended m c e (Keep e' b) r s f log room sound h k empty kept same admitted =
+  sound_ended m c e (Keep e' b) r s f log room sound h k empty kept few same admitted =
       let a = around c r f m.rows h k in
       let last = keeping (record { error = e'; bytes = b }) s in
       let up : IsRising log.live = rw (same ∙ sound.live) sound.numbered in
@@ -110,10 +110,10 @@ module _ {K : Type 0} where
         cookies = IsRising_with c last m.rows sound.cookies;
         positive = IsAbove_with 0 c last m.rows sound.positive;
         issued = IsBelow_with (m.issued + 1) c last m.rows sound.issued;
-        rows = rows_mark c last m.done m.rows sound.cookies sound.rows (record { flies = ap is_none (sym empty); fresh = rw empty tt; kept = ap is_none (sym empty) });
+        rows = rows_mark c last m.done m.rows sound.cookies sound.rows (record { flies = ap is_none (sym empty); fresh = rw empty tt; kept = ap is_none (sym empty); few = few });
         counted = l.counted;
       })
-  sound_ended m c e Retire r s f log room sound h k empty kept same admitted =
+  sound_ended m c e Retire r s f log room sound h k empty kept few same admitted =
       let a = around c r f m.rows h k in
       let up : IsRising log.live = rw (same ∙ sound.live) sound.numbered in
       let en = ends f a.before a.after log (same ∙ (sound.live ∙ a.here)) up in

@@ -2,6 +2,7 @@
 use Rattle.std.proofs.Common.{◌≡◌, ℕ, ◌+◌, List, [], ◌∷◌, ◌++◌, true, false, refl, ap, sym, arith, Some, None, Option, ◌∙◌, append_assoc, map}
 use Rattle.std.proofs.lemmas.List.{map-append}
 use Rattle.std.specs.Prelude.{is_some}
+use Rattle.lnbd_model.specs.declared.export.Context.{Context as MetaContext}
 use Rattle.lnbd_model.specs.declared.failure.Failure.{Failure}
 use Rattle.lnbd_model.specs.declared.note.Note.{Note}
 use Rattle.lnbd_model.specs.declared.note.Note.TheVariants as note
@@ -43,7 +44,7 @@ frees-append (note.Extents slot context offset count error heard ∷ a) b = free
 frees-append (note.Completed slot error kept ∷ a) b = frees-append a b
 
 module _ {K : Type 0} where
-  frees_first : (first : Option (Slot K)) (hearing : Option Hearing) (heard : Option Heard) → frees (map note_of (first_acts first hearing heard)) ≡ 0
+  pub frees_first : (first : Option (Slot K)) (hearing : Option Hearing) (heard : Option Heard) → frees (map note_of (first_acts first hearing heard)) ≡ 0
   frees_first None hearing heard = refl
   frees_first (Some slot) None heard = refl
   frees_first (Some slot) (Some hearing) None = refl
@@ -80,28 +81,27 @@ module _ {K : Type 0} where
           ∙ append_assoc log.notes (note.Freed slot.number ∷ []) (note.Completed done.number error (is_keep verdict) ∷ note.Freed done.number ∷ [])
 
   -- What is filed at the end of a command.
-  pub record Files (old new : Commands K) (c : ℕ) (row : Row K) (f : Flight K) (item : Item) (heard : Option Heard) (v : Verdict) : Type 0 where
-    pub rows : new.rows ≡ filed (is_retiring item (Some v)) c (add row [] item heard (Some v)) old.rows
+  pub record Files (old new : Commands K) (c : ℕ) (row : Row K) (f : Flight K) (item : Item) (heard : Option Heard) (v : Verdict) (contexts : List MetaContext) : Type 0 where
+    pub rows : new.rows ≡ filed (is_retiring item (Some v)) c (add row contexts item heard (Some v)) old.rows
     pub done : new.done ≡ marked (is_some (kept_by (Some v))) c old.done
-    pub notes : new.log.notes ≡ old.log.notes ++ map note_of (acts_in row f [] item heard (Some v))
+    pub notes : new.log.notes ≡ old.log.notes ++ map note_of (acts_in row f contexts item heard (Some v))
     pub admitted : new.log.admitted ≡ old.log.admitted
-    pub freed : new.freed ≡ old.freed + frees (map note_of (acts_in row f [] item heard (Some v)))
+    pub freed : new.freed ≡ old.freed + frees (map note_of (acts_in row f contexts item heard (Some v)))
     pub issued : new.issued ≡ old.issued
 
-  -- whichever meta contexts are agreed
-  with_contexts : (row : Row K) (f : Flight K) (c : ℕ) (item : Item) (heard : Option Heard) (v : Verdict) (more : List Answer) (doing : Doing K) → Alike row item →
+  with_contexts : (contexts : List MetaContext) (row : Row K) (f : Flight K) (c : ℕ) (item : Item) (heard : Option Heard) (v : Verdict) (more : List Answer) (doing : Doing K) → Alike row item doing.state.talk.contexts contexts →
       file_with c row f item heard (Some v) more doing
       ≡ record {
-        state = file_state c (add row [] item heard (Some v)) item (Some v) (acts_in row f [] item heard (Some v)) doing.state;
+        state = file_state c (add row contexts item heard (Some v)) item (Some v) (acts_in row f contexts item heard (Some v)) doing.state;
         answers = more;
-        calls = doing.calls ++ map call_of (acts_in row f [] item heard (Some v));
+        calls = doing.calls ++ map call_of (acts_in row f contexts item heard (Some v));
       }
-  with_contexts row f c item heard v more doing alike =
+  with_contexts contexts row f c item heard v more doing alike =
       let at : Row K → Option Hearing → Doing K = λ now hearing.
       let acts = filing_acts f hearing item heard (Some v) (error_of_row now) (result_bytes now) in
       record { state = file_state c (ending (ends item) (Some v) now) item (Some v) acts doing.state; answers = more; calls = doing.calls ++ map call_of acts } in
-      ap (λ (now : Row K). at now (heard_in row doing.state.talk.contexts item)) (alike.comes doing.state.talk.contexts heard)
-      ∙ ap (λ (told_now : Option Hearing). at (hearing row [] item heard) told_now) (alike.heard doing.state.talk.contexts)
+      ap (λ (now : Row K). at now (heard_in row doing.state.talk.contexts item)) (alike.comes heard)
+      ∙ ap (λ (told_now : Option Hearing). at (hearing row contexts item heard) told_now) alike.heard
 
   with_answers : (row : Row K) (f : Flight K) (c : ℕ) (item : Item) (heard : Option Heard) (v : Verdict) (state : State K) (more : List Answer) (made : List (Call K)) →
       is_some heard ≡ hears_in row f state.talk.contexts item → IsCounted heard → completes item ≡ true →
@@ -110,45 +110,45 @@ module _ {K : Type 0} where
   with_answers row f c item None v state more made h k e = rw (← h, e) refl
   with_answers row f c item (Some heard) v state more made h k e = rw (← h, e, k) refl
 
-  pub files : (old new : Commands K) (c : ℕ) (row : Row K) (f : Flight K) (item : Item) (heard : Option Heard) (v : Verdict) (state : State K) (more : List Answer) (made : List (Call K)) →
-      value_at c old.rows ≡ Some row → row.flight ≡ Some f → is_some heard ≡ hears_in row f [] item → IsCounted heard → completes item ≡ true → Alike row item → Files old new c row f item heard v →
+  pub files : (contexts : List MetaContext) (old new : Commands K) (c : ℕ) (row : Row K) (f : Flight K) (item : Item) (heard : Option Heard) (v : Verdict) (state : State K) (more : List Answer) (made : List (Call K)) →
+      value_at c old.rows ≡ Some row → row.flight ≡ Some f → is_some heard ≡ hears_in row f contexts item → IsCounted heard → completes item ≡ true → Alike row item state.talk.contexts contexts → Files old new c row f item heard v contexts →
       file_in c item (record { state = with_commands old state; answers = answers_of heard v ++ more; calls = made })
-      ≡ record { state = with_commands new state; answers = more; calls = made ++ map call_of (acts_in row f [] item heard (Some v)) }
-  files old new c row f item heard v state more made at flies h k e alike r =
+      ≡ record { state = with_commands new state; answers = more; calls = made ++ map call_of (acts_in row f contexts item heard (Some v)) }
+  files contexts old new c row f item heard v state more made at flies h k e alike r =
       let doing : Doing K = record { state = with_commands old state; answers = answers_of heard v ++ more; calls = made } in
       ap (λ (o : Option (Row K)). file_row o c item doing) at
       ∙ (ap (λ (o : Option (Flight K)). file_flight o row c item doing) flies
-      ∙ (with_answers row f c item heard v (with_commands old state) more made (h ∙ ap (λ (o : Option Hearing). Rattle.lnbd_history.specs.Entries.hears f o) (sym (alike.heard state.talk.contexts))) k e
-      ∙ (with_contexts row f c item heard v more doing alike
+      ∙ (with_answers row f c item heard v (with_commands old state) more made (h ∙ ap (λ (o : Option Hearing). Rattle.lnbd_history.specs.Entries.hears f o) (sym alike.heard)) k e
+      ∙ (with_contexts contexts row f c item heard v more doing alike
       ∙ rw (r.rows, r.done, r.notes, r.admitted, r.freed, r.issued) refl)))
 
   -- what the code did at the end of a command is what is filed
-  pub files_ended : (old new : Commands K) (c : ℕ) (row : Row K) (f : Flight K) (item : Item) (heard : Option Heard) (v : Verdict) (failure : Option Failure) (bytes : List ℕ) (kept : Kept) (log : Log) →
+  pub files_ended : (contexts : List MetaContext) (old new : Commands K) (c : ℕ) (row : Row K) (f : Flight K) (item : Item) (heard : Option Heard) (v : Verdict) (failure : Option Failure) (bytes : List ℕ) (kept : Kept) (log : Log) →
       value_at c old.rows ≡ Some row → is_done c old.done ≡ false → ends item ≡ true → end_acts f item (Some v) (error_number failure) bytes ≡ completion_acts f (error_number failure) bytes v →
-      failure ≡ (hearing row [] item heard).facts.failure → bytes ≡ result_bytes (hearing row [] item heard) →
-      log.notes ≡ old.log.notes ++ map note_of (first_acts f.first (heard_in row [] item) heard) → log.admitted ≡ old.log.admitted →
+      failure ≡ (hearing row contexts item heard).facts.failure → bytes ≡ result_bytes (hearing row contexts item heard) →
+      log.notes ≡ old.log.notes ++ map note_of (first_acts f.first (heard_in row contexts item) heard) → log.admitted ≡ old.log.admitted →
       new.rows ≡ (ended v c (record { rows = with_value c (landed failure kept row) old.rows; done = old.done })).rows →
       new.done ≡ (ended v c (record { rows = with_value c (landed failure kept row) old.rows; done = old.done })).done →
-      new.log ≡ completing f (error_number failure) v log → new.freed ≡ old.freed + flight_count f → new.issued ≡ old.issued → Files old new c row f item heard v
-  files_ended old new c row f item heard v failure bytes kept log at undone end called same held told admitted rows done logged freed issued =
+      new.log ≡ completing f (error_number failure) v log → new.freed ≡ old.freed + flight_count f → new.issued ≡ old.issued → Files old new c row f item heard v contexts
+  files_ended contexts old new c row f item heard v failure bytes kept log at undone end called same held told admitted rows done logged freed issued =
       record {
         rows = filed_rows v rows;
         done = filed_done v done;
         notes = ap (λ (l : Log). l.notes) logged ∙ (completing_notes f (error_number failure) bytes v log ∙ (ap (λ (l : List Note). l ++ map note_of (completion_acts f (error_number failure) bytes v)) told
-            ∙ (append_assoc old.log.notes (map note_of (first_acts f.first (heard_in row [] item) heard)) (map note_of (completion_acts f (error_number failure) bytes v))
-            ∙ (ap (λ (l : List Note). old.log.notes ++ l) (sym (ending_acts note_of f (heard_in row [] item) item heard v (error_number failure) bytes called)) ∙ ap (λ (l : List (Act K)). old.log.notes ++ map note_of l) acts_are))));
+            ∙ (append_assoc old.log.notes (map note_of (first_acts f.first (heard_in row contexts item) heard)) (map note_of (completion_acts f (error_number failure) bytes v))
+            ∙ (ap (λ (l : List Note). old.log.notes ++ l) (sym (ending_acts note_of f (heard_in row contexts item) item heard v (error_number failure) bytes called)) ∙ ap (λ (l : List (Act K)). old.log.notes ++ map note_of l) acts_are))));
         admitted = ap (λ (l : Log). l.admitted) logged ∙ (first_freed_admitted f.first log ∙ admitted);
-        freed = freed ∙ (ap (λ (n : ℕ). old.freed + n) (sym (frees_ending f (heard_in row [] item) item heard v (error_number failure) bytes called)) ∙ ap (λ (l : List (Act K)). old.freed + frees (map note_of l)) acts_are);
+        freed = freed ∙ (ap (λ (n : ℕ). old.freed + n) (sym (frees_ending f (heard_in row contexts item) item heard v (error_number failure) bytes called)) ∙ ap (λ (l : List (Act K)). old.freed + frees (map note_of l)) acts_are);
         issued = issued;
       }
     where
-      acts_are : filing_acts f (heard_in row [] item) item heard (Some v) (error_number failure) bytes ≡ acts_in row f [] item heard (Some v)
+      acts_are : filing_acts f (heard_in row contexts item) item heard (Some v) (error_number failure) bytes ≡ acts_in row f contexts item heard (Some v)
       acts_are =
-          ap (λ (o : Option Failure). filing_acts f (heard_in row [] item) item heard (Some v) (error_number o) bytes) same
-          ∙ ap (λ (b : List ℕ). filing_acts f (heard_in row [] item) item heard (Some v) (error_of_row (hearing row [] item heard)) b) held
+          ap (λ (o : Option Failure). filing_acts f (heard_in row contexts item) item heard (Some v) (error_number o) bytes) same
+          ∙ ap (λ (b : List ℕ). filing_acts f (heard_in row contexts item) item heard (Some v) (error_of_row (hearing row contexts item heard)) b) held
 
       filed_rows : (v : Verdict) → new.rows ≡ (ended v c (record { rows = with_value c (landed failure kept row) old.rows; done = old.done })).rows →
-          new.rows ≡ filed (is_retiring item (Some v)) c (add row [] item heard (Some v)) old.rows
+          new.rows ≡ filed (is_retiring item (Some v)) c (add row contexts item heard (Some v)) old.rows
       filed_rows (Keep e b) r =
           r ∙ (ap (λ (t : Table (Row K)). t.rows) (ended_keep c e b (landed failure kept row) row old.rows old.done at) ∙ rw (end, ← same) refl)
       filed_rows Retire r =

@@ -1,8 +1,8 @@
 -- What contracts see of the commands of one handle.
-use Rattle.std.specs.Prelude.{ℕ, ◌+◌, List, [], ◌∷◌, ◌++◌, Option, Some, None}
+use Rattle.std.specs.Prelude.{ℕ, ◌+◌, List, [], ◌∷◌, ◌++◌, Option, Some, None, if◌then◌else◌}
 use Rattle.lnbd_keyed.specs.Keyed.{value_at, without}
 use Rattle.lnbd_callbacks.specs.Desk.{Log, empty_log}
-use Rattle.lnbd_history.specs.Commands.{Command, request_of}
+use Rattle.lnbd_history.specs.Commands.{Command, request_of, is_write}
 use Rattle.lnbd_history.specs.Arrivals.{Waiting}
 use Rattle.lnbd_machine.specs.Machine.{Row, State, new_row, dropped, waiting_row}
 use Rattle.lnbd_commands.specs.Flights.{admitting}
@@ -57,3 +57,14 @@ module _ {K : Type 0} where
   -- of a cookie
   abbrev pub waiting_at : ℕ → Commands K → Option Waiting
   waiting_at cookie commands = waiting_as (value_at cookie commands.rows)
+
+  -- the bytes that a write sends, until something is kept of it
+  abbrev pub payload_of : Row K → List ℕ
+  payload_of row = if is_write row.kind then row.bytes else []
+
+  abbrev pub payload_as : Option (Row K) → List ℕ
+  payload_as None = []
+  payload_as (Some row) = payload_of row
+
+  abbrev pub payload_at : ℕ → Commands K → List ℕ
+  payload_at cookie commands = payload_as (value_at cookie commands.rows)

@@ -1,5 +1,5 @@
 -- What a simple reply brings.
-use Rattle.std.specs.Prelude.{ℕ, List}
+use Rattle.std.specs.Prelude.{◌≡◌, ℕ, List, length, Option, Some, None}
 use Rattle.lnbd_commands.specs.declared.content.Content.{Content}
 use Rattle.lnbd_commands.specs.declared.content.Content.TheVariants.{Copied, Moved}
 
@@ -7,3 +7,12 @@ use Rattle.lnbd_commands.specs.declared.content.Content.TheVariants.{Copied, Mov
 abbrev pub bytes_in : Content → List ℕ
 bytes_in (Copied bytes) = bytes.now
 bytes_in (Moved buffer) = buffer.items
+
+-- what a command's buffer holds where these bytes come, if they do, and what it holds without them
+abbrev pub brought_in : Option Content → List ℕ → List ℕ
+brought_in None own = own
+brought_in (Some content) own = bytes_in content
+
+abbrev pub FitsIn : Option Content → ℕ → Type 0
+FitsIn None size = Unit {0}
+FitsIn (Some content) size = length (bytes_in content) ≡ size

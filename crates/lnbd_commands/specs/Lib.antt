@@ -4,7 +4,9 @@ pub mod Commands
 pub mod Contents
 pub mod Flights
 pub mod Lands
+pub mod Parts
 pub mod Rows
 pub mod Seen
 pub mod Sound
 pub mod Takes
+pub mod Told

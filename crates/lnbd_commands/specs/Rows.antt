@@ -1,36 +1,56 @@
 -- What a row's fields stand for, and how a row ends.
-use Rattle.std.specs.Prelude.{◌≡◌, ℕ, List, [], ◌∷◌, ◌++◌, length, true, Option, Some, None}
+use Rattle.std.specs.Prelude.{◌≡◌, ℕ, ◌-◌, List, [], ◌∷◌, ◌++◌, length, get_or, true, false, Option, Some, None, if◌then◌else◌, ◌==◌}
 use Rattle.lnbd_model.specs.declared.kind.Kind.{Kind}
 use Rattle.lnbd_keyed.specs.Keyed.{value_at, with_value, without}
 use Rattle.lnbd_callbacks.specs.declared.caller.Verdict.{Verdict}
 use Rattle.lnbd_callbacks.specs.declared.caller.Verdict.TheVariants.{Keep, Retire}
 use Rattle.lnbd_inflight.specs.Table.{Table}
 use Rattle.lnbd_inflight.specs.Done.{forgetting}
-use Rattle.lnbd_model.specs.Kind.{is_read}
+use Rattle.lnbd_extents.specs.Positions.{holds}
+use Rattle.lnbd_model.specs.Kind.{is_read, is_write}
 use Rattle.lnbd_model.specs.declared.failure.Failure.{Failure}
 use Rattle.lnbd_outcome.specs.Facts.{Facts, no_facts}
-use Rattle.lnbd_outcome.specs.Outcome.{error_number}
+use Rattle.lnbd_outcome.specs.Outcome.{each, error_number}
+use Rattle.lnbd_outcome.specs.Pieces.{Query}
+use Rattle.lnbd_structured.specs.Assembly.{Assembled}
 use Rattle.lnbd_history.specs.Commands.{Flight}
 use Rattle.lnbd_history.specs.Entries.{Kept}
 use Rattle.lnbd_machine.specs.Machine.{Row, first_bytes}
 
--- Until something is kept, nothing of a read was told, and a write has its own bytes; later the buffer is gone.
-abbrev pub seen_bytes : Option Kept → Kind → ℕ → List ℕ → List ℕ
-seen_bytes None kind size buf = first_bytes kind size buf
-seen_bytes (Some kept) kind size buf = []
+-- the bytes of a read that were told, of a buffer that may hold others: 0 where nothing was told
+abbrev pub masked : List (ℕ × ℕ) → (offset size : ℕ) → List ℕ → List ℕ
+masked told offset size buf = each (λ p. if holds told p then get_or buf (p - offset) 0 else 0) offset size
 
--- Until then the buffer of a read has the asked length, and nothing failed.
-pub record IsOpen (kind : Kind) (size : ℕ) (buf : List ℕ) (failure : Option Failure) : Type 0 where
-  pub buffer : is_read kind ≡ true → length buf ≡ size
-  pub unfailed : failure ≡ None
+-- Until something is kept a read has what was told of it, and a write its own bytes; later the buffer is gone.
+abbrev pub open_bytes : Kind → List (ℕ × ℕ) → (offset size : ℕ) → List ℕ → List ℕ
+open_bytes kind told offset size buf = if is_read kind then masked told offset size buf else if is_write kind then buf else []
 
-abbrev pub IsHeld : Option Kept → Kind → ℕ → List ℕ → Option Failure → Type 0
-IsHeld None kind size buf failure = IsOpen kind size buf failure
-IsHeld (Some kept) kind size buf failure = Unit {0}
+abbrev pub seen_bytes : Option Kept → Kind → List (ℕ × ℕ) → (offset size : ℕ) → List ℕ → List ℕ
+seen_bytes None kind told offset size buf = open_bytes kind told offset size buf
+seen_bytes (Some kept) kind told offset size buf = []
 
--- Of what was told of a command only its first error is held.
-abbrev pub seen_facts : Option Failure → Facts
-seen_facts failure = record no_facts { failure = failure }
+-- an error has a number
+abbrev pub IsReal : Option Failure → Type 0
+IsReal None = Unit {0}
+IsReal (Some failure) = (failure.error == 0) ≡ false
+
+-- Until then the buffer of a read has the asked length, and what is kept of its chunks is of this command.
+pub record IsOpen (query : Query) (buf : List ℕ) (assembly : Assembled) : Type 0 where
+  pub buffer : is_read query.kind ≡ true → length buf ≡ query.length
+  pub own : assembly.query ≡ query
+  pub real : IsReal assembly.facts.failure
+
+abbrev pub IsHeld : Option Kept → Query → List ℕ → Assembled → Type 0
+IsHeld None query buf assembly = IsOpen query buf assembly
+IsHeld (Some kept) query buf assembly = Unit {0}
+
+-- Of what was told of a command only its first error is held at last.
+abbrev pub ended_facts : Option Failure → Facts
+ended_facts failure = record no_facts { failure = failure }
+
+abbrev pub seen_facts : Option Kept → Assembled → Option Failure → Facts
+seen_facts None assembly failure = assembly.facts
+seen_facts (Some kept) assembly failure = ended_facts failure
 
 -- what is kept of a command until its completion callback has answered
 abbrev pub unanswered : Option Failure → Kept
@@ -47,7 +67,7 @@ module _ {K : Type 0} where
 
   -- the row whose command came to this error, if any, and then what was kept of it
   abbrev pub landed : Option Failure → Kept → Row K → Row K
-  landed failure kept row = record row { flight = None; bytes = []; facts = seen_facts failure; kept = Some kept }
+  landed failure kept row = record row { flight = None; bytes = []; facts = ended_facts failure; kept = Some kept }
 
   abbrev pub keeping : Kept → Row K → Row K
   keeping kept row = record row { kept = Some kept }

@@ -1,7 +1,17 @@
 -- What plain values stand for.
+use Rattle.std.specs.Prelude.{Option, Some, None}
 use Rattle.lnbd_chunks.specs.Chunk.{Waiting}
+use Rattle.lnbd_outcome.specs.Hearing.{Hearing, Chunk, Extents}
+use Rattle.lnbd_commands.specs.declared.flight.Hearing.{Hearing as ToldTo}
+use Rattle.lnbd_commands.specs.declared.flight.Hearing.TheVariants as to
 use Rattle.lnbd_commands.specs.declared.row.Waiting.{Waiting as Told}
 
--- what is known of a command in flight: no chunks come, so none was at fault
+-- what is known of a command in flight
 abbrev pub seen_waiting : Told → Waiting
-seen_waiting told = record { kind = told.kind; offset = told.offset; length = told.length; faults = 0 }
+seen_waiting told = record { kind = told.kind; offset = told.offset; length = told.length; faults = told.faults }
+
+-- what a callback is told, if it is told something
+abbrev pub told_to : ToldTo → Option Hearing
+told_to to.Nothing = None
+told_to (to.Chunk bytes offset status error) = Some (Chunk bytes.now offset status error)
+told_to (to.Extents context offset entries error) = Some (Extents context.now offset entries.now error)

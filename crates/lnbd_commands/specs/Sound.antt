@@ -1,5 +1,5 @@
 -- What holds of the commands of every handle.
-use Rattle.std.specs.Prelude.{◌≡◌, ℕ, ◌+◌, List, [], ◌∷◌, ◌++◌, Bool, false, Option, Some, None, is_some, is_none, length}
+use Rattle.std.specs.Prelude.{◌≡◌, ℕ, ◌+◌, ◌≤◌, List, [], ◌∷◌, ◌++◌, Bool, false, Option, Some, None, is_some, is_none, length}
 use Rattle.lnbd_keyed.specs.Keyed.{IsRising, IsAbove, IsBelow}
 use Rattle.lnbd_inflight.specs.Done.{is_done}
 use Rattle.lnbd_history.specs.Commands.{Flight}
@@ -21,11 +21,12 @@ module _ {K : Type 0} where
   IsFresh None = Unit {0}
   IsFresh (Some flight) = flight.done.completed ≡ false
 
-  -- A row is done exactly where it is not in flight; what is in flight was not completed, and its row has no error and nothing kept; what is done has its result.
+  -- A row is done exactly where it is not in flight; what is in flight was not completed, and nothing of it is kept; what is done has its result. No row has more faults than the next chunk may come after.
   pub record IsRow (is_done : Bool) (row : Row K) : Type 0 where
     pub flies : is_done ≡ is_none row.flight
     pub fresh : IsFresh row.flight
     pub kept : is_some row.kept ≡ is_none row.flight
+    pub few : row.facts.faults ≤ 1024
 
   abbrev pub AreRows : List ℕ → List (ℕ × Row K) → Type 0
   AreRows done [] = Unit {0}

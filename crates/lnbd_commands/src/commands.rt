@@ -8,7 +8,7 @@ ghost use Rattle.lnbd_history.specs.Commands.{Command, callbacks, flight_of};
 ghost use Rattle.lnbd_history.specs.Entries.{Dropped, Framed, Lost};
 ghost use Rattle.lnbd_machine.specs.Machine.{Row as SeenRow, file_all, file_in, flying, refused};
 ghost use Rattle.lnbd_machine.specs.Now.{completed_row};
-ghost use Rattle.lnbd_commands.specs.Commands.{Commands as Seen, cleared, issuing, no_commands, retiring, waiting_at};
+ghost use Rattle.lnbd_commands.specs.Commands.{Commands as Seen, cleared, issuing, no_commands, payload_at, retiring, waiting_at};
 ghost use Rattle.lnbd_commands.specs.Contents.{bytes_in};
 ghost use Rattle.lnbd_commands.specs.Seen.{seen_waiting};
 ghost use Rattle.lnbd_commands.specs.Takes.{IsReply, Takes, TakesReply};
@@ -102,6 +102,16 @@ impl<K> Commands<K> {
         match self.table.get(cookie) {
             Some(row) => row.waiting(),
             None => None,
+        }
+    }
+
+    /// The bytes that a write in flight sends, which stay in its own buffer; of another command none.
+    pub fn payload(&self, cookie: u64) -> &[u8]
+        ensures { result.now ≡ payload_at cookie self.now }
+    {
+        match self.table.get(cookie) {
+            Some(row) => row.payload(),
+            None => &[],
         }
     }
 

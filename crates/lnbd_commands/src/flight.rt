@@ -2,14 +2,14 @@
 //! command they belong to is not known here.
 
 ghost use Rattle.std.specs.Prelude.{◌≡◌, ◌++◌, map, Some, is_some, IfOk, IfErr, OnOk, OnErr};
-ghost use Rattle.lnbd_outcome.specs.Hearing.{Chunk, read_data};
 ghost use Rattle.lnbd_history.specs.Commands.{flight_of};
-ghost use Rattle.lnbd_history.specs.Entries.{call_of, note_of, first_acts, first_free_acts, free_acts, completion_acts};
+ghost use Rattle.lnbd_history.specs.Entries.{call_of, note_of, hears, first_acts, first_free_acts, free_acts, completion_acts};
 ghost use Rattle.lnbd_commands.specs.Lands.{IsCounted};
+ghost use Rattle.lnbd_commands.specs.Seen.{told_to};
 ghost use Rattle.lnbd_commands.specs.Flights.{IsFirstLive, IsLiveFlight, first_freed, freeing, completing, admitting, flight_count};
 
 use lnbd_callbacks::{Caller, Desk, Heard, Slot, Verdict};
-use lnbd_model::{Bytes, NoMemory};
+use lnbd_model::{Bytes, Context, Extent, NoMemory};
 use std::marker::Model;
 
 /// The callbacks of a command in flight: the one for chunks or extents, if there is one, and the one for
@@ -25,6 +25,26 @@ impl<K> Model for Flight<K> {
     ghost Value = { Seen K };
 
     ghost view = { λ flight. record { first = flight.first; done = flight.done } };
+}
+
+/// What the chunk or extents callback of a command is told.
+#[derive(Clone, Copy)]
+pub(crate) enum Hearing<'a> {
+    Nothing,
+    /// Bytes of a read from a place of the export on, with the status of their chunk.
+    Chunk {
+        bytes: &'a [u8],
+        offset: u64,
+        status: u32,
+        error: u32,
+    },
+    /// Extents of a meta context from the command's offset on.
+    Extents {
+        context: &'a Context,
+        offset: u64,
+        entries: &'a [Extent],
+        error: u32,
+    },
 }
 
 /// Admits the callbacks of a command, the chunk or extents callback with the lower number, or hands
@@ -110,27 +130,43 @@ impl<K> Flight<K> {
 }
 
 impl<K: Caller> Flight<K> {
-    /// Tells content to the chunk callback, if there is one: these bytes from this offset on, with the
-    /// command's error so far. For want of memory it is not called, and nothing has changed.
+    /// Tells this to the chunk or extents callback, if there is one. For want of memory it is not called, and nothing
+    /// has changed.
     pub(crate) fn hear(
         &self,
         desk: &mut Desk,
         world: &mut K::World,
-        bytes: &[u8],
-        offset: u64,
-        error: u32,
+        told: Hearing<'_>,
     ) -> Result<Option<Heard>, NoMemory>
         requires { IsFirstLive self.now.first desk.old.log }
-        ensures heard { IfOk result (λ heard. is_some heard ≡ is_some self.now.first) }
+        ensures heard { IfOk result (λ heard. is_some heard ≡ hears self.now (told_to told.entry)) }
         ensures counted { IfOk result IsCounted }
-        ensures world { IfOk result (λ heard. K.steps world.old (map call_of (first_acts self.now.first (Some (Chunk bytes.now offset read_data error)) heard)) world.new) }
-        ensures log { IfOk result (λ heard. desk.new.log ≡ record desk.old.log { notes = desk.old.log.notes ++ map note_of (first_acts self.now.first (Some (Chunk bytes.now offset read_data error)) heard) }) }
+        ensures world { IfOk result (λ heard. K.steps world.old (map call_of (first_acts self.now.first (told_to told.entry) heard)) world.new) }
+        ensures log { IfOk result (λ heard. desk.new.log ≡ record desk.old.log { notes = desk.old.log.notes ++ map note_of (first_acts self.now.first (told_to told.entry) heard) }) }
+        ensures succeeds { OnErr result (desk.old.room ≡ 0) }
         ensures err_world { OnErr result (world.new ≡ world.old) }
         ensures err_desk { OnErr result (desk.new ≡ desk.old) }
     {
-        match &self.first {
-            None => Ok(None),
-            Some(slot) => match slot.chunk(desk, world, bytes, offset, 1, error) {
+        let Some(slot) = &self.first else {
+            return Ok(None);
+        };
+        match told {
+            Hearing::Nothing => Ok(None),
+            Hearing::Chunk {
+                bytes,
+                offset,
+                status,
+                error,
+            } => match slot.chunk(desk, world, bytes, offset, status, error) {
+                Ok(heard) => Ok(Some(heard)),
+                Err(fault) => Err(fault),
+            },
+            Hearing::Extents {
+                context,
+                offset,
+                entries,
+                error,
+            } => match slot.extents(desk, world, context, offset, entries, error) {
                 Ok(heard) => Ok(Some(heard)),
                 Err(fault) => Err(fault),
             },

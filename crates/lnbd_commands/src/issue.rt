@@ -7,6 +7,7 @@ ghost use Rattle.lnbd_machine.specs.Machine.{refused};
 ghost use Rattle.lnbd_commands.specs.Asks.{command_of};
 ghost use Rattle.lnbd_commands.specs.Commands.{issuing};
 ghost use Rattle.lnbd_commands.specs.Rows.{flight_of_row};
+ghost use Rattle.lnbd_commands.specs.Sound.{IsSound};
 ghost use Rattle.lnbd_commands.specs.Takes.{Takes};
 
 use crate::commands::Commands;
@@ -17,6 +18,9 @@ use lnbd_callbacks::Caller;
 use lnbd_inflight::Table;
 use lnbd_model::Kind;
 use std::mem::replace;
+
+/// No buffer has as many bytes, 2^63.
+const MOST_BYTES: u64 = 9_223_372_036_854_775_808;
 
 /// Puts a row where another one holds its place, which is not in flight.
 fn put_in<K>(table: &mut Table<Row<K>>, cookie: u64, row: Row<K>)
@@ -39,6 +43,9 @@ impl<K: Caller> Commands<K> {
         ensures cookie { IfOk result (λ cookie. cookie ≡ self.new.issued) }
         ensures ok { OnOk result (self.new ≡ issuing (command_of asked) self.old) }
 
+        // What holds of the commands of every handle.
+        ensures sound { IsSound self.old }
+
         // What was handed over comes back, and nothing has changed.
         ensures handed_back { IfErr result (λ back. back ≡ asked) }
         ensures err { OnErr result (self.new ≡ self.old) }
@@ -46,9 +53,12 @@ impl<K: Caller> Commands<K> {
         let Some(cookie) = self.issued.checked_add(1) else {
             return Err(asked);
         };
+        if asked.length >= MOST_BYTES && matches!(asked.kind, Kind::Read) {
+            return Err(asked);
+        }
         let _held = self.table.count();
         // The row's place is taken first: what comes after the callbacks are admitted takes no memory.
-        let place = Row::new(Kind::Flush, 0, 0, 0, Vec::new(self.alloc));
+        let place = Row::new(self.alloc, Kind::Flush, 0, 0, 0, Vec::new(self.alloc));
         if let Err(place) = self.table.insert(cookie, place) {
             place.let_go();
             return Err(asked);
@@ -64,7 +74,7 @@ impl<K: Caller> Commands<K> {
         } = asked;
         match admit(&mut self.desk, first, done) {
             Ok(flight) => {
-                let mut row = Row::new(kind, flags, offset, length, buf);
+                let mut row = Row::new(self.alloc, kind, flags, offset, length, buf);
                 row.fly(flight);
                 put_in(&mut self.table, cookie, row);
                 self.issued = cookie;

@@ -3,17 +3,22 @@
 //! simple reply does. No bytes of the wire, no negotiation and no waiting parts are known here.
 #![tactic(auto)]
 
+mod chunk;
 mod close;
 mod commands;
 mod content;
 mod flight;
 mod issue;
+mod laws;
 mod results;
 mod row;
 mod rows;
+mod telling;
 
 pub use close::Closed;
 pub use commands::Commands;
+pub use laws::files_by_parts;
+pub use lnbd_structured::Told;
 pub use row::{Asked, Waiting};
 
 #[cfg(test)]

@@ -1,26 +1,28 @@
 //! The row of one command: what was asked, its callbacks while it is in flight, its buffer, its first error, and what
 //! was kept of it. How rows change is not said here.
 
-ghost use Rattle.std.specs.Prelude.{◌≡◌, ℕ, List, [], true, Some, None, is_some, length, vec_len, IfOk, IfErr, OnErr};
+ghost use Rattle.std.specs.Prelude.{◌≡◌, ◌<◌, ◌^◌, ℕ, List, [], true, false, Some, None, is_some, length, vec_len, IfOk, IfErr, OnErr};
 ghost use Rattle.std.specs.Option.{option_map};
 ghost use Rattle.lnbd_model.specs.Kind.{is_read};
-ghost use Rattle.lnbd_model.specs.declared.failure.Origin.TheVariants as from;
 ghost use Rattle.lnbd_outcome.specs.Outcome.{buffer, error_number, failing, or_else};
 ghost use Rattle.lnbd_history.specs.Entries.{heard_error};
-ghost use Rattle.lnbd_commands.specs.Contents.{bytes_in};
+ghost use Rattle.lnbd_commands.specs.Contents.{FitsIn, brought_in, bytes_in};
 ghost use Rattle.lnbd_commands.specs.Flights.{flight_count};
-ghost use Rattle.lnbd_commands.specs.Lands.{Hears, lost, reply_failure, reply_hearing};
-ghost use Rattle.lnbd_commands.specs.Seen.{seen_waiting};
+ghost use Rattle.lnbd_commands.specs.Lands.{EndsAs, Hears, IsLiveRow, IsWhole, lacking, lost, reply_bad, reply_failure, reply_hearing};
+ghost use Rattle.lnbd_commands.specs.Seen.{seen_waiting, told_to};
 
 use crate::content::Content;
-use crate::flight::Flight;
+use crate::flight::{Flight, Hearing};
 use lnbd_callbacks::{Caller, Desk, Heard};
 use lnbd_history::Completed;
-use lnbd_model::{Bytes, ENOTCONN, Failure, Kind, NoMemory, Origin};
-use lnbd_simple::{Settled, settle};
+use lnbd_model::{Bytes, Contexts, ENOTCONN, EPROTO, Failure, Kind, NoMemory, Origin, told_error};
+use lnbd_structured::Assembly;
 use std::alloc::Global;
 use std::marker::Model;
 use std::mem::replace;
+
+/// The status of data in a chunk callback (libnbd, LIBNBD_READ_DATA).
+const READ_DATA: u32 = 1;
 
 /// What a caller asks for. A read's buffer is to be filled, a write's is to be sent; both have the
 /// asked length. Other commands have an empty one.
@@ -48,6 +50,8 @@ pub struct Waiting {
     pub offset: u64,
     /// In bytes.
     pub length: u64,
+    /// How many of its chunks were errors or had a content fault.
+    pub faults: u32,
 }
 
 /// What the completion callback kept: an error, 0 for none, and the bytes.
@@ -94,36 +98,48 @@ impl<K> Landed<K> {
 
 /// The row of a command that is not retired.
 pub(crate) struct Row<K> {
-    kind: Kind,
+    pub(crate) kind: Kind,
     flags: u32,
-    offset: u64,
+    pub(crate) offset: u64,
     length: u64,
-    flight: Option<Flight<K>>,
+    pub(crate) flight: Option<Flight<K>>,
     // of a command in flight
-    buf: Vec<u8>,
-    // the first error; none while the command is in flight
+    pub(crate) buf: Vec<u8>,
+    pub(crate) assembly: Assembly,
+    // the first error of one that landed
     failure: Option<Failure>,
-    kept: Option<Kept>,
+    pub(crate) kept: Option<Kept>,
 }
 
 impl<K> Model for Row<K> {
     ghost use Rattle.lnbd_machine.specs.Machine.{Row as Seen};
+    ghost use Rattle.std.specs.Prelude.{[]};
     ghost use Rattle.lnbd_commands.specs.Rows.{seen_bytes, seen_facts, IsHeld};
 
     ghost Value = { Seen K };
 
-    ghost view = { λ row. record { kind = row.kind; flags = row.flags; offset = row.offset; length = row.length; flight = row.flight; bytes = seen_bytes row.kept row.kind row.length row.buf.items; facts = seen_facts row.failure; kept = row.kept } };
+    ghost view = { λ row. record { kind = row.kind; flags = row.flags; offset = row.offset; length = row.length; flight = row.flight; bytes = seen_bytes row.kept row.kind row.assembly.facts.told row.offset row.length row.buf.items; facts = seen_facts row.kept row.assembly row.failure; kept = row.kept } };
 
-    ghost invariant = { λ row. IsHeld row.kept row.kind row.length row.buf.items row.failure };
+    ghost invariant = { λ row. IsHeld row.kept (record { kind = row.kind; flags = row.flags; offset = row.offset; length = row.length; payload = [] }) row.buf.items row.assembly };
 }
 
 impl<K> Row<K> {
-    ghost use Rattle.lnbd_machine.specs.Machine.{waiting_row, hearing, result_bytes};
+    ghost use Rattle.lnbd_machine.specs.Machine.{waiting_row};
+    ghost use Rattle.lnbd_commands.specs.Commands.{payload_of};
     ghost use Rattle.lnbd_commands.specs.Rows.{unflown, flown, landed, keeping, unanswered};
 
     /// The row of a command whose callbacks are not admitted yet.
-    pub(crate) fn new(kind: Kind, flags: u32, offset: u64, length: u64, buf: Vec<u8>) -> Row<K>
-        requires { is_read kind ≡ true → vec_len buf ≡ length }
+    #[tactic(auto, using(crate::proofs::MaskLemmas::open_first))]
+    pub(crate) fn new(
+        alloc: Global,
+        kind: Kind,
+        flags: u32,
+        offset: u64,
+        length: u64,
+        buf: Vec<u8>,
+    ) -> Row<K>
+        requires filled { is_read kind ≡ true → vec_len buf ≡ length }
+        requires small { is_read kind ≡ true → length < 2 ^ 63 }
         ensures { result ≡ unflown kind flags offset length buf.items }
     {
         Row {
@@ -133,6 +149,7 @@ impl<K> Row<K> {
             length,
             flight: None,
             buf,
+            assembly: Assembly::new(alloc, kind, offset, length, flags, false),
             failure: None,
             kept: None,
         }
@@ -156,7 +173,31 @@ impl<K> Row<K> {
                 kind: self.kind,
                 offset: self.offset,
                 length: self.length,
+                faults: self.faults(),
             }),
+        }
+    }
+
+    /// The bytes that a write sends, until something is kept of it.
+    pub(crate) fn payload(&self) -> &[u8]
+        ensures { result.now ≡ payload_of self.now }
+    {
+        match &self.kept {
+            None => match self.kind {
+                Kind::Write => &self.buf,
+                _ => &[],
+            },
+            Some(_) => &[],
+        }
+    }
+
+    /// How many chunks were errors or had a content fault, while the command is in flight.
+    fn faults(&self) -> u32
+        ensures { result ≡ self.now.facts.faults }
+    {
+        match &self.kept {
+            None => self.assembly.faults(),
+            Some(_) => 0,
         }
     }
 
@@ -169,21 +210,21 @@ impl<K> Row<K> {
     }
 
     /// Takes the callbacks and the buffer of a command that ends with this error, if any. The bytes of a
-    /// read that is done are this content, those of one that failed are zeroes, and a write has its own.
+    /// read that is done are this content or what its buffer holds, those of one that failed are zeroes, and a write has its own.
     fn land(
         &mut self,
         alloc: Global,
         heard: Option<Heard>,
         failure: Option<Failure>,
-        content: Content<'_>,
+        content: Option<Content<'_>>,
     ) -> Landed<K>
         requires flies { is_some self.old.flight ≡ true }
         requires held { self.old.kept ≡ None }
-        requires sized { is_read self.old.kind ≡ true → error_number failure ≡ 0 → length (bytes_in content) ≡ self.old.length }
+        requires whole { is_read self.old.kind ≡ true → error_number failure ≡ 0 → IsWhole content self.old }
         ensures flight { self.old.flight ≡ Some result.flight }
         ensures heard { result.heard ≡ heard }
         ensures failure { result.failure ≡ failure }
-        ensures bytes { result.bytes ≡ buffer self.old.kind self.old.length self.old.bytes (error_number failure) (bytes_in content.entry) }
+        ensures bytes { result.bytes ≡ buffer self.old.kind self.old.length self.old.bytes (error_number failure) (brought_in content.entry self.old.bytes) }
         ensures row { self.new ≡ landed failure (unanswered failure) self.old }
     {
         let Some(flight) = self.flight.take() else {
@@ -214,9 +255,38 @@ impl<K> Row<K> {
         ensures flight { self.old.flight ≡ Some result.flight }
         ensures row { self.new ≡ landed result.failure (unanswered result.failure) self.old }
     {
-        let _kind = self.kind;
-        let failure = failing(Origin::Lost, ENOTCONN);
-        self.land(alloc, None, failure, Content::Copied(&[]))
+        let failure = first_of(self.assembly.failure(), failing(Origin::Lost, ENOTCONN));
+        self.land(alloc, None, failure, None)
+    }
+
+    /// Ends the command after its last chunk, to which its callback answered this: what was not told is its error, if it
+    /// has none before. It takes no memory.
+    pub(crate) fn end(
+        &mut self,
+        alloc: Global,
+        heard: Option<Heard>,
+        contexts: &Contexts,
+    ) -> Landed<K>
+        requires flies { is_some self.old.flight ≡ true }
+        requires held { self.old.kept ≡ None }
+        ensures ends { EndsAs contexts.now self.old heard result }
+        ensures row { self.new ≡ landed result.failure (unanswered result.failure) self.old }
+    {
+        let lack = self.lack(contexts);
+        let failure = first_of(self.assembly.failure(), lack);
+        self.land(alloc, heard, failure, None)
+    }
+
+    /// The error of a command whose last frame came, where not all was told.
+    fn lack(&self, contexts: &Contexts) -> Option<Failure>
+        requires { self.now.kept ≡ None }
+        ensures { result ≡ lacking contexts.now self.now }
+    {
+        if self.assembly.is_told(contexts) {
+            None
+        } else {
+            failing(Origin::Content, EPROTO)
+        }
     }
 
     /// Lets a row go that is not in flight.
@@ -259,6 +329,7 @@ impl<K> Row<K> {
             length: _,
             flight,
             buf: _,
+            assembly: _,
             failure: _,
             kept,
         } = self;
@@ -286,6 +357,7 @@ impl<K> Row<K> {
             length: _,
             flight,
             buf: _,
+            assembly: _,
             failure: _,
             kept: _,
         } = self;
@@ -300,16 +372,19 @@ fn finish(
     kind: Kind,
     error: u32,
     own: Vec<u8>,
-    content: Content<'_>,
+    content: Option<Content<'_>>,
 ) -> (Vec<u8>, Vec<u8>)
-    requires { is_read kind ≡ true → error ≡ 0 → length (bytes_in content) ≡ vec_len own }
-    ensures { result.0.items ≡ buffer kind (vec_len own) own.items error (bytes_in content.entry) }
+    requires { is_read kind ≡ true → error ≡ 0 → FitsIn content (vec_len own) }
+    ensures { result.0.items ≡ buffer kind (length own.items) own.items error (brought_in content.entry own.items) }
 {
     let mut bytes = own;
     match kind {
         Kind::Read => {
             if error == 0 {
-                return content.fill(alloc, bytes);
+                return match content {
+                    None => (bytes, Vec::new(alloc)),
+                    Some(content) => content.fill(alloc, bytes),
+                };
             }
             bytes.fill(0);
         }
@@ -331,6 +406,7 @@ fn none_left<K>(flight: Option<Flight<K>>)
 
 impl<K: Caller> Row<K> {
     ghost use Rattle.lnbd_chunks.specs.Reply.{content_size};
+    ghost use Rattle.lnbd_machine.specs.Machine.{heard_in};
     ghost use Rattle.lnbd_commands.specs.Rows.{landed, unanswered};
     ghost use Rattle.lnbd_commands.specs.Lands.{IsLiveRow, Lands, known_of, reply_item};
 
@@ -355,54 +431,93 @@ impl<K: Caller> Row<K> {
         ensures err_desk { OnErr result (desk.new ≡ desk.old) }
         ensures err_world { OnErr result (world.new ≡ world.old) }
     {
-        let told = told_by(self.kind, error);
-        let heard = match self.hear(desk, world, error, content.as_slice()) {
+        let bad = self.is_bad(error);
+        let before = self.assembly.failure();
+        let told = reply_hearing(
+            self.kind,
+            bad,
+            error,
+            self.offset,
+            content.as_slice(),
+            error_number(before),
+        );
+        let heard = match hear(&self.flight, desk, world, told) {
             Ok(heard) => heard,
             Err(_) => return Err(content),
         };
-        let failure = first_of(told, failing(Origin::Callback, number_of(heard)));
-        Ok(self.land(alloc, heard, failure, content))
+        let first = first_of(before, told_by(bad, error));
+        let failure = first_of(first, failing(Origin::Callback, number_of(heard)));
+        Ok(self.land(alloc, heard, failure, Some(content)))
     }
 
-    /// Tells the content of a simple reply, if it has any, to the chunk callback.
-    fn hear(
-        &self,
-        desk: &mut Desk,
-        world: &mut K::World,
-        error: u32,
-        bytes: &[u8],
-    ) -> Result<Option<Heard>, NoMemory>
-        requires live { IsLiveRow self.now.flight desk.old.log }
-        ensures hears { IfOk result (λ heard. Hears K.steps self.now (reply_hearing self.now.kind self.now.offset error bytes.now) heard desk.old.log desk.new.log world.old world.new) }
-        ensures err_desk { OnErr result (desk.new ≡ desk.old) }
-        ensures err_world { OnErr result (world.new ≡ world.old) }
+    /// Whether a simple reply with this error, of the right size, has a content fault.
+    fn is_bad(&self, error: u32) -> bool
+        requires { self.now.kept ≡ None }
+        ensures { result ≡ reply_bad self.now error }
     {
         if error != 0 {
-            return Ok(None);
+            return false;
         }
-        let Kind::Read = self.kind else {
-            return Ok(None);
-        };
-        match &self.flight {
-            None => Ok(None),
-            Some(flight) => flight.hear(desk, world, bytes, self.offset, 0),
+        match self.kind {
+            Kind::Read => self.assembly.is_told_twice(),
+            Kind::BlockStatus => true,
+            Kind::Write | Kind::Flush | Kind::Trim | Kind::Cache | Kind::Zero => false,
         }
     }
 }
 
-/// What a simple reply fails its command with: a block status that is answered without extents is at fault.
-fn told_by(kind: Kind, error: u32) -> Option<Failure>
-    ensures { result ≡ reply_failure kind error }
+/// What the chunk callback is told of a simple reply with this error and these bytes, where the command's error so far is `before`.
+fn reply_hearing<'a>(
+    kind: Kind,
+    bad: bool,
+    error: u32,
+    offset: u64,
+    bytes: &'a [u8],
+    before: u32,
+) -> Hearing<'a>
+    ensures { told_to result ≡ reply_hearing kind bad error offset bytes.now before }
 {
-    let origin = if error == 0 {
-        Origin::Content
-    } else {
-        Origin::Told
+    if bad || error != 0 {
+        return Hearing::Nothing;
+    }
+    let Kind::Read = kind else {
+        return Hearing::Nothing;
     };
-    match settle(kind, false, error) {
-        Settled::Done => None,
-        Settled::Failed(error) => Some(Failure { origin, error }),
-        Settled::Broke(_) => unreachable!(),
+    Hearing::Chunk {
+        bytes,
+        offset,
+        status: READ_DATA,
+        error: before,
+    }
+}
+
+/// Tells this to the callback of a command in flight, if it has one.
+pub(crate) fn hear<K: Caller>(
+    flight: &Option<Flight<K>>,
+    desk: &mut Desk,
+    world: &mut K::World,
+    told: Hearing<'_>,
+) -> Result<Option<Heard>, NoMemory>
+    requires { IsLiveRow flight.now desk.old.log }
+    ensures hears { IfOk result (λ heard. Hears K.steps flight.now (told_to told.entry) heard desk.old.log desk.new.log world.old world.new) }
+    ensures succeeds { OnErr result (desk.old.room ≡ 0) }
+    ensures err_desk { OnErr result (desk.new ≡ desk.old) }
+    ensures err_world { OnErr result (world.new ≡ world.old) }
+{
+    match flight {
+        None => Ok(None),
+        Some(flight) => flight.hear(desk, world, told),
+    }
+}
+
+/// What a simple reply fails its command with, where it is said whether it has a content fault.
+fn told_by(bad: bool, error: u32) -> Option<Failure>
+    ensures { result ≡ reply_failure bad error }
+{
+    if bad {
+        failing(Origin::Content, EPROTO)
+    } else {
+        failing(Origin::Told, told_error(error))
     }
 }
 
@@ -438,7 +553,7 @@ pub(crate) fn error_number(failure: Option<Failure>) -> u32
 }
 
 /// The error with which a chunk callback failed its command, 0 for none.
-fn number_of(heard: Option<Heard>) -> u32
+pub(crate) fn number_of(heard: Option<Heard>) -> u32
     ensures { result ≡ heard_error heard }
 {
     match heard {

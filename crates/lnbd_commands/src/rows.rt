@@ -9,15 +9,17 @@ ghost use Rattle.lnbd_outcome.specs.Outcome.{error_number};
 ghost use Rattle.lnbd_history.specs.Entries.{call_of, completion_acts};
 ghost use Rattle.lnbd_commands.specs.Contents.{bytes_in};
 ghost use Rattle.lnbd_commands.specs.Flights.{IsLiveFlight, completing};
-ghost use Rattle.lnbd_commands.specs.Lands.{AnswerableAt, LandsAt, LosableAt, LostAt};
+ghost use Rattle.lnbd_structured.specs.Told.{content_in};
+ghost use Rattle.lnbd_commands.specs.Lands.{AnswerableAt, EndsAt, HearsAt, LandsAt, LosableAt, LostAt, TellableAt, told_row};
 ghost use Rattle.lnbd_commands.specs.Rows.{changed, ended, flight_of_row, keeping, kept_of_row, landed, unanswered};
 
 use crate::content::Content;
 use crate::flight::complete;
 use crate::row::{Landed, Row, error_number};
-use lnbd_callbacks::{Caller, Desk, Verdict};
+use lnbd_callbacks::{Caller, Desk, Heard, Verdict};
 use lnbd_inflight::Table;
-use lnbd_model::Bytes;
+use lnbd_model::{Bytes, Contexts, NoMemory};
+use lnbd_structured::Told;
 use std::alloc::Global;
 
 /// Ends the command of a cookie by a simple reply, and takes its callbacks out of its row.
@@ -40,6 +42,48 @@ pub(crate) fn answer_in<'a, K: Caller>(
 {
     if let Some(row) = table.get_mut(cookie) {
         row.answer(alloc, desk, world, error, content)
+    } else {
+        unreachable!()
+    }
+}
+
+/// Tells what a chunk brings to the command of a cookie, and what its callback answered, if it was called.
+pub(crate) fn tell_in<K: Caller>(
+    table: &mut Table<Row<K>>,
+    desk: &mut Desk,
+    world: &mut K::World,
+    cookie: u64,
+    told: Told<'_>,
+    contexts: &Contexts,
+) -> Result<Option<Heard>, NoMemory>
+    requires { TellableAt (value_at cookie table.old.rows) (content_in told) desk.old.log }
+    ensures hears { IfOk result (λ heard. HearsAt K.steps contexts.now (content_in told.entry) (value_at cookie table.old.rows) heard desk.old.log desk.new.log world.old world.new) }
+    ensures rows { IfOk result (λ heard. table.new ≡ record table.old { rows = changed (told_row contexts.now (content_in told.entry) heard) cookie table.old.rows }) }
+    ensures err_table { OnErr result (table.new ≡ table.old) }
+    ensures err_log { OnErr result (desk.new.log ≡ desk.old.log) }
+    ensures err_world { OnErr result (world.new ≡ world.old) }
+{
+    if let Some(row) = table.get_mut(cookie) {
+        row.tell(desk, world, told, contexts)
+    } else {
+        unreachable!()
+    }
+}
+
+/// Ends the command of a cookie after its last chunk, to which its callback answered this, and takes its callbacks out of its row.
+pub(crate) fn end_in<K>(
+    table: &mut Table<Row<K>>,
+    alloc: Global,
+    cookie: u64,
+    heard: Option<Heard>,
+    contexts: &Contexts,
+) -> Landed<K>
+    requires { LosableAt (value_at cookie table.old.rows) }
+    ensures ends { EndsAt contexts.now (value_at cookie table.old.rows) heard result }
+    ensures rows { table.new ≡ record table.old { rows = changed (landed result.failure (unanswered result.failure)) cookie table.old.rows } }
+{
+    if let Some(row) = table.get_mut(cookie) {
+        row.end(alloc, heard, contexts)
     } else {
         unreachable!()
     }

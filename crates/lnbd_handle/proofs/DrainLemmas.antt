@@ -11,7 +11,7 @@ use Rattle.lnbd_history.proofs.Steady.{none_at}
 use Rattle.lnbd_machine.specs.Machine.{Machine, Doing, sight, waited, table_rules}
 use Rattle.lnbd_machine.specs.Laws.{IsPartial}
 use Rattle.lnbd_machine.proofs.Partial.{table_steady}
-use Rattle.lnbd_arrivals.proofs.Fronts.{shows}
+use Rattle.lnbd_handle.proofs.FrontLemmas.{shows}
 use Rattle.lnbd_handle.specs.declared.connection.Connection.{Connection}
 use Rattle.lnbd_handle.specs.declared.kinds.Taken.{Taken}
 use Rattle.lnbd_handle.specs.Runs.{doing, under, Runs}

@@ -17,15 +17,15 @@ use Rattle.lnbd_commands.specs.Commands.{Commands, with_commands}
 use Rattle.lnbd_commands.specs.Takes.{Takes}
 use Rattle.lnbd_handle.specs.declared.connection.Connection.{Connection}
 use Rattle.lnbd_handle.specs.Runs.{doing, under, Acts, Runs}
-use Rattle.lnbd_handle.specs.Seen.{IsSound, state_of, machine_of, no_writes, ends_in}
+use Rattle.lnbd_handle.specs.Seen.{AreAhead, IsSound, state_of, machine_of, writes_in, flies_in, ends_in}
 
 module _ {K : Type 0} where
   pub shut_sound : (old : Connection K) (queue : Queue) → queue ≡ record old.queue { pieces = []; cursor = 0 } → IsSound old → IsSound (record old { stage = Closed; queue = queue })
   shut_sound old queue e s = record {
-    fits = subst (λ q. AllFit no_writes q.pieces) (sym e) tt;
+    fits = subst (λ q. AllFit (writes_in old.commands) q.pieces) (sym e) tt;
+    ahead = subst (λ q. AreAhead (flies_in old.commands) old.written q.pieces) (sym e) tt;
     stands = tt;
-    plain = s.plain;
-    counted = let n : ends_in (waits no_writes queue) ≡ 0 = ap (λ q. ends_in (waits no_writes q)) e in omega (arith, n, s.counted);
+    counted = let n : ends_in (waits (writes_in old.commands) queue) ≡ 0 = ap (λ q. ends_in (waits (writes_in old.commands) q)) e in omega (arith, n, s.counted);
   }
 
   pub partial_none : (c : Connection K) (pending : List ℕ) → pending ≡ [] → IsPartial (machine_of c pending)

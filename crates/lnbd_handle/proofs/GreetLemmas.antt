@@ -22,7 +22,7 @@ use Rattle.lnbd_negotiate.specs.declared.kinds.TalkFault.TheVariants as fault
 use Rattle.lnbd_outgoing.specs.Queue.{Queue, waits, AllFit}
 use Rattle.lnbd_handle.specs.declared.connection.Connection.{Connection}
 use Rattle.lnbd_handle.specs.Greets.{Replies, goes_on}
-use Rattle.lnbd_handle.specs.Seen.{IsPlain, IsSound, state_of, no_writes, ends_in}
+use Rattle.lnbd_handle.specs.Seen.{AreAhead, IsSound, state_of, writes_in, flies_in, waits_in, ends_in}
 use Rattle.lnbd_handle.proofs.TurnLemmas.{open_queue, open_stands}
 
 pub ends_append : (xs : List Part) (part : Part) → ends_in (xs ++ part ∷ []) ≡ ends_in xs + one_if part.ends
@@ -75,43 +75,43 @@ goes phase.Ready next e = refl
 goes (phase.Refused code) next e = cc
 
 module _ {K : Type 0} where
-  pub talk_sound : (old : Connection K) (talk : Talk) → old.stage ≡ Open → IsPlain talk → IsSound old → IsSound (record old { talk = talk })
-  talk_sound old talk opened plain s = record { fits = s.fits; stands = open_stands old.stage talk.phase old.queue.ended opened (open_queue old s opened); plain = plain; counted = s.counted }
+  pub talk_sound : (old : Connection K) (talk : Talk) → old.stage ≡ Open → IsSound old → IsSound (record old { talk = talk })
+  talk_sound old talk opened s = record { fits = s.fits; ahead = s.ahead; stands = open_stands old.stage talk.phase old.queue.ended opened (open_queue old s opened); counted = s.counted }
 
-  pub queue_sound : (old : Connection K) (flags : ℕ) (talk : Talk) (queue : Queue) → old.stage ≡ Open → IsSound old → IsPlain talk → AllFit no_writes queue.pieces → queue.ended ≡ false → ends_in (waits no_writes queue) ≡ ends_in (waits no_writes old.queue) →
+  pub queue_sound : (old : Connection K) (flags : ℕ) (talk : Talk) (queue : Queue) → old.stage ≡ Open → IsSound old → AllFit (writes_in old.commands) queue.pieces → AreAhead (flies_in old.commands) old.written queue.pieces → queue.ended ≡ false → ends_in (waits (writes_in old.commands) queue) ≡ ends_in (waits_in old) →
       IsSound (record old { flags = flags; talk = talk; queue = queue })
-  queue_sound old flags talk queue opened s plain fits ended same = record {
+  queue_sound old flags talk queue opened s fits ahead ended same = record {
     fits = fits;
+    ahead = ahead;
     stands = open_stands old.stage talk.phase queue.ended opened ended;
-    plain = plain;
     counted = subst (λ n. old.written + n ≤ old.commands.issued) (sym same) s.counted;
   }
 
   pub greeted_state : (old : Connection K) (flags : ℕ) (talk : Talk) (queue : Queue) (request : List ℕ) (middle : List Part) → talk ≡ taking Hello old.talk → request ≡ concat (sent Hello old.talk) →
-      middle ≡ waits no_writes old.queue ++ plain (client_flags flags) ∷ [] → Queues request middle (waits no_writes queue) →
+      middle ≡ waits_in old ++ plain (client_flags flags) ∷ [] → Queues request middle (waits (writes_in old.commands) queue) →
       state_of (record old { flags = flags; talk = talk; queue = queue }) ≡ greeted flags (state_of old)
   greeted_state old flags talk queue request middle taken e first queues =
       let t = taking Hello old.talk in
-      let all : waits no_writes queue ≡ (waits no_writes old.queue ++ plain (client_flags flags) ∷ []) ++ map plain (sent Hello old.talk) =
+      let all : waits (writes_in old.commands) queue ≡ (waits_in old ++ plain (client_flags flags) ∷ []) ++ map plain (sent Hello old.talk) =
       queues t.phase t.name t.wanted e ∙ ap (λ m. m ++ map plain (sent Hello old.talk)) first in
       ap (λ t. state_of (record old { flags = flags; talk = t; queue = queue })) taken ∙ ap (λ w. record (state_of (record old { flags = flags; talk = taking Hello old.talk })) { waits = w }) all
 
-  pub replied_state : (old : Connection K) (talk : Talk) (queue : Queue) (told : Told) (request : List ℕ) → Takes (Replied told) old.talk talk [] request → Queues request (waits no_writes old.queue) (waits no_writes queue) →
+  pub replied_state : (old : Connection K) (talk : Talk) (queue : Queue) (told : Told) (request : List ℕ) → Takes (Replied told) old.talk talk [] request → Queues request (waits_in old) (waits (writes_in old.commands) queue) →
       state_of (record old { talk = talk; queue = queue }) ≡ turned (Replied told) (state_of old)
   replied_state old talk queue told request takes queues =
       let t = taking (Replied told) old.talk in
-      let all : waits no_writes queue ≡ waits no_writes old.queue ++ map plain (sent (Replied told) old.talk) =
-      if_sent (is_some (end_of told)) t.phase t.name t.wanted request (waits no_writes old.queue) (waits no_writes queue) queues takes.sends in
+      let all : waits (writes_in old.commands) queue ≡ waits_in old ++ map plain (sent (Replied told) old.talk) =
+      if_sent (is_some (end_of told)) t.phase t.name t.wanted request (waits_in old) (waits (writes_in old.commands) queue) queues takes.sends in
       ap (λ t. state_of (record old { talk = t; queue = queue })) takes.talk ∙ ap (λ w. record (state_of (record old { talk = taking (Replied told) old.talk })) { waits = w }) all
 
-  pub replied_well : (old : Connection K) (talk : Talk) (queue : Queue) (verdict : Option Shown) (request : List ℕ) (next : Next) → Applies old.talk verdict [] (Ok next) talk request → Queues request (waits no_writes old.queue) (waits no_writes queue) →
+  pub replied_well : (old : Connection K) (talk : Talk) (queue : Queue) (verdict : Option Shown) (request : List ℕ) (next : Next) → Applies old.talk verdict [] (Ok next) talk request → Queues request (waits_in old) (waits (writes_in old.commands) queue) →
       Replies (state_of old) verdict (Ok tt) (state_of (record old { talk = talk; queue = queue }))
   replied_well old talk queue verdict request next a queues = (a.0, a.1, replied_state old talk queue a.0 request a.2 queues, goes talk.phase next a.3)
 
-  pub replied_ill : (old : Connection K) (talk : Talk) (queue : Queue) (verdict : Option Shown) (request : List ℕ) (cause : Cause) → Applies old.talk verdict [] (Err (fault.Cause cause)) talk request → Queues request (waits no_writes old.queue) (waits no_writes queue) →
+  pub replied_ill : (old : Connection K) (talk : Talk) (queue : Queue) (verdict : Option Shown) (request : List ℕ) (cause : Cause) → Applies old.talk verdict [] (Err (fault.Cause cause)) talk request → Queues request (waits_in old) (waits (writes_in old.commands) queue) →
       Replies (state_of old) verdict (Err (fault.Cause cause)) (state_of (record old { talk = talk; queue = queue }))
   replied_ill old talk queue verdict request (Broke breach) a queues =
-      let same : waits no_writes queue ≡ waits no_writes old.queue = queues phase.Greeting [] [] a.1.sends ∙ append-nil (waits no_writes old.queue) in
+      let same : waits (writes_in old.commands) queue ≡ waits_in old = queues phase.Greeting [] [] a.1.sends ∙ append-nil (waits_in old) in
       (a.0, ap (λ t. state_of (record old { talk = t; queue = queue })) a.1.talk ∙ ap (λ w. record (state_of old) { waits = w }) same)
   replied_ill old talk queue verdict request (Refused option code) a queues = (a.0, a.1, replied_state old talk queue a.0 request a.2 queues, a.3, a.4)
   replied_ill old talk queue verdict request Ended a queues = absurd a

@@ -1,6 +1,5 @@
 -- What a step of the machine is to the histories that it stands for.
 use Rattle.std.proofs.Common.{◌≡◌, ℕ, false, List, ◌∷◌, Option, None, true, take, Result, Ok, Err, OnOk, IfErr, refl, sym, ap, subst, ◌∙◌}
-use Rattle.std.proofs.lemmas.Bool.{false≢true}
 use Rattle.lnbd_model.specs.declared.note.Note.{Note}
 use Rattle.lnbd_model.specs.declared.export.ExportInfo.{ExportInfo}
 use Rattle.lnbd_model.specs.declared.failure.Failure.{Failure}
@@ -9,11 +8,11 @@ use Rattle.lnbd_callbacks.specs.Calls.{Call}
 use Rattle.lnbd_history.specs.declared.kinds.Completed.{Completed}
 use Rattle.lnbd_history.specs.declared.kinds.Peeked.{Peeked}
 use Rattle.lnbd_history.specs.declared.kinds.Completed.TheVariants.{Done, Failed, NotYet, NoSuchCookie}
-use Rattle.lnbd_history.specs.Commands.{Command, is_write}
-use Rattle.lnbd_history.specs.Answers.{is_living, state_after, in_flight_after, out_after, direction_after, peeked_after, completed_after, failure_after, info_after, log_after}
+use Rattle.lnbd_history.specs.Commands.{Command}
+use Rattle.lnbd_history.specs.Answers.{is_living, state_after, in_flight_after, out_after, direction_after, peeked_after, completed_after, failure_after, info_after, log_after, strict_after}
 use Rattle.lnbd_history.specs.Events.{Answer, Event, History, Issue, Refuse, Arrived, Retire, Close}
 use Rattle.lnbd_history.specs.History.{is_gone, reading}
-use Rattle.lnbd_history.specs.Laws.{is_closed}
+use Rattle.lnbd_history.specs.Laws.{is_closed, HasItsBytes}
 use Rattle.lnbd_machine.specs.Does.{Does}
 use Rattle.lnbd_machine.specs.Machine.{Machine, calls, step}
 use Rattle.lnbd_machine.specs.Now.{state_now, in_flight_now, out_now, direction_now, peeked_now, completed_now, failure_now, info_now, refusal_now}
@@ -52,9 +51,9 @@ module _ {K : Type 0} where
     adds_fault command (NoMemory buf first done) f history stands = stays old new f.3 history stands
     adds_fault command (Refused why buf) f history stands = adds_calls (Refuse command why) (λ before. refl) f.0 f.2 history stands
 
-  pub issue_adds : (command : Command K) (old new : Machine K) (result : Result ℕ (IssueFault K)) → is_write command.kind ≡ false → OnOk result (refusal_now 1024 old.known command ≡ None) → OnOk result (new ≡ step old (Issue command)) → OnOk result (ForEach old (Adds (Issue command) new))
-  issue_adds command old new (Ok cookie) reads may is = adds (Issue command) old new (λ before. refl) (may, λ writes. absurd (false≢true (sym reads ∙ writes))) is
-  issue_adds command old new (Err fault) reads may is = tt
+  pub issue_adds : (command : Command K) (old new : Machine K) (result : Result ℕ (IssueFault K)) → HasItsBytes command → OnOk result (refusal_now 1024 old.known command ≡ None) → OnOk result (new ≡ step old (Issue command)) → OnOk result (ForEach old (Adds (Issue command) new))
+  issue_adds command old new (Ok cookie) bytes may is = adds (Issue command) old new (λ before. refl) (may, bytes) is
+  issue_adds command old new (Err fault) bytes may is = tt
 
   pub adds_result : (result : Completed) (cookie : ℕ) (old new : Machine K) → result ≡ completed_now old.known cookie → new ≡ completing result cookie old → ForEach old (AddsResult result cookie new)
   adds_result (Done bytes) cookie old new is taken history stands = adds (Retire cookie) old new (λ before. refl) (ap is_result (sym is)) taken history stands
@@ -87,6 +86,9 @@ module _ {K : Type 0} where
 
   -- What the machine answers the history says.
   module _ (now : Machine K) where
+    pub strict_told : (answer : ℕ) → answer ≡ now.known.strict → ForEach now (λ history. answer ≡ strict_after history)
+    strict_told answer is history stands = is ∙ (stands_right 1024 history now stands).strict
+
     pub state_told : (answer : State) → answer ≡ state_now now.known → ForEach now (λ history. answer ≡ state_after history)
     state_told answer is history stands = is ∙ (stands_right 1024 history now stands).state
 

@@ -1,5 +1,6 @@
+pub mod QueuedLemmas
 pub mod RunLemmas
-pub mod PlainLemmas
+pub mod FrontLemmas
 pub mod TurnLemmas
 pub mod DrainLemmas
 pub mod GreetLemmas
@@ -10,3 +11,5 @@ pub mod ResultLemmas
 pub mod HeadLemmas
 pub mod IssueLemmas
 pub mod HistoryLemmas
+pub mod AbortLemmas
+pub mod OptionLemmas

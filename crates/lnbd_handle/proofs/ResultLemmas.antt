@@ -6,7 +6,7 @@ use Rattle.lnbd_history.specs.declared.kinds.Completed.{Completed}
 use Rattle.lnbd_history.specs.declared.kinds.Completed.TheVariants.{Done, Failed, NotYet, NoSuchCookie}
 use Rattle.lnbd_history.specs.Events.{Event, Retire}
 use Rattle.lnbd_history.specs.Entries.{Kept}
-use Rattle.lnbd_machine.specs.Machine.{Row, Machine, step}
+use Rattle.lnbd_machine.specs.Machine.{Row, State, Machine, step}
 use Rattle.lnbd_machine.specs.Laws.{IsPartial, Keeps}
 use Rattle.lnbd_machine.specs.Now.{completed_row, completed_with}
 use Rattle.lnbd_machine.proofs.Partial.{step_partial}
@@ -17,6 +17,7 @@ use Rattle.lnbd_commands.proofs.ResultLemmas.{kept_landed}
 use Rattle.lnbd_handle.specs.declared.connection.Connection.{Connection}
 use Rattle.lnbd_handle.specs.Seen.{IsSound, machine_of}
 use Rattle.lnbd_handle.specs.Completing.{completing}
+use Rattle.lnbd_handle.proofs.QueuedLemmas.{KeepsUnwritten, kept_state, kept_sound, retired_keeps}
 
 -- what is done or failed was kept
 done_kept : (o : Option Kept) (bytes : List ℕ) → Done bytes ≡ completed_with o → is_some o ≡ true
@@ -46,9 +47,15 @@ module _ {K : Type 0} where
   retires : (cookie : ℕ) (old : Connection K) (held : List ℕ) (commands : Commands K) → AreSound old.commands → ((row : Row K) → value_at cookie old.commands.rows ≡ Some row → is_some row.kept ≡ true) →
       commands ≡ retiring cookie old.commands → Whole old held → Took (Retire cookie) old held (record old { commands = commands }) held
   retires cookie old held commands sound kept e w = subst (λ (c : Commands K). Took (Retire cookie) old held (record old { commands = c }) held) (sym e)
-      (took (Retire cookie) old held (record old { commands = retiring cookie old.commands }) held refl
-      (sound.cookies, λ row is. kept_landed cookie row old.commands.done old.commands.rows sound.rows is (kept row is)) w.1
-      (record { fits = w.0.fits; stands = w.0.stands; plain = w.0.plain; counted = w.0.counted }))
+      (took (Retire cookie) old held (record old { commands = retiring cookie old.commands }) held (ap (λ (s : State K). record { known = s; pending = held }) (kept_state old (retiring cookie old.commands) keeps w.0))
+      (sound.cookies, landed) w.1
+      (kept_sound old (retiring cookie old.commands) keeps refl w.0))
+    where
+      landed : (row : Row K) → value_at cookie old.commands.rows ≡ Some row → row.flight ≡ None
+      landed row is = kept_landed cookie row old.commands.done old.commands.rows sound.rows is (kept row is)
+
+      keeps : KeepsUnwritten old.written old.commands (retiring cookie old.commands)
+      keeps = retired_keeps old.written cookie old.commands landed
 
   pub took_result : (result : Completed) (cookie : ℕ) (old : Connection K) (held : List ℕ) (commands : Commands K) → AreSound old.commands → result ≡ completed_row (value_at cookie old.commands.rows) →
       commands ≡ taking_result result cookie old.commands → Whole old held → Results result cookie old held commands

@@ -1,6 +1,6 @@
 -- What a turn does, for each thing that may stand at the front.
 use Rattle.std.proofs.Common.{◌≡◌, ℕ, ◌+◌, ◌<◌, ◌≤◌, Bool, true, false, List, [], ◌∷◌, ◌++◌, length, take, drop, Option, Some, None, Err, nat_lt, nat_le, ◌^◌, if◌then◌else◌, refl, ap, sym, ◌∙◌, subst, arith, append-nil}
-use Rattle.std.proofs.lemmas.Bool.{lt-ltb}
+use Rattle.std.proofs.lemmas.Bool.{leb-true, lt-ltb}
 use Rattle.std.proofs.lemmas.List.{take-append-drop}
 use Rattle.lnbd_model.specs.declared.breach.Breach.{Breach}
 use Rattle.lnbd_model.specs.declared.breach.Breach.TheVariants.{NotFixed, SizeTooBig}
@@ -24,20 +24,27 @@ use Rattle.lnbd_history.specs.Entries.{Framed}
 use Rattle.lnbd_outgoing.specs.Queue.{Queue, waits, AllFit}
 use Rattle.lnbd_negotiate.specs.declared.kinds.TalkFault.TheVariants as fault
 use Rattle.lnbd_commands.specs.Commands.{Commands, waiting_as, waiting_at}
-use Rattle.lnbd_commands.specs.Takes.{Takes, TakesReply}
-use Rattle.lnbd_arrivals.specs.Frames.{IsReply, shows_plain}
+use Rattle.lnbd_commands.specs.Takes as takes
+use Rattle.lnbd_commands.specs.Takes.{Takes, TakesReply, TakesUnder}
+use Rattle.lnbd_arrivals.specs.Frames.{IsChunk, IsReply, shows_by}
+use Rattle.lnbd_arrivals.specs.Payloads.{payload_in, told_in}
+use Rattle.lnbd_arrivals.specs.declared.chunk.Chunk.{Chunk}
+use Rattle.lnbd_arrivals.specs.declared.replies.Replies.{Replies as Manner}
+use Rattle.lnbd_chunks.specs.Chunk.{is_done}
 use Rattle.lnbd_chunks.specs.Reply.{simple_content}
+use Rattle.lnbd_structured.specs.Assembly.{head_of}
 use Rattle.lnbd_history.specs.Events.{Answer}
-use Rattle.lnbd_history.specs.Arrivals.{Shown, Hello, OptionReply, ExportReply, Reply, Broken, Ignored, Frame, Waiting, Sight, has_bit, shows_at, shows_in, shows_hello, shows_option, shows_by_name, shows_frame}
+use Rattle.lnbd_history.specs.Arrivals.{Shown, Hello, OptionReply, ExportReply, Reply, Broken, Ignored, Frame, Waiting, Sight, has_bit, shows_at, shows_in, shows_hello, shows_option, shows_by_name}
 use Rattle.lnbd_machine.specs.Machine.{Row, State, Doing, enter, kill, greeted, turned, if_refused, file_in, sight, waited, waited_of, table_rules}
-use Rattle.lnbd_arrivals.proofs.Fronts.{shows, Ignores, feed_ignored, broke, took_hello, took_by_name, took_option, took_frame}
+use Rattle.lnbd_handle.proofs.FrontLemmas.{shows, Ignores, feed_ignored, broke, took_hello, took_by_name, took_option, took_shown}
 use Rattle.lnbd_handle.specs.declared.connection.Connection.{Connection}
 use Rattle.lnbd_handle.specs.Runs.{doing, under, Acts, Runs}
 use Rattle.lnbd_handle.specs.Seen.{state_of, machine_of}
-use Rattle.lnbd_handle.specs.Turns.{arriving, is_speaking, takes_options}
+use Rattle.lnbd_handle.specs.Turns.{AreAgreed, arriving, is_speaking, takes_options}
 use Rattle.lnbd_handle.specs.Greets.{Greets, Replies, goes_on}
-use Rattle.lnbd_handle.specs.Seen.{Stands, IsPlain, IsSound, no_writes, ends_in}
-use Rattle.lnbd_handle.proofs.RunLemmas.{runs_none, issued_in, takes_issued}
+use Rattle.lnbd_handle.specs.Seen.{Stands, AreAhead, IsSound, writes_in, flies_in, waits_in, ends_in}
+use Rattle.lnbd_handle.proofs.QueuedLemmas.{KeepsUnwritten, filed_keeps, kept_state}
+use Rattle.lnbd_handle.proofs.RunLemmas.{runs_none, issued_in}
 
 -- Where the two sides speak, the phase says what may come.
 pub shows_speaking : (s : Stage) (seen : Sight) (w : ℕ → Option Waiting) (bytes : List ℕ) → is_speaking s ≡ true → shows_at s seen w bytes ≡ shows_in seen.phase seen w bytes
@@ -83,10 +90,10 @@ module _ {K : Type 0} where
   pub shown_option : (old : Connection K) (bytes : List ℕ) → old.stage ≡ Open → takes_options old.talk.phase ≡ true → ShownBy old bytes (shows_option (sight (state_of old)) bytes)
   shown_option old bytes opened options answers made = shown_open old bytes opened answers made ∙ shows_options old.talk.phase (sight (state_of old)) (waited (state_of old)) bytes options
 
-  pub shown_frame : (old : Connection K) (bytes : List ℕ) → is_speaking old.stage ≡ true → old.talk.phase ≡ phase.Ready → IsPlain old.talk → ShownBy old bytes (shows_plain (waited (state_of old)) bytes)
-  shown_frame old bytes speaking ready plain answers made =
+  pub shown_frame : (old : Connection K) (replies : Manner) (bytes : List ℕ) → is_speaking old.stage ≡ true → old.talk.phase ≡ phase.Ready → AreAgreed old replies → ShownBy old bytes (shows_by replies (waited (state_of old)) bytes)
+  shown_frame old replies bytes speaking ready agreed answers made =
       shows_speaking old.stage (sight (state_of old)) (waited (state_of old)) bytes speaking ∙ ap (λ p. shows_in p (sight (state_of old)) (waited (state_of old)) bytes) ready
-      ∙ ap (λ (z : Bool). shows_frame z old.talk.extended (waited (state_of old)) bytes) plain.structured ∙ ap (λ (z : Bool). shows_frame false z (waited (state_of old)) bytes) plain.extended
+      ∙ sym (agreed (waited (state_of old)) bytes)
 
   -- What lasts.
 
@@ -96,19 +103,20 @@ module _ {K : Type 0} where
   pub dead_sound : (old : Connection K) (queue : Queue) (commands : Commands K) (cause : Cause) → queue ≡ record old.queue { pieces = []; cursor = 0 } → commands.issued ≡ old.commands.issued → IsSound old →
       IsSound (record old { stage = Dead cause; queue = queue; commands = commands })
   dead_sound old queue commands cause e i s = record {
-    fits = subst (λ q. AllFit no_writes q.pieces) (sym e) tt;
+    fits = subst (λ q. AllFit (writes_in commands) q.pieces) (sym e) tt;
+    ahead = subst (λ q. AreAhead (flies_in commands) old.written q.pieces) (sym e) tt;
     stands = tt;
-    plain = s.plain;
-    counted = let n : ends_in (waits no_writes queue) ≡ 0 = ap (λ q. ends_in (waits no_writes q)) e in omega (arith, n, i, s.counted);
+    counted = let n : ends_in (waits (writes_in commands) queue) ≡ 0 = ap (λ q. ends_in (waits (writes_in commands) q)) e in omega (arith, n, i, s.counted);
   }
-
-  pub commands_sound : (old : Connection K) (commands : Commands K) → commands.issued ≡ old.commands.issued → IsSound old → IsSound (record old { commands = commands })
-  commands_sound old commands i s = record { fits = s.fits; stands = s.stands; plain = s.plain; counted = subst (λ n. old.written + ends_in (waits no_writes old.queue) ≤ n) (sym i) s.counted }
 
   pub waited_row : (b : Bool) (r : Option (Row K)) (command : Waiting) → waited_of b r ≡ Some command → waiting_as r ≡ Some command
   waited_row true None command e = cc
   waited_row true (Some row) command e = e
   waited_row false r command e = cc
+
+  waited_written : (b : Bool) (r : Option (Row K)) (command : Waiting) → waited_of b r ≡ Some command → b ≡ true
+  waited_written true r command e = refl
+  waited_written false r command e = cc
 
   not_refused : (p : Phase) (d : Doing K) → goes_on p ≡ true → if_refused p d ≡ d
   not_refused phase.Greeting d e = refl
@@ -195,7 +203,7 @@ module _ {K World : Type 0} (steps : World → List (Call K) → World → Type 
       Runs steps (arriving (take (if n then 10 else 134) rest)) (machine_of old []) (machine_of (record old { talk = talk }) []) before before
   turn_told none old talk before rest n size flags opened asked is small taken fits shown = turn_quiet none old (record old { talk = talk }) before (take (if n then 10 else 134) rest) (ExportReply size flags)
       (λ answers made. took_by_name (doing (state_of old) answers made) rest n (ExportReply size flags) (λ b. shown_by_name old b n opened asked is answers made) fits (shown ∙ wants_true _ _ _ (lt-ltb size (2 ^ 63) small)))
-      (λ more made. ap (λ w. doing (record (state_of old) { talk = taking (ByName size flags) old.talk; waits = w }) more made) (append-nil (waits no_writes old.queue))
+      (λ more made. ap (λ w. doing (record (state_of old) { talk = taking (ByName size flags) old.talk; waits = w }) more made) (append-nil (waits_in old))
       ∙ ap (λ t. doing (state_of (record old { talk = t })) more made) (sym taken))
 
   -- An option reply.
@@ -228,19 +236,47 @@ module _ {K World : Type 0} (steps : World → List (Call K) → World → Type 
   turn_refused old middle new before after rest size verdict Ended opened options sized fits shown replies acts dead = absurd replies
   turn_refused old middle new before after rest size verdict LinkFailed opened options sized fits shown replies acts dead = absurd replies
 
-  -- A simple reply.
-  pub turn_reply : (old : Connection K) (commands : Commands K) (before after : World) (rest : List ℕ) (cookie error size : ℕ) (content : List ℕ) → is_speaking old.stage ≡ true → old.talk.phase ≡ phase.Ready →
-      IsPlain old.talk → IsReply (waited (state_of old)) rest cookie error size → content ≡ take size (drop 16 rest) →
-      TakesReply steps cookie (waiting_at cookie old.commands) error content old.commands commands before after →
-      Runs steps (arriving (take (16 + size) rest)) (machine_of old []) (machine_of (record old { commands = commands }) []) before after × (commands.issued ≡ old.commands.issued)
-  turn_reply old commands before after rest cookie error size content speaking ready plain r there takes =
-      let row : waiting_at cookie old.commands ≡ Some r.command = waited_row (nat_le cookie old.written) (value_at cookie old.commands.rows) r.command r.waits in
-      let one = subst (λ w. TakesReply steps cookie w error content old.commands commands before after) row takes in
-      let t = subst (λ bytes. Takes steps (file_in cookie (Framed (simple_content r.command error bytes) true)) old.commands commands before after) there one in
-      let frame : Frame = record { cookie = cookie; content = simple_content r.command error (take size (drop 16 rest)); last = true } in (
-        turn_acts old (record old { commands = commands }) before after (take (16 + size) rest) (Reply frame)
-            (λ answers made. took_frame (doing (state_of old) answers made) rest size error r.command frame (λ b. shown_frame old b speaking ready plain answers made)
-            (ap (waited (state_of old)) (sym r.cookie_is) ∙ r.waits) r.error_is r.sized r.there r.shown)
-            (record { answers = t.answers; calls = t.calls; world = t.world; does = λ more made. t.does (state_of old) more made }),
-        takes_issued steps (file_in cookie (Framed frame.content true)) (state_of old) old.commands commands before after (λ d. issued_in cookie (Framed frame.content true) d) t,
+  -- A reply of just so many bytes to a command that waits.
+  turn_filed : (old : Connection K) (replies : Manner) (commands : Commands K) (before after : World) (rest : List ℕ) (n : ℕ) (frame : Frame) → is_speaking old.stage ≡ true → old.talk.phase ≡ phase.Ready → AreAgreed old replies → IsSound old →
+      (command : Waiting) → waited (state_of old) frame.cookie ≡ Some command → n ≤ length rest → shows_by replies (waited (state_of old)) (take n rest) ≡ Some (Reply frame) →
+      ((front more : List ℕ) → rest ≡ front ++ more → length front < n → shows_by replies (waited (state_of old)) front ≡ None) →
+      TakesUnder old.talk.contexts steps (file_in frame.cookie (Framed frame.content frame.last)) old.commands commands before after →
+      Runs steps (arriving (take n rest)) (machine_of old []) (machine_of (record old { commands = commands }) []) before after × (commands.issued ≡ old.commands.issued) × KeepsUnwritten old.written old.commands commands
+  turn_filed old replies commands before after rest n frame speaking ready agreed sound command waits fits shown fewer t =
+      let written : frame.cookie ≤ old.written = leb-true frame.cookie old.written (waited_written (nat_le frame.cookie old.written) (value_at frame.cookie old.commands.rows) command waits) in
+      let keeps : KeepsUnwritten old.written old.commands commands =
+      filed_keeps old.written frame.cookie (Framed frame.content frame.last) old.commands commands _ written refl (ap (λ d. d.state.rows) (t.does (state_of old) refl [] [])) in (
+        turn_acts old (record old { commands = commands }) before after (take n rest) (Reply frame)
+            (λ answers made. took_shown (doing (state_of old) answers made) rest n (Reply frame) fits (shown_frame old replies (take n rest) speaking ready agreed answers made ∙ shown)
+            (λ front more all short. shown_frame old replies front speaking ready agreed answers made ∙ fewer front more all short))
+            (record { answers = t.answers; calls = t.calls; world = t.world; does = λ more made. t.does (state_of old) refl more made ∙ ap (λ s. doing s more (made ++ t.calls)) (sym (kept_state old commands keeps sound)) }),
+        sym (ap (λ d. d.state.issued) (t.does (state_of old) refl [] [])) ∙ issued_in frame.cookie (Framed frame.content frame.last) _,
+        keeps,
       )
+
+  -- A simple reply.
+  pub turn_reply : (old : Connection K) (replies : Manner) (commands : Commands K) (before after : World) (rest : List ℕ) (cookie error size : ℕ) (content : List ℕ) → is_speaking old.stage ≡ true → old.talk.phase ≡ phase.Ready →
+      AreAgreed old replies → IsSound old → IsReply replies (waited (state_of old)) rest cookie error size → content ≡ take size (drop 16 rest) →
+      TakesReply steps cookie (waiting_at cookie old.commands) error content old.commands commands before after →
+      Runs steps (arriving (take (16 + size) rest)) (machine_of old []) (machine_of (record old { commands = commands }) []) before after × (commands.issued ≡ old.commands.issued) × KeepsUnwritten old.written old.commands commands
+  turn_reply old replies commands before after rest cookie error size content speaking ready agreed sound r there taken =
+      let row : waiting_at cookie old.commands ≡ Some r.command = waited_row (nat_le cookie old.written) (value_at cookie old.commands.rows) r.command r.waits in
+      let one = subst (λ w. TakesReply steps cookie w error content old.commands commands before after) row taken in
+      let t = subst (λ bytes. Takes steps (file_in cookie (Framed (simple_content r.command error bytes) true)) old.commands commands before after) there one in
+      turn_filed old replies commands before after rest (16 + size) (record { cookie = cookie; content = simple_content r.command error (take size (drop 16 rest)); last = true }) speaking ready agreed sound r.command r.waits r.there r.shown r.before
+      (record { answers = t.answers; calls = t.calls; world = t.world; does = λ state same more made. t.does state more made })
+
+  -- A chunk.
+  pub turn_chunk : (old : Connection K) (replies : Manner) (commands : Commands K) (before after : World) (rest : List ℕ) (chunk : Chunk) → is_speaking old.stage ≡ true → old.talk.phase ≡ phase.Ready →
+      AreAgreed old replies → IsSound old → IsChunk replies (waited (state_of old)) rest chunk →
+      TakesUnder old.talk.contexts steps (file_in chunk.head.cookie (Framed (told_in chunk (payload_in chunk rest)) (is_done (head_of chunk.head)))) old.commands commands before after →
+      Runs steps (arriving (take chunk.size rest)) (machine_of old []) (machine_of (record old { commands = commands }) []) before after × (commands.issued ≡ old.commands.issued) × KeepsUnwritten old.written old.commands commands
+  turn_chunk old replies commands before after rest chunk speaking ready agreed sound r t =
+      turn_filed old replies commands before after rest chunk.size (record { cookie = chunk.head.cookie; content = told_in chunk (payload_in chunk rest); last = is_done (head_of chunk.head) }) speaking ready agreed sound r.command r.waits r.there r.shown r.before t
+
+  -- a chunk that is shown may be filed
+  pub may_file : (old : Connection K) (replies : Manner) (rest : List ℕ) (chunk : Chunk) → IsChunk replies (waited (state_of old)) rest chunk →
+      takes.IsChunk (waiting_at chunk.head.cookie old.commands) (told_in chunk (payload_in chunk rest)) (is_done (head_of chunk.head))
+  may_file old replies rest chunk r =
+      let row : waiting_at chunk.head.cookie old.commands ≡ Some r.command = waited_row (nat_le chunk.head.cookie old.written) (value_at chunk.head.cookie old.commands.rows) r.command r.waits in
+      subst (λ w. takes.IsChunk w (told_in chunk (payload_in chunk rest)) (is_done (head_of chunk.head))) (sym row) r.may_come

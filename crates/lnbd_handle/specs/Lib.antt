@@ -3,6 +3,8 @@ pub mod Runs
 pub mod Greets
 pub mod Turns
 pub mod Completing
+pub mod Queued
 pub mod Issues
 pub mod Held
 pub mod Histories
+pub mod Settings

@@ -1,63 +1,69 @@
 -- What a connection's fields stand for, and what holds of them.
-use Rattle.std.specs.Prelude.{◌≡◌, ℕ, ◌+◌, ◌≤◌, Bool, false, List, [], ◌∷◌}
-use Rattle.lnbd_history.specs.Agreement.{settles_replies}
-use Rattle.lnbd_history.specs.Strict.{all_strict}
-use Rattle.lnbd_history.specs.Talk.{Talk}
+use Rattle.std.specs.Prelude.{◌≡◌, ℕ, ◌+◌, ◌≤◌, ◌<◌, Bool, true, false, List, [], ◌∷◌, is_some}
+use Rattle.lnbd_keyed.specs.Keyed.{value_at}
 use Rattle.lnbd_history.specs.declared.kinds.Phase.{Phase}
 use Rattle.lnbd_history.specs.declared.kinds.Phase.TheVariants as phase
 use Rattle.lnbd_history.specs.declared.kinds.Stage.{Stage}
 use Rattle.lnbd_history.specs.declared.kinds.Stage.TheVariants.{Created, Open, Disconnecting, Aborting, Closed, Dead}
 use Rattle.lnbd_history.specs.Outgoing.{Part, one_if}
 use Rattle.lnbd_machine.specs.Machine.{State, Machine}
-use Rattle.lnbd_outgoing.specs.Pieces.{Writes}
+use Rattle.lnbd_outgoing.specs.declared.piece.Piece.{Piece}
+use Rattle.lnbd_outgoing.specs.declared.piece.Piece.TheVariants.{Text, Abort, Whole, Head, Own}
+use Rattle.lnbd_outgoing.specs.Pieces.{Writes, ends_of}
 use Rattle.lnbd_outgoing.specs.Queue.{waits, AllFit}
+use Rattle.lnbd_commands.specs.Commands.{Commands, payload_at}
+use Rattle.lnbd_commands.specs.Rows.{flight_of_row}
 use Rattle.lnbd_handle.specs.declared.connection.Connection.{Connection}
-
--- no command has bytes of its own to send
-abbrev pub no_writes : Writes
-no_writes cookie = []
 
 -- how many commands end with these parts
 abbrev pub ends_in : List Part → ℕ
 ends_in [] = 0
 ends_in (part ∷ parts) = one_if part.ends + ends_in parts
 
+-- Where so many commands are wholly written: a write that a piece names is in flight, and comes after them.
+abbrev pub IsAhead : (ℕ → Bool) → (written : ℕ) → Piece → Type 0
+IsAhead flies written (Text bytes) = Unit {0}
+IsAhead flies written (Abort bytes) = Unit {0}
+IsAhead flies written (Whole head) = Unit {0}
+IsAhead flies written (Head head) = Unit {0}
+IsAhead flies written (Own cookie size) = (written < cookie) × (flies cookie ≡ true)
+
+-- So it is with each piece, once those before it are written too.
+abbrev pub AreAhead : (ℕ → Bool) → (written : ℕ) → List Piece → Type 0
+AreAhead flies written [] = Unit {0}
+AreAhead flies written (piece ∷ pieces) = IsAhead flies written piece × AreAhead flies (written + one_if (ends_of piece)) pieces
+
 -- Where the last piece was queued, DISC was asked, which may be asked where commands may be issued.
 abbrev pub Stands : Stage → Phase → (ended : Bool) → Type 0
 Stands Created at ended = ended ≡ false
 Stands Open at ended = ended ≡ false
 Stands Disconnecting at ended = at ≡ phase.Ready
-Stands Aborting at ended = ⊥
+Stands Aborting at ended = Unit {0}
 Stands Closed at ended = Unit {0}
 Stands (Dead cause) at ended = Unit {0}
 
--- an option that settles how the server replies is asked
-abbrev pub asks_replies : Phase → Bool
-asks_replies (phase.Asked option) = settles_replies option
-asks_replies phase.Greeting = false
-asks_replies phase.AskedByName = false
-asks_replies phase.OptMode = false
-asks_replies phase.Ready = false
-asks_replies (phase.Refused code) = false
-
--- Replies are simple and heads compact: structured replies and extended headers are off, and nothing asks for them.
-pub record IsPlain (talk : Talk) : Type 0 where
-  pub asks_structured : talk.asks_structured ≡ false
-  pub asks_extended : talk.asks_extended ≡ false
-  pub asks : asks_replies talk.phase ≡ false
-  pub structured : talk.structured ≡ false
-  pub extended : talk.extended ≡ false
-
 module _ {K : Type 0} where
-  -- the machine's state: strict mode stays as it was at first
+  -- the bytes that each write sends
+  abbrev pub writes_in : Commands K → Writes
+  writes_in commands cookie = payload_at cookie commands
+
+  -- whether the command of a cookie is in flight
+  abbrev pub flies_in : Commands K → ℕ → Bool
+  flies_in commands cookie = is_some (flight_of_row (value_at cookie commands.rows))
+
+  -- the parts that wait to go out
+  abbrev pub waits_in : Connection K → List Part
+  waits_in c = waits (writes_in c.commands) c.queue
+
+  -- the machine's state
   abbrev pub state_of : Connection K → State K
   state_of c = record {
     stage = c.stage;
-    strict = all_strict;
+    strict = c.strict;
     flags = c.flags;
     talk = c.talk;
-    passed = 0;
-    waits = waits no_writes c.queue;
+    passed = c.passed;
+    waits = waits_in c;
     written = c.written;
     issued = c.commands.issued;
     rows = c.commands.rows;
@@ -71,7 +77,7 @@ module _ {K : Type 0} where
   machine_of c pending = record { known = state_of c; pending = pending }
 
   pub record IsSound (c : Connection K) : Type 0 where
-    pub fits : AllFit no_writes c.queue.pieces
+    pub fits : AllFit (writes_in c.commands) c.queue.pieces
+    pub ahead : AreAhead (flies_in c.commands) c.written c.queue.pieces
     pub stands : Stands c.stage c.talk.phase c.queue.ended
-    pub plain : IsPlain c.talk
-    pub counted : c.written + ends_in (waits no_writes c.queue) ≤ c.commands.issued
+    pub counted : c.written + ends_in (waits_in c) ≤ c.commands.issued

@@ -1,13 +1,15 @@
 -- What is done with the record at the front of what arrived.
-use Rattle.std.specs.Prelude.{◌≡◌, ℕ, ◌<◌, ◌≤◌, Bool, true, false, List, [], length, take, drop, None, Result, Ok, Err}
+use Rattle.std.specs.Prelude.{◌≡◌, ℕ, ◌<◌, ◌≤◌, Bool, true, false, List, [], length, take, drop, Option, None, Result, Ok, Err}
 use Rattle.lnbd_callbacks.specs.Calls.{Call}
 use Rattle.lnbd_stream.specs.Stream.{Held, feed}
 use Rattle.lnbd_history.specs.declared.kinds.Stage.{Stage}
 use Rattle.lnbd_history.specs.declared.kinds.Stage.TheVariants.{Created, Open, Disconnecting, Aborting, Closed, Dead}
-use Rattle.lnbd_history.specs.Arrivals.{shows_at}
+use Rattle.lnbd_history.specs.Arrivals.{Waiting, shows_at, shows_frame}
 use Rattle.lnbd_machine.specs.Machine.{State, Doing, table_rules, sight, waited}
-use Rattle.lnbd_arrivals.specs.declared.frame.Announced.{Announced}
-use Rattle.lnbd_arrivals.specs.Frames.{Announces}
+use Rattle.lnbd_arrivals.specs.declared.announced.Announced.{Announced}
+use Rattle.lnbd_arrivals.specs.declared.replies.Replies.{Replies}
+use Rattle.lnbd_arrivals.specs.declared.replies.Replies.TheVariants.{Simple}
+use Rattle.lnbd_arrivals.specs.Frames.{Announces, shows_by}
 use Rattle.lnbd_handle.specs.declared.connection.Connection.{Connection}
 use Rattle.lnbd_handle.specs.declared.kinds.Turn.{Turn}
 use Rattle.lnbd_handle.specs.declared.kinds.Turn.TheVariants as turn
@@ -47,10 +49,15 @@ module _ {K : Type 0} where
   abbrev pub ShowsNothing : State K → List ℕ → Type 0
   ShowsNothing state bytes = shows_at state.stage (sight state) (waited state) bytes ≡ None
 
-  -- Where replies may come, these bytes are the head of one that brings data to its command.
+  -- The server replies so, by what is agreed.
+  abbrev pub AreAgreed : Connection K → Replies → Type 0
+  AreAgreed c replies = (waits : ℕ → Option Waiting) (bytes : List ℕ) → shows_by replies waits bytes ≡ shows_frame c.talk.structured c.talk.extended waits bytes
+
+  -- Where simple replies alone may come, these bytes are the head of one that brings data to its command.
   pub record Brings (c : Connection K) (head : List ℕ) (announced : Announced) : Type 0 where
     pub speaking : is_speaking c.stage ≡ true
     pub ready : c.talk.phase ≡ phase.Ready
+    pub agreed : AreAgreed c Simple
     pub announces : Announces (waited (state_of c)) head announced
 
   -- What one turn does with the bytes in front of it: they show nothing yet; so many are a record, which is taken; all are

@@ -11,9 +11,13 @@ use std::alloc::Global;
 pub(crate) struct Connection<K> {
     pub(crate) alloc: Global,
     pub(crate) stage: Stage,
+    /// The bits of strict mode.
+    pub(crate) strict: u32,
     /// The server's handshake flags.
     pub(crate) flags: u16,
     pub(crate) talk: Talk,
+    /// How many bytes were passed over after ABORT was asked.
+    pub(crate) passed: usize,
     pub(crate) queue: Queue,
     /// How many commands are wholly written.
     pub(crate) written: u64,

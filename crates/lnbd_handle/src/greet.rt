@@ -1,7 +1,7 @@
 //! The turns of negotiation that change a connection: the server's hello, an option reply, and the reply
 //! to EXPORT_NAME. For want of memory none of them changes anything.
 
-ghost use Rattle.std.specs.Prelude.{◌≡◌, ◌<◌, ◌++◌, ◌∷◌, [], ℕ, List, true, false, Some, OnOk, OnErr, IfOk, IfErr, map, length};
+ghost use Rattle.std.specs.Prelude.{◌≡◌, ◌<◌, ◌++◌, ◌∷◌, [], ℕ, List, Bool, true, false, Some, OnOk, OnErr, IfOk, IfErr, map, length};
 ghost use Rattle.std.specs.List.{concat};
 ghost use Rattle.lnbd_history.specs.declared.kinds.Phase.{Phase};
 ghost use Rattle.lnbd_history.specs.declared.kinds.Phase.TheVariants.{Greeting, AskedByName};
@@ -9,9 +9,10 @@ ghost use Rattle.lnbd_history.specs.declared.kinds.Stage.TheVariants.{Open};
 ghost use Rattle.lnbd_history.specs.Arrivals.{reply_verdict};
 ghost use Rattle.lnbd_history.specs.Outgoing.{client_flags, plain, request_at};
 ghost use Rattle.lnbd_machine.specs.Machine.{greeted, sight};
+ghost use Rattle.lnbd_outgoing.specs.Pieces.{Writes};
 ghost use Rattle.lnbd_outgoing.specs.Queue.{waits, AllFit};
 ghost use Rattle.lnbd_handle.specs.Greets.{Greets, Replies};
-ghost use Rattle.lnbd_handle.specs.Seen.{IsSound, no_writes, state_of, ends_in};
+ghost use Rattle.lnbd_handle.specs.Seen.{AreAhead, IsSound, state_of, ends_in};
 
 use crate::connection::Connection;
 use lnbd_model::{Bytes, NoMemory};
@@ -21,14 +22,15 @@ use lnbd_outgoing::{Piece, Queue};
 use std::alloc::Global;
 
 /// Queues a request, unless there is none.
-fn push_request(queue: &mut Queue, request: Vec<u8>)
+pub(crate) fn push_request(queue: &mut Queue, request: Vec<u8>)
     requires open { queue.old.ended ≡ false }
     requires room { 0 < queue.old.room }
-    ensures waits { (phase : Phase) (name : List ℕ) (wanted : List (List ℕ)) → request.items ≡ concat (request_at phase name wanted)
-        → waits no_writes queue.new ≡ waits no_writes queue.old ++ map plain (request_at phase name wanted) }
-    ensures fits { AllFit no_writes queue.old.pieces → AllFit no_writes queue.new.pieces }
+    ensures waits { (writes : Writes) (phase : Phase) (name : List ℕ) (wanted : List (List ℕ)) → request.items ≡ concat (request_at phase name wanted)
+        → waits writes queue.new ≡ waits writes queue.old ++ map plain (request_at phase name wanted) }
+    ensures fits { (writes : Writes) → AllFit writes queue.old.pieces → AllFit writes queue.new.pieces }
+    ensures ahead { (flies : ℕ → Bool) (written : ℕ) → AreAhead flies written queue.old.pieces → AreAhead flies written queue.new.pieces }
     ensures ended { queue.new.ended ≡ false }
-    ensures ends { ends_in (waits no_writes queue.new) ≡ ends_in (waits no_writes queue.old) }
+    ensures ends { (writes : Writes) → ends_in (waits writes queue.new) ≡ ends_in (waits writes queue.old) }
 {
     if !request.is_empty() {
         queue.push(Piece::Text(Bytes::from_vec(request)));

@@ -21,6 +21,7 @@ use crate::kinds::{SetFault, Short};
 use crate::pending::Pending;
 use crate::sending::{count_written, offered, say_goodbye};
 use crate::standing::{by_state, direction_of, may_name, state_at};
+use crate::strict;
 use lnbd_callbacks::Caller;
 use lnbd_commands::{Closed, Commands};
 use lnbd_history::{Peeked, Stage};
@@ -71,8 +72,10 @@ impl<K> Handle<K> {
             connection: Connection {
                 alloc,
                 stage: Stage::Created,
+                strict: strict::ALL,
                 flags: 0,
                 talk,
+                passed: 0,
                 queue,
                 written: 0,
                 commands: Commands::new(alloc),
@@ -246,7 +249,10 @@ impl<K: Caller> Handle<K> {
                 end_closing(&mut self.connection, world);
                 self.pending.clear();
             }
-            Stage::Aborting => {}
+            Stage::Aborting => {
+                end_closing(&mut self.connection, world);
+                self.pending.clear();
+            }
             Stage::Created => {}
             Stage::Closed => {}
             Stage::Dead(_) => {}
@@ -267,7 +273,10 @@ impl<K: Caller> Handle<K> {
                 die(&mut self.connection, world, Cause::LinkFailed);
                 self.pending.clear();
             }
-            Stage::Aborting => {}
+            Stage::Aborting => {
+                die(&mut self.connection, world, Cause::LinkFailed);
+                self.pending.clear();
+            }
             Stage::Created => {}
             Stage::Closed => {}
             Stage::Dead(_) => {}
@@ -291,8 +300,10 @@ impl<K: Caller> Handle<K> {
         let Connection {
             alloc: _,
             stage: _,
+            strict: _,
             flags: _,
             talk: _,
+            passed: _,
             queue: _,
             written: _,
             commands,

@@ -1,12 +1,12 @@
-//! Replies with data of which the head is there: their data may be held apart. What a handle answers does not hang on it, only
+//! Simple replies with data of which the head is there: their data may be held apart. What a handle answers does not hang on it, only
 //! what is copied.
 
 ghost use Rattle.std.specs.Prelude.{◌≡◌, IfSome, true};
 ghost use Rattle.lnbd_handle.specs.Turns.{Brings, is_speaking};
 
 use crate::connection::Connection;
-use crate::turns::waiting_at;
-use lnbd_arrivals::{Announced, look_head};
+use crate::turns::{replies_of, waiting_at};
+use lnbd_arrivals::{Announced, Replies, look_head};
 use lnbd_history::{Phase, Stage};
 
 /// Whether the two sides speak.
@@ -29,7 +29,11 @@ pub(crate) fn announced_in<K>(connection: &Connection<K>, head: &[u8]) -> Option
 {
     match connection.talk.phase() {
         Phase::Ready if is_speaking(connection.stage) => {
-            look_head(waiting_at(connection, head), head)
+            match replies_of(connection) {
+                Replies::Simple => look_head(waiting_at(connection, head), head),
+                Replies::Structured => None,
+                Replies::Extended => None,
+            }
         }
         _ => None,
     }

@@ -1,26 +1,31 @@
-//! How a command is issued, and how one is refused.
+//! How a command is issued, and how one is refused: what is queued, and what becomes of its callbacks. Whether it is refused
+//! is not said here.
 
-ghost use Rattle.std.specs.Prelude.{◌≡◌, ◌≤◌, None, Some, IfErr, IfOk, OnErr, OnOk, List, ℕ, vec_len};
-ghost use Rattle.lnbd_model.specs.declared.kind.Kind.TheVariants.{Read};
-ghost use Rattle.lnbd_model.specs.Kind.{type_of};
-ghost use Rattle.lnbd_records.specs.Numbers.{row};
-ghost use Rattle.lnbd_records.specs.Transmission.{request};
-ghost use Rattle.lnbd_history.specs.Events.{Issue};
-ghost use Rattle.lnbd_machine.specs.Machine.{issued, step};
+ghost use Rattle.std.specs.Prelude.{◌≡◌, ◌≤◌, ◌<◌, ◌^◌, ◌++◌, ◌==◌, [], ◌∷◌, true, false, None, Some, IfErr, IfOk, OnErr, OnOk, List, ℕ, vec_len, length, if◌then◌else◌};
+ghost use Rattle.lnbd_model.specs.Kind.{has_range, is_read, is_write};
+ghost use Rattle.lnbd_records.specs.Limits.{max_range};
+ghost use Rattle.lnbd_history.specs.Laws.{HasItsBytes};
+ghost use Rattle.lnbd_history.specs.Outgoing as sent;
+ghost use Rattle.lnbd_history.specs.Refusals.{sendable_flags};
+ghost use Rattle.lnbd_machine.specs.Machine.{issued};
 ghost use Rattle.lnbd_machine.specs.Now.{refusal_now};
 ghost use Rattle.lnbd_commands.specs.Asks.{command_of};
-ghost use Rattle.lnbd_handle.specs.Histories.{Adds, AddsFault, ForEach, max_unretired};
-ghost use Rattle.lnbd_handle.specs.Issues.{Faults, read_of};
+ghost use Rattle.lnbd_outgoing.specs.Pieces.{Writes, head_bytes};
+ghost use Rattle.lnbd_outgoing.specs.Queue.{waits, AllFit};
+ghost use Rattle.lnbd_handle.specs.Histories.{max_unretired};
+ghost use Rattle.lnbd_handle.specs.Issues.{Faults};
+ghost use Rattle.lnbd_handle.specs.Queued.{pieces_of, parts_of};
 ghost use Rattle.lnbd_handle.specs.Seen.{IsSound, machine_of, state_of};
-ghost use Rattle.lnbd_records.specs.Limits.{max_data};
 
 use crate::connection::Connection;
-use crate::handle::Handle;
 use lnbd_callbacks::Caller;
 use lnbd_commands::Asked;
 use lnbd_model::{Bytes, Kind, Why};
-use lnbd_outgoing::{Piece, RequestBytes};
-use lnbd_wire::put_request;
+use lnbd_outgoing::{Piece, Queue, RequestBytes};
+use lnbd_wire::{put_request, put_request_ext};
+
+/// PAYLOAD_LEN: the length of an extended request is that of the data behind it (NBD protocol, "Command flags").
+const PAYLOAD_LEN: u32 = 32;
 
 /// Why a command was not issued. What was handed over comes back.
 #[derive(Drop)]
@@ -38,8 +43,17 @@ pub enum IssueFault<K> {
     },
 }
 
+/// What the head of a request says of its command.
+#[derive(Clone, Copy)]
+struct Head {
+    kind: Kind,
+    flags: u32,
+    offset: u64,
+    length: u64,
+}
+
 /// All that was handed over comes back.
-fn handed_back<K>(asked: Asked<K>) -> IssueFault<K>
+pub(crate) fn handed_back<K>(asked: Asked<K>) -> IssueFault<K>
     ensures { result ≡ IssueFault.NoMemory asked.buf.items asked.first asked.done }
 {
     let Asked {
@@ -59,7 +73,7 @@ fn handed_back<K>(asked: Asked<K>) -> IssueFault<K>
 }
 
 /// Refuses a command for this reason.
-fn refuse<K: Caller>(
+pub(crate) fn refuse<K: Caller>(
     connection: &mut Connection<K>,
     world: &mut K::World,
     asked: Asked<K>,
@@ -86,29 +100,105 @@ fn refuse<K: Caller>(
     }
 }
 
-/// The head of a read, where extended headers are off.
-fn read_head(flags: u32, cookie: u64, offset: u64, length: u64) -> [u8; 28]
-    requires flags { flags ≤ 4 }
-    requires length { length ≤ max_data }
-    ensures { result ≡ row (request flags (type_of Read) cookie offset length) }
+/// The flags of an extended request: a write says how long its data is.
+fn sent_flags(kind: Kind, flags: u32) -> u32
+    requires { flags ≤ sendable_flags }
+    ensures value { result ≡ sent.sent_flags kind flags }
+    ensures fits { result < 2 ^ 16 }
 {
-    let mut head = [0; 28];
-    put_request(
-        Kind::Read,
-        flags as u16,
-        cookie,
-        offset,
-        length as u32,
-        &mut head,
-    );
-    head
+    match kind {
+        Kind::Write => flags + PAYLOAD_LEN,
+        _ => flags,
+    }
 }
 
-/// Issues a read that is not refused.
-fn issue_read<K: Caller>(connection: &mut Connection<K>, asked: Asked<K>) -> Result<u64, Asked<K>>
+impl Head {
+    /// What is said of this command: flush has no range.
+    fn of<K>(asked: &Asked<K>) -> Head
+        ensures kind { result.kind ≡ asked.now.kind }
+        ensures flags { result.flags ≡ asked.now.flags }
+        ensures offset { result.offset ≡ (if has_range asked.now.kind then asked.now.offset else 0) }
+        ensures length { result.length ≡ (if has_range asked.now.kind then asked.now.length else 0) }
+    {
+        let (offset, length) = match asked.kind {
+            Kind::Flush => (0, 0),
+            _ => (asked.offset, asked.length),
+        };
+        Head {
+            kind: asked.kind,
+            flags: asked.flags,
+            offset,
+            length,
+        }
+    }
+
+    /// Its bytes, whether extended headers are on or off.
+    fn put(self, extended: bool, cookie: u64) -> RequestBytes
+        requires flags { self.flags ≤ sendable_flags }
+        requires length { extended ≡ false → self.length ≤ max_range }
+        ensures { head_bytes result ≡ sent.head extended self.kind self.flags cookie self.offset self.length }
+    {
+        if extended {
+            let flags = sent_flags(self.kind, self.flags) as u16;
+            let mut head = [0; 32];
+            put_request_ext(
+                self.kind,
+                flags,
+                cookie,
+                self.offset,
+                self.length,
+                &mut head,
+            );
+            RequestBytes::Extended(head)
+        } else {
+            let mut head = [0; 28];
+            put_request(
+                self.kind,
+                self.flags as u16,
+                cookie,
+                self.offset,
+                self.length as u32,
+                &mut head,
+            );
+            RequestBytes::Compact(head)
+        }
+    }
+}
+
+/// How many bytes a command sends behind its head: those of a write.
+fn sent_size<K>(asked: &Asked<K>) -> usize
+    ensures { result ≡ (if is_write asked.now.kind then length asked.now.buf.items else 0) }
+{
+    match asked.kind {
+        Kind::Write => asked.buf.len(),
+        _ => 0,
+    }
+}
+
+/// Queues a request: its head, and so many bytes behind it, which stay with their command.
+fn queue_request(queue: &mut Queue, head: RequestBytes, cookie: u64, size: usize)
+    requires open { queue.old.ended ≡ false }
+    requires room { 2 ≤ queue.old.room }
+    ensures waits { (writes : Writes) → waits writes queue.new ≡ waits writes queue.old ++ parts_of (head_bytes head) size (writes cookie) }
+    ensures pieces { queue.new.pieces ≡ queue.old.pieces ++ pieces_of head cookie size }
+    ensures fits { (writes : Writes) → ((size == 0) ≡ false → length (writes cookie) ≡ size) → AllFit writes queue.old.pieces → AllFit writes queue.new.pieces }
+    ensures ended { queue.new.ended ≡ false }
+{
+    if size == 0 {
+        queue.push(Piece::Whole(head));
+    } else {
+        queue.push_write(head, cookie, size);
+    }
+}
+
+/// Issues a command that is not refused.
+pub(crate) fn issue<K: Caller>(
+    connection: &mut Connection<K>,
+    asked: Asked<K>,
+) -> Result<u64, Asked<K>>
     requires sound { IsSound connection.old }
-    requires kind { asked.kind ≡ Read }
-    requires size { vec_len asked.buf ≡ asked.length }
+    requires read { is_read asked.kind ≡ true → vec_len asked.buf ≡ asked.length }
+    requires write { HasItsBytes (command_of asked) }
     requires accepted { refusal_now max_unretired (state_of connection.old) (command_of asked) ≡ None }
     ensures cookie { IfOk result (λ cookie. cookie ≡ (state_of connection.new).issued) }
     ensures ok { OnOk result (state_of connection.new ≡ issued (command_of asked) (state_of connection.old)) }
@@ -116,58 +206,16 @@ fn issue_read<K: Caller>(connection: &mut Connection<K>, asked: Asked<K>) -> Res
     ensures err { OnErr result (state_of connection.new ≡ state_of connection.old) }
     ensures sound { IsSound connection.new }
 {
-    if connection.queue.reserve(1).is_err() {
+    if connection.queue.reserve(2).is_err() {
         return Err(asked);
     }
-    let flags = asked.flags;
-    let offset = asked.offset;
-    let length = asked.length;
+    let head = Head::of(&asked);
+    let size = sent_size(&asked);
     let cookie = match connection.commands.issue(asked) {
         Ok(cookie) => cookie,
         Err(asked) => return Err(asked),
     };
-    let head = read_head(flags, cookie, offset, length);
-    connection
-        .queue
-        .push(Piece::Whole(RequestBytes::Compact(head)));
+    let head = head.put(connection.talk.extended(), cookie);
+    queue_request(&mut connection.queue, head, cookie, size);
     Ok(cookie)
-}
-
-impl<K: Caller> Handle<K> {
-    /// Asks for as many bytes as the buffer has, from this offset on (libnbd, nbd_aio_pread), and tells the
-    /// command's cookie. The buffer that comes back with the result has this length, and may be another one.
-    pub fn aio_pread(
-        &mut self,
-        buf: Vec<u8>,
-        offset: u64,
-        done: K,
-        flags: u32,
-        world: &mut K::World,
-    ) -> Result<u64, IssueFault<K>>
-        ensures cookie { IfOk result (λ cookie. cookie ≡ self.new.known.issued) }
-        ensures accepted { OnOk result (refusal_now max_unretired self.old.known (read_of buf.items offset done flags) ≡ None) }
-        ensures ok { OnOk result (self.new ≡ step self.old (Issue (read_of buf.items offset done flags))) }
-        ensures ok_world { OnOk result (world.new ≡ world.old) }
-        ensures faults { IfErr result (λ fault. Faults K.steps (read_of buf.items offset done flags) fault self.old self.new world.old world.new) }
-        ensures stands { OnOk result (ForEach self.old (Adds (Issue (read_of buf.items offset done flags)) self.new)) }
-        ensures fault_stands { IfErr result (λ fault. ForEach self.old (AddsFault K.steps (read_of buf.items offset done flags) fault self.new world.old world.new)) }
-    {
-        let length = buf.len() as u64;
-        let asked = Asked {
-            kind: Kind::Read,
-            flags,
-            offset,
-            length,
-            buf,
-            first: None,
-            done,
-        };
-        if let Some(why) = self.connection.read_refusal(flags, offset, length) {
-            return Err(refuse(&mut self.connection, world, asked, why));
-        }
-        match issue_read(&mut self.connection, asked) {
-            Ok(cookie) => Ok(cookie),
-            Err(asked) => Err(handed_back(asked)),
-        }
-    }
 }

@@ -1,5 +1,9 @@
 //! What the calls of a handle answer, and what one turn over the bytes that arrived did.
 
+ghost use Rattle.std.specs.Prelude.{◌≡◌};
+ghost use Rattle.lnbd_handle.specs.declared.kinds.OptFault.TheVariants as opt;
+ghost use Rattle.lnbd_handle.specs.declared.kinds.SetFault.TheVariants as set;
+
 use lnbd_model::State;
 use thiserror::Error;
 
@@ -15,6 +19,36 @@ pub enum SetFault {
     /// So many, the most, are there.
     #[error("more than {0}")]
     TooMany(u32),
+}
+
+impl From<lnbd_model::NoMemory> for SetFault {
+    ghost from_gives = { λ e r. r ≡ set.NoMemory };
+
+    fn from(_error: lnbd_model::NoMemory) -> SetFault {
+        SetFault::NoMemory
+    }
+}
+
+/// Why an option was not asked. Nothing has changed.
+#[derive(Clone, Copy, Debug, PartialEq, Eq, Error)]
+pub enum OptFault {
+    /// Memory ran out.
+    #[error("no memory")]
+    NoMemory,
+    /// The handle is in this state.
+    #[error("not in this state")]
+    State(State),
+    /// Structured replies are off.
+    #[error("structured replies are off")]
+    NotStructured,
+}
+
+impl From<lnbd_model::NoMemory> for OptFault {
+    ghost from_gives = { λ e r. r ≡ opt.NoMemory };
+
+    fn from(_error: lnbd_model::NoMemory) -> OptFault {
+        OptFault::NoMemory
+    }
 }
 
 /// Memory ran out behind so many bytes: these count as arrived, and the others are to be handed in again.

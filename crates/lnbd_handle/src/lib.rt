@@ -2,6 +2,7 @@
 //! that wait to go out. Each call does to the table machine what its event does. It knows no socket.
 #![tactic(auto)]
 
+mod aborting;
 mod connection;
 mod deaths;
 mod drain;
@@ -9,20 +10,27 @@ mod greet;
 mod handle;
 mod heads;
 mod issue;
+mod issues;
 mod kinds;
 mod lacking;
+mod options;
 mod pending;
 mod refusals;
 mod results;
 mod sending;
+mod settings;
 mod standing;
+pub mod strict;
 mod turns;
 
 pub use handle::Handle;
 pub use issue::IssueFault;
-pub use kinds::{SetFault, Short};
+pub use kinds::{OptFault, SetFault, Short};
 pub use lnbd_commands::Closed;
-pub use lnbd_history::{Completed, Peeked};
+pub use lnbd_history::{Completed, OptAnswer, Peeked};
+pub use strict::StrictFault;
 
+#[cfg(test)]
+mod issue_tests;
 #[cfg(test)]
 mod tests;

@@ -1,44 +1,88 @@
-//! Whether and why a read is refused: by the first rule that holds.
+//! Whether and why a command is refused: by the first rule that holds. What a refusal does is not said here.
 
-ghost use Rattle.std.specs.Prelude.{◌≡◌, ◌+◌, ◌-◌, ◌%◌, ◌==◌, ℕ, nat_lt, bit_and, false};
-ghost use Rattle.lnbd_model.specs.declared.kind.Kind.TheVariants.{Read};
-ghost use Rattle.lnbd_model.specs.declared.state.State.{State as Standing};
-ghost use Rattle.lnbd_history.specs.Arrivals.{has_bit};
-ghost use Rattle.lnbd_history.specs.Refusals.{allowed, by_range, minimum, payload_limit, refusal};
+ghost use Rattle.std.specs.Prelude.{◌≡◌, ◌≤◌, ◌+◌, ◌-◌, ◌%◌, ◌==◌, ◌&&◌, if◌then◌else◌, not, None, nat_lt, bit_and};
+ghost use Rattle.lnbd_model.specs.Kind.{has_range};
+ghost use Rattle.lnbd_records.specs.Numbers.{has_bit as has_flag};
+ghost use Rattle.lnbd_records.specs.Flags.{cmd_flag_df, cmd_flag_fast_zero, cmd_flag_fua, flag_read_only, flag_send_df, flag_send_fast_zero, flag_send_fua};
+ghost use Rattle.lnbd_history.specs.Agreement.{is_empty as has_none};
+ghost use Rattle.lnbd_history.specs.Refusals as rule;
+ghost use Rattle.lnbd_history.specs.Strict.{strict_align};
 ghost use Rattle.lnbd_machine.specs.Now.{terms_now};
-ghost use Rattle.lnbd_handle.specs.Issues.{read_terms};
+ghost use Rattle.lnbd_handle.specs.Issues.{by_flags, by_rules, seen_terms};
 ghost use Rattle.lnbd_handle.specs.Seen.{state_of};
 ghost use Rattle.lnbd_handle.specs.Histories.{max_unretired};
 
 use crate::connection::Connection;
 use crate::standing::{by_state, state_at};
-use lnbd_model::{Blocks, Why};
+use crate::strict;
+use lnbd_model::{Blocks, Contexts, Kind, Lack, State, Why};
 
-/// What is known of the export, as a read is judged by it.
+/// The most commands that are not retired.
+const MAX_UNRETIRED: u32 = 1024;
+
+/// The most bytes of one read or write.
+const MAX_DATA: u32 = 33_554_432;
+
+/// The longest range of a command without data, where heads are compact: 2^32 - 1.
+const MAX_RANGE: u64 = 4_294_967_295;
+
+/// The same with extended headers: 2^63 - 1.
+const MAX_EXTENDED_RANGE: u64 = 9_223_372_036_854_775_807;
+
+/// All command flags but PAYLOAD_LEN, which is the client's own.
+const SENDABLE_FLAGS: u32 = 0xffdf;
+
+// Transmission flags (NBD protocol, "Transmission flags").
+const READ_ONLY: u32 = 2;
+
+const SEND_FLUSH: u32 = 4;
+
+const SEND_FUA: u32 = 8;
+
+const SEND_TRIM: u32 = 32;
+
+const SEND_WRITE_ZEROES: u32 = 64;
+
+const SEND_DF: u32 = 128;
+
+const SEND_CACHE: u32 = 1024;
+
+const SEND_FAST_ZERO: u32 = 2048;
+
+// Command flags (NBD protocol, "Command flags").
+const FUA: u32 = 1;
+
+const NO_HOLE: u32 = 2;
+
+const DF: u32 = 4;
+
+const REQ_ONE: u32 = 8;
+
+const FAST_ZERO: u32 = 16;
+
+/// All by which a command is judged.
 #[derive(Clone, Copy)]
-pub(crate) struct Known {
-    /// In bytes.
-    size: u64,
+pub(crate) struct Terms {
+    pub(crate) state: State,
+    /// How many commands are not retired.
+    pub(crate) held: usize,
+    /// The size of the export, in bytes.
+    pub(crate) size: u64,
     /// Transmission flags.
-    flags: u16,
-    blocks: Option<Blocks>,
-    structured: bool,
-    extended: bool,
+    pub(crate) flags: u16,
+    pub(crate) blocks: Option<Blocks>,
+    /// Whether a meta context is agreed.
+    pub(crate) has_context: bool,
+    pub(crate) structured: bool,
+    pub(crate) extended: bool,
+    /// The bits of strict mode.
+    pub(crate) strict: u32,
 }
 
-/// Whether the server sends structured replies in one piece where it is asked to.
-fn sends_whole(flags: u16) -> bool
-    ensures { result ≡ has_bit 128 flags }
+fn has_flag(flags: u32, flag: u32) -> bool
+    ensures { result ≡ has_flag flag flags }
 {
-    flags & 128 != 0
-}
-
-/// The command flags that a read may have: DF (4).
-fn read_flags(known: Known) -> u32
-    ensures { (state : Standing) (held : ℕ) → result ≡ allowed (read_terms state held known) Read }
-{
-    let whole = sends_whole(known.flags);
-    if whole && known.structured { 4 } else { 0 }
+    flags & flag != 0
 }
 
 /// The command flags that are not allowed.
@@ -48,15 +92,15 @@ fn excess(flags: u32, allowed: u32) -> u32
     flags - (flags & allowed)
 }
 
-/// The most bytes of one read.
-fn most_bytes(blocks: Option<Blocks>) -> u64
-    ensures { result ≡ payload_limit blocks }
+/// The most bytes of one read or write.
+fn payload_limit(blocks: Option<Blocks>) -> u64
+    ensures { result ≡ rule.payload_limit blocks }
 {
     match blocks {
-        None => 33_554_432,
+        None => MAX_DATA as u64,
         Some(blocks) => {
-            if 33_554_432 <= blocks.maximum {
-                33_554_432
+            if MAX_DATA <= blocks.maximum {
+                MAX_DATA as u64
             } else {
                 blocks.maximum as u64
             }
@@ -64,9 +108,20 @@ fn most_bytes(blocks: Option<Blocks>) -> u64
     }
 }
 
+/// The longest range of a command without data.
+fn range_limit(extended: bool) -> u64
+    ensures { result ≡ rule.range_limit extended }
+{
+    if extended {
+        MAX_EXTENDED_RANGE
+    } else {
+        MAX_RANGE
+    }
+}
+
 /// Of what offsets and lengths are multiples.
-fn unit(blocks: Option<Blocks>) -> u32
-    ensures { result ≡ minimum blocks }
+fn minimum(blocks: Option<Blocks>) -> u32
+    ensures { result ≡ rule.minimum blocks }
 {
     match blocks {
         None => 1,
@@ -84,6 +139,13 @@ fn is_multiple(value: u64, unit: u32) -> bool
     }
 }
 
+/// Whether offset and length consist of whole units.
+fn is_aligned(unit: u32, offset: u64, length: u64) -> bool
+    ensures { result ≡ rule.is_aligned unit offset length }
+{
+    is_multiple(offset, unit) && is_multiple(length, unit)
+}
+
 /// Whether a range ends past this size.
 fn ends_past(size: u64, offset: u64, length: u64) -> bool
     ensures { result ≡ nat_lt size (offset + length) }
@@ -94,71 +156,233 @@ fn ends_past(size: u64, offset: u64, length: u64) -> bool
     }
 }
 
-/// Why a read of this range is refused.
-fn range_refusal(known: Known, offset: u64, length: u64) -> Option<Why>
-    ensures { (state : Standing) (held : ℕ) → result ≡ by_range (read_terms state held known) Read offset length }
+/// Flush has no range.
+fn has_range(kind: Kind) -> bool
+    ensures { result ≡ has_range kind }
 {
-    if length == 0 {
-        return Some(Why::ZeroSize);
+    match kind {
+        Kind::Flush => false,
+        _ => true,
     }
-    let limit = most_bytes(known.blocks);
-    if limit < length {
-        return Some(Why::TooBig(limit));
+}
+
+fn has_context(contexts: &Contexts) -> bool
+    ensures { result ≡ not (has_none contexts.now) }
+{
+    contexts.len() != 0
+}
+
+impl Terms {
+    /// Whether the export has this transmission flag.
+    fn tells(self, flag: u32) -> bool
+        ensures { result ≡ has_flag flag self.flags }
+    {
+        has_flag(self.flags as u32, flag)
     }
-    if ends_past(known.size, offset, length) {
-        return Some(Why::Bounds(known.size));
+
+    /// Whether the client is strict on the rule of this bit.
+    fn is_strict(self, bit: u32) -> bool
+        ensures { result ≡ has_flag bit self.strict }
+    {
+        has_flag(self.strict, bit)
     }
-    let unit = unit(known.blocks);
-    if !is_multiple(offset, unit) {
-        return Some(Why::Align(unit));
+
+    /// What is lacking unless the export has this flag.
+    fn unless(self, flag: u32, lack: Lack) -> Option<Lack>
+        ensures { result ≡ (if has_flag flag self.flags then None else Some lack) }
+    {
+        if self.tells(flag) { None } else { Some(lack) }
     }
-    if !is_multiple(length, unit) {
-        return Some(Why::Align(unit));
+
+    /// The same of a command that writes.
+    fn unless_read_only(self, lack: Option<Lack>) -> Option<Lack>
+        ensures { result ≡ (if has_flag flag_read_only self.flags then Some Lack.ReadOnly else lack) }
+    {
+        if self.tells(READ_ONLY) {
+            Some(Lack::ReadOnly)
+        } else {
+            lack
+        }
     }
-    None
+
+    /// What the export lacks of what the command needs.
+    fn lack_of(self, kind: Kind) -> Option<Lack>
+        ensures { result ≡ rule.lack_of (seen_terms self) kind }
+    {
+        match kind {
+            Kind::Read => None,
+            Kind::Write => self.unless_read_only(None),
+            Kind::Flush => self.unless(SEND_FLUSH, Lack::Flush),
+            Kind::Trim => self.unless_read_only(self.unless(SEND_TRIM, Lack::Trim)),
+            Kind::Cache => self.unless(SEND_CACHE, Lack::Cache),
+            Kind::Zero => self.unless_read_only(self.unless(SEND_WRITE_ZEROES, Lack::Zero)),
+            Kind::BlockStatus => {
+                if self.has_context {
+                    None
+                } else {
+                    Some(Lack::Context)
+                }
+            }
+        }
+    }
+
+    /// FUA, where the export takes it.
+    fn fua(self) -> u32
+        ensures value { result ≡ rule.flag_if (has_flag flag_send_fua self.flags) cmd_flag_fua }
+        ensures small { result ≤ cmd_flag_fua }
+    {
+        if self.tells(SEND_FUA) { FUA } else { 0 }
+    }
+
+    /// DF, where the export takes it and structured replies are on.
+    fn df(self) -> u32
+        ensures { result ≡ rule.flag_if (has_flag flag_send_df self.flags && self.structured) cmd_flag_df }
+    {
+        if self.tells(SEND_DF) && self.structured {
+            DF
+        } else {
+            0
+        }
+    }
+
+    /// FAST_ZERO, where the export takes it.
+    fn fast_zero(self) -> u32
+        ensures value { result ≡ rule.flag_if (has_flag flag_send_fast_zero self.flags) cmd_flag_fast_zero }
+        ensures small { result ≤ cmd_flag_fast_zero }
+    {
+        if self.tells(SEND_FAST_ZERO) {
+            FAST_ZERO
+        } else {
+            0
+        }
+    }
+
+    /// The command flags that a command of this kind allows.
+    fn allowed(self, kind: Kind) -> u32
+        ensures { result ≡ rule.allowed (seen_terms self) kind }
+    {
+        match kind {
+            Kind::Read => self.df(),
+            Kind::Write => self.fua(),
+            Kind::Flush => 0,
+            Kind::Trim => self.fua(),
+            Kind::Cache => 0,
+            Kind::Zero => self.fua() + NO_HOLE + self.fast_zero(),
+            Kind::BlockStatus => REQ_ONE,
+        }
+    }
+
+    /// Those that a command may have now.
+    fn allowed_now(self, kind: Kind) -> u32
+        ensures { result ≡ rule.allowed_now (seen_terms self) kind }
+    {
+        if self.is_strict(strict::FLAGS) {
+            self.allowed(kind)
+        } else {
+            SENDABLE_FLAGS
+        }
+    }
+
+    /// The longest range of a command of this kind.
+    fn length_limit(self, kind: Kind) -> u64
+        ensures { result ≡ rule.length_limit (seen_terms self) kind }
+    {
+        match kind {
+            Kind::Read => payload_limit(self.blocks),
+            Kind::Write => payload_limit(self.blocks),
+            _ => range_limit(self.extended),
+        }
+    }
+
+    /// Why a range is refused that does not begin or end with a block.
+    fn by_blocks(self, offset: u64, length: u64) -> Option<Why>
+        ensures { result ≡ rule.refuse (has_flag strict_align self.strict && not (rule.is_aligned (rule.minimum self.blocks) offset length)) (Why.Align (rule.minimum self.blocks)) None }
+    {
+        let unit = minimum(self.blocks);
+        if self.is_strict(strict::ALIGN) && !is_aligned(unit, offset, length) {
+            Some(Why::Align(unit))
+        } else {
+            None
+        }
+    }
+
+    /// Why a command of this kind is refused by its range.
+    fn by_range(self, kind: Kind, offset: u64, length: u64) -> Option<Why>
+        ensures { result ≡ rule.by_range (seen_terms self) kind offset length }
+    {
+        if self.is_strict(strict::ZERO_SIZE) && length == 0 {
+            return Some(Why::ZeroSize);
+        }
+        let limit = self.length_limit(kind);
+        if limit < length {
+            return Some(Why::TooBig(limit));
+        }
+        if self.is_strict(strict::BOUNDS) && ends_past(self.size, offset, length) {
+            return Some(Why::Bounds(self.size));
+        }
+        self.by_blocks(offset, length)
+    }
+
+    /// Why it is refused by its flags or its range.
+    fn by_flags(self, kind: Kind, flags: u32, offset: u64, length: u64) -> Option<Why>
+        ensures { result ≡ by_flags (seen_terms self) kind flags offset length }
+    {
+        let bad = excess(flags, self.allowed_now(kind));
+        if bad != 0 {
+            return Some(Why::BadFlags(bad));
+        }
+        if has_range(kind) {
+            self.by_range(kind, offset, length)
+        } else {
+            None
+        }
+    }
+
+    /// Why it is refused in a state in which commands may be issued.
+    fn by_rules(self, kind: Kind, flags: u32, offset: u64, length: u64) -> Option<Why>
+        ensures { result ≡ by_rules (seen_terms self) kind flags offset length }
+    {
+        if MAX_UNRETIRED as usize <= self.held {
+            return Some(Why::TooMany(MAX_UNRETIRED));
+        }
+        if self.is_strict(strict::COMMANDS) {
+            if let Some(lack) = self.lack_of(kind) {
+                return Some(Why::Unsupported(lack));
+            }
+        }
+        self.by_flags(kind, flags, offset, length)
+    }
+
+    /// Why a command of this kind, with these flags and this range, is refused.
+    pub(crate) fn refusal(self, kind: Kind, flags: u32, offset: u64, length: u64) -> Option<Why>
+        ensures { result ≡ rule.refusal max_unretired (seen_terms self) kind flags offset length }
+    {
+        match by_state(self.state) {
+            Some(why) => Some(why),
+            None => self.by_rules(kind, flags, offset, length),
+        }
+    }
 }
 
 impl<K> Connection<K> {
-    /// What is known of the export.
-    fn known(&self) -> Known
-        ensures { (state : Standing) (held : ℕ) → read_terms state held result ≡ record (terms_now (state_of self.now)) { state = state; held = held; has_context = false } }
+    /// By what a command is judged now.
+    pub(crate) fn terms(&self) -> Terms
+        ensures { seen_terms result ≡ terms_now (state_of self.now) }
     {
-        match self.talk.info() {
-            Some(info) => Known {
-                size: info.size,
-                flags: info.flags,
-                blocks: info.blocks,
-                structured: info.structured,
-                extended: info.extended,
-            },
-            None => Known {
-                size: 0,
-                flags: 0,
-                blocks: None,
-                structured: self.talk.structured(),
-                extended: self.talk.extended(),
-            },
+        let (size, flags, blocks) = match self.talk.info() {
+            Some(info) => (info.size, info.flags, info.blocks),
+            None => (0, 0, None),
+        };
+        Terms {
+            state: state_at(self.stage, self.talk.phase()),
+            held: self.commands.held(),
+            size,
+            flags,
+            blocks,
+            has_context: has_context(self.talk.contexts()),
+            structured: self.talk.structured(),
+            extended: self.talk.extended(),
+            strict: self.strict,
         }
-    }
-
-    /// Why a read is refused: by its state, by how many commands are not retired, by its flags, and by its
-    /// range.
-    pub(crate) fn read_refusal(&self, flags: u32, offset: u64, length: u64) -> Option<Why>
-        ensures { result ≡ refusal max_unretired (terms_now (state_of self.now)) Read flags offset length }
-    {
-        let state = state_at(self.stage, self.talk.phase());
-        let refused = by_state(state);
-        if refused.is_some() {
-            return refused;
-        }
-        if 1024 <= self.commands.held() {
-            return Some(Why::TooMany(1024));
-        }
-        let known = self.known();
-        let excess = excess(flags, read_flags(known));
-        if excess != 0 {
-            return Some(Why::BadFlags(excess));
-        }
-        range_refusal(known, offset, length)
     }
 }

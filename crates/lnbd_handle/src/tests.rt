@@ -7,6 +7,9 @@ use std::alloc::Global;
 use std::process::Abort;
 use std::test::Fail;
 
+mod chunks;
+mod options;
+
 /// The server's hello, GO's reply for an export of 1 MiB with the flags 1, and its ACK.
 const HELLO: [u8; 18] = *b"NBDMAGICIHAVEOPT\0\x03";
 
@@ -31,11 +34,11 @@ const REFUSED: [u8; 16] = *b"\x67\x44\x66\x98\0\0\0\x05\0\0\0\0\0\0\0\x01";
 
 /// A caller that keeps what it is told to keep, or retires each command.
 #[derive(Clone, Copy)]
-struct Keeper {
+pub(crate) struct Keeper {
     keeps: bool,
 }
 
-const KEEP: Keeper = Keeper { keeps: true };
+pub(crate) const KEEP: Keeper = Keeper { keeps: true };
 
 const RETIRE: Keeper = Keeper { keeps: false };
 

@@ -9,13 +9,15 @@ ghost use Rattle.lnbd_history.specs.Arrivals.{has_bit};
 ghost use Rattle.lnbd_machine.specs.Machine.{waited};
 ghost use Rattle.lnbd_commands.specs.Seen.{seen_waiting};
 ghost use Rattle.lnbd_handle.specs.Seen.{IsSound, state_of};
-ghost use Rattle.lnbd_handle.specs.Turns.{TurnMeans, is_speaking, takes_options};
+ghost use Rattle.lnbd_handle.specs.Turns.{AreAgreed, TurnMeans, is_speaking, takes_options};
+ghost use Rattle.lnbd_arrivals.specs.Frames.{IsChunk};
 
+use crate::aborting::turn_aborting;
 use crate::connection::Connection;
 use crate::deaths::die;
 use crate::greet::{greet, take_reply};
 use crate::kinds::Turn;
-use lnbd_arrivals::{Seen as Frame, cookie_in, look_frame};
+use lnbd_arrivals::{Chunk, Replies, Seen as Frame, cookie_in, look_frame};
 use lnbd_callbacks::Caller;
 use lnbd_commands::Waiting;
 use lnbd_history::{Phase, Stage};
@@ -135,6 +137,46 @@ pub(crate) fn waiting_at<K>(connection: &Connection<K>, rest: &[u8]) -> Option<W
     }
 }
 
+/// How the server replies to commands, by what is agreed.
+pub(crate) fn replies_of<K>(connection: &Connection<K>) -> Replies
+    ensures { AreAgreed connection.now result }
+{
+    Replies::agreed(connection.talk.structured(), connection.talk.extended())
+}
+
+/// Files the chunk that begins these bytes. For want of memory nothing has changed.
+fn turn_chunk<K: Caller>(
+    connection: &mut Connection<K>,
+    world: &mut K::World,
+    replies: Replies,
+    chunk: &Chunk,
+    rest: &[u8],
+) -> Turn
+    requires sound { IsSound connection.old }
+    requires speaking { is_speaking connection.old.stage ≡ true }
+    requires ready { connection.old.talk.phase ≡ Ready }
+    requires agreed { AreAgreed connection.old replies }
+    requires whole { IsChunk replies (waited (state_of connection.old)) rest.now chunk.now }
+    ensures means { TurnMeans K.steps connection.old world.old rest.now result connection.new world.new }
+    ensures sound { IsSound connection.new }
+{
+    let payload = chunk.payload(rest);
+    let Ok(entries) = chunk.entries(connection.alloc, payload) else {
+        return Turn::Short;
+    };
+    let told = chunk.told(payload, &entries);
+    match connection.commands.chunk(
+        world,
+        chunk.cookie(),
+        told,
+        chunk.is_last(),
+        connection.talk.contexts(),
+    ) {
+        Ok(()) => Turn::Took(chunk.size),
+        Err(_) => Turn::Short,
+    }
+}
+
 fn turn_frame<K: Caller>(connection: &mut Connection<K>, world: &mut K::World, rest: &[u8]) -> Turn
     requires sound { IsSound connection.old }
     requires speaking { is_speaking connection.old.stage ≡ true }
@@ -143,7 +185,8 @@ fn turn_frame<K: Caller>(connection: &mut Connection<K>, world: &mut K::World, r
     ensures sound { IsSound connection.new }
 {
     let waiting = waiting_at(connection, rest);
-    match look_frame(waiting, rest) {
+    let replies = replies_of(connection);
+    match look_frame(replies, waiting, rest) {
         Frame::Nothing => Turn::Nothing,
         Frame::Broken(breach) => {
             die(connection, world, Cause::Broke(breach));
@@ -161,6 +204,7 @@ fn turn_frame<K: Caller>(connection: &mut Connection<K>, world: &mut K::World, r
                 Err(_) => Turn::Short,
             }
         }
+        Frame::Chunk(chunk) => turn_chunk(connection, world, replies, &chunk, rest),
     }
 }
 
@@ -193,7 +237,7 @@ pub(crate) fn turn<K: Caller>(
     match connection.stage {
         Stage::Open => turn_open(connection, world, rest),
         Stage::Disconnecting => turn_frame(connection, world, rest),
-        Stage::Aborting => Turn::All,
+        Stage::Aborting => turn_aborting(connection, world, rest),
         Stage::Created => Turn::All,
         Stage::Closed => Turn::All,
         Stage::Dead(_) => Turn::All,

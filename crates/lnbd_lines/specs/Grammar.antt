@@ -1,10 +1,18 @@
 -- The grammar of one line of a script: what it asks for.
-use Rattle.std.specs.Prelude.{ℕ, ◌^◌, ◌<◌, ◌≤◌, ◌≡◌, ◌≢◌, ◌⊎◌, true, List, [], ◌∷◌, ◌++◌, All, Option, MatchOption, codes, length, IsUtf8}
+use Rattle.std.specs.Prelude.{ℕ, ◌^◌, ◌<◌, ◌≤◌, ◌≡◌, ◌≢◌, ◌⊎◌, true, false, List, [], ◌∷◌, ◌++◌, All, Option, MatchOption, Ok, codes, length, IsUtf8}
+use Rattle.std.specs.Char.{is_ascii_uppercase}
+use Rattle.std.specs.List.{list_any}
 use Rattle.std.specs.Str.{all_ascii_digits}
 use Rattle.std.specs.Str.Parse.{digits_value}
+use Rattle.hex.specs.Hex.{decode_of}
 use Rattle.lnbd_model.specs.declared.target.Target.TheVariants.{Tcp, Unix}
 use Rattle.lnbd_lines.specs.declared.line.Line.{Line}
-use Rattle.lnbd_lines.specs.declared.line.Line.TheVariants.{Connect, Pread, Settle, Log, ClearLog, Done, Peek, InFlight, Direction, State, Info, Export, Read, Write, Disconnect, Close}
+use Rattle.lnbd_lines.specs.declared.line.Line.TheVariants.{Connect, Settle, Log, ClearLog, Done, Peek, InFlight, Direction, State, Info, Export, Strict, Read, Write, Disconnect, Close, Command as Issue}
+use Rattle.lnbd_lines.specs.declared.command.Range.{Range}
+use Rattle.lnbd_lines.specs.declared.command.Payload.{Payload}
+use Rattle.lnbd_lines.specs.declared.command.Payload.TheVariants.{Hex, Fill}
+use Rattle.lnbd_lines.specs.declared.command.Command.{Command}
+use Rattle.lnbd_lines.specs.declared.command.Command.TheVariants.{Pread, Pwrite, Flush, Trim, Zero, Cache}
 
 -- one or more decimal digits, with a value below 2^64
 pub record IsNumber (digits : List ℕ) (value : ℕ) : Type 0 where
@@ -13,29 +21,31 @@ pub record IsNumber (digits : List ℕ) (value : ℕ) : Type 0 where
   pub value_is : digits_value 10 digits ≡ value
   pub fits : value < 2 ^ 64
 
--- the text is a word, one space, and the rest: no space stands in the word
-pub record IsCut (text word rest : List ℕ) : Type 0 where
-  pub spelled : text ≡ word ++ 32 ∷ rest
-  pub one_word : All (λ c. c ≢ 32) word
+-- what stands between words, and between the parts of a word
+abbrev pub space : ℕ
+space = 32
+
+abbrev pub colon : ℕ
+colon = 58
+
+-- the text is a word, this mark, and the rest: the mark doesn't stand in the word
+pub record IsCut (mark : ℕ) (text word rest : List ℕ) : Type 0 where
+  pub spelled : text ≡ word ++ mark ∷ rest
+  pub one_word : All (λ c. c ≢ mark) word
+
+-- the line is this front and then a rest of which P holds
+abbrev pub Follows : List ℕ → (List ℕ → Type 0) → List ℕ → Type 0
+Follows front P line = (rest : List ℕ) × (line ≡ front ++ rest) × P rest
 
 -- HOST PORT: a host of 1 to 4,096 bytes, and a number from 1 to 65535
 pub record IsTcp (text host : List ℕ) (port : ℕ) : Type 0 where
   pub digits : List ℕ
-  pub cut : IsCut text host digits
+  pub cut : IsCut space text host digits
   pub named : 0 < length host
   pub short : length host ≤ 4096
   pub number : IsNumber digits port
   pub low : 1 ≤ port
   pub high : port ≤ 65535
-
--- LEN OFF: two numbers, the first at most 67,108,864
-pub record IsRange (text : List ℕ) (size offset : ℕ) : Type 0 where
-  pub first : List ℕ
-  pub second : List ℕ
-  pub cut : IsCut text first second
-  pub size_is : IsNumber first size
-  pub small : size ≤ 67108864
-  pub offset_is : IsNumber second offset
 
 -- PATH: 1 to 4,096 bytes
 pub record IsPath (text path : List ℕ) : Type 0 where
@@ -48,15 +58,80 @@ pub record IsName (text name : List ℕ) : Type 0 where
   pub same : name ≡ text
   pub short : length name ≤ 4096
 
--- the line is this front and then a rest of which P holds
-abbrev pub Follows : List ℕ → (List ℕ → Type 0) → List ℕ → Type 0
-Follows front P line = (rest : List ℕ) × (line ≡ front ++ rest) × P rest
+-- the most bytes of one read, and of one fill
+abbrev pub max_bytes : ℕ
+max_bytes = 67108864
+
+-- a number of bytes that isn't too large
+pub record IsSize (digits : List ℕ) (value : ℕ) : Type 0 where
+  pub number : IsNumber digits value
+  pub small : value ≤ max_bytes
+
+-- FLAGS: a number below 2^32
+pub record IsFlags (digits : List ℕ) (flags : ℕ) : Type 0 where
+  pub number : IsNumber digits flags
+  pub small : flags < 2 ^ 32
+
+-- OFF FLAGS
+pub record IsFlagged (text : List ℕ) (offset flags : ℕ) : Type 0 where
+  pub first : List ℕ
+  pub second : List ℕ
+  pub cut : IsCut space text first second
+  pub offset_is : IsNumber first offset
+  pub flags_are : IsFlags second flags
+
+-- OFF [FLAGS]: where no flags stand they are 0
+abbrev pub IsPlace : List ℕ → (offset flags : ℕ) → Type 0
+IsPlace text offset flags = (IsNumber text offset × (flags ≡ 0)) ⊎ IsFlagged text offset flags
+
+-- LEN OFF [FLAGS]
+pub record IsRange (text : List ℕ) (range : Range) : Type 0 where
+  pub first : List ℕ
+  pub second : List ℕ
+  pub cut : IsCut space text first second
+  pub length_is : IsNumber first range.length
+  pub place : IsPlace second range.offset range.flags
+
+-- pairs of hexadecimal digits, lower-case ones, that spell these bytes
+pub record IsHex (digits bytes : List ℕ) : Type 0 where
+  pub lower : list_any is_ascii_uppercase digits ≡ false
+  pub pairs : decode_of digits ≡ Ok bytes
+
+-- XX:LEN: a byte, and how often it stands
+pub record IsFill (text : List ℕ) (byte size : ℕ) : Type 0 where
+  pub pair : List ℕ
+  pub digits : List ℕ
+  pub cut : IsCut colon text pair digits
+  pub byte_is : IsHex pair (byte ∷ [])
+  pub size_is : IsSize digits size
+
+-- BYTES
+abbrev pub IsPayload : List ℕ → Payload → Type 0
+IsPayload text (Hex bytes) = Follows (codes "hex:") (λ rest. IsHex rest bytes) text
+IsPayload text (Fill byte size) = Follows (codes "fill:") (λ rest. IsFill rest byte size) text
+
+-- BYTES OFF [FLAGS]
+pub record IsWrite (text : List ℕ) (payload : Payload) (offset flags : ℕ) : Type 0 where
+  pub first : List ℕ
+  pub second : List ℕ
+  pub cut : IsCut space text first second
+  pub payload_is : IsPayload first payload
+  pub place : IsPlace second offset flags
+
+-- the text is this command
+abbrev pub IsCommand : List ℕ → Command → Type 0
+IsCommand text (Pread range) = Follows (codes "pread ") (λ rest. IsRange rest range) text × (range.length ≤ max_bytes)
+IsCommand text (Pwrite payload offset flags) = Follows (codes "pwrite ") (λ rest. IsWrite rest payload offset flags) text
+IsCommand text (Flush flags) = ((text ≡ codes "flush") × (flags ≡ 0)) ⊎ Follows (codes "flush ") (λ rest. IsFlags rest flags) text
+IsCommand text (Trim range) = Follows (codes "trim ") (λ rest. IsRange rest range) text
+IsCommand text (Zero range) = Follows (codes "zero ") (λ rest. IsRange rest range) text
+IsCommand text (Cache range) = Follows (codes "cache ") (λ rest. IsRange rest range) text
 
 -- the text of the line asks for this
 abbrev pub Asks : List ℕ → Line → Type 0
 Asks text (Connect (Tcp host port)) = Follows (codes "connect tcp ") (λ rest. IsTcp rest host port) text
 Asks text (Connect (Unix path)) = Follows (codes "connect unix ") (λ rest. IsPath rest path) text
-Asks text (Pread size offset) = Follows (codes "pread ") (λ rest. IsRange rest size offset) text
+Asks text (Issue command) = IsCommand text command
 Asks text Settle = text ≡ codes "settle"
 Asks text Log = text ≡ codes "log"
 Asks text ClearLog = text ≡ codes "clear-log"
@@ -67,6 +142,7 @@ Asks text Direction = text ≡ codes "direction"
 Asks text State = text ≡ codes "state"
 Asks text Info = text ≡ codes "info"
 Asks text (Export name) = Follows (codes "export ") (λ rest. IsName rest name) text
+Asks text (Strict bits) = Follows (codes "strict ") (λ rest. IsFlags rest bits) text
 Asks text Read = text ≡ codes "read"
 Asks text Write = text ≡ codes "write"
 Asks text Disconnect = text ≡ codes "disconnect"

@@ -2,8 +2,11 @@
 use Rattle.std.specs.Prelude.{ℕ, ◌≡◌, ◌≢◌, ◌++◌, ⊤, List, [], Option, Some, None, Result, Ok, Err, codes, option_to_list}
 use Rattle.lnbd_model.specs.declared.target.Target.{Target}
 use Rattle.lnbd_model.specs.declared.target.Target.TheVariants.{Tcp, Unix}
-use Rattle.lnbd_lines.specs.Grammar.{IsLine, IsTcp}
+use Rattle.lnbd_lines.specs.Grammar.{IsCommand, IsLine, IsTcp, IsWrite}
 use Rattle.lnbd_lines.specs.Scripts.{lines_of}
+use Rattle.lnbd_lines.specs.declared.command.Range.{Range}
+use Rattle.lnbd_lines.specs.declared.command.Command.{Command}
+use Rattle.lnbd_lines.specs.declared.command.Command.TheVariants.{Pwrite, Trim, Zero, Cache}
 use Rattle.lnbd_lines.specs.declared.line.Line.{Line}
 
 -- the text is none of the lines of one word
@@ -20,6 +23,17 @@ pub record HasNoWord (text : List ℕ) : Type 0 where
   pub write : text ≢ codes "write"
   pub disconnect : text ≢ codes "disconnect"
   pub close : text ≢ codes "close"
+
+-- the text is none of the commands with a range and no payload, but for a read
+pub record HasNoRange (text : List ℕ) : Type 0 where
+  pub trim : (range : Range) → ¬ IsCommand text (Trim range)
+  pub zero : (range : Range) → ¬ IsCommand text (Zero range)
+  pub cache : (range : Range) → ¬ IsCommand text (Cache range)
+
+-- BYTES OFF [FLAGS] spells what this command writes
+abbrev pub IsWriteOf : List ℕ → Command → Type 0
+IsWriteOf text (Pwrite payload offset flags) = IsWrite text payload offset flags
+IsWriteOf text other = ⊥
 
 -- HOST PORT spells this target
 abbrev pub IsTcpTarget : List ℕ → Target → Type 0

@@ -1,202 +1,46 @@
-//! One line of a script: what it asks for, or that it is outside the grammar.
+//! Commands that a line of a script issues. How they are spelled stands in `specs/Grammar.antt`.
 
-ghost use Rattle.std.specs.Prelude.{◌≤◌, ◌↔◌, IfOk, IsErrOf, IsTrue, List, MatchOption, ℕ};
-ghost use Rattle.lnbd_model.specs.declared.target.Target.{Target};
-ghost use Rattle.lnbd_lines.specs.Grammar.{Asks, IsLawful, IsLine, IsNumber, IsPassedOver, IsRange, IsTcp};
-ghost use Rattle.lnbd_lines.specs.Written.{HasNoWord, IsTcpTarget};
-ghost use Rattle.lnbd_lines.specs.declared.line.Line.{Line};
-ghost use Rattle.lnbd_lines.specs.declared.fault.LineFault.{LineFault};
+use lnbd_model::Bytes;
 
-use crate::fault::LineFault;
-use crate::line::Line;
-use crate::number::number;
-use crate::word::{cut, short};
-use lnbd_model::{NoMemory, Target};
-use std::alloc::Global;
-use std::str::from_utf8;
-
-/// The most bytes that one read asks for.
-const MOST_READ: u64 = 67_108_864;
-
-/// A line of one word.
-fn word(text: &str) -> Option<Line>
-    ensures { MatchOption result (HasNoWord text.now) (λ line. Asks text.now line) }
-{
-    match text {
-        "settle" => Some(Line::Settle),
-        "log" => Some(Line::Log),
-        "clear-log" => Some(Line::ClearLog),
-        "peek" => Some(Line::Peek),
-        "in-flight" => Some(Line::InFlight),
-        "direction" => Some(Line::Direction),
-        "state" => Some(Line::State),
-        "info" => Some(Line::Info),
-        "read" => Some(Line::Read),
-        "write" => Some(Line::Write),
-        "disconnect" => Some(Line::Disconnect),
-        "close" => Some(Line::Close),
-        _ => None,
-    }
+/// A range of the export, and command flags.
+#[derive(Clone, Copy, Debug, PartialEq, Eq)]
+pub struct Range {
+    /// In bytes.
+    pub length: u64,
+    /// In bytes.
+    pub offset: u64,
+    /// As in the NBD protocol, "Command flags"; 0 where the line tells none.
+    pub flags: u32,
 }
 
-/// `LEN OFF`.
-fn range(text: &str) -> Option<(u32, u64)>
-    ensures { MatchOption result ((size offset : ℕ) → ¬ IsRange text.now size offset) (λ range. IsRange text.now range.0 range.1) }
-{
-    let Some((length, offset)) = cut(text) else {
-        return None;
-    };
-    let Some(length) = number(length) else {
-        return None;
-    };
-    let Some(offset) = number(offset) else {
-        return None;
-    };
-    if length > MOST_READ {
-        return None;
-    }
-    Some((length as u32, offset))
+/// What a write sends.
+#[derive(Debug, Drop)]
+pub enum Payload {
+    /// `hex:` and pairs of digits: these bytes.
+    Hex(Bytes),
+    /// `fill:XX:LEN`: one byte, so often; at most 67,108,864 times.
+    Fill { byte: u8, length: u32 },
 }
 
-/// `pread LEN OFF`.
-fn pread(text: &str) -> Option<Line>
-    ensures { MatchOption result ((size offset : ℕ) → ¬ Asks text.now (Line.Pread size offset)) (λ line. Asks text.now line) }
-{
-    let Some(rest) = text.strip_prefix("pread ") else {
-        return None;
-    };
-    let Some((length, offset)) = range(rest) else {
-        return None;
-    };
-    Some(Line::Pread { length, offset })
-}
-
-/// `done C`.
-fn done(text: &str) -> Option<Line>
-    ensures { MatchOption result ((cookie : ℕ) → ¬ Asks text.now (Line.Done cookie)) (λ line. Asks text.now line) }
-{
-    let Some(rest) = text.strip_prefix("done ") else {
-        return None;
-    };
-    let Some(cookie) = number(rest) else {
-        return None;
-    };
-    Some(Line::Done { cookie })
-}
-
-/// The number from 1 to 65535 that the digits spell.
-fn port(digits: &str) -> Option<u16>
-    ensures { MatchOption result ((value : ℕ) → IsNumber digits.now value → 1 ≤ value → ¬ (value ≤ 65535)) (λ value. IsNumber digits.now value × (1 ≤ value)) }
-{
-    match number(digits) {
-        Some(port) if 1 <= port && port <= 65535 => Some(port as u16),
-        _ => None,
-    }
-}
-
-/// `HOST PORT`.
-fn tcp(alloc: Global, text: &str) -> Result<Option<Target>, NoMemory>
-    ensures { IfOk result (λ target. MatchOption target ((host : List ℕ) (port : ℕ) → ¬ IsTcp text.now host port) (λ target. IsTcpTarget text.now target)) }
-{
-    let Some((host, digits)) = cut(text) else {
-        return Ok(None);
-    };
-    let Some(port) = port(digits) else {
-        return Ok(None);
-    };
-    if host.is_empty() {
-        return Ok(None);
-    }
-    let Some(host) = short(alloc, host)? else {
-        return Ok(None);
-    };
-    Ok(Some(Target::Tcp { host, port }))
-}
-
-/// `connect tcp HOST PORT`.
-fn connect_tcp(alloc: Global, text: &str) -> Result<Option<Line>, NoMemory>
-    ensures { IfOk result (λ asked. MatchOption asked ((host : List ℕ) (port : ℕ) → ¬ Asks text.now (Line.Connect (Target.Tcp host port))) (λ line. Asks text.now line)) }
-{
-    let Some(rest) = text.strip_prefix("connect tcp ") else {
-        return Ok(None);
-    };
-    let Some(target) = tcp(alloc, rest)? else {
-        return Ok(None);
-    };
-    Ok(Some(Line::Connect(target)))
-}
-
-/// `connect unix PATH`.
-fn connect_unix(alloc: Global, text: &str) -> Result<Option<Line>, NoMemory>
-    ensures { IfOk result (λ asked. MatchOption asked ((path : List ℕ) → ¬ Asks text.now (Line.Connect (Target.Unix path))) (λ line. Asks text.now line)) }
-{
-    let Some(rest) = text.strip_prefix("connect unix ") else {
-        return Ok(None);
-    };
-    if rest.is_empty() {
-        return Ok(None);
-    }
-    let Some(path) = short(alloc, rest)? else {
-        return Ok(None);
-    };
-    Ok(Some(Line::Connect(Target::Unix { path })))
-}
-
-/// `export TEXT`.
-fn export(alloc: Global, text: &str) -> Result<Option<Line>, NoMemory>
-    ensures { IfOk result (λ asked. MatchOption asked ((name : List ℕ) → ¬ Asks text.now (Line.Export name)) (λ line. Asks text.now line)) }
-{
-    let Some(rest) = text.strip_prefix("export ") else {
-        return Ok(None);
-    };
-    let Some(name) = short(alloc, rest)? else {
-        return Ok(None);
-    };
-    Ok(Some(Line::Export { name }))
-}
-
-/// What the text of a line asks for, if it asks for anything.
-fn asked(alloc: Global, text: &str) -> Result<Option<Line>, NoMemory>
-    ensures { IfOk result (λ asked. MatchOption asked ((line : Line) → ¬ Asks text.now line) (λ line. Asks text.now line)) }
-{
-    if let Some(line) = word(text) {
-        return Ok(Some(line));
-    }
-    if let Some(line) = pread(text) {
-        return Ok(Some(line));
-    }
-    if let Some(line) = done(text) {
-        return Ok(Some(line));
-    }
-    if let Some(line) = connect_tcp(alloc, text)? {
-        return Ok(Some(line));
-    }
-    if let Some(line) = connect_unix(alloc, text)? {
-        return Ok(Some(line));
-    }
-    export(alloc, text)
-}
-
-/// Whether the line is empty, or a comment.
-fn is_passed_over(text: &str) -> bool
-    ensures { IsTrue result ↔ IsPassedOver text.now }
-{
-    text.is_empty() || text.starts_with("#")
-}
-
-/// What a line asks for, or nothing where it is passed over.
-pub(crate) fn read(alloc: Global, line: &[u8]) -> Result<Option<Line>, LineFault>
-    ensures asked { IfOk result (λ asked. IsLine line.now asked) }
-    ensures outside { IsErrOf result LineFault.Outside → ¬ IsLawful line.now }
-{
-    let Ok(text) = from_utf8(line) else {
-        return Err(LineFault::Outside);
-    };
-    if is_passed_over(text) {
-        return Ok(None);
-    }
-    match asked(alloc, text)? {
-        Some(line) => Ok(Some(line)),
-        None => Err(LineFault::Outside),
-    }
+/// A command.
+#[derive(Debug, Drop)]
+pub enum Command {
+    /// `pread LEN OFF [FLAGS]`: read so many bytes, at most 67,108,864 (nbd_aio_pread(3)).
+    Pread(Range),
+    /// `pwrite BYTES OFF [FLAGS]`: write these bytes from this offset on (nbd_aio_pwrite(3)).
+    Pwrite {
+        payload: Payload,
+        offset: u64,
+        flags: u32,
+    },
+    /// `flush [FLAGS]`: have the server put what was written on stable storage (nbd_aio_flush(3)).
+    Flush {
+        flags: u32,
+    },
+    /// `trim LEN OFF [FLAGS]`: tell that the range is not needed any more (nbd_aio_trim(3)).
+    Trim(Range),
+    /// `zero LEN OFF [FLAGS]`: write zeroes over the range (nbd_aio_zero(3)).
+    Zero(Range),
+    /// `cache LEN OFF [FLAGS]`: have the server read the range ahead (nbd_aio_cache(3)).
+    Cache(Range),
 }

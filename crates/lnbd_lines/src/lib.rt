@@ -2,12 +2,17 @@
 #![tactic(auto)]
 
 mod command;
+mod commands;
 mod fault;
 mod line;
+mod lines;
 mod number;
+mod payloads;
+mod ranges;
 mod script;
 mod word;
 
+pub use command::{Command, Payload, Range};
 pub use fault::ScriptFault;
 pub use line::Line;
 pub use script::{Script, parse};

@@ -1,5 +1,6 @@
 //! What a line of a script asks for. How it is spelled stands in `specs/Grammar.antt`.
 
+use crate::command::Command;
 use lnbd_model::{Target, Text};
 
 /// One call on a handle, or a question about it.
@@ -8,9 +9,8 @@ pub enum Line {
     /// `connect tcp HOST PORT` or `connect unix PATH`: connect, and start the handshake
     /// (nbd_connect_tcp(3), nbd_connect_unix(3)). The host and the path have 1 to 4,096 bytes.
     Connect(Target),
-    /// `pread LEN OFF`: issue a read of so many bytes, at most 67,108,864, from this offset on
-    /// (nbd_aio_pread(3)).
-    Pread { length: u32, offset: u64 },
+    /// A command: issue it.
+    Command(Command),
     /// `settle`: take turns until nothing is in flight and nothing waits to go out.
     Settle,
     /// `log`: show the notes.
@@ -31,6 +31,8 @@ pub enum Line {
     Info,
     /// `export TEXT`: set the name of the export, 4,096 bytes at most (nbd_set_export_name(3)).
     Export { name: Text },
+    /// `strict N`: set these bits of strict mode (nbd_set_strict_mode(3)).
+    Strict { bits: u32 },
     /// `read`: take what the server sent (nbd_aio_notify_read(3)).
     Read,
     /// `write`: send what waits to go out (nbd_aio_notify_write(3)).

@@ -9,9 +9,9 @@ ghost use Rattle.lnbd_lines.specs.declared.fault.LineFault.{LineFault};
 ghost use Rattle.lnbd_lines.specs.declared.fault.ScriptFault.{ScriptFault};
 ghost use Rattle.lnbd_lines.specs.declared.line.Line.{Line};
 
-use crate::command::read;
 use crate::fault::{LineFault, ScriptFault};
 use crate::line::Line;
+use crate::lines::read;
 use std::alloc::Global;
 use std::marker::Model;
 

@@ -1,7 +1,8 @@
 //! Scripts by example. What each line asks for was read off the grammar by hand.
 
-use crate::{Line, Script, ScriptFault, parse};
+use crate::{Command, Line, Payload, Range, Script, ScriptFault, parse};
 use lnbd_model::Target;
+use std::alloc::Global;
 use std::process::Abort;
 use std::test::Fail;
 
@@ -10,7 +11,14 @@ use std::test::Fail;
 enum Wanted<'a> {
     Tcp(&'a str, u16),
     Unix(&'a str),
-    Pread(u32, u64),
+    /// A command with a range, by its name in Rust: the length, the offset and the flags.
+    Ranged(&'a str, u64, u64, u32),
+    /// A write of these bytes, at this offset and with these flags.
+    Hex(&'a [u8], u64, u32),
+    /// A write of one byte so often.
+    Fill(u8, u32, u64, u32),
+    Flush(u32),
+    Strict(u32),
     Done(u64),
     Export(&'a str),
     /// A line of one word, by its name in Rust.
@@ -19,7 +27,7 @@ enum Wanted<'a> {
     Refused,
 }
 
-use Wanted::{Done, Export, Nothing, Pread, Refused, Tcp, Unix, Word};
+use Wanted::{Done, Export, Fill, Flush, Hex, Nothing, Ranged, Refused, Strict, Tcp, Unix, Word};
 
 /// The name in Rust of a line of one word.
 fn name(line: &Line) -> &'static str {
@@ -40,15 +48,63 @@ fn name(line: &Line) -> &'static str {
     }
 }
 
+fn is_range(range: &Range, length: u64, offset: u64, flags: u32) -> bool {
+    range.length == length && range.offset == offset && range.flags == flags
+}
+
+/// Whether a command with a range has this name in Rust.
+fn is_named(command: &Command, name: &str) -> bool {
+    match command {
+        Command::Pread(_) => name == "Pread",
+        Command::Trim(_) => name == "Trim",
+        Command::Zero(_) => name == "Zero",
+        Command::Cache(_) => name == "Cache",
+        _ => false,
+    }
+}
+
+fn is_write(payload: &Payload, wanted: Wanted, place: u64, bits: u32) -> bool {
+    match (payload, wanted) {
+        (Payload::Hex(bytes), Hex(wanted, offset, flags)) => {
+            bytes.as_slice() == wanted && place == offset && bits == flags
+        }
+        (Payload::Fill { byte, length }, Fill(fill, count, offset, flags)) => {
+            *byte == fill && *length == count && place == offset && bits == flags
+        }
+        _ => false,
+    }
+}
+
+fn is_command(command: &Command, wanted: Wanted) -> bool {
+    match (command, wanted) {
+        (
+            Command::Pread(range)
+            | Command::Trim(range)
+            | Command::Zero(range)
+            | Command::Cache(range),
+            Ranged(name, length, offset, flags),
+        ) => is_named(command, name) && is_range(range, length, offset, flags),
+        (
+            Command::Pwrite {
+                payload,
+                offset,
+                flags,
+            },
+            wanted,
+        ) => is_write(payload, wanted, *offset, *flags),
+        (Command::Flush { flags }, Flush(bits)) => *flags == bits,
+        _ => false,
+    }
+}
+
 fn is_wanted(line: &Line, wanted: Wanted) -> bool {
     match (line, wanted) {
         (Line::Connect(Target::Tcp { host, port }), Tcp(name, number)) => {
             host.as_str() == name && *port == number
         }
         (Line::Connect(Target::Unix { path }), Unix(name)) => path.as_str() == name,
-        (Line::Pread { length, offset }, Pread(size, place)) => {
-            *length == size && *offset == place
-        }
+        (Line::Command(command), wanted) => is_command(command, wanted),
+        (Line::Strict { bits }, Strict(number)) => *bits == number,
         (Line::Done { cookie }, Done(number)) => *cookie == number,
         (Line::Export { name }, Export(text)) => name.as_str() == text,
         (line, Word(word)) => name(line) == word,
@@ -68,67 +124,122 @@ fn asks(script: &Result<Script, ScriptFault>, wanted: Wanted) -> bool {
     }
 }
 
-#[test]
-fn lines_ask_for_what_they_spell(rt: HostRuntime) -> Result<(), Fail> {
-    let table = [
-        ("connect tcp localhost 10809", Tcp("localhost", 10809)),
-        ("connect tcp ::1 1", Tcp("::1", 1)),
-        ("connect tcp é 065535", Tcp("é", 65535)),
-        ("connect unix /run/a b", Unix("/run/a b")),
-        ("connect unix  ", Unix(" ")),
-        ("pread 512 0", Pread(512, 0)),
-        (
-            "pread 67108864 18446744073709551615",
-            Pread(67_108_864, u64::MAX),
-        ),
-        ("pread 0 007", Pread(0, 7)),
-        ("done 18446744073709551615", Done(u64::MAX)),
-        ("export ", Export("")),
-        ("export # a  b ", Export("# a  b ")),
-        ("settle", Word("Settle")),
-        ("log", Word("Log")),
-        ("clear-log", Word("ClearLog")),
-        ("peek", Word("Peek")),
-        ("in-flight", Word("InFlight")),
-        ("direction", Word("Direction")),
-        ("state", Word("State")),
-        ("info", Word("Info")),
-        ("read", Word("Read")),
-        ("write", Word("Write")),
-        ("disconnect", Word("Disconnect")),
-        ("close", Word("Close")),
-        ("", Nothing),
-        ("#", Nothing),
-        ("# pread é", Nothing),
-        (" # no comment", Refused),
-        ("connect tcp localhost 0", Refused),
-        ("connect tcp localhost 65536", Refused),
-        ("connect tcp  10809", Refused),
-        ("connect tcp localhost 1 ", Refused),
-        ("connect tcp localhost", Refused),
-        ("connect unix ", Refused),
-        ("connect nbd://localhost", Refused),
-        ("pread 512", Refused),
-        ("pread 512  0", Refused),
-        ("pread 512 0 0", Refused),
-        ("pread +512 0", Refused),
-        ("pread 67108865 0", Refused),
-        ("pread 1 18446744073709551616", Refused),
-        ("done", Refused),
-        ("done ", Refused),
-        ("done 1 ", Refused),
-        ("done -1", Refused),
-        ("export", Refused),
-        ("settle ", Refused),
-        ("Settle", Refused),
-        ("log\r", Refused),
-        ("flush", Refused),
-    ];
+/// Whether each line alone asks for what stands beside it.
+fn ask(rt: &impl Abort, alloc: Global, table: &[(&str, Wanted)]) -> Result<(), Fail> {
     for (line, wanted) in table {
-        let script = parse(rt.alloc(), line.as_bytes());
-        assert!(rt; asks(&script, wanted), "{line}");
+        let script = parse(alloc, line.as_bytes());
+        assert!(rt; asks(&script, *wanted), "{line}");
     }
     Ok(())
+}
+
+#[test]
+fn commands_have_their_words(rt: HostRuntime) -> Result<(), Fail> {
+    ask(
+        &rt,
+        rt.alloc(),
+        &[
+            ("pread 512 0", Ranged("Pread", 512, 0, 0)),
+            (
+                "pread 67108864 18446744073709551615 4294967295",
+                Ranged("Pread", 67_108_864, u64::MAX, u32::MAX),
+            ),
+            ("pread 0 007 4", Ranged("Pread", 0, 7, 4)),
+            (
+                "trim 18446744073709551615 1",
+                Ranged("Trim", u64::MAX, 1, 0),
+            ),
+            ("trim 4096 0 1", Ranged("Trim", 4096, 0, 1)),
+            ("zero 4096 0 2", Ranged("Zero", 4096, 0, 2)),
+            ("cache 4096 0", Ranged("Cache", 4096, 0, 0)),
+            ("flush", Flush(0)),
+            ("flush 32", Flush(32)),
+            ("pwrite hex:01020304 0 1", Hex(b"\x01\x02\x03\x04", 0, 1)),
+            ("pwrite hex:00ff 9", Hex(b"\x00\xff", 9, 0)),
+            ("pwrite hex: 0", Hex(b"", 0, 0)),
+            ("pwrite fill:aa:512 0", Fill(0xaa, 512, 0, 0)),
+            (
+                "pwrite fill:0f:67108864 4096 1",
+                Fill(15, 67_108_864, 4096, 1),
+            ),
+            ("pread 512", Refused),
+            ("pread 512  0", Refused),
+            ("pread 512 0 0 0", Refused),
+            ("pread 512 0 ", Refused),
+            ("pread 512 0 4294967296", Refused),
+            ("pread +512 0", Refused),
+            ("pread 67108865 0", Refused),
+            ("pread 1 18446744073709551616", Refused),
+            ("trim 4096", Refused),
+            ("zero 4096 0 -1", Refused),
+            ("cache", Refused),
+            ("flush ", Refused),
+            ("flush 0 0", Refused),
+            ("pwrite hex:010 0", Refused),
+            ("pwrite hex:0A 0", Refused),
+            ("pwrite hex:0g 0", Refused),
+            ("pwrite 01 0", Refused),
+            ("pwrite hex:01", Refused),
+            ("pwrite fill:AA:1 0", Refused),
+            ("pwrite fill:a:1 0", Refused),
+            ("pwrite fill:aaa:1 0", Refused),
+            ("pwrite fill:aa:67108865 0", Refused),
+            ("pwrite fill:aa 0", Refused),
+        ],
+    )
+}
+
+#[test]
+fn lines_ask_for_what_they_spell(rt: HostRuntime) -> Result<(), Fail> {
+    ask(
+        &rt,
+        rt.alloc(),
+        &[
+            ("connect tcp localhost 10809", Tcp("localhost", 10809)),
+            ("connect tcp ::1 1", Tcp("::1", 1)),
+            ("connect tcp é 065535", Tcp("é", 65535)),
+            ("connect unix /run/a b", Unix("/run/a b")),
+            ("connect unix  ", Unix(" ")),
+            ("done 18446744073709551615", Done(u64::MAX)),
+            ("strict 0", Strict(0)),
+            ("strict 4294967295", Strict(u32::MAX)),
+            ("export ", Export("")),
+            ("export # a  b ", Export("# a  b ")),
+            ("settle", Word("Settle")),
+            ("log", Word("Log")),
+            ("clear-log", Word("ClearLog")),
+            ("peek", Word("Peek")),
+            ("in-flight", Word("InFlight")),
+            ("direction", Word("Direction")),
+            ("state", Word("State")),
+            ("info", Word("Info")),
+            ("read", Word("Read")),
+            ("write", Word("Write")),
+            ("disconnect", Word("Disconnect")),
+            ("close", Word("Close")),
+            ("", Nothing),
+            ("#", Nothing),
+            ("# pread é", Nothing),
+            (" # no comment", Refused),
+            ("connect tcp localhost 0", Refused),
+            ("connect tcp localhost 65536", Refused),
+            ("connect tcp  10809", Refused),
+            ("connect tcp localhost 1 ", Refused),
+            ("connect tcp localhost", Refused),
+            ("connect unix ", Refused),
+            ("connect nbd://localhost", Refused),
+            ("done", Refused),
+            ("done ", Refused),
+            ("done 1 ", Refused),
+            ("done -1", Refused),
+            ("strict", Refused),
+            ("strict 4294967296", Refused),
+            ("export", Refused),
+            ("settle ", Refused),
+            ("Settle", Refused),
+            ("log\r", Refused),
+        ],
+    )
 }
 
 /// How many lines ask for something, or the fault.

@@ -401,6 +401,8 @@ module _ {K : Type 0} where
         admitted = t.admitted_is;
         freed = t.freed_is;
         strict = pair.stands.strict_is;
+        wanted = ap (λ (x : Talk). x.wanted) s.talk_is;
+        structured = ap (λ (x : Talk). x.structured) s.talk_is;
         refusal = λ most command. ap (λ (x : Terms). refusal most x command.kind command.flags command.offset command.length) (terms_are now (agreed known.turns) known.stage (held_after history) (h.strict_mode history) s.talk_is s.stage_is held pair.stands.strict_is);
         pending = pair.pending;
       }

@@ -7,6 +7,7 @@ use Rattle.lnbd_history.specs.declared.kinds.Phase.TheVariants as phase
 use Rattle.lnbd_history.specs.declared.kinds.Stage.TheVariants.{Created, Open}
 use Rattle.lnbd_keyed.specs.Keyed.{value_at, IsRising}
 use Rattle.lnbd_stream.specs.Laws.{Steady}
+use Rattle.lnbd_history.specs.Agreement as agreement
 use Rattle.lnbd_history.specs.Entries as entries
 use Rattle.lnbd_history.specs.History.{asked, reading, waits, is_gone}
 use Rattle.lnbd_history.specs.Answers.{state_after, in_flight_after, out_after, direction_after, peeked_after, completed_after, failure_after, info_after, listed_after, opt_answer_after, log_after, strict_after}
@@ -36,6 +37,9 @@ module _ {K : Type 0} where
     pub admitted : now.known.admitted ≡ (asked history).admitted
     pub freed : now.known.freed ≡ entries.frees (entries.notes (reading history).known.entries)
     pub strict : now.known.strict ≡ strict_after history
+    -- the meta contexts that the next request carries, and whether structured replies are on
+    pub wanted : now.known.talk.wanted ≡ agreement.contexts_now (reading history).known.turns
+    pub structured : now.known.talk.structured ≡ agreement.structured (agreement.steps (reading history).known.turns)
     -- whether and why a command is refused
     pub refusal : (limit : ℕ) (command : Command K) → refusal_now limit now.known command ≡ refusal_after limit history command
     -- the bytes that are no whole record yet

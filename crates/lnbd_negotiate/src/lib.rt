@@ -18,6 +18,7 @@ pub use crate::talk::Talk;
 pub use front::{Seen, look};
 pub use greeting::{Greeted, look_by_name, look_hello};
 pub use kinds::{Config, Next, TalkFault};
+pub use options::{GO, INFO, LIST, SET_META_CONTEXT};
 pub use requests::{abort_request, client_flags};
 
 #[cfg(test)]

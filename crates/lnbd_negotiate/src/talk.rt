@@ -283,6 +283,13 @@ impl Talk {
         self.info.extended
     }
 
+    /// The meta contexts that are agreed.
+    pub fn contexts(&self) -> &Contexts
+        ensures { result.now ≡ self.now.contexts }
+    {
+        &self.info.contexts
+    }
+
     /// How many contexts later requests ask for.
     pub fn wanted(&self) -> usize
         ensures count { result ≡ length self.now.wanted }

@@ -1,5 +1,5 @@
 -- Pieces, and the parts that they stand for.
-use Rattle.std.specs.Prelude.{◌≡◌, ℕ, List, length, Option, Some, None}
+use Rattle.std.specs.Prelude.{◌≡◌, ℕ, Bool, true, false, List, length, Option, Some, None}
 use Rattle.lnbd_history.specs.Outgoing.{Part, plain, last_of}
 use Rattle.lnbd_outgoing.specs.declared.piece.RequestBytes.{RequestBytes}
 use Rattle.lnbd_outgoing.specs.declared.piece.RequestBytes.TheVariants.{Compact, Extended}
@@ -37,6 +37,14 @@ Fits writes (Abort bytes) = Unit {0}
 Fits writes (Whole head) = Unit {0}
 Fits writes (Head head) = Unit {0}
 Fits writes (Own cookie size) = length (writes cookie) ≡ size
+
+-- whether a command ends with a piece
+abbrev pub ends_of : Piece → Bool
+ends_of (Text bytes) = false
+ends_of (Abort bytes) = false
+ends_of (Whole head) = true
+ends_of (Head head) = false
+ends_of (Own cookie size) = true
 
 -- the cookie of the write whose own bytes a piece names
 abbrev pub write_of : Piece → Option ℕ

@@ -1,8 +1,8 @@
 -- A queue of pieces.
-use Rattle.std.specs.Prelude.{◌≡◌, ℕ, ◌-◌, ◌<◌, Bool, List, [], ◌∷◌, ◌++◌, map, drop, Option, Some, None}
+use Rattle.std.specs.Prelude.{◌≡◌, ℕ, ◌+◌, ◌-◌, ◌<◌, Bool, false, List, [], ◌∷◌, ◌++◌, map, drop, Option, Some, None, if◌then◌else◌, nat_lt}
 use Rattle.lnbd_history.specs.Outgoing.{Part}
 use Rattle.lnbd_outgoing.specs.declared.piece.Piece.{Piece}
-use Rattle.lnbd_outgoing.specs.Pieces.{Writes, part_of, size_of, write_of, Fits}
+use Rattle.lnbd_outgoing.specs.Pieces.{Writes, part_of, size_of, ends_of, write_of, Fits}
 
 -- the pieces, how many bytes of the first have gone out, for how many pieces more there is room beside the last of all,
 -- and whether that one was queued
@@ -55,3 +55,13 @@ AllFull (piece ∷ pieces) = (0 < size_of piece) × AllFull pieces
 -- a piece is queued behind the others
 abbrev pub pushed : Piece → Queue → Queue
 pushed piece q = record q { pieces = q.pieces ++ piece ∷ [] }
+
+-- the pieces that are left where so many bytes more of the first have gone out
+abbrev pub left_after : ℕ → (cursor : ℕ) → List Piece → List Piece
+left_after n cursor [] = []
+left_after n cursor (piece ∷ pieces) = if nat_lt (cursor + n) (size_of piece) then piece ∷ pieces else pieces
+
+-- and whether a command ends with them
+abbrev pub ends_after : ℕ → (cursor : ℕ) → List Piece → Bool
+ends_after n cursor [] = false
+ends_after n cursor (piece ∷ pieces) = if nat_lt (cursor + n) (size_of piece) then false else ends_of piece

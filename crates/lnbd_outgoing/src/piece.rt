@@ -1,7 +1,7 @@
 //! The pieces of a queue, and where their bytes are.
 
 ghost use Rattle.std.specs.Prelude.{◌≡◌, ◌≤◌, length};
-ghost use Rattle.lnbd_outgoing.specs.Pieces.{Writes, head_bytes, part_of, size_of, write_of, AreOwn};
+ghost use Rattle.lnbd_outgoing.specs.Pieces.{Writes, head_bytes, part_of, size_of, ends_of, write_of, AreOwn};
 
 use lnbd_model::Bytes;
 
@@ -81,7 +81,8 @@ impl Piece {
 
     /// Whether a command ends with the piece.
     pub(crate) fn ends(&self) -> bool
-        ensures { (writes : Writes) → result ≡ (part_of writes self.now).ends }
+        ensures part { (writes : Writes) → result ≡ (part_of writes self.now).ends }
+        ensures piece { result ≡ ends_of self.now }
     {
         match self {
             Piece::Text(_) => false,

@@ -4,7 +4,7 @@ ghost use Rattle.std.specs.Prelude.{◌≡◌, ◌≤◌, ◌<◌, ◌-◌, ◌�
 ghost use Rattle.lnbd_history.specs.Outgoing.{out, wrote, ended, one_if, plain, last_of};
 ghost use Rattle.lnbd_outgoing.specs.declared.piece.Piece.TheVariants.{Head, Own};
 ghost use Rattle.lnbd_outgoing.specs.Pieces.{Writes, head_bytes, part_of, size_of, Fits};
-ghost use Rattle.lnbd_outgoing.specs.Queue.{Queue, waits, left, first_write, pushed, AllFit, AreFirstOwn};
+ghost use Rattle.lnbd_outgoing.specs.Queue.{Queue, waits, left, left_after, ends_after, first_write, pushed, AllFit, AreFirstOwn};
 
 use crate::piece::{Piece, RequestBytes};
 use lnbd_model::{Bytes, NoMemory};
@@ -150,6 +150,8 @@ impl Queue {
         ensures waits { (writes : Writes) → AllFit writes self.old.pieces → waits writes self.new ≡ wrote (waits writes self.old) n }
         ensures ends { (writes : Writes) → AllFit writes self.old.pieces → one_if result ≡ ended (waits writes self.old) n }
         ensures fit { (writes : Writes) → AllFit writes self.old.pieces → AllFit writes self.new.pieces }
+        ensures pieces { self.new.pieces ≡ left_after n self.old.cursor self.old.pieces }
+        ensures last { result ≡ ends_after n self.old.cursor self.old.pieces }
         ensures room { self.new.room ≡ self.old.room }
         ensures ended { self.new.ended ≡ self.old.ended }
     {

@@ -1,8 +1,9 @@
-//! The chunks of structured replies, with extended headers and without.
+//! The chunks of structured replies, with extended headers and without. Their form and the front of their payload are judged by the grammar
+//! of `lnbd_structured`.
 
 ghost use Rattle.std.specs.Prelude.{◌≡◌, ◌≤◌, true, Some, length};
 ghost use Rattle.lnbd_chunks.specs.declared.form.Form.TheVariants.{ErrorAt};
-ghost use Rattle.lnbd_chunks.specs.Chunk.{form_of, is_error, fits_length, fits_command, may_come, lies_within, fits_message, is_done, shows_data, shows_hole, shows_status, shows_extended_status, shows_error, shows_payload, shows_chunk, error_told};
+ghost use Rattle.lnbd_chunks.specs.Chunk.{fits_length, lies_within, is_done, shows_data, shows_hole, shows_status, shows_extended_status, shows_error, shows_payload, shows_chunk, error_told};
 ghost use Rattle.lnbd_records.specs.Numbers.{number_at};
 ghost use Rattle.lnbd_history.specs.Arrivals.{Broken};
 ghost use Rattle.lnbd_plain.specs.Shown.{shown_as, content_of, head_of, telling};
@@ -11,23 +12,9 @@ ghost use Rattle.lnbd_plain.specs.Standing.{waiting_by};
 use crate::shown::{Content, Shown};
 use crate::standing::Waited;
 use lnbd_chunks::Form;
-use lnbd_model::{Breach, Kind};
+use lnbd_model::Breach;
 use lnbd_records::{u16_at, u32_at, u64_at};
-
-/// The most bytes of data in a chunk.
-const MAX_DATA: u64 = 33554432;
-
-/// The most descriptors in a chunk.
-const MAX_DESCRIPTORS: u64 = 1048576;
-
-/// The longest message of an error.
-const MAX_TEXT: u64 = 4096;
-
-/// The longest payload of an error of another type.
-const MAX_OTHER_ERROR: u64 = 65536;
-
-/// How many chunks of a command may be errors or have a content fault before its last.
-const MAX_FAULTS: u64 = 1024;
+use lnbd_structured::{Asked, fits_command, fits_length, fits_message, form_of, is_done, may_come};
 
 /// What the head of a chunk says of it.
 #[derive(Clone, Copy, Debug, PartialEq, Eq)]
@@ -63,123 +50,17 @@ fn broken<'a>(breach: Breach) -> Option<Shown<'a>>
     Some(Shown::Broken(breach))
 }
 
-fn is_done(head: &Head) -> bool
-    ensures { result ≡ is_done (head_of head.now) }
-{
-    head.flags & 1 != 0
-}
-
-/// The form of a chunk of this type (NBD protocol, "Structured reply types").
-fn form_of(extended: bool, kind: u16) -> Form
-    ensures { result ≡ form_of extended kind }
-{
-    if kind == 0 {
-        Form::Empty
-    } else if kind == 1 {
-        Form::Data
-    } else if kind == 2 {
-        Form::Hole
-    } else if kind == 5 {
-        if extended {
-            Form::Unknown
-        } else {
-            Form::Status
-        }
-    } else if kind == 6 {
-        if extended {
-            Form::ExtendedStatus
-        } else {
-            Form::Unknown
-        }
-    } else if kind == 0x8001 {
-        Form::Error
-    } else if kind == 0x8002 {
-        Form::ErrorAt
-    } else if kind >= 0x8000 {
-        Form::OtherError
-    } else {
-        Form::Unknown
-    }
-}
-
-fn is_error(form: Form) -> bool
-    ensures { result ≡ is_error form }
-{
-    match form {
-        Form::Error => true,
-        Form::ErrorAt => true,
-        Form::OtherError => true,
-        Form::Empty => false,
-        Form::Data => false,
-        Form::Hole => false,
-        Form::Status => false,
-        Form::ExtendedStatus => false,
-        Form::Unknown => false,
-    }
-}
-
-/// Whether a payload of this form may be so long.
-fn fits_length(form: Form, n: u64) -> bool
-    ensures { result ≡ fits_length form n }
-{
-    match form {
-        Form::Empty => n == 0,
-        Form::Data => 9 <= n && n <= 8 + MAX_DATA,
-        Form::Hole => n == 12,
-        Form::Status => 12 <= n && n <= 4 + 8 * MAX_DESCRIPTORS && n % 8 == 4,
-        Form::ExtendedStatus => 24 <= n && n <= 8 + 16 * MAX_DESCRIPTORS && n % 16 == 8,
-        Form::Error => 6 <= n && n <= 6 + MAX_TEXT,
-        Form::ErrorAt => 14 <= n && n <= 14 + MAX_TEXT,
-        Form::OtherError => 6 <= n && n <= MAX_OTHER_ERROR,
-        Form::Unknown => true,
-    }
-}
-
-/// Whether a chunk of this form may be for a command of this kind.
-fn fits_command(form: Form, done: bool, kind: Kind) -> bool
-    ensures { result ≡ fits_command form done kind }
-{
-    match form {
-        Form::Empty => done,
-        Form::Data => kind == Kind::Read,
-        Form::Hole => kind == Kind::Read,
-        Form::Status => kind == Kind::BlockStatus,
-        Form::ExtendedStatus => kind == Kind::BlockStatus,
-        Form::Error => true,
-        Form::ErrorAt => true,
-        Form::OtherError => true,
-        Form::Unknown => false,
-    }
-}
-
-/// Whether a chunk of this form may come after so many faults.
-fn may_come(faults: u64, form: Form, done: bool) -> bool
-    ensures { result ≡ may_come faults form done }
-{
-    faults < MAX_FAULTS || (done && !is_error(form))
-}
-
 /// Whether so many bytes from this place on lie within what the command asked for.
 fn lies_within(command: &Waited, offset: u64, size: u64) -> bool
     ensures { result ≡ lies_within (waiting_by command.now) offset size }
 {
-    if offset < command.offset {
-        return false;
-    }
-    let skipped = offset - command.offset;
-    skipped <= command.length && size <= command.length - skipped
-}
-
-/// Whether a message of so many bytes fits an error whose payload has n bytes.
-fn fits_message(form: Form, n: u64, message: u16) -> bool
-    ensures { result ≡ fits_message form n message }
-{
-    let message = u64::from(message);
-    match form {
-        Form::Error => n == 6 + message,
-        Form::ErrorAt => n == 14 + message,
-        _ => message <= MAX_TEXT && 6 + message <= n,
-    }
+    let asked = Asked {
+        kind: command.kind,
+        offset: command.offset,
+        length: command.length,
+        faults: command.faults,
+    };
+    asked.lies_within(offset, size)
 }
 
 /// A place, and the data.
@@ -339,7 +220,7 @@ pub fn chunk<'a>(
     ensures { shows_chunk Broken (telling cookie (is_done (head_of head.now))) extended (waiting_by command.now) (head_of head.now) payload.now ≡ shown_as result }
 {
     let form = form_of(extended, head.kind);
-    let last = is_done(head);
+    let last = is_done(head.flags);
     if !fits_length(form, head.length) {
         return broken(Breach::BadChunkLength);
     }

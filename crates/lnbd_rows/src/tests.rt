@@ -132,6 +132,170 @@ fn reads_are_answered_by_their_cookies(rt: HostRuntime) -> Result<(), Fail> {
     play_all(&rt, rt.alloc(), &READS)
 }
 
+static COMMANDS: [Session<'static>; 5] = [
+    Session {
+        shows: "each command is written with its flags, and each reply goes to its own",
+        reads: &[
+            HELLO,
+            // The flags tell FLUSH, FUA, TRIM, WRITE_ZEROES and CACHE.
+            Told::Bytes(
+                "0003e889045565a9 00000007 00000003 0000000c 0000 0000000000100000 056d \
+                 0003e889045565a9 00000007 00000001 00000000",
+            ),
+            Told::Bytes("67446698 0000001c 0000000000000001"),
+            Told::Bytes(
+                "67446698 00000000 0000000000000005 \
+                 67446698 00000000 0000000000000002 \
+                 67446698 00000000 0000000000000004 \
+                 67446698 00000000 0000000000000003",
+            ),
+        ],
+        talk: &[
+            CONNECT,
+            SETTLE,
+            ("pwrite hex:01020304 0 1", "cookie 1"),
+            SETTLE,
+            ("done 1", "failed 28 4 01*1 02*1 03*1 04*1"),
+            ("flush", "cookie 2"),
+            ("zero 4096 0 2", "cookie 3"),
+            ("cache 4096 0", "cookie 4"),
+            ("trim 4096 0", "cookie 5"),
+            ("trim 4096 0 2", "refused bad-flags 2"),
+            SETTLE,
+            ("peek", "cookie 5"),
+            ("done 2", "done 0 -"),
+            ("done 3", "done 0 -"),
+            ("done 4", "done 0 -"),
+            ("done 5", "done 0 -"),
+        ],
+        last: "opened 6 freed 6",
+        err: "lnbd: peer error command 28\n",
+        status: 3,
+        written: &[
+            HANDSHAKE,
+            "25609513 0001 0001 0000000000000001 0000000000000000 00000004 01020304",
+            "25609513 0000 0003 0000000000000002 0000000000000000 00000000",
+            "25609513 0002 0006 0000000000000003 0000000000000000 00001000",
+            "25609513 0000 0005 0000000000000004 0000000000000000 00001000",
+            "25609513 0000 0004 0000000000000005 0000000000000000 00001000",
+        ],
+        ..SESSION
+    },
+    Session {
+        shows: "a fill goes out as its bytes, behind the head of its write",
+        reads: &[HELLO, GO, Told::Bytes("67446698 00000000 0000000000000001")],
+        talk: &[
+            CONNECT,
+            SETTLE,
+            ("pwrite fill:0f:300 512", "cookie 1"),
+            ("pwrite hex: 0", "refused zero-size"),
+            ("write", "moved 28"),
+            ("write", "moved 300"),
+            ("write", "idle"),
+            ("read", "moved 16"),
+            ("done 1", "done 300 0f*300"),
+        ],
+        last: "opened 2 freed 2",
+        written: &[
+            HANDSHAKE,
+            "25609513 0000 0001 0000000000000001 0000000000000200 0000012c 0f*300",
+        ],
+        ..SESSION
+    },
+    Session {
+        shows: "what the export lacks and what its blocks do not allow is refused",
+        reads: &[
+            HELLO,
+            // READ_ONLY, and blocks of 512, 4,096 and 65,536 bytes.
+            Told::Bytes(
+                "0003e889045565a9 00000007 00000003 0000000c 0000 0000000000100000 0003 \
+                 0003e889045565a9 00000007 00000003 0000000e 0003 00000200 00001000 00010000 \
+                 0003e889045565a9 00000007 00000001 00000000",
+            ),
+        ],
+        talk: &[
+            ("pread 1 0", "refused not-ready created"),
+            CONNECT,
+            SETTLE,
+            ("pwrite fill:aa:512 0", "refused unsupported read-only"),
+            ("flush", "refused unsupported flush"),
+            ("pread 131072 0", "refused too-big 65536"),
+            ("pread 512 1", "refused align 512"),
+            ("pread 512 0 1", "refused bad-flags 1"),
+            ("disconnect", "ok"),
+            ("pread 1 0", "refused closing"),
+        ],
+        last: "opened 7 freed 7",
+        written: &[HANDSHAKE],
+        ..SESSION
+    },
+    Session {
+        shows: "a client that is not strict asks what it likes, and the server judges",
+        reads: &[
+            HELLO,
+            GO,
+            Told::Bytes(
+                "67446698 00000016 0000000000000001 \
+                 67446698 00000000 0000000000000002 \
+                 67446698 00000016 0000000000000003",
+            ),
+        ],
+        talk: &[
+            ("strict 32", "refused strict 32"),
+            ("strict 0", "ok"),
+            CONNECT,
+            SETTLE,
+            ("pread 1 1048576", "cookie 1"),
+            ("pread 0 0", "cookie 2"),
+            ("pread 1 0 2", "cookie 3"),
+            ("pread 1 0 32", "refused bad-flags 32"),
+            ("strict 27", "ok"),
+            ("pread 0 0", "refused zero-size"),
+            SETTLE,
+            ("done 1", "failed 22 1 00*1"),
+            ("done 2", "done 0 -"),
+            ("done 3", "failed 22 1 00*1"),
+        ],
+        last: "opened 5 freed 5",
+        err: "lnbd: peer error command 22\n",
+        status: 3,
+        written: &[
+            HANDSHAKE,
+            "25609513 0000 0000 0000000000000001 0000000000100000 00000001",
+            "25609513 0000 0000 0000000000000002 0000000000000000 00000000",
+            "25609513 0002 0000 0000000000000003 0000000000000000 00000001",
+        ],
+        ..SESSION
+    },
+    Session {
+        shows: "a read that ends past the largest export is refused",
+        reads: &[
+            HELLO,
+            Told::Bytes(
+                "0003e889045565a9 00000007 00000003 0000000c 0000 7fffffffffffffff 0001 \
+                 0003e889045565a9 00000007 00000001 00000000",
+            ),
+        ],
+        talk: &[
+            CONNECT,
+            SETTLE,
+            ("pread 1 9223372036854775806", "cookie 1"),
+            (
+                "pread 1 9223372036854775807",
+                "refused bounds 9223372036854775807",
+            ),
+        ],
+        last: "opened 2 freed 2",
+        written: &[HANDSHAKE],
+        ..SESSION
+    },
+];
+
+#[test]
+fn commands_are_written_and_refused(rt: HostRuntime) -> Result<(), Fail> {
+    play_all(&rt, rt.alloc(), &COMMANDS)
+}
+
 static STATES: [Session<'static>; 2] = [
     Session {
         shows: "each line has its answer in each state",

@@ -1,5 +1,5 @@
 -- What a line leaves, from what the handle and the wires answered.
-use Rattle.std.proofs.Common.{arith, ◌≡◌, ◌==◌, inl, inr, ◌<◌, ◌≤◌, ◌≢◌, ℕ, Bool, true, false, List, [], ◌∷◌, length, take, replicate, Option, Some, None, Result, Ok, Err, OnOk, IfOk, IfErr, OnErr, refl, sym, ◌∙◌, ap, subst}
+use Rattle.std.proofs.Common.{arith, ◌≡◌, ◌==◌, inl, inr, ◌<◌, ◌≤◌, ◌≢◌, ℕ, zero, suc, Bool, true, false, List, [], ◌∷◌, length, take, replicate, Option, Some, None, Result, Ok, Err, OnOk, IfOk, IfErr, OnErr, refl, sym, ◌∙◌, ap, subst}
 use Rattle.std.proofs.lemmas.Bool.{false≢true}
 use Rattle.std.proofs.lemmas.List.{length-take-le, length-replicate}
 use Rattle.lnbd_model.specs.declared.refusal.Why.{Why}
@@ -13,10 +13,11 @@ use Rattle.lnbd_history.specs.declared.kinds.Phase.TheVariants as phase
 use Rattle.lnbd_history.specs.declared.kinds.Stage.{Stage}
 use Rattle.lnbd_history.specs.declared.kinds.Stage.TheVariants as stage
 use Rattle.lnbd_history.specs.Commands.{Command, is_write}
-use Rattle.lnbd_history.specs.Events.{Event as Happening, Start, Set, Name, Issue, Refuse, Disconnect, Wrote, Retire}
+use Rattle.lnbd_history.specs.Events.{Event as Happening, StrictMode, Start, Set, Name, Issue, Refuse, Disconnect, Wrote, Retire}
 use Rattle.lnbd_history.specs.Answers.{state_after, completed_after, out_after, state_at}
 use Rattle.lnbd_history.specs.Laws.{may_name}
 use Rattle.lnbd_history.specs.Refusals.{by_state, refusal_after}
+use Rattle.lnbd_history.specs.Strict.{unknown_bits}
 use Rattle.lnbd_machine.specs.Does.{Does}
 use Rattle.lnbd_machine.specs.Machine.{Machine, step, calls}
 use Rattle.lnbd_machine.specs.Now.{direction_now, state_now, out_now, completed_now, refusal_now}
@@ -47,7 +48,7 @@ use Rattle.lnbd_script.specs.Kept.{Heeds, or_first}
 use Rattle.lnbd_script.specs.KeptLaws.{heeds_none}
 use Rattle.lnbd_script.specs.Seen.{Seen, IsAt, Went, Goes, Follows, adding}
 use Rattle.lnbd_script.specs.Turns.{is_reading, is_waiting, Settles}
-use Rattle.lnbd_script.specs.Lines.{Adds, Connects, Disconnects, Does as Line_does, Issues, LineEnd, Names, ReadsOn, SettlesOn, WritesOn, connected, is_created, read_of, taking, told_link}
+use Rattle.lnbd_script.specs.Lines.{Adds, Connects, Disconnects, Does as Line_does, Issues, LineEnd, Names, ReadsOn, SetsStrict, SettlesOn, WritesOn, connected, is_created, taking, told_link}
 use Rattle.lnbd_script.specs.Steps.{Becomes, ReadsOnce, ReadsOnceShort, WritesOnce, halted, settled_end}
 use Rattle.lnbd_script.proofs.SeenLemmas.{add, follow, met_by}
 use Rattle.lnbd_script.proofs.TurnLemmas.{answers_at, waits_false, waits_true}
@@ -118,7 +119,7 @@ pub started : (seen : Seen) (old : Session) (handle : Machine Keeper) (link : �
     → (x : Seen) × (x ≡ record { history = Start ∷ seen.history; link = Some link; first = seen.first }) × IsAt x (record { handle = handle; link = Some link; heeded = old.heeded; first = old.first })
 started seen old handle link at created is =
     let on = add seen old (record { handle = handle; link = old.link; heeded = old.heeded; first = old.first }) handle old.heeded Start at (is_stage_created old.handle created) refl (quiet old.handle handle old.heeded Start is refl) refl in
-    (record { history = Start ∷ seen.history; link = Some link; first = seen.first }, refl, record { stands = on.stands; link = refl; first = on.first; kept = on.kept; heeded = on.heeded })
+    (record { history = Start ∷ seen.history; link = Some link; first = seen.first }, refl, record { stands = on.stands; link = refl; first = on.first; kept = on.kept; heeded = on.heeded; faulty = on.faulty })
 
 -- A name, and the end.
 
@@ -141,6 +142,26 @@ not_named seen old handle name s at may is same =
       subst (λ (b : Bool). Names b name seen [] seen (Ok (told.RefusedState s))) (sym may') (refl, refl, ap (λ (t : State). Ok (told.RefusedState t)) (is ∙ right.state)),
       same_at seen old handle at same,
     )
+
+pub strict_set : (seen : Seen) (old : Session) (handle : Machine Keeper) (bits : ℕ) → IsAt seen old → unknown_bits bits ≡ 0 → handle ≡ step old.handle (StrictMode bits)
+    → (x : Seen) × SetsStrict (unknown_bits bits) bits seen [] x (Ok told.Done) × IsAt x (record { handle = handle; link = old.link; heeded = old.heeded; first = old.first })
+strict_set seen old handle bits at known is = (
+  adding (StrictMode bits) seen,
+  subst (λ (u : ℕ). SetsStrict u bits seen [] (adding (StrictMode bits) seen) (Ok told.Done)) (sym known) (refl, refl, refl),
+  add seen old _ handle old.heeded (StrictMode bits) at known refl (quiet old.handle handle old.heeded (StrictMode bits) is refl) refl,
+)
+
+strict_refused : (unknown bits : ℕ) (seen : Seen) → unknown ≢ 0 → SetsStrict unknown bits seen [] seen (Ok (told.RefusedStrict unknown))
+strict_refused zero bits seen some = absurd (some refl)
+strict_refused (suc unknown) bits seen some = (refl, refl, refl)
+
+pub strict_not_set : (seen : Seen) (old : Session) (handle : Machine Keeper) (bits told' : ℕ) → IsAt seen old → unknown_bits bits ≢ 0 → told' ≡ unknown_bits bits → handle ≡ old.handle
+    → (x : Seen) × SetsStrict (unknown_bits bits) bits seen [] x (Ok (told.RefusedStrict told')) × IsAt x (record { handle = handle; link = old.link; heeded = old.heeded; first = old.first })
+strict_not_set seen old handle bits told' at some is same = (
+  seen,
+  subst (λ (u : ℕ). SetsStrict (unknown_bits bits) bits seen [] seen (Ok (told.RefusedStrict u))) (sym is) (strict_refused (unknown_bits bits) bits seen some),
+  same_at seen old handle at same,
+)
 
 pub disconnected : (seen : Seen) (old : Session) (handle : Machine Keeper) → IsAt seen old → state_now old.handle.known ≡ state.Ready → handle ≡ step old.handle Disconnect
     → (x : Seen) × Disconnects (by_state (state_after seen.history) None) seen [] x (Ok told.Done) × IsAt x (record { handle = handle; link = old.link; heeded = old.heeded; first = old.first })
@@ -178,34 +199,6 @@ result_taken seen old handle cookie answer at is done =
       (refl, ap (λ (c : Completed). taking c cookie seen) same, ap (λ (c : Completed). Ok (told.Result c)) same),
       taken seen old handle cookie answer at is done,
     )
-
--- A read that is issued or refused.
-
-pub issued : (seen : Seen) (old : Session) (handle : Machine Keeper) (heeded : Heeded) (command : Command Keeper) (cookie : ℕ) → heeded ≡ old.heeded → IsAt seen old → is_write command.kind ≡ false → refusal_now 1024 old.handle.known command ≡ None → handle ≡ step old.handle (Issue command) → cookie ≡ handle.known.issued
-    → (x : Seen) × Issues (refusal_after 1024 seen.history command) command seen [] x (Ok (told.Cookie cookie)) × IsAt x (record { handle = handle; link = old.link; heeded = heeded; first = old.first })
-issued seen old handle heeded command cookie same at reads may is number =
-    let right = answers_at seen old at in
-    let may' : refusal_after 1024 seen.history command ≡ None = sym (right.refusal 1024 command) ∙ may in
-    let on = add seen old _ handle old.heeded (Issue command) at (may, λ writes. absurd (false≢true (sym reads ∙ writes))) refl (quiet old.handle handle old.heeded (Issue command) is refl) refl in
-    let number' = number ∙ (answers_at (adding (Issue command) seen) (record { handle = handle; link = old.link; heeded = old.heeded; first = old.first }) on).issued in (
-      adding (Issue command) seen,
-      subst (λ (w : Option Why). Issues w command seen [] (adding (Issue command) seen) (Ok (told.Cookie cookie))) (sym may') (refl, refl, ap (λ (n : ℕ). Ok (told.Cookie n)) number'),
-      subst (λ (h : Heeded). IsAt (adding (Issue command) seen) (record { handle = handle; link = old.link; heeded = h; first = old.first })) (sym same) on,
-    )
-
-pub refused : (seen : Seen) (old : Session) (handle : Machine Keeper) (heeded : Heeded) (command : Command Keeper) (why : Why) → IsAt seen old → refusal_now 1024 old.handle.known command ≡ Some why → Does Heeds (Refuse command why) old.handle handle old.heeded heeded
-    → (x : Seen) × Issues (refusal_after 1024 seen.history command) command seen [] x (Ok (told.Refused why)) × IsAt x (record { handle = handle; link = old.link; heeded = heeded; first = old.first })
-refused seen old handle heeded command why at may does =
-    let right = answers_at seen old at in
-    let may' : refusal_after 1024 seen.history command ≡ Some why = sym (right.refusal 1024 command) ∙ may in (
-      adding (Refuse command why) seen,
-      subst (λ (w : Option Why). Issues w command seen [] (adding (Refuse command why) seen) (Ok (told.Refused why))) (sym may') (refl, refl, refl),
-      add seen old _ handle heeded (Refuse command why) at may refl does refl,
-    )
-
-pub refused_by : (command : Command Keeper) (told : IssueFault Keeper) (why : Why) (buf : List ℕ) (old new : Machine Keeper) (before after : Heeded) → told ≡ fault.Refused why buf → issues.Faults Heeds command told old new before after
-    → issues.Faults Heeds command (fault.Refused why buf) old new before after
-refused_by command told why buf old new before after is h = subst (λ (f : IssueFault Keeper). issues.Faults Heeds command f old new before after) is h
 
 -- Connects.
 
@@ -340,22 +333,7 @@ settle_on seen old new before after link end at linked goes =
       at = w.at;
     }
 
--- A read that may want memory.
-
-pub read_command : (size offset : ℕ) (bytes : List ℕ) → bytes ≡ replicate size 0 → issues.read_of bytes offset (record {}) 0 ≡ read_of size offset
-read_command size offset bytes is =
-    ap (λ (b : List ℕ). issues.read_of b offset (record {}) 0) is ∙ ap (λ (n : ℕ). record { kind = kind.Read; flags = 0; offset = offset; length = n; payload = replicate size 0; first = None; done = record {} }) (length-replicate size 0)
-
-pub pread_done : (line' : Line) (size offset : ℕ) → line' ≡ line.Pread size offset → (old new : Session) (answer : Result Told NoMemory)
-    → IfOk answer (λ tells. Becomes old new (λ before after. Issues (refusal_after 1024 before.history (read_of size offset)) (read_of size offset) before [] after (Ok tells)))
-    → OnErr answer (Becomes old new (λ before after. after ≡ before))
-    → Becomes old new (λ before after. Line_does line' before [] after (halted answer))
-pread_done line' size offset is old new answer ok lacks = subst (λ (l : Line). Becomes old new (λ before after. Line_does l before [] after (halted answer))) (sym is) (go answer ok lacks)
-  where
-    go : (answer : Result Told NoMemory) → IfOk answer (λ tells. Becomes old new (λ before after. Issues (refusal_after 1024 before.history (read_of size offset)) (read_of size offset) before [] after (Ok tells)))
-        → OnErr answer (Becomes old new (λ before after. after ≡ before)) → Becomes old new (λ before after. Line_does (line.Pread size offset) before [] after (halted answer))
-    go (Ok tells) ok lacks seen at = let b = ok seen at in (b.0, inl b.1, b.2)
-    go (Err fault) ok lacks seen at = let b = lacks seen at in (b.0, inr (refl, b.1, refl), b.2)
+-- A name that may want memory.
 
 pub export_done : (line' : Line) (name : List ℕ) → line' ≡ line.Export name → (old new : Session) (answer : Result Told NoMemory)
     → IfOk answer (λ tells. Becomes old new (λ before after. Names (may_name (state_after before.history)) name before [] after (Ok tells)))

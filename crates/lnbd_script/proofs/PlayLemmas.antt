@@ -378,8 +378,8 @@ not_begun old before lines = record {
 }
 
 -- A handle that was just created stands at the beginning.
-pub begins : (handle : Machine Keeper) → handle ≡ created → IsAt beginning (record { handle = handle; link = None; heeded = record { error = None }; first = None })
-begins handle is = subst (λ (h : Machine Keeper). IsAt beginning (record { handle = h; link = None; heeded = record { error = None }; first = None })) (sym is) (record { stands = created_right 1024; link = refl; first = refl; kept = λ k d h. absurd (omega (arith, h)); heeded = refl })
+pub begins : (handle : Machine Keeper) → handle ≡ created → IsAt beginning (record { handle = handle; link = None; heeded = record { error = None; faulty = false }; first = None })
+begins handle is = subst (λ (h : Machine Keeper). IsAt beginning (record { handle = h; link = None; heeded = record { error = None; faulty = false }; first = None })) (sym is) (record { stands = created_right 1024; link = refl; first = refl; kept = λ k d h. absurd (omega (arith, h)); heeded = refl; faulty = refl })
 
 -- The handle is closed, and the last line is told.
 pub finished : (old mid new : Option (List Call)) (before between after : Option (List ℕ)) (lines : List Line) (now : Current) (over : Over) (told : Result (Unit {0}) Stop) (end : Result (Option Event) Stop)

@@ -1,6 +1,5 @@
 -- What one line of a script does: the calls that it makes on the wires, what then has happened, and what it tells.
-use Rattle.std.specs.Prelude.{◌≡◌, ◌⊎◌, ◌+◌, ℕ, Bool, true, false, List, [], ◌∷◌, length, replicate, Option, Some, None, Result, Ok, Err}
-use Rattle.lnbd_model.specs.declared.kind.Kind.TheVariants as kind
+use Rattle.std.specs.Prelude.{◌≡◌, ◌⊎◌, ◌+◌, ℕ, zero, suc, Bool, true, false, List, [], ◌∷◌, length, replicate, Option, Some, None, Result, Ok, Err}
 use Rattle.lnbd_model.specs.declared.refusal.Why.{Why}
 use Rattle.lnbd_model.specs.declared.state.State.{State}
 use Rattle.lnbd_model.specs.declared.state.State.TheVariants as state
@@ -8,12 +7,17 @@ use Rattle.lnbd_model.specs.declared.target.Target.{Target}
 use Rattle.lnbd_history.specs.declared.kinds.Completed.{Completed}
 use Rattle.lnbd_history.specs.declared.kinds.Completed.TheVariants as completed
 use Rattle.lnbd_history.specs.Commands.{Command}
-use Rattle.lnbd_history.specs.Events.{Start, Set, Name, Issue, Refuse, Disconnect, Retire, ClearLog, Close}
+use Rattle.lnbd_history.specs.Events.{Start, Set, StrictMode, Name, Issue, Refuse, Disconnect, Retire, ClearLog, Close}
 use Rattle.lnbd_history.specs.History.{asked}
 use Rattle.lnbd_history.specs.Answers.{state_after, completed_after}
 use Rattle.lnbd_history.specs.Laws.{is_closed, may_name}
 use Rattle.lnbd_history.specs.Refusals.{refusal_after, by_state}
+use Rattle.lnbd_history.specs.Strict.{unknown_bits}
 use Rattle.lnbd_link.specs.Call.{Call, Connect, Shut, ReadTold, WriteTold, Moved, Unready, Ended, ReadFault, Sent, Full, WriteFault}
+use Rattle.lnbd_lines.specs.declared.command.Command.{Command as Asked}
+use Rattle.lnbd_lines.specs.declared.command.Command.TheVariants as command
+use Rattle.lnbd_lines.specs.declared.command.Payload.{Payload}
+use Rattle.lnbd_lines.specs.declared.command.Payload.TheVariants as payload
 use Rattle.lnbd_lines.specs.declared.line.Line.{Line}
 use Rattle.lnbd_lines.specs.declared.line.Line.TheVariants as line
 use Rattle.lnbd_script.specs.declared.event.Event.TheVariants.{Link}
@@ -27,6 +31,7 @@ use Rattle.lnbd_script.specs.Kept.{or_first}
 use Rattle.lnbd_script.specs.Seen.{Seen, adding}
 use Rattle.lnbd_script.specs.Turns.{Reads, ReadsShort, Writes, Settles, is_reading, is_waiting, read_call, write_call}
 use Rattle.lnbd_handle.specs.Histories.{max_unretired}
+use Rattle.lnbd_handle.specs.Issues.{read_of, write_of, flush_of, trim_of, zero_of, cache_of}
 
 -- what a line tells, or what ends the script in it
 abbrev pub LineEnd : Type 0
@@ -67,17 +72,19 @@ abbrev pub Connects : Bool → Target → Seen → List Call → Seen → LineEn
 Connects true to before calls after end = (link : Option ℕ) × (calls ≡ Connect to link ∷ []) × (after ≡ connected link before) × (end ≡ Ok (told_link link))
 Connects false to before calls after end = Stays before calls after end (told.RefusedState (state_after before.history))
 
--- a read into a buffer of zeroes
-abbrev pub read_of : ℕ → ℕ → Command Keeper
-read_of size offset = record {
-  kind = kind.Read;
-  flags = 0;
-  offset = offset;
-  length = size;
-  payload = replicate size 0;
-  first = None;
-  done = record {};
-}
+-- the bytes that a write sends
+abbrev pub payload_of : Payload → List ℕ
+payload_of (payload.Hex bytes) = bytes
+payload_of (payload.Fill byte size) = replicate size byte
+
+-- what a line issues, a read into a buffer of zeroes
+abbrev pub command_of : Asked → Command Keeper
+command_of (command.Pread range) = read_of (replicate range.length 0) range.offset (record {}) range.flags
+command_of (command.Pwrite payload offset flags) = write_of (payload_of payload) offset (record {}) flags
+command_of (command.Flush flags) = flush_of (record {}) flags
+command_of (command.Trim range) = trim_of range.length range.offset (record {}) range.flags
+command_of (command.Zero range) = zero_of range.length range.offset (record {}) range.flags
+command_of (command.Cache range) = cache_of range.length range.offset (record {}) range.flags
 
 -- A command is issued under the next cookie, or refused for this reason.
 abbrev pub Issues : Option Why → Command Keeper → Seen → List Call → Seen → LineEnd → Type 0
@@ -120,6 +127,11 @@ abbrev pub Names : Bool → List ℕ → Seen → List Call → Seen → LineEnd
 Names true name before calls after end = Adds (adding (Set (Name name)) before) calls after end told.Done
 Names false name before calls after end = Stays before calls after end (told.RefusedState (state_after before.history))
 
+-- Bits that each mean something are set.
+abbrev pub SetsStrict : (unknown bits : ℕ) → Seen → List Call → Seen → LineEnd → Type 0
+SetsStrict zero bits before calls after end = Adds (adding (StrictMode bits) before) calls after end told.Done
+SetsStrict (suc unknown) bits before calls after end = Stays before calls after end (told.RefusedStrict (suc unknown))
+
 abbrev pub Disconnects : Option Why → Seen → List Call → Seen → LineEnd → Type 0
 Disconnects None before calls after end = Adds (adding Disconnect before) calls after end told.Done
 Disconnects (Some why) before calls after end = Stays before calls after end (told.Refused why)
@@ -142,11 +154,12 @@ closing before = record { history = Close ∷ before.history; link = None; first
 -- what a line does on a handle that is not closed
 abbrev pub Does : Line → Seen → List Call → Seen → LineEnd → Type 0
 Does (line.Connect to) before calls after end = Connects (is_created (state_after before.history)) to before calls after end
-Does (line.Pread size offset) before calls after end = Issues (refusal_after max_unretired before.history (read_of size offset)) (read_of size offset) before calls after end ⊎ Lacks before calls after end
+Does (line.Command asked) before calls after end = Issues (refusal_after max_unretired before.history (command_of asked)) (command_of asked) before calls after end ⊎ Lacks before calls after end
 Does line.Settle before calls after end = SettlesOn before.link before calls after end
 Does line.Read before calls after end = ReadsOn (is_reading before.history) before.link before calls after end
 Does line.Write before calls after end = WritesOn (is_waiting before.history) before.link before calls after end
 Does (line.Export name) before calls after end = Names (may_name (state_after before.history)) name before calls after end ⊎ Lacks before calls after end
+Does (line.Strict bits) before calls after end = SetsStrict (unknown_bits bits) bits before calls after end
 Does line.Disconnect before calls after end = Disconnects (by_state (state_after before.history) None) before calls after end
 Does (line.Done cookie) before calls after end = Adds (taking (completed_after before.history cookie) cookie before) calls after end (told.Result (completed_after before.history cookie))
 Does line.ClearLog before calls after end = Adds (adding ClearLog before) calls after end told.Done

@@ -1,5 +1,6 @@
 -- Where a script stands: what has happened on its handle, its link, and the first event that counts for how the run ends.
 use Rattle.std.specs.Prelude.{◌≡◌, ◌≤◌, ℕ, Bool, true, false, List, ◌∷◌, All, Option, Some, None}
+use Rattle.std.specs.List.{list_any}
 use Rattle.lnbd_model.specs.declared.state.State.{State}
 use Rattle.lnbd_model.specs.declared.state.State.TheVariants as state
 use Rattle.lnbd_model.specs.declared.state.Cause.{Cause}
@@ -19,7 +20,7 @@ use Rattle.lnbd_script.specs.declared.event.Event.{Event}
 use Rattle.lnbd_script.specs.declared.event.Event.TheVariants.{Link, Broke, Peer}
 use Rattle.lnbd_model.specs.declared.breach.Broken.TheVariants as broken
 use Rattle.lnbd_script.specs.declared.session.Session.{Session}
-use Rattle.lnbd_script.specs.Kept.{IsAsHanded, first_error, or_first}
+use Rattle.lnbd_script.specs.Kept.{IsAsHanded, first_error, is_faulty, or_first}
 use Rattle.lnbd_handle.specs.Histories.{max_unretired}
 
 -- how many waits in vain are borne
@@ -59,9 +60,18 @@ abbrev pub event_of_error : Option ℕ → Option Event
 event_of_error None = None
 event_of_error (Some code) = Some (Peer None code)
 
--- what has happened on the handle that counts: a death comes before an error of a command
+-- a command failed by faulty content
+abbrev pub event_of_faulty : Bool → Option Event
+event_of_faulty true = Some (Broke broken.Content)
+event_of_faulty false = None
+
+-- What has happened on the handle that counts: faulty content comes before a death, since nothing is read after it, and a death
+-- before an error of a command.
+abbrev pub met_of : Bool → State → Option ℕ → Option Event
+met_of faulty state error = or_first (event_of_faulty faulty) (or_first (death_in state) (event_of_error error))
+
 abbrev pub met : History Keeper → Option Event
-met history = or_first (death_in (state_after history)) (event_of_error (first_error (callbacks_of history)))
+met history = met_of (list_any is_faulty (callbacks_of history)) (state_after history) (first_error (callbacks_of history))
 
 -- How it goes on.
 
@@ -89,6 +99,7 @@ pub record IsAt (seen : Seen) (session : Session) : Type 0 where
   pub first : session.first ≡ seen.first
   pub kept : All IsAsHanded (callbacks_of seen.history)
   pub heeded : session.heeded.error ≡ first_error (callbacks_of seen.history)
+  pub faulty : session.heeded.faulty ≡ list_any is_faulty (callbacks_of seen.history)
 
 -- From where the script stands, these calls were made, and it then stands where they lead.
 pub record Went (old new : Option (List wire.Call)) (session : Session) (Leads : List wire.Call → Seen → Type 0) : Type 0 where
@@ -117,4 +128,4 @@ pub record Counts (first first' : Option Event) (faults faults' idles idles' : �
 
 -- what the session notes where a call failed or not
 abbrev pub met_now : Session → Option Event
-met_now session = or_first (death_in (state_now session.handle.known)) (event_of_error session.heeded.error)
+met_now session = met_of session.heeded.faulty (state_now session.handle.known) session.heeded.error

@@ -40,11 +40,26 @@ use Rattle.lnbd_script.specs.declared.told.Told.{Told}
 use Rattle.lnbd_script.specs.declared.told.Told.TheVariants as told
 use Rattle.lnbd_script.specs.Seen.{Seen, IsAt}
 use Rattle.lnbd_script.specs.Turns.{Reads, ReadsShort, Writes, Turns, is_negotiating, read_call, write_call, stirs}
-use Rattle.lnbd_script.specs.Lines.{LineEnd, shut_calls, told_read, told_write}
+use Rattle.lnbd_script.specs.Lines.{Issues, LineEnd, shut_calls, told_read, told_write}
+use Rattle.lnbd_history.specs.Commands.{Command}
+use Rattle.lnbd_history.specs.Refusals.{refusal_after}
+use Rattle.lnbd_handle.specs.Histories.{max_unretired}
+use Rattle.lnbd_handle.specs.declared.issue.IssueFault.{IssueFault}
+use Rattle.lnbd_handle.specs.declared.issue.IssueFault.TheVariants as fault
 
 -- from where the script stands it then stands where this leads
 abbrev pub Becomes : Session → Session → (Seen → Seen → Type 0) → Type 0
 Becomes old new Leads = (seen : Seen) → IsAt seen old → (after : Seen) × Leads seen after × IsAt after new
+
+-- a command was issued, or refused, and so much is told of it
+abbrev pub Issued : Command Keeper → Session → Session → Told → Type 0
+Issued command old new tells = Becomes old new (λ before after. Issues (refusal_after max_unretired before.history command) command before [] after (Ok tells))
+
+-- what the handle's answer to an issue comes to
+abbrev pub issue_told : Result ℕ (IssueFault Keeper) → Result Told NoMemory
+issue_told (Ok cookie) = Ok (told.Cookie cookie)
+issue_told (Err (fault.Refused why buf)) = Ok (told.Refused why)
+issue_told (Err (fault.NoMemory buf first done)) = Err (record {})
 
 abbrev pub got_moved : Got → Moved
 got_moved (got.Bytes n) = moved.Bytes n

@@ -29,6 +29,7 @@ text_of history told.Connected = codes "connected"
 text_of history told.NotConnected = codes "connect failed"
 text_of history told.Settled = codes "settled"
 text_of history (told.RefusedState state) = refused_state_text state
+text_of history (told.RefusedStrict bits) = codes "refused strict " ++ decimal bits
 text_of history (told.Cookie cookie) = codes "cookie " ++ decimal cookie
 text_of history (told.Refused why) = refusal_text why
 text_of history (told.Moved moved) = moved_text moved

@@ -1,26 +1,26 @@
 //! What each line does on a handle that is not closed. No text is made here.
 
-ghost use Rattle.std.specs.Prelude.{◌≡◌, IfOk, OnErr, Ok, Err, None, Some, [], true, false};
+ghost use Rattle.std.specs.Prelude.{◌≡◌, ◌-◌, bit_and, IfOk, OnErr, Ok, Err, None, Some, [], true, false};
 ghost use Rattle.lnbd_machine.specs.Now.{state_now};
 ghost use Rattle.lnbd_history.specs.Answers.{state_after, completed_after};
 ghost use Rattle.lnbd_history.specs.Events.{ClearLog};
 ghost use Rattle.lnbd_history.specs.Laws.{may_name};
-ghost use Rattle.lnbd_history.specs.Refusals.{by_state, refusal_after};
+ghost use Rattle.lnbd_history.specs.Refusals.{by_state};
+ghost use Rattle.lnbd_history.specs.Strict.{unknown_bits};
 ghost use Rattle.lnbd_link.specs.Count.{Rises};
-ghost use Rattle.lnbd_script.specs.Lines.{Adds, Connects, Disconnects, Does, Issues, Names, ReadsOn, SettlesOn, WritesOn, connected, is_created, read_of, taking};
+ghost use Rattle.lnbd_script.specs.Lines.{Adds, Connects, Disconnects, Does, Names, ReadsOn, SetsStrict, SettlesOn, WritesOn, connected, is_created, taking};
 ghost use Rattle.lnbd_script.specs.Seen.{Counts, Goes, IsAt, Seen, adding, patience};
 ghost use Rattle.lnbd_script.specs.Steps.{Becomes, halted, is_alone, is_close, linked_told, moved_end, settled_end};
 ghost use Rattle.lnbd_script.specs.Turns.{is_reading, is_waiting};
 ghost use Rattle.lnbd_script.specs.declared.told.Halt.TheVariants as halt;
 ghost use Rattle.lnbd_script.specs.declared.told.Told.TheVariants as told;
-ghost use Rattle.lnbd_handle.specs.Histories.{max_unretired};
 
 use crate::event::Event;
-use crate::keeper::Keeper;
 use crate::session::{Session, or_first};
 use crate::told::{Halt, Linked, Moved, Told};
 use crate::turns::settle;
-use lnbd_handle::{IssueFault, SetFault};
+use lnbd_handle::SetFault;
+use lnbd_handle::strict::ALL;
 use lnbd_lines::Line;
 use lnbd_link::Wires;
 use lnbd_model::{NoMemory, State, Target, Text};
@@ -44,29 +44,6 @@ impl Session {
         self.first = or_first(self.first, Some(Event::Link));
     }
 
-    /// Issues a read.
-    fn issue_read(&mut self, alloc: Global, size: u32, offset: u64) -> Result<Told, NoMemory>
-        ensures ok { IfOk result (λ tells. Becomes self.old self.new (λ before after. Issues (refusal_after max_unretired before.history (read_of size offset)) (read_of size offset) before [] after (Ok tells))) }
-        ensures lacks { OnErr result (Becomes self.old self.new (λ before after. after ≡ before)) }
-        ensures first { self.new.first ≡ self.old.first }
-    {
-        let buf = Vec::from_elem(alloc, 0, size as usize)?;
-        match self
-            .handle
-            .aio_pread(buf, offset, Keeper, 0, &mut self.heeded)
-        {
-            Ok(cookie) => Ok(Told::Cookie(cookie)),
-            Err(IssueFault::Refused { why, buf: _ }) => Ok(Told::Refused(why)),
-            Err(
-                IssueFault::NoMemory {
-                    buf: _,
-                    first: _,
-                    done: _,
-                },
-            ) => Err(NoMemory),
-        }
-    }
-
     /// Sets the export's name.
     fn set_name(&mut self, alloc: Global, name: &Text) -> Result<Told, NoMemory>
         ensures ok { IfOk result (λ tells. Becomes self.old self.new (λ before after. Names (may_name (state_after before.history)) name.now before [] after (Ok tells))) }
@@ -78,6 +55,17 @@ impl Session {
             Ok(()) => Ok(Told::Done),
             Err(SetFault::State(state)) => Ok(Told::RefusedState(state)),
             Err(_) => Err(NoMemory),
+        }
+    }
+
+    /// Sets the bits of strict mode.
+    fn set_strict(&mut self, bits: u32) -> Told
+        ensures told { Becomes self.old self.new (λ before after. SetsStrict (unknown_bits bits) bits before [] after (Ok result)) }
+        ensures first { self.new.first ≡ self.old.first }
+    {
+        match self.handle.set_strict_mode(bits) {
+            Ok(()) => Told::Done,
+            Err(_) => Told::RefusedStrict(unknown_bits(bits)),
         }
     }
 
@@ -107,6 +95,13 @@ impl Session {
     {
         self.handle.clear_log();
     }
+}
+
+/// The bits of strict mode that mean nothing.
+fn unknown_bits(bits: u32) -> u32
+    ensures { result ≡ unknown_bits bits }
+{
+    bits - (bits & ALL)
 }
 
 fn is_created(state: State) -> bool
@@ -228,8 +223,9 @@ fn act_alone(alloc: Global, session: &mut Session, line: &Line) -> Result<Told, 
     ensures spoken { ¬ (result ≡ Err halt.Silent) }
 {
     match line {
-        Line::Pread { length, offset } => or_halt(session.issue_read(alloc, *length, *offset)),
+        Line::Command(command) => or_halt(session.issue(alloc, command)),
         Line::Export { name } => or_halt(session.set_name(alloc, name)),
+        Line::Strict { bits } => Ok(session.set_strict(*bits)),
         Line::Disconnect => Ok(session.disconnect()),
         Line::Done { cookie } => Ok(session.take_result(*cookie)),
         Line::ClearLog => {

@@ -1,7 +1,7 @@
 //! What happens in a script that decides how its run ends, and how a play ends.
 
 ghost use Rattle.std.specs.Prelude.{◌≡◌};
-ghost use Rattle.lnbd_script.specs.Seen.{death_in, death_of, event_of_error};
+ghost use Rattle.lnbd_script.specs.Seen.{death_in, death_of, event_of_error, event_of_faulty};
 
 use lnbd_model::{Broken, Cause, State};
 use thiserror::Error;
@@ -63,6 +63,16 @@ impl Event {
         match state {
             State::Dead(cause) => Event::of_death(cause),
             _ => None,
+        }
+    }
+
+    /// The event of a command that failed by faulty content.
+    pub(crate) fn of_faulty(faulty: bool) -> Option<Event>
+        ensures { result ≡ event_of_faulty faulty }
+    {
+        match faulty {
+            true => Some(Event::Broke(Broken::Content)),
+            false => None,
         }
     }
 

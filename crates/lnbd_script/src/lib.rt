@@ -4,6 +4,7 @@
 
 mod answer;
 mod event;
+mod issuing;
 mod keeper;
 mod playing;
 mod session;

@@ -282,7 +282,10 @@ fn play_all<W: Wires, O: Sink>(
             Err(_) => return Err(Stop::NoMemory),
         },
         link: None,
-        heeded: Heeded { error: None },
+        heeded: Heeded {
+            error: None,
+            faulty: false,
+        },
         first: None,
     };
     let (current, told) = play_lines(alloc, lines, Current::Open(session), wires, out);

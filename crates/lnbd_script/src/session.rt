@@ -67,9 +67,11 @@ impl Session {
     fn note(&mut self, fault: Option<Event>)
         ensures { self.new ≡ record self.old { first = or_first self.old.first (or_first fault (met_now self.old)) } }
     {
+        let content = Event::of_faulty(self.heeded.faulty);
         let death = Event::in_state(self.handle.state());
         let error = Event::of_error(self.heeded.error);
-        self.first = or_first(self.first, or_first(fault, or_first(death, error)));
+        let met = or_first(content, or_first(death, error));
+        self.first = or_first(self.first, or_first(fault, met));
     }
 
     /// Takes bytes that came.

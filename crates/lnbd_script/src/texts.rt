@@ -39,6 +39,7 @@ fn push_plain(text: &mut String, told: &Told) -> Result<(), AllocError>
         Told::NotConnected => text.push_str("connect failed"),
         Told::Settled => text.push_str("settled"),
         Told::RefusedState(state) => push_refused_state(text, *state),
+        Told::RefusedStrict(bits) => write!(text, "refused strict {bits}"),
         Told::Cookie(cookie) => write!(text, "cookie {cookie}"),
         Told::Refused(why) => push_refusal(text, *why),
         Told::Moved(moved) => push_moved(text, *moved),

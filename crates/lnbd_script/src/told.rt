@@ -43,6 +43,8 @@ pub(crate) enum Told {
     Settled,
     /// The handle is in this state.
     RefusedState(State),
+    /// These bits of strict mode mean nothing.
+    RefusedStrict(u32),
     Cookie(u64),
     Refused(Why),
     Moved(Moved),

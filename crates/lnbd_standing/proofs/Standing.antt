@@ -1,8 +1,9 @@
 -- Events go on to the history with them.
-use Rattle.std.proofs.Common.{◌≡◌, ℕ, ◌≤◌, Bool, true, false, not, ◌&&◌, ◌||◌, List, [], ◌∷◌, ◌++◌, length, Option, Some, None, is_some, refl, ap, sym, subst, ◌∙◌, if◌then◌else◌}
+use Rattle.std.proofs.Common.{◌≡◌, ℕ, ◌≤◌, ◌<◌, Bool, true, false, not, ◌&&◌, ◌||◌, List, [], ◌∷◌, ◌++◌, length, Option, Some, None, is_some, refl, ap, sym, subst, ◌∙◌, if◌then◌else◌}
 use Rattle.std.proofs.lemmas.Bool.{false≢true}
 use Rattle.lnbd_model.specs.declared.state.State.{State}
 use Rattle.lnbd_model.specs.declared.state.State.TheVariants as state
+use Rattle.lnbd_records.specs.Limits.{max_contexts}
 use Rattle.lnbd_history.specs.declared.kinds.Phase.{Phase}
 use Rattle.lnbd_history.specs.declared.kinds.Phase.TheVariants as phase
 use Rattle.lnbd_history.specs.declared.kinds.Stage.{Stage}
@@ -78,17 +79,17 @@ module _ {K : Type 0} where
 
   can_set : (history : History K) (now : Machine K) (setting : Setting) → AnswersAs history now → MaySet now setting → CanSet history setting
   can_set history now (Name name) right may = ap may_name (sym right.state) ∙ may
-  can_set history now (Context name) right may = absurd may
-  can_set history now (Structured on) right may = absurd may
-  can_set history now (Extended on) right may = absurd may
+  can_set history now (Context name) right may = (ap may_name (sym right.state) ∙ may.0, subst (λ (wanted : List (List ℕ)). length wanted < max_contexts) right.wanted may.1)
+  can_set history now (Structured on) right may = sym right.state ∙ may
+  can_set history now (Extended on) right may = sym right.state ∙ may
   can_set history now (OptMode on) right may = sym right.state ∙ may
 
   pub can_follow : (limit : ℕ) (history : History K) (now : Machine K) (event : Event K) → AnswersAs history now → May limit now event → CanFollow limit history event
   unfolding has_life
   can_follow limit history now (Set setting) right may = can_set history now setting right may
-  can_follow limit history now (StrictMode bits) right may = absurd may
+  can_follow limit history now (StrictMode bits) right may = may
   can_follow limit history now Start right may = sym right.state ∙ ap (λ s. state_at s now.known.talk.phase) may
-  can_follow limit history now (Opt option) right may = (sym right.state ∙ may.0, may.1, λ is. absurd (may.2 is))
+  can_follow limit history now (Opt option) right may = (sym right.state ∙ may.0, may.1, λ is. sym right.structured ∙ may.2 is)
   can_follow limit history now Abort right may = sym right.state ∙ may
   can_follow limit history now (Issue command) right may = (sym (right.refusal limit command) ∙ may.0, may.1)
   can_follow limit history now (Refuse command why) right may = sym (right.refusal limit command) ∙ may

@@ -1,6 +1,7 @@
 -- For which histories a machine stands, and which events may come.
-use Rattle.std.specs.Prelude.{◌≡◌, ℕ, ◌≤◌, Bool, true, false, [], ◌∷◌, ◌++◌, length, Some, None}
+use Rattle.std.specs.Prelude.{◌≡◌, ℕ, ◌≤◌, ◌<◌, Bool, true, false, [], ◌∷◌, ◌++◌, length, Some, None}
 use Rattle.lnbd_model.specs.declared.state.State.TheVariants as state
+use Rattle.lnbd_records.specs.Limits.{max_contexts}
 use Rattle.lnbd_records.specs.Options.{opt_set_meta_context}
 use Rattle.lnbd_history.specs.declared.kinds.Completed.{Completed}
 use Rattle.lnbd_history.specs.declared.kinds.Completed.TheVariants.{Done, Failed, NotYet, NoSuchCookie}
@@ -10,6 +11,7 @@ use Rattle.lnbd_history.specs.Events.{Setting, Name, Context, Structured, Extend
 use Rattle.lnbd_history.specs.History.{reading}
 use Rattle.lnbd_history.specs.Answers.{is_living}
 use Rattle.lnbd_history.specs.Laws.{may_name, is_call, is_closed, HasItsBytes, Lawful}
+use Rattle.lnbd_history.specs.Strict.{unknown_bits}
 use Rattle.lnbd_history.specs.Refusals.{by_state}
 use Rattle.lnbd_machine.specs.Machine.{Machine, machine, created, step, calls}
 pub use Rattle.lnbd_machine.specs.Laws.{AnswersAs}
@@ -31,20 +33,17 @@ module _ {K : Type 0} where
 
   abbrev pub MaySet : Machine K → Setting → Type 0
   MaySet now (Name name) = may_name (state_now now.known) ≡ true
-  -- no call sets a context yet, or asks for structured replies or extended headers
-  MaySet now (Context name) = ⊥
-  MaySet now (Structured on) = ⊥
-  MaySet now (Extended on) = ⊥
+  MaySet now (Context name) = (may_name (state_now now.known) ≡ true) × (length now.known.talk.wanted < max_contexts)
+  MaySet now (Structured on) = state_now now.known ≡ state.Created
+  MaySet now (Extended on) = state_now now.known ≡ state.Created
   MaySet now (OptMode on) = state_now now.known ≡ state.Created
 
   -- Where an event may come, by what the machine answers.
   abbrev pub May : ℕ → Machine K → Event K → Type 0
   May limit now (Set setting) = MaySet now setting
-  -- no call changes strict mode yet
-  May limit now (StrictMode bits) = ⊥
+  May limit now (StrictMode bits) = unknown_bits bits ≡ 0
   May limit now Start = now.known.stage ≡ Created
-  -- no call asks for SET_META_CONTEXT yet
-  May limit now (Opt option) = (state_now now.known ≡ state.OptMode) × (is_call option ≡ true) × (option ≡ opt_set_meta_context → ⊥)
+  May limit now (Opt option) = (state_now now.known ≡ state.OptMode) × (is_call option ≡ true) × (option ≡ opt_set_meta_context → now.known.talk.structured ≡ true)
   May limit now Abort = state_now now.known ≡ state.OptMode
   May limit now (Issue command) = (refusal_now limit now.known command ≡ None) × HasItsBytes command
   May limit now (Refuse command why) = refusal_now limit now.known command ≡ Some why

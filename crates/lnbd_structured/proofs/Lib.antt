@@ -4,3 +4,4 @@ pub mod BreachLemmas
 pub mod FactLemmas
 pub mod LawLemmas
 pub mod PlaceLemmas
+pub mod ToldLemmas

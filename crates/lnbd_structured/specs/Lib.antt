@@ -4,3 +4,4 @@ pub mod Assembly
 pub mod Steps
 pub mod Laws
 pub mod Placed
+pub mod Told

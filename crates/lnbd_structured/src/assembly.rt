@@ -5,7 +5,7 @@ ghost use Rattle.lnbd_chunks.specs.Chunk.{form_of, is_done, lies_within};
 ghost use Rattle.lnbd_model.specs.Kind.{is_read};
 ghost use Rattle.lnbd_model.specs.declared.breach.Breach.{Breach};
 ghost use Rattle.lnbd_model.specs.declared.export.Context.{Context as MetaContext};
-ghost use Rattle.lnbd_outcome.specs.Facts.{is_told};
+ghost use Rattle.lnbd_outcome.specs.Facts.{is_bad, is_told};
 ghost use Rattle.lnbd_outcome.specs.Pieces.{is_whole};
 ghost use Rattle.lnbd_model.specs.Errors.{error_of};
 ghost use Rattle.lnbd_outcome.specs.Outcome.{error_number, or_else, failing};
@@ -13,12 +13,14 @@ ghost use Rattle.lnbd_records.specs.Content as content;
 ghost use Rattle.lnbd_records.specs.Limits.{max_data, max_faults};
 ghost use Rattle.lnbd_structured.specs.Assembly.{Assembled, fresh, head_of, breach_shown, place_shown, judged_as, fixed_size, content_by, told_by, effect_of, ended_by, clashes, waiting_of, is_data};
 ghost use Rattle.lnbd_structured.specs.Steps.{content_told, status_bad, status_told, error_told, failed, faulted, placed, with_failure, with_facts};
+ghost use Rattle.lnbd_structured.specs.Told.{IsInside, content_in};
 ghost use Rattle.lnbd_structured.specs.declared.effect.Effect.{Effect};
 ghost use Rattle.lnbd_structured.specs.declared.effect.ChunkFault.{ChunkFault};
 
 use crate::effect::{ChunkFault, Effect, Judged};
 use crate::grammar::{Asked, breach_shown, form_of};
 use crate::status::{all_told, any_empty, is_agreed, is_among};
+use crate::told::Told;
 use lnbd_chunks::Form;
 use lnbd_extents::Ranges;
 use lnbd_model::{Breach, Contexts, EPROTO, Extent, Failure, Kind, NoMemory, Origin, told_error};
@@ -50,7 +52,7 @@ pub struct Assembly {
 }
 
 impl Model for Assembly {
-    ghost use Rattle.std.specs.Prelude.{◌≡◌, ◌≤◌, [], true};
+    ghost use Rattle.std.specs.Prelude.{◌≡◌, ◌<◌, ◌^◌, [], true};
     ghost use Rattle.lnbd_model.specs.Kind.{is_read};
     ghost use Rattle.lnbd_structured.specs.Assembly.{Assembled};
     ghost use Rattle.lnbd_records.specs.Limits.{max_data};
@@ -64,7 +66,7 @@ impl Model for Assembly {
       facts = record { told = shift a.offset a.told; contexts = a.contexts.items; came = a.came; faults = a.faults; failure = a.failure };
     } };
 
-    ghost invariant = { λ a. is_read a.kind ≡ true → a.length ≤ max_data };
+    ghost invariant = { λ a. is_read a.kind ≡ true → a.length < 2 ^ 63 };
 }
 
 impl Assembly {
@@ -77,7 +79,7 @@ impl Assembly {
         flags: u32,
         extended: bool,
     ) -> Assembly
-        requires { is_read kind ≡ true → length ≤ max_data }
+        requires { is_read kind ≡ true → length < 2 ^ 63 }
         ensures { result ≡ fresh kind offset length flags extended }
     {
         Assembly {
@@ -114,7 +116,7 @@ impl Assembly {
             kind: self.kind,
             offset: self.offset,
             length: self.length,
-            faults: self.faults,
+            faults: u64::from(self.faults),
         };
         breach_shown(&asked, self.extended, head, fixed)
     }
@@ -445,5 +447,39 @@ impl Assembly {
             self.keep_first(Origin::Content, EPROTO);
         }
         self.error()
+    }
+}
+
+// What comes without its head.
+impl Assembly {
+    /// Takes what a chunk tells, whose breaches were judged before. `contexts` are those that are agreed. Answers whether it has a fault.
+    /// For want of memory nothing has changed.
+    #[tactic(auto, using(crate::proofs::ToldLemmas::hole_fault))]
+    pub fn tell(&mut self, told: Told<'_>, contexts: &Contexts) -> Result<bool, NoMemory>
+        requires few { self.old.facts.faults ≤ max_faults }
+        requires inside { IsInside (waiting_of self.old) (content_in told) }
+        ensures ok { OnOk result ((last : Bool) → self.new ≡ told_by self.old contexts.now (content_in told.entry) last) }
+        ensures fault { IfOk result (λ bad. bad ≡ is_bad self.old.query contexts.now self.old.facts (content_in told.entry)) }
+        ensures err { OnErr result (self.new ≡ self.old) }
+    {
+        match told {
+            Told::Data { offset, bytes } => self.tell_content(false, offset, bytes.len() as u64),
+            Told::Hole { offset, length } => self.tell_content(length == 0, offset, length),
+            Told::Status { context, entries } => self.tell_status(context, entries, contexts),
+            Told::Error { number, offset } => {
+                self.take_error(number, offset);
+                Ok(false)
+            }
+            Told::Nothing => Ok(false),
+        }
+    }
+
+    /// Whether data of the whole read would have a fault now.
+    #[tactic(auto, using(crate::proofs::ToldLemmas::whole_inside))]
+    pub fn is_told_twice(&self) -> bool
+        requires { is_read self.now.query.kind ≡ true }
+        ensures { result ≡ clashes self.now self.now.query.offset self.now.query.length }
+    {
+        self.clashes(self.offset, self.length)
     }
 }

@@ -1,7 +1,10 @@
-//! Which breach the head of a chunk and the first bytes behind it show. What was told before is not known here.
+//! The grammar of a chunk's front: its form, how long it may be, which commands it may be for, and the breach that its head and the first
+//! bytes behind it show. What was told before is not known here.
 
 ghost use Rattle.std.specs.Prelude.{◌≡◌, Some, None, true};
-ghost use Rattle.lnbd_chunks.specs.Chunk.{form_of, is_error, fits_length, fits_command, may_come, lies_within, fits_message, is_done, shows_data, shows_hole, shows_extended_status, shows_error, shows_payload};
+ghost use Rattle.lnbd_chunks.specs.Chunk.{form_of, is_error, fits_length, fits_command, may_come, lies_within, fits_message, shows_data, shows_hole, shows_extended_status, shows_error, shows_payload};
+ghost use Rattle.lnbd_records.specs.Flags.{reply_flag_done};
+ghost use Rattle.lnbd_records.specs.Numbers.{has_bit};
 ghost use Rattle.lnbd_chunks.specs.Laws.{breach_in, breach_of};
 ghost use Rattle.lnbd_structured.specs.Assembly.{head_of};
 ghost use Rattle.lnbd_structured.specs.Asked.{waiting_in};
@@ -10,6 +13,27 @@ use lnbd_chunks::Form;
 use lnbd_model::{Breach, Kind};
 use lnbd_records::{u16_at, u32_at, u64_at};
 use lnbd_wire::ExtHead;
+
+// The types of chunks; bit 15 is set for errors.
+
+const NONE: u16 = 0;
+
+const OFFSET_DATA: u16 = 1;
+
+const OFFSET_HOLE: u16 = 2;
+
+const BLOCK_STATUS: u16 = 5;
+
+const BLOCK_STATUS_EXT: u16 = 6;
+
+const FIRST_ERROR: u16 = 0x8000;
+
+const ERROR: u16 = 0x8001;
+
+const ERROR_OFFSET: u16 = 0x8002;
+
+/// The flag of a command's last chunk.
+const DONE: u16 = 1;
 
 /// The most bytes of data in a chunk.
 const MAX_DATA: u64 = 33_554_432;
@@ -24,51 +48,53 @@ const MAX_TEXT: u64 = 4_096;
 const MAX_OTHER_ERROR: u64 = 65_536;
 
 /// How many chunks of a command may be errors or have a content fault before its last.
-const MAX_FAULTS: u32 = 1_024;
+const MAX_FAULTS: u64 = 1_024;
 
 /// By what a command's chunks are judged.
 #[derive(Clone, Copy, Debug, PartialEq, Eq)]
-pub(crate) struct Asked {
-    pub(crate) kind: Kind,
-    pub(crate) offset: u64,
-    pub(crate) length: u64,
-    pub(crate) faults: u32,
+pub struct Asked {
+    pub kind: Kind,
+    /// In bytes, and so the length.
+    pub offset: u64,
+    pub length: u64,
+    /// How many of its chunks so far were errors or had a content fault.
+    pub faults: u64,
 }
 
-/// Whether the chunk is the last of its command.
-pub(crate) fn is_done(head: &ExtHead) -> bool
-    ensures { result ≡ is_done (head_of head.now) }
+/// Whether a chunk with these flags is the last of its command (NBD protocol, "Structured reply flags").
+pub fn is_done(flags: u16) -> bool
+    ensures { result ≡ has_bit reply_flag_done flags }
 {
-    head.flags & 1 != 0
+    flags & DONE != 0
 }
 
-/// The form of a chunk of this type (NBD protocol, "Structured reply types").
-pub(crate) fn form_of(extended: bool, kind: u16) -> Form
+/// The form of a chunk of this type, with extended headers or without (NBD protocol, "Structured reply types").
+pub fn form_of(extended: bool, kind: u16) -> Form
     ensures { result ≡ form_of extended kind }
 {
-    if kind == 0 {
+    if kind == NONE {
         Form::Empty
-    } else if kind == 1 {
+    } else if kind == OFFSET_DATA {
         Form::Data
-    } else if kind == 2 {
+    } else if kind == OFFSET_HOLE {
         Form::Hole
-    } else if kind == 5 {
+    } else if kind == BLOCK_STATUS {
         if extended {
             Form::Unknown
         } else {
             Form::Status
         }
-    } else if kind == 6 {
+    } else if kind == BLOCK_STATUS_EXT {
         if extended {
             Form::ExtendedStatus
         } else {
             Form::Unknown
         }
-    } else if kind == 0x8001 {
+    } else if kind == ERROR {
         Form::Error
-    } else if kind == 0x8002 {
+    } else if kind == ERROR_OFFSET {
         Form::ErrorAt
-    } else if kind >= 0x8000 {
+    } else if kind >= FIRST_ERROR {
         Form::OtherError
     } else {
         Form::Unknown
@@ -91,8 +117,9 @@ fn is_error(form: Form) -> bool
     }
 }
 
-/// Whether a payload of this form may be so long.
-fn fits_length(form: Form, n: u64) -> bool
+/// Whether a payload of this form may have n bytes (NBD protocol, "Structured reply types"; this client takes at most 32 MiB of data, 1,048,576
+/// descriptors, messages of 4,096 bytes and 65,536 bytes of an error of another type). A type that isn't lawful has no length to be judged.
+pub fn fits_length(form: Form, n: u64) -> bool
     ensures { result ≡ fits_length form n }
 {
     match form {
@@ -108,8 +135,9 @@ fn fits_length(form: Form, n: u64) -> bool
     }
 }
 
-/// Whether a chunk of this form may be for a command of this kind.
-fn fits_command(form: Form, done: bool, kind: Kind) -> bool
+/// Whether a chunk of this form may be for a command of this kind (NBD protocol, "Structured reply types"): content for reads, the status of
+/// extents for block status, errors for all. One without payload is the last.
+pub fn fits_command(form: Form, done: bool, kind: Kind) -> bool
     ensures { result ≡ fits_command form done kind }
 {
     match form {
@@ -125,26 +153,17 @@ fn fits_command(form: Form, done: bool, kind: Kind) -> bool
     }
 }
 
-/// Whether a chunk of this form may come after so many faults.
-fn may_come(faults: u32, form: Form, done: bool) -> bool
+/// Whether a chunk of this form may come after so many chunks of its command that were errors or had a content fault: after 1,024 of them
+/// only the last, if it is no error.
+pub fn may_come(faults: u64, form: Form, done: bool) -> bool
     ensures { result ≡ may_come faults form done }
 {
     faults < MAX_FAULTS || (done && !is_error(form))
 }
 
-/// Whether so many bytes from this place on lie within what the command asked for.
-fn lies_within(asked: &Asked, offset: u64, size: u64) -> bool
-    ensures { result ≡ lies_within (waiting_in asked.now) offset size }
-{
-    if offset < asked.offset {
-        return false;
-    }
-    let skipped = offset - asked.offset;
-    skipped <= asked.length && size <= asked.length - skipped
-}
-
-/// Whether a message of so many bytes fits an error whose payload has n bytes.
-fn fits_message(form: Form, n: u64, message: u16) -> bool
+/// Whether a message of so many bytes fits an error whose payload has n bytes (NBD protocol, "Structured reply types"): it ends the payload or
+/// stands before an offset, and of another type it lies within the payload.
+pub fn fits_message(form: Form, n: u64, message: u16) -> bool
     ensures { result ≡ fits_message form n message }
 {
     let message = u64::from(message);
@@ -152,6 +171,19 @@ fn fits_message(form: Form, n: u64, message: u16) -> bool
         Form::Error => n == 6 + message,
         Form::ErrorAt => n == 14 + message,
         _ => message <= MAX_TEXT && 6 + message <= n,
+    }
+}
+
+impl Asked {
+    /// Whether so many bytes from this place of the export on lie within what the command asked for.
+    pub fn lies_within(&self, offset: u64, size: u64) -> bool
+        ensures { result ≡ lies_within (waiting_in self.now) offset size }
+    {
+        if offset < self.offset {
+            return false;
+        }
+        let skipped = offset - self.offset;
+        skipped <= self.length && size <= self.length - skipped
     }
 }
 
@@ -163,7 +195,7 @@ fn data_breach(asked: &Asked, n: u64, fixed: &[u8]) -> Option<Breach>
     if fixed.len() < 8 {
         return None;
     }
-    if !lies_within(asked, u64_at(fixed, 0), n.saturating_sub(8)) {
+    if !asked.lies_within(u64_at(fixed, 0), n.saturating_sub(8)) {
         return Some(Breach::OutOfRange);
     }
     None
@@ -178,13 +210,13 @@ fn hole_breach(asked: &Asked, fixed: &[u8]) -> Option<Breach>
         return None;
     }
     let offset = u64_at(fixed, 0);
-    if !lies_within(asked, offset, 0) {
+    if !asked.lies_within(offset, 0) {
         return Some(Breach::OutOfRange);
     }
     if fixed.len() < 12 {
         return None;
     }
-    if !lies_within(asked, offset, u64::from(u32_at(fixed, 8))) {
+    if !asked.lies_within(offset, u64::from(u32_at(fixed, 8))) {
         return Some(Breach::OutOfRange);
     }
     None
@@ -239,18 +271,14 @@ fn payload_breach(asked: &Asked, form: Form, n: u64, fixed: &[u8]) -> Option<Bre
     }
 }
 
-/// The breach that a chunk shows by its head and the first bytes behind it.
+/// The breach that a chunk of this command shows by its head and the bytes behind it, of which the first twelve show all. A head without
+/// extended headers is handed in with offset 0 (NBD protocol, "Structured reply chunk message" and "Extended reply chunk message").
 #[tactic(auto, unfolding(lnbd_chunks::specs::Chunk::shows_chunk, lnbd_stream::specs::Grammar::wants))]
-pub(crate) fn breach_shown(
-    asked: &Asked,
-    extended: bool,
-    head: &ExtHead,
-    fixed: &[u8],
-) -> Option<Breach>
+pub fn breach_shown(asked: &Asked, extended: bool, head: &ExtHead, fixed: &[u8]) -> Option<Breach>
     ensures { result ≡ breach_of extended (waiting_in asked.now) (head_of head.now) fixed.now }
 {
     let form = form_of(extended, head.kind);
-    let done = is_done(head);
+    let done = is_done(head.flags);
     if !fits_length(form, head.length) {
         return Some(Breach::BadChunkLength);
     }

@@ -3,7 +3,8 @@
 //!
 //! `Assembly` judges each chunk by its first bytes and takes it when it is whole. `specs/Assembly` has its value, which is the facts of `lnbd_outcome`
 //! with what was asked; `specs/Laws` says that its calls together are one reply of the command. `put_data` and `put_zeros`
-//! put content into a buffer of the caller's. No callback, no table of commands and no input or output stand here.
+//! put content into a buffer of the caller's. `breach_shown` and the functions beside it are the grammar of a chunk's front, by which whoever reads
+//! chunks judges them. No callback, no table of commands and no input or output stand here.
 #![tactic(auto)]
 
 mod assembly;
@@ -15,12 +16,17 @@ mod placing;
 mod status;
 #[cfg(test)]
 mod tests;
+mod told;
 
 pub use assembly::Assembly;
 pub use descriptors::{descriptors_in, extended_descriptors_in};
 pub use effect::{ChunkFault, Effect, Judged};
+pub use grammar::{
+    Asked, breach_shown, fits_command, fits_length, fits_message, form_of, is_done, may_come,
+};
 pub use laws::{
     effects_are_heard, faults_stay_few, parts_tell_the_chunk, stands_for_its_chunks,
     steps_are_one_reply,
 };
 pub use placing::{put_data, put_zeros};
+pub use told::Told;

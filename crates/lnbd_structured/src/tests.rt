@@ -263,7 +263,7 @@ fn extents_at_fault_are_no_breach(rt: HostRuntime) -> Result<(), Fail> {
     Ok(())
 }
 
-// 1,024 chunks of no zeros; then an error breaks the protocol, and the last chunk doesn't.
+// 1,024 chunks of no zeros; then one more, or an error, breaks the protocol, and the last chunk doesn't.
 #[test]
 fn too_many_faults_break(rt: HostRuntime) -> Result<(), Fail> {
     let none = Contexts::new(rt.alloc());
@@ -273,6 +273,8 @@ fn too_many_faults_break(rt: HostRuntime) -> Result<(), Fail> {
         assert_eq!(rt; chunk, Ok(Effect::Nothing));
     }
     assert_eq!(rt; assembly.faults(), 1024);
+    let more = take_content(&mut assembly, HOLE, (1000, 0), &none);
+    assert_eq!(rt; more, Err(ChunkFault::Breach(Breach::TooManyErrors)));
     let chunk = take(
         &mut assembly,
         &head(1, ERROR, 6),
@@ -335,7 +337,8 @@ fn first_bytes_show_breaches(rt: HostRuntime) {
     };
     let assembly = read(rt.alloc(), 1000, 16, 0);
     for (flags, kind, length, fixed, there, want) in [
-        // by the head: 32 MiB and one byte, a status for a read, none that isn't the last, another type
+        // by the head: 32 MiB, and one byte more; a status for a read, none that isn't the last, another type
+        (0, DATA, 33554440, content((0, 0)), 0, Judged::Going),
         (
             0,
             DATA,

@@ -5,3 +5,5 @@ pub mod Runs
 pub mod Results
 pub mod Notes
 pub mod Information
+pub mod Quoted
+pub mod Options

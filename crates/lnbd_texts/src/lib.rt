@@ -1,11 +1,13 @@
-//! The answers of a handle's calls as text, as scripts print them: states, refusals, results, notes and
-//! what was told of an export. Each function adds one answer, without the end of its line, to a text.
+//! The answers of a handle's calls as text, as scripts print them: states, refusals, results, notes, what
+//! was told of an export, and what options came to. Each function adds one answer, without the end of its line, to a text.
 //! Where memory runs out, what the text then holds is not said, and it is not to be used.
 //! No call is made here, and nothing is written out.
 #![tactic(auto)]
 
 mod information;
 mod notes;
+mod options;
+mod quoted;
 mod refusals;
 mod results;
 mod runs;
@@ -13,6 +15,8 @@ mod states;
 
 pub use information::push_info;
 pub use notes::{push_log, push_note};
+pub use options::{push_listing, push_opt_answer};
+pub use quoted::push_quoted;
 pub use refusals::{push_refusal, push_refused_state};
 pub use results::{push_completed, push_peeked};
 pub use runs::push_runs;

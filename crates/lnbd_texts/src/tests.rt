@@ -1,11 +1,13 @@
 //! Each kind of text, once as it is written down for people, and once each call with enough memory.
 
 use crate::{
-    push_completed, push_info, push_log, push_peeked, push_refusal, push_refused_state, push_state,
+    push_completed, push_info, push_listing, push_log, push_opt_answer, push_peeked, push_quoted,
+    push_refusal, push_refused_state, push_state,
 };
-use lnbd_history::{Completed, Peeked};
+use lnbd_history::{Completed, OptAnswer, Peeked};
 use lnbd_model::{
-    Blocks, Breach, Bytes, Cause, Context, Contexts, ExportInfo, Lack, Note, State, Text, Why,
+    Blocks, Breach, Bytes, Cause, Context, Contexts, ExportInfo, Lack, Listed, Note, State, Text,
+    Why,
 };
 use std::test::Fail;
 
@@ -183,6 +185,57 @@ fn information_has_its_lines(rt: HostRuntime) -> Result<(), Fail> {
     assert_eq!(rt;
         text.as_str(),
         "info none; info 1048576 3 - - - false\nend; info 1048576 3 1 4096 4294967295 true\ncontext 7 base:allocation\nend"
+    );
+    Ok(())
+}
+
+#[test]
+fn answers_to_options_have_their_words(rt: HostRuntime) -> Result<(), Fail> {
+    let refused = OptAnswer::Refused { option: 6, code: 6 };
+    for (answer, want) in [
+        (None, "none"),
+        (Some(OptAnswer::Ok), "ok"),
+        (Some(refused), "refused 6 6"),
+    ] {
+        let mut text = String::new(rt.alloc());
+        push_opt_answer(&mut text, answer)?;
+        assert_eq!(rt; text.as_str(), want);
+    }
+    Ok(())
+}
+
+#[test]
+fn a_quoted_text_stands_on_one_line(rt: HostRuntime) -> Result<(), Fail> {
+    for (quoted, want) in [
+        ("", "\"\""),
+        ("été 2", "\"été 2\""),
+        ("a\nb\x1f \x7f~", "\"a\\x0ab\\x1f \\x7f~\""),
+        ("\"c:\\\"", "\"\\x22c:\\x5c\\x22\""),
+    ] {
+        let mut text = String::new(rt.alloc());
+        push_quoted(&mut text, quoted)?;
+        assert_eq!(rt; text.as_str(), want);
+    }
+    Ok(())
+}
+
+#[test]
+fn a_listing_has_a_line_for_each_export(rt: HostRuntime) -> Result<(), Fail> {
+    let listing = [
+        Listed {
+            name: Text::from_bytes(rt.alloc(), b"a")?,
+            description: Text::from_bytes(rt.alloc(), b"x")?,
+        },
+        Listed {
+            name: Text::empty(rt.alloc()),
+            description: Text::from_bytes(rt.alloc(), b"root disk")?,
+        },
+    ];
+    let mut text = String::new(rt.alloc());
+    push_listing(&mut text, &listing)?;
+    assert_eq!(rt;
+        text.as_str(),
+        "export \"a\" \"x\"\nexport \"\" \"root disk\"\nend"
     );
     Ok(())
 }

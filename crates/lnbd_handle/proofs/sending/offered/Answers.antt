@@ -1,6 +1,5 @@
-use Rattle.std.proofs.Common.{refl}
-use Rattle.lnbd_handle.specs.Seen.{no_writes}
+use Rattle.lnbd_handle.specs.Seen.{writes_in}
 use Rattle.lnbd_handle.proofs.sending.offered.Goals as goal
 
 pub returns : goal.returns
-returns g c = c.out.ensures no_writes c.requires.fits (λ cookie e. refl)
+returns g c = c.out.ensures (writes_in c.args.connection.now.commands) c.requires.fits c.own_bytes.ensures

@@ -8,9 +8,6 @@ use Rattle.lnbd_handle.proofs.turns.turn.Goals as goal
 pub turn_frame-requires-clause-ready : goal.turn_frame-requires-clause-ready
 turn_frame-requires-clause-ready g c = subst (λ s. Stands s c.args.connection.now.talk.phase c.args.connection.now.queue.ended) c.in-Disconnecting.is c.requires.stands
 
-pub returns-in-Aborting-clause-means : goal.returns-in-Aborting-clause-means
-returns-in-Aborting-clause-means g c = absurd (subst (λ s. Stands s c.args.connection.now.talk.phase c.args.connection.now.queue.ended) c.in-Aborting.is c.requires.stands)
-
 pub returns-in-Created-clause-means : goal.returns-in-Created-clause-means
 returns-in-Created-clause-means g c =
     let old = c.args.connection.now in

@@ -8,7 +8,6 @@ use Rattle.lnbd_handle.specs.Seen.{state_of, machine_of}
 use Rattle.lnbd_handle.specs.Turns.{arriving}
 use Rattle.lnbd_handle.proofs.TurnLemmas.{shown_by_name, turn_broken, turn_told}
 use Rattle.lnbd_handle.proofs.GreetLemmas.{talk_sound, told_cause}
-use Rattle.lnbd_handle.proofs.PlainLemmas.{plain_as, plain_told}
 use Rattle.lnbd_handle.proofs.turns.turn_by_name.Goals as goal
 
 some_bytes : (n : Bool) → 0 < (if n then 10 else 134)
@@ -26,7 +25,7 @@ returns-in-Ok-clause-means g c =
     subst P (sym c.by_name_size.ensures) (some_bytes n, c.in-Some.ensures.0, runs)
 
 pub returns-in-Ok-clause-sound : goal.returns-in-Ok-clause-sound
-returns-in-Ok-clause-sound g c = talk_sound c.args.connection.now c.export_told.new.self c.requires.open (plain_as c.in-Ok.ensures.1 (plain_told c.in-Some.size c.in-Some.flags c.args.connection.now.talk c.requires.sound.plain)) c.requires.sound
+returns-in-Ok-clause-sound g c = talk_sound c.args.connection.now c.export_told.new.self c.requires.open c.requires.sound
 
 pub returns-in-Err-Cause-clause-means : goal.returns-in-Err-Cause-clause-means
 returns-in-Err-Cause-clause-means g c =

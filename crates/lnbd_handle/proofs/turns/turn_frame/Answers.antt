@@ -5,7 +5,8 @@ use Rattle.lnbd_model.specs.declared.state.Cause.TheVariants.{Broke}
 use Rattle.lnbd_machine.specs.Machine.{waited}
 use Rattle.lnbd_commands.specs.Takes as takes
 use Rattle.lnbd_handle.specs.Seen.{state_of}
-use Rattle.lnbd_handle.proofs.TurnLemmas.{shown_frame, turn_broken, turn_reply, waited_row, commands_sound}
+use Rattle.lnbd_handle.proofs.TurnLemmas.{shown_frame, turn_broken, turn_reply, waited_row}
+use Rattle.lnbd_handle.proofs.QueuedLemmas.{kept_sound}
 use Rattle.lnbd_handle.proofs.turns.turn_frame.Goals as goal
 
 pub split_at-requires : goal.split_at-requires
@@ -30,7 +31,7 @@ reply-requires g c =
 pub returns-in-Broken-clause-means : goal.returns-in-Broken-clause-means
 returns-in-Broken-clause-means g c =
     turn_broken g.K.Caller.steps c.args.connection.now c.args.connection.now c.die.new.connection c.args.world.now c.die.new.world c.args.rest.now c.in-Broken.breach (Broke c.in-Broken.breach) refl
-    (λ answers made. shown_frame c.args.connection.now c.args.rest.now c.requires.speaking c.requires.ready c.requires.sound.plain answers made ∙ c.in-Broken.ensures (waited (state_of c.args.connection.now)) c.waiting_at-waiting.ensures) refl
+    (λ answers made. shown_frame c.args.connection.now c.replies_of-replies.result c.args.rest.now c.requires.speaking c.requires.ready c.replies_of-replies.ensures answers made ∙ c.in-Broken.ensures (waited (state_of c.args.connection.now)) c.waiting_at-waiting.ensures) refl
     c.die.ensures.acts c.die.ensures.dead
 
 pub returns-in-Ok-clause-means : goal.returns-in-Ok-clause-means
@@ -39,13 +40,14 @@ returns-in-Ok-clause-means g c =
     let there : c.split_at-in-Whole.result.0.now ≡ take c.in-Whole.size (drop 16 c.args.rest.now) = c.split_at-in-Whole.ensures.front ∙ ap (take c.in-Whole.size) c.split_at.ensures.back in (
       omega arith,
       is.there,
-      (turn_reply g.K.Caller.steps c.args.connection.now c.reply.new.self c.args.world.now c.reply.new.world c.args.rest.now c.in-Whole.cookie c.in-Whole.error c.in-Whole.size c.split_at-in-Whole.result.0.now
-          c.requires.speaking c.requires.ready c.requires.sound.plain is there c.in-Ok.ensures.ok).0,
+      (turn_reply g.K.Caller.steps c.args.connection.now c.replies_of-replies.result c.reply.new.self c.args.world.now c.reply.new.world c.args.rest.now c.in-Whole.cookie c.in-Whole.error c.in-Whole.size c.split_at-in-Whole.result.0.now
+          c.requires.speaking c.requires.ready c.replies_of-replies.ensures c.requires.sound is there c.in-Ok.ensures.ok).0,
     )
 
 pub returns-in-Ok-clause-sound : goal.returns-in-Ok-clause-sound
 returns-in-Ok-clause-sound g c =
     let is = c.in-Whole.ensures (waited (state_of c.args.connection.now)) c.waiting_at-waiting.ensures in
     let there : c.split_at-in-Whole.result.0.now ≡ take c.in-Whole.size (drop 16 c.args.rest.now) = c.split_at-in-Whole.ensures.front ∙ ap (take c.in-Whole.size) c.split_at.ensures.back in
-    commands_sound c.args.connection.now c.reply.new.self (turn_reply g.K.Caller.steps c.args.connection.now c.reply.new.self c.args.world.now c.reply.new.world c.args.rest.now c.in-Whole.cookie c.in-Whole.error c.in-Whole.size c.split_at-in-Whole.result.0.now
-    c.requires.speaking c.requires.ready c.requires.sound.plain is there c.in-Ok.ensures.ok).1 c.requires.sound
+    let turned = turn_reply g.K.Caller.steps c.args.connection.now c.replies_of-replies.result c.reply.new.self c.args.world.now c.reply.new.world c.args.rest.now c.in-Whole.cookie c.in-Whole.error c.in-Whole.size c.split_at-in-Whole.result.0.now
+    c.requires.speaking c.requires.ready c.replies_of-replies.ensures c.requires.sound is there c.in-Ok.ensures.ok in
+    kept_sound c.args.connection.now c.reply.new.self turned.2 turned.1 c.requires.sound

@@ -1,4 +1,4 @@
-use Rattle.std.proofs.Common.{◌≡◌, ℕ, ◌+◌, List, [], Some, Option, map, refl, sym, ap, subst, ◌∙◌}
+use Rattle.std.proofs.Common.{◌≡◌, arith, ℕ, ◌+◌, List, [], Some, Option, map, refl, sym, ap, subst, ◌∙◌}
 use Rattle.lnbd_keyed.specs.Keyed.{with_value}
 use Rattle.lnbd_outcome.specs.Outcome.{error_number}
 use Rattle.lnbd_callbacks.specs.Calls.{Call}
@@ -56,7 +56,7 @@ invariant_of-self-2 g c =
     let l = rw f.at at c.in-Ok.ensures.lands in
     let rest = unanswered c.in-Ok.landed.failure in
     let v = c.finish_in.ensures.0 in
-    let sound = sound_ended m c.args.cookie (error_number c.in-Ok.landed.failure) v f.row (landed c.in-Ok.landed.failure rest f.row) c.in-Ok.landed.flight c.answer_in.new.desk.log c.answer_in.new.desk.room c.self.invariant f.at l.flight refl refl (ap (λ log. log.live) l.log) (ap (λ log. log.admitted) l.log) in
+    let sound = sound_ended m c.args.cookie (error_number c.in-Ok.landed.failure) v f.row (landed c.in-Ok.landed.failure rest f.row) c.in-Ok.landed.flight c.answer_in.new.desk.log c.answer_in.new.desk.room c.self.invariant f.at l.flight refl refl (omega arith) (ap (λ log. log.live) l.log) (ap (λ log. log.admitted) l.log) in
     rw (c.finish_in.ensures.1, c.finish_in.ensures.2, c.in-Ok.ensures.rows, landed_rows c.args.cookie c.in-Ok.landed.failure rest f.row m.rows f.at, c.count.ensures) sound
 
 pub returns-clause-ok : goal.returns-clause-ok
@@ -71,7 +71,7 @@ returns-clause-ok g c =
     let table : c.finish_in.new.table ≡ ended v c.args.cookie (record { rows = with_value c.args.cookie (landed c.in-Ok.landed.failure rest f.row) m.rows; done = m.done }) =
     c.finish_in.ensures.1 ∙ ap (ended v c.args.cookie) (c.in-Ok.ensures.rows ∙ ap (λ (rows : List (ℕ × Row g.row.K.Denot)). record { rows = rows; done = m.done }) (landed_rows c.args.cookie c.in-Ok.landed.failure rest f.row m.rows f.at)) in
     let undone = unmarked c.args.cookie f.row f.flight m.done m.rows c.self.invariant.rows f.at f.flies in
-    let filed = files_ended m new c.args.cookie f.row c.in-Ok.landed.flight item c.in-Ok.landed.heard v c.in-Ok.landed.failure c.in-Ok.landed.bytes rest c.answer_in.new.desk.log
+    let filed = files_ended [] m new c.args.cookie f.row c.in-Ok.landed.flight item c.in-Ok.landed.heard v c.in-Ok.landed.failure c.in-Ok.landed.bytes rest c.answer_in.new.desk.log
     f.at undone refl refl l.failure l.bytes (ap (λ log. log.notes) l.log) (ap (λ log. log.admitted) l.log) (ap (λ t. t.rows) table) (ap (λ t. t.done) table) (ap (λ d. d.log) c.finish_in.ensures.2)
     (ap (λ n. c.self.inside.freed + n) c.count.ensures) refl in
     let called = g.met.K.Caller.append _ _ _ _ _ l.calls (rw (l.failure, l.bytes) at c.finish_in.ensures.3) in
@@ -80,5 +80,5 @@ returns-clause-ok g c =
       answers = answers_of c.in-Ok.landed.heard v;
       calls = map call_of (acts_in f.row c.in-Ok.landed.flight [] item c.in-Ok.landed.heard (Some v));
       world = subst (λ (l : List (Call g.row.K.Denot)). g.K.Caller.steps c.args.world.now l c.finish_in.new.world) (sym all) called;
-      does = λ state more made. files m new c.args.cookie f.row c.in-Ok.landed.flight item c.in-Ok.landed.heard v state more made f.at l.flight l.heard l.counted refl (alike_reply f.row c.args.error (bytes_in c.args.content)) filed;
+      does = λ state more made. files [] m new c.args.cookie f.row c.in-Ok.landed.flight item c.in-Ok.landed.heard v state more made f.at l.flight l.heard l.counted refl (alike_reply f.row c.args.error (bytes_in c.args.content) state.talk.contexts) filed;
     })

@@ -1,4 +1,4 @@
-use Rattle.std.proofs.Common.{◌≡◌, ℕ, ◌+◌, ◌++◌, List, [], Some, None, Option, map, refl, sym, ap, subst, ◌∙◌, append-nil}
+use Rattle.std.proofs.Common.{◌≡◌, arith, ℕ, ◌+◌, ◌++◌, List, [], Some, None, Option, map, refl, sym, ap, subst, ◌∙◌, append-nil}
 use Rattle.lnbd_keyed.specs.Keyed.{with_value}
 use Rattle.lnbd_outcome.specs.Outcome.{error_number}
 use Rattle.lnbd_history.specs.Entries.{Act, Lost, call_of, note_of, completion_acts, first_acts}
@@ -54,7 +54,7 @@ invariant_of-self g c =
     let l = subst (λ (o : Option (Row g.row.K.Denot)). LostAt o c.lose_in-landed.result) f.at c.lose_in-landed.ensures.lost in
     let rest = unanswered c.lose_in-landed.result.failure in
     let v = c.finish_in.ensures.0 in
-    let sound = sound_ended m c.args.cookie (error_number c.lose_in-landed.result.failure) v f.row (landed c.lose_in-landed.result.failure rest f.row) c.lose_in-landed.result.flight c.self.inside.desk.log c.self.inside.desk.room c.self.invariant f.at l.1 refl refl refl refl in
+    let sound = sound_ended m c.args.cookie (error_number c.lose_in-landed.result.failure) v f.row (landed c.lose_in-landed.result.failure rest f.row) c.lose_in-landed.result.flight c.self.inside.desk.log c.self.inside.desk.room c.self.invariant f.at l.1 refl refl (omega arith) refl refl in
     rw (c.finish_in.ensures.1, c.finish_in.ensures.2, c.lose_in-landed.ensures.rows, landed_rows c.args.cookie c.lose_in-landed.result.failure rest f.row m.rows f.at, c.count.ensures) sound
 
 pub returns : goal.returns
@@ -74,7 +74,7 @@ returns g c =
     let bytes : c.lose_in-landed.result.bytes ≡ result_bytes (hearing f.row [] Lost None) = ap (λ e. e.bytes) l.0 in
     let quiet : m.log.notes ≡ m.log.notes ++ map note_of (first_acts flight.first None None) =
     sym (ap (λ (acts : List (Act g.row.K.Denot)). m.log.notes ++ map note_of acts) (no_first_acts flight.first None) ∙ append-nil m.log.notes) in
-    let filed = files_ended m new c.args.cookie f.row flight Lost None v failure c.lose_in-landed.result.bytes rest c.self.inside.desk.log
+    let filed = files_ended [] m new c.args.cookie f.row flight Lost None v failure c.lose_in-landed.result.bytes rest c.self.inside.desk.log
     f.at undone refl refl came bytes quiet refl (ap (λ t. t.rows) table) (ap (λ t. t.done) table) (ap (λ d. d.log) c.finish_in.ensures.2)
     (ap (λ n. c.self.inside.freed + n) c.count.ensures) refl in
     let all : acts_in f.row flight [] Lost None (Some v) ≡ completion_acts flight (error_of_row (hearing f.row [] Lost None)) (result_bytes (hearing f.row [] Lost None)) v =
@@ -84,5 +84,5 @@ returns g c =
       answers = answers_of None v;
       calls = map call_of (acts_in f.row flight [] Lost None (Some v));
       world = subst (λ (acts : List (Act g.row.K.Denot)). g.K.Caller.steps c.args.world.now (map call_of acts) c.finish_in.new.world) (sym all) called;
-      does = λ state more made. files m new c.args.cookie f.row flight Lost None v state more made f.at l.1 refl tt refl (alike_lost f.row) filed;
+      does = λ state more made. files [] m new c.args.cookie f.row flight Lost None v state more made f.at l.1 refl tt refl (alike_lost f.row state.talk.contexts) filed;
     })

@@ -16,6 +16,12 @@ invariant_of-self-in-Disconnecting g c = (
   partial_none c.end_closing.new.connection (held_in c.clear-in-Disconnecting.new.self) c.clear-in-Disconnecting.ensures,
 )
 
+pub invariant_of-self-in-Aborting : goal.invariant_of-self-in-Aborting
+invariant_of-self-in-Aborting g c = (
+  c.end_closing-in-Aborting.ensures.sound,
+  partial_none c.end_closing-in-Aborting.new.connection (held_in c.clear-in-Aborting.new.self) c.clear-in-Aborting.ensures,
+)
+
 pub returns-in-Open-clause-answered : goal.returns-in-Open-clause-answered
 returns-in-Open-clause-answered g c =
     let old = machine_of c.self.inside.connection (held_in c.self.inside.pending) in
@@ -34,6 +40,15 @@ returns-in-Disconnecting-clause-answered g c =
     (runs_finish g.K.Caller.steps (ended_closing (flying c.self.inside.connection.commands.rows)) (ended_at c.self.inside.connection.stage) old new c.args.world.now c.end_closing.new.world
     (λ answers made. ap (λ s. ended_at s (under old answers made)) c.in-Disconnecting.is) c.clear-in-Disconnecting.ensures c.end_closing.ensures.acts))
 
+pub returns-in-Aborting-clause-answered : goal.returns-in-Aborting-clause-answered
+returns-in-Aborting-clause-answered g c =
+    let old = machine_of c.self.inside.connection (held_in c.self.inside.pending) in
+    let new = machine_of c.end_closing-in-Aborting.new.connection (held_in c.clear-in-Aborting.new.self) in
+    subst (λ m. Answered g.K.Caller.steps End m new c.args.world.now c.end_closing-in-Aborting.new.world) c.self.view_is
+    (answered g.K.Caller.steps End (ended_at c.self.inside.connection.stage) old new c.args.world.now c.end_closing-in-Aborting.new.world (λ answers. refl)
+    (runs_finish g.K.Caller.steps (ended_closing (flying c.self.inside.connection.commands.rows)) (ended_at c.self.inside.connection.stage) old new c.args.world.now c.end_closing-in-Aborting.new.world
+    (λ answers made. ap (λ s. ended_at s (under old answers made)) c.in-Aborting.is) c.clear-in-Aborting.ensures c.end_closing-in-Aborting.ensures.acts))
+
 pub returns-in-Open-clause-stands : goal.returns-in-Open-clause-stands
 returns-in-Open-clause-stands g c =
     adds_answered g.K.Caller.steps c.args.self.now (machine_of c.die.new.connection (held_in c.clear.new.self)) c.args.world.now c.die.new.world End (λ answers history. refl) (λ answers. tt) (returns-in-Open-clause-answered g c)
@@ -44,7 +59,7 @@ returns-in-Disconnecting-clause-stands g c =
 
 pub returns-in-Aborting-clause-stands : goal.returns-in-Aborting-clause-stands
 returns-in-Aborting-clause-stands g c =
-    adds_answered g.K.Caller.steps c.args.self.now c.args.self.now c.args.world.now c.args.world.now End (λ answers history. refl) (λ answers. tt) (search rules)
+    adds_answered g.K.Caller.steps c.args.self.now (machine_of c.end_closing-in-Aborting.new.connection (held_in c.clear-in-Aborting.new.self)) c.args.world.now c.end_closing-in-Aborting.new.world End (λ answers history. refl) (λ answers. tt) (returns-in-Aborting-clause-answered g c)
 
 pub returns-in-Created-clause-stands : goal.returns-in-Created-clause-stands
 returns-in-Created-clause-stands g c =

@@ -28,6 +28,15 @@ returns-in-Disconnecting-clause-answered g c =
     (runs_finish g.K.Caller.steps (kill cause.LinkFailed) (failed_at c.self.inside.connection.stage) old new c.args.world.now c.die-in-Disconnecting.new.world
     (λ answers made. ap (λ s. failed_at s (under old answers made)) c.in-Disconnecting.is) c.clear-in-Disconnecting.ensures c.die-in-Disconnecting.ensures.acts))
 
+pub returns-in-Aborting-clause-answered : goal.returns-in-Aborting-clause-answered
+returns-in-Aborting-clause-answered g c =
+    let old = machine_of c.self.inside.connection (held_in c.self.inside.pending) in
+    let new = machine_of c.die-in-Aborting.new.connection (held_in c.clear-in-Aborting.new.self) in
+    subst (λ m. Answered g.K.Caller.steps LinkFailed m new c.args.world.now c.die-in-Aborting.new.world) c.self.view_is
+    (answered g.K.Caller.steps LinkFailed (failed_at c.self.inside.connection.stage) old new c.args.world.now c.die-in-Aborting.new.world (λ answers. refl)
+    (runs_finish g.K.Caller.steps (kill cause.LinkFailed) (failed_at c.self.inside.connection.stage) old new c.args.world.now c.die-in-Aborting.new.world
+    (λ answers made. ap (λ s. failed_at s (under old answers made)) c.in-Aborting.is) c.clear-in-Aborting.ensures c.die-in-Aborting.ensures.acts))
+
 pub returns-in-Open-clause-stands : goal.returns-in-Open-clause-stands
 returns-in-Open-clause-stands g c =
     adds_answered g.K.Caller.steps c.args.self.now (machine_of c.die.new.connection (held_in c.clear.new.self)) c.args.world.now c.die.new.world LinkFailed (λ answers history. refl) (λ answers. tt) (returns-in-Open-clause-answered g c)
@@ -38,7 +47,7 @@ returns-in-Disconnecting-clause-stands g c =
 
 pub returns-in-Aborting-clause-stands : goal.returns-in-Aborting-clause-stands
 returns-in-Aborting-clause-stands g c =
-    adds_answered g.K.Caller.steps c.args.self.now c.args.self.now c.args.world.now c.args.world.now LinkFailed (λ answers history. refl) (λ answers. tt) (search rules)
+    adds_answered g.K.Caller.steps c.args.self.now (machine_of c.die-in-Aborting.new.connection (held_in c.clear-in-Aborting.new.self)) c.args.world.now c.die-in-Aborting.new.world LinkFailed (λ answers history. refl) (λ answers. tt) (returns-in-Aborting-clause-answered g c)
 
 pub returns-in-Created-clause-stands : goal.returns-in-Created-clause-stands
 returns-in-Created-clause-stands g c =

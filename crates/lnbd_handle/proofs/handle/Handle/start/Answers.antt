@@ -11,7 +11,7 @@ pub invariant_of-self : goal.invariant_of-self
 invariant_of-self g c =
     let old = c.self.inside.connection in
     let s = c.self.invariant.0 in (
-      record { fits = s.fits; stands = subst (λ t. Stands t old.talk.phase old.queue.ended) c.in-Created.is s.stands; plain = s.plain; counted = s.counted },
+      record { fits = s.fits; ahead = s.ahead; stands = subst (λ t. Stands t old.talk.phase old.queue.ended) c.in-Created.is s.stands; counted = s.counted },
       step_partial Start (machine_of old (held_in c.self.inside.pending)) c.in-Created.is c.self.invariant.1,
     )
 

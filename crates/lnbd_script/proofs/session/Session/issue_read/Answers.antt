@@ -1,27 +1,20 @@
-use Rattle.std.proofs.Common.{◌≡◌, Some, None, refl, ◌∙◌, ap, subst}
-use Rattle.lnbd_history.specs.Commands.{Command}
-use Rattle.lnbd_history.specs.Events.{Issue, Refuse}
-use Rattle.lnbd_machine.specs.Does.{Does}
-use Rattle.lnbd_machine.specs.Machine.{step}
-use Rattle.lnbd_machine.specs.Now.{refusal_now}
-use Rattle.lnbd_script.specs.declared.keeper.Keeper.{Keeper}
-use Rattle.lnbd_script.specs.Kept.{Heeds}
-use Rattle.lnbd_script.specs.Lines.{read_of}
-use Rattle.lnbd_script.proofs.LineLemmas.{issued, read_command, refused, refused_by}
+use Rattle.std.proofs.Common.{ℕ, List, ap}
+use Rattle.std.proofs.lemmas.Bool.{false≢true}
+use Rattle.lnbd_handle.specs.Issues.{read_of}
+use Rattle.lnbd_lines.specs.declared.command.Command.TheVariants as command
+use Rattle.lnbd_script.specs.Lines.{command_of}
+use Rattle.lnbd_script.proofs.IssuingLemmas.{issue_lacks, issue_ok}
 use Rattle.lnbd_script.proofs.session.Session.issue_read.Goals as goal
 
-pub returns-in-Ok-clause-ok : goal.returns-in-Ok-clause-ok
-returns-in-Ok-clause-ok c seen at =
-    let same = read_command c.args.size c.args.offset c.in_ok-buf.buf.items (c.in_ok-buf.ensures.items_if_clones_equal (λ y h. h)) in
-    issued seen c.args.self.now _ _ (read_of c.args.size c.args.offset) c.in-Ok.cookie c.in-Ok.ensures.ok_world at refl
-    (subst (λ (command : Command Keeper). refusal_now 1024 c.args.self.now.handle.known command ≡ None) same c.in-Ok.ensures.accepted)
-    (c.in-Ok.ensures.ok ∙ ap (λ (command : Command Keeper). step c.args.self.now.handle (Issue command)) same)
-    c.in-Ok.ensures.cookie
+pub returns-clause-ok : goal.returns-clause-ok
+returns-clause-ok c =
+    let e = c.aio_pread-answer.ensures in
+    rw c.told_of.ensures
+    (issue_ok (read_of c.in_ok-buf.buf.items c.args.range.offset (record {}) c.args.range.flags) (command_of (command.Pread c.args.range)) c.args.self.now c.aio_pread-answer.new.self c.aio_pread-answer.new.world c.aio_pread-answer.result
+    (ap (λ (b : List ℕ). read_of b c.args.range.offset (record {}) c.args.range.flags) c.in_ok-buf.ensures) (λ writes. absurd (false≢true writes)) (record { cookie = e.cookie; accepted = e.accepted; made = e.ok; world = e.ok_world; faults = e.faults }))
 
-pub returns-in-Err-Refused-clause-ok : goal.returns-in-Err-Refused-clause-ok
-returns-in-Err-Refused-clause-ok c seen at =
-    let same = read_command c.args.size c.args.offset c.in_ok-buf.buf.items (c.in_ok-buf.ensures.items_if_clones_equal (λ y h. h)) in
-    let faults = refused_by _ c.in-Err-Refused.field-0 c.in-Err-Refused.why _ c.args.self.now.handle c.aio_pread.new.self c.args.self.now.heeded c.aio_pread.new.world c.in-Err-Refused.field-0-is c.in-Err-Refused.ensures.faults in
-    refused seen c.args.self.now c.aio_pread.new.self c.aio_pread.new.world (read_of c.args.size c.args.offset) c.in-Err-Refused.why at
-    (subst (λ (command : Command Keeper). refusal_now 1024 c.args.self.now.handle.known command ≡ Some c.in-Err-Refused.why) same faults.0)
-    (subst (λ (command : Command Keeper). Does Heeds (Refuse command c.in-Err-Refused.why) c.args.self.now.handle c.aio_pread.new.self c.args.self.now.heeded c.aio_pread.new.world) same faults.2)
+pub returns-clause-lacks : goal.returns-clause-lacks
+returns-clause-lacks c =
+    let e = c.aio_pread-answer.ensures in
+    rw c.told_of.ensures
+    (issue_lacks (read_of c.in_ok-buf.buf.items c.args.range.offset (record {}) c.args.range.flags) c.args.self.now c.aio_pread-answer.new.self c.aio_pread-answer.new.world c.aio_pread-answer.result (record { cookie = e.cookie; accepted = e.accepted; made = e.ok; world = e.ok_world; faults = e.faults }))

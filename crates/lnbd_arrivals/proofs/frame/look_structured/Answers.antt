@@ -1,0 +1,18 @@
+use Rattle.std.proofs.Common.{◌∙◌, sym, arith}
+use Rattle.lnbd_arrivals.proofs.Frames.{not_agreed, no_agreed, compact_cut}
+use Rattle.lnbd_arrivals.proofs.frame.look_structured.Goals as goal
+
+pub returns-then-not-is_structured : goal.returns-then-not-is_structured
+returns-then-not-is_structured c waited e =
+    not_agreed c.args.replies waited c.args.bytes.now c.requires.compact c.requires.other.there c.requires.other.differs (sym c.is_structured.ensures ∙ c.if-not-is_structured.true)
+
+pub returns-in-Value : goal.returns-in-Value
+returns-in-Value c waited e = c.look_chunk.ensures waited (e (omega (arith, c.in-Value.ensures.there)))
+
+pub returns-in-NeedMore : goal.returns-in-NeedMore
+returns-in-NeedMore c waited e =
+    compact_cut c.args.replies waited c.args.bytes.now c.requires.compact (sym c.is_structured.ensures ∙ c.if-not-is_structured.false) c.in-NeedMore.ensures
+
+pub returns-in-BadMagic : goal.returns-in-BadMagic
+returns-in-BadMagic c waited e =
+    no_agreed c.args.replies waited c.args.bytes.now c.requires.compact c.requires.other.there c.requires.other.differs (sym c.is_structured.ensures ∙ c.if-not-is_structured.false) c.in-BadMagic.ensures.1.differs

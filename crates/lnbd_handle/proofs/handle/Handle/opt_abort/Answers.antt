@@ -1,0 +1,14 @@
+use Rattle.std.proofs.Common.{rules, refl}
+use Rattle.lnbd_history.specs.Events.{Abort}
+use Rattle.lnbd_handle.specs.Held.{held_in}
+use Rattle.lnbd_handle.specs.Seen.{machine_of}
+use Rattle.lnbd_handle.proofs.EndLemmas.{partial_none}
+use Rattle.lnbd_handle.proofs.HistoryLemmas.{adds}
+use Rattle.lnbd_handle.proofs.handle.Handle.opt_abort.Goals as goal
+
+pub invariant_of-self : goal.invariant_of-self
+invariant_of-self g c = (c.abort.ensures.sound, partial_none c.abort.new.connection (held_in c.clear.new.self) c.clear.ensures)
+
+pub returns-in-OptMode-clause-stands : goal.returns-in-OptMode-clause-stands
+returns-in-OptMode-clause-stands g c =
+    adds Abort c.args.self.now (machine_of c.abort.new.connection (held_in c.clear.new.self)) (λ history. refl) (search rules) (search rules)

@@ -1,8 +1,0 @@
-use Rattle.lnbd_lines.proofs.LineLemmas.{asks_at_last}
-use Rattle.lnbd_lines.proofs.command.asked.Goals as goal
-
-pub returns : goal.returns
-returns c =
-    let no_tcp = rw c.in_default-2.is at c.in_ok-line.ensures in
-    let no_unix = rw c.in_default-3.is at c.in_ok-line-2.ensures in
-    asks_at_last c.args.text.now c.export.result c.in_default.ensures no_tcp no_unix c.in_default-pread.ensures c.in_default-done.ensures c.export.ensures

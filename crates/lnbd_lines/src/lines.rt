@@ -1,0 +1,184 @@
+//! One line of a script: what it asks for, or that it is outside the grammar.
+
+ghost use Rattle.std.specs.Prelude.{◌≤◌, ◌↔◌, IfOk, IsErrOf, IsTrue, List, MatchOption, ℕ};
+ghost use Rattle.lnbd_model.specs.declared.target.Target.{Target};
+ghost use Rattle.lnbd_lines.specs.Grammar.{Asks, IsLawful, IsLine, IsNumber, IsPassedOver, IsTcp};
+ghost use Rattle.lnbd_lines.specs.Written.{HasNoWord, IsTcpTarget};
+ghost use Rattle.lnbd_lines.specs.declared.line.Line.{Line};
+ghost use Rattle.lnbd_lines.specs.declared.fault.LineFault.{LineFault};
+
+use crate::commands::command;
+use crate::fault::LineFault;
+use crate::line::Line;
+use crate::number::{flags, number};
+use crate::word::{cut, short};
+use lnbd_model::{NoMemory, Target};
+use std::alloc::Global;
+use std::str::from_utf8;
+
+/// A line of one word.
+fn word(text: &str) -> Option<Line>
+    ensures { MatchOption result (HasNoWord text.now) (λ line. Asks text.now line) }
+{
+    match text {
+        "settle" => Some(Line::Settle),
+        "log" => Some(Line::Log),
+        "clear-log" => Some(Line::ClearLog),
+        "peek" => Some(Line::Peek),
+        "in-flight" => Some(Line::InFlight),
+        "direction" => Some(Line::Direction),
+        "state" => Some(Line::State),
+        "info" => Some(Line::Info),
+        "read" => Some(Line::Read),
+        "write" => Some(Line::Write),
+        "disconnect" => Some(Line::Disconnect),
+        "close" => Some(Line::Close),
+        _ => None,
+    }
+}
+
+/// `done C`.
+fn done(text: &str) -> Option<Line>
+    ensures { MatchOption result ((cookie : ℕ) → ¬ Asks text.now (Line.Done cookie)) (λ line. Asks text.now line) }
+{
+    let Some(rest) = text.strip_prefix("done ") else {
+        return None;
+    };
+    let Some(cookie) = number(rest) else {
+        return None;
+    };
+    Some(Line::Done { cookie })
+}
+
+/// `strict N`.
+fn strict(text: &str) -> Option<Line>
+    ensures { MatchOption result ((bits : ℕ) → ¬ Asks text.now (Line.Strict bits)) (λ line. Asks text.now line) }
+{
+    let Some(rest) = text.strip_prefix("strict ") else {
+        return None;
+    };
+    let Some(bits) = flags(rest) else {
+        return None;
+    };
+    Some(Line::Strict { bits })
+}
+
+/// The number from 1 to 65535 that the digits spell.
+fn port(digits: &str) -> Option<u16>
+    ensures { MatchOption result ((value : ℕ) → IsNumber digits.now value → 1 ≤ value → ¬ (value ≤ 65535)) (λ value. IsNumber digits.now value × (1 ≤ value)) }
+{
+    match number(digits) {
+        Some(port) if 1 <= port && port <= 65535 => Some(port as u16),
+        _ => None,
+    }
+}
+
+/// `HOST PORT`.
+fn tcp(alloc: Global, text: &str) -> Result<Option<Target>, NoMemory>
+    ensures { IfOk result (λ target. MatchOption target ((host : List ℕ) (port : ℕ) → ¬ IsTcp text.now host port) (λ target. IsTcpTarget text.now target)) }
+{
+    let Some((host, digits)) = cut(text) else {
+        return Ok(None);
+    };
+    let Some(port) = port(digits) else {
+        return Ok(None);
+    };
+    if host.is_empty() {
+        return Ok(None);
+    }
+    let Some(host) = short(alloc, host)? else {
+        return Ok(None);
+    };
+    Ok(Some(Target::Tcp { host, port }))
+}
+
+/// `connect tcp HOST PORT`.
+fn connect_tcp(alloc: Global, text: &str) -> Result<Option<Line>, NoMemory>
+    ensures { IfOk result (λ asked. MatchOption asked ((host : List ℕ) (port : ℕ) → ¬ Asks text.now (Line.Connect (Target.Tcp host port))) (λ line. Asks text.now line)) }
+{
+    let Some(rest) = text.strip_prefix("connect tcp ") else {
+        return Ok(None);
+    };
+    let Some(target) = tcp(alloc, rest)? else {
+        return Ok(None);
+    };
+    Ok(Some(Line::Connect(target)))
+}
+
+/// `connect unix PATH`.
+fn connect_unix(alloc: Global, text: &str) -> Result<Option<Line>, NoMemory>
+    ensures { IfOk result (λ asked. MatchOption asked ((path : List ℕ) → ¬ Asks text.now (Line.Connect (Target.Unix path))) (λ line. Asks text.now line)) }
+{
+    let Some(rest) = text.strip_prefix("connect unix ") else {
+        return Ok(None);
+    };
+    if rest.is_empty() {
+        return Ok(None);
+    }
+    let Some(path) = short(alloc, rest)? else {
+        return Ok(None);
+    };
+    Ok(Some(Line::Connect(Target::Unix { path })))
+}
+
+/// `export TEXT`.
+fn export(alloc: Global, text: &str) -> Result<Option<Line>, NoMemory>
+    ensures { IfOk result (λ asked. MatchOption asked ((name : List ℕ) → ¬ Asks text.now (Line.Export name)) (λ line. Asks text.now line)) }
+{
+    let Some(rest) = text.strip_prefix("export ") else {
+        return Ok(None);
+    };
+    let Some(name) = short(alloc, rest)? else {
+        return Ok(None);
+    };
+    Ok(Some(Line::Export { name }))
+}
+
+/// What the text of a line asks for, if it asks for anything.
+fn asked(alloc: Global, text: &str) -> Result<Option<Line>, NoMemory>
+    ensures { IfOk result (λ asked. MatchOption asked ((line : Line) → ¬ Asks text.now line) (λ line. Asks text.now line)) }
+{
+    if let Some(command) = command(alloc, text)? {
+        return Ok(Some(Line::Command(command)));
+    }
+    if let Some(line) = word(text) {
+        return Ok(Some(line));
+    }
+    if let Some(line) = done(text) {
+        return Ok(Some(line));
+    }
+    if let Some(line) = strict(text) {
+        return Ok(Some(line));
+    }
+    if let Some(line) = connect_tcp(alloc, text)? {
+        return Ok(Some(line));
+    }
+    if let Some(line) = connect_unix(alloc, text)? {
+        return Ok(Some(line));
+    }
+    export(alloc, text)
+}
+
+/// Whether the line is empty, or a comment.
+fn is_passed_over(text: &str) -> bool
+    ensures { IsTrue result ↔ IsPassedOver text.now }
+{
+    text.is_empty() || text.starts_with("#")
+}
+
+/// What a line asks for, or nothing where it is passed over.
+pub(crate) fn read(alloc: Global, line: &[u8]) -> Result<Option<Line>, LineFault>
+    ensures asked { IfOk result (λ asked. IsLine line.now asked) }
+    ensures outside { IsErrOf result LineFault.Outside → ¬ IsLawful line.now }
+{
+    let Ok(text) = from_utf8(line) else {
+        return Err(LineFault::Outside);
+    };
+    if is_passed_over(text) {
+        return Ok(None);
+    }
+    match asked(alloc, text)? {
+        Some(line) => Ok(Some(line)),
+        None => Err(LineFault::Outside),
+    }
+}

@@ -1,0 +1,106 @@
+-- Handles that are held: what a pause waits for, and how they are closed.
+use Rattle.std.proofs.Common.{arith, ◌≡◌, ◌==◌, ◌<◌, ◌≤◌, ◌+◌, ℕ, zero, suc, add-one, List, [], ◌∷◌, ◌++◌, All, length, take, get_or, slice_set, Option, Some, None, refl, sym, ◌∙◌, ap, subst, append_assoc}
+use Rattle.std.specs.Prelude.{◌↔◌, IsSome, slice_get}
+use Rattle.std.proofs.lemmas.Bool.{false≢true}
+use Rattle.std.proofs.lemmas.List.{append-nil}
+use Rattle.lnbd_callbacks.specs.Calls.{Call}
+use Rattle.lnbd_model.specs.declared.state.State.{State}
+use Rattle.lnbd_history.specs.Answers.{state_after, in_flight_after, direction_after}
+use Rattle.lnbd_machine.specs.Machine.{Machine}
+use Rattle.lnbd_machine.specs.Now.{state_now, in_flight_now, direction_now}
+use Rattle.lnbd_standing.proofs.Standing.{stands_right}
+use Rattle.lnbd_commands.specs.declared.close.Closed.{Closed}
+use Rattle.lnbd_handle.specs.Histories.{ForEach, Closes}
+use Rattle.lnbd_link.specs.declared.wires.Want.{Want}
+use Rattle.lnbd_poll.specs.declared.held.Held.{Held}
+use Rattle.lnbd_poll.specs.Seen.{Seen, IsAt}
+use Rattle.lnbd_poll.specs.Lends.{with_handle}
+use Rattle.lnbd_poll.specs.Held.{AllClose, AreAt, want_now, want_of, wants_after, wants_now, with_want}
+
+-- Wants.
+
+with_append : (want : Option Want) (xs ys : List Want) → with_want want xs ++ ys ≡ with_want want (xs ++ ys)
+with_append None xs ys = refl
+with_append (Some want) xs ys = refl
+
+module _ {K : Type 0} where
+  wants_append : (xs ys : List (Held K)) → wants_now (xs ++ ys) ≡ wants_now xs ++ wants_now ys
+  wants_append [] ys = refl
+  wants_append (x ∷ xs) ys = ap (with_want (want_now x)) (wants_append xs ys) ∙ sym (with_append (want_now x) (wants_now xs) (wants_now ys))
+
+  take_one : (i : ℕ) (xs : List (Held K)) (x : Held K) → i < length xs → x ≡ get_or xs i x → take (suc i) xs ≡ take i xs ++ x ∷ []
+  take_one i [] x within is = absurd (omega (arith, within))
+  take_one zero (y ∷ ys) x within is = ap (λ (h : Held K). h ∷ []) (sym is)
+  take_one (suc i) (y ∷ ys) x within is = ap (λ (l : List (Held K)). y ∷ l) (take_one i ys x (omega (arith, within)) is)
+
+  pub wants_on : (i : ℕ) (all : List (Held K)) (x : Held K) (wants : List Want) → i < length all → x ≡ get_or all i x → wants ≡ wants_now (take i all) → wants ++ with_want (want_now x) [] ≡ wants_now (take (i + 1) all)
+  wants_on i all x wants within is so_far =
+      let one : take (i + 1) all ≡ take i all ++ x ∷ [] = rw add-one (take_one i all x within is) in
+      ap (λ (l : List Want). l ++ with_want (want_now x) []) so_far ∙ sym (wants_append (take i all) (x ∷ [])) ∙ ap wants_now (sym one)
+
+  want_same : (held : Held K) (seen : Seen K) → IsAt held.link held.handle held.inbox seen → want_now held ≡ want_of seen.link (state_after seen.history) (in_flight_after seen.history) (direction_after seen.history)
+  want_same held seen at =
+      let right = stands_right 1024 seen.history held.handle at.stands in
+      ap (λ (n : ℕ). want_of n (state_now held.handle.known) (in_flight_now held.handle.known) (direction_now held.handle.known)) (sym at.link)
+      ∙ ap (λ (s : State). want_of seen.link s (in_flight_now held.handle.known) (direction_now held.handle.known)) right.state
+      ∙ ap (λ (n : ℕ). want_of seen.link (state_after seen.history) n (direction_now held.handle.known)) right.in_flight
+      ∙ ap (λ (n : ℕ). want_of seen.link (state_after seen.history) (in_flight_after seen.history) n) right.direction
+
+  pub wants_same : (all : List (Held K)) (seen : List (Seen K)) → AreAt all seen → wants_now all ≡ wants_after seen
+  wants_same [] [] at = refl
+  wants_same [] (s ∷ ss) at = absurd at
+  wants_same (x ∷ xs) [] at = absurd at
+  wants_same (x ∷ xs) (s ∷ ss) at = ap (with_want (want_now x)) (wants_same xs ss at.1) ∙ ap (λ (w : Option Want). with_want w (wants_after ss)) (want_same x s at.0)
+
+-- Indices.
+
+module _ {K : Type 0} where
+  pub set_handle : (i : ℕ) (xs : List (Held K)) (x : Held K) (handle : Machine K) → i < length xs → x ≡ get_or xs i x → slice_set xs i (record x { handle = handle }) ≡ with_handle xs i handle
+  set_handle i [] x handle within is = absurd (omega (arith, within))
+  set_handle zero (y ∷ ys) x handle within is = ap (λ (h : Held K). record h { handle = handle } ∷ ys) is
+  set_handle (suc i) (y ∷ ys) x handle within is = ap (λ (l : List (Held K)). y ∷ l) (set_handle i ys x handle (omega (arith, within)) is)
+
+  pub get_here : (i : ℕ) (xs : List (Held K)) (x : Held K) → i < length xs → x ≡ get_or xs i x → slice_get xs i ≡ Some x
+  get_here i [] x within is = absurd (omega (arith, within))
+  get_here zero (y ∷ ys) x within is = ap Some (sym is)
+  get_here (suc i) (y ∷ ys) x within is = get_here i ys x (omega (arith, within)) is
+
+-- Closing.
+
+pub none_left : {A : Type 0} (n : ℕ) (o : Option A) → o ≡ None → (IsSome o ↔ (0 < n)) → n ≡ 0
+none_left zero o is some = refl
+none_left (suc n) o is some = absurd (false≢true (subst IsSome is (some.1 (omega arith))))
+
+module _ {K World : Type 0} (steps : World → List (Call K) → World → Type 0) where
+  -- The handles that are closed so far: whatever the closing of the others does goes on from here.
+  pub record Closing (seen : List (Seen K)) (before : World) (items : List (Held K)) (closed : List Closed) (now : World) : Type 0 where
+    pub left : List (Seen K)
+    pub at : AreAt items left
+    pub goes_on : (more : List Closed) (after : World) → AllClose steps left more now after → AllClose steps seen (closed ++ more) before after
+
+  pub closing_none : (seen : List (Seen K)) (before : World) (all items : List (Held K)) (closed : List Closed) → items ≡ all → length closed ≡ 0 → AreAt all seen → Closing seen before items closed before
+  closing_none seen before all items [] is none at = record { left = seen; at = subst (λ (l : List (Held K)). AreAt l seen) (sym is) at; goes_on = λ more after c. c }
+  closing_none seen before all items (c ∷ cs) is none at = absurd (omega (arith, none))
+
+  pub closing_on : (seen : List (Seen K)) (before now after : World) (items others : List (Held K)) (x : Held K) (closed : List Closed) (one : Closed) → Closing seen before items closed now → items ≡ x ∷ others
+      → ForEach x.handle (Closes steps one.notes one.opened one.freed now after) → Closing seen before others (closed ++ one ∷ []) after
+  closing_on seen before now after items others x closed one c is closes = go c.left refl (subst (λ (l : List (Held K)). AreAt l c.left) is c.at)
+    where
+      go : (left : List (Seen K)) → c.left ≡ left → AreAt (x ∷ others) c.left → Closing seen before others (closed ++ one ∷ []) after
+      go [] none at = absurd (subst (λ (l : List (Seen K)). AreAt (x ∷ others) l) none at)
+      go (s ∷ ss) is_left at =
+          let here = subst (λ (l : List (Seen K)). AreAt (x ∷ others) l) is_left at in
+          record {
+            left = ss;
+            at = here.1;
+            goes_on = λ more end rest. subst (λ (l : List Closed). AllClose steps seen l before end) (sym (append_assoc closed (one ∷ []) more))
+                (c.goes_on (one ∷ more) end (subst (λ (l : List (Seen K)). AllClose steps l (one ∷ more) now end) (sym is_left) (after, closes s.history here.0.stands, rest)));
+          }
+
+  pub closing_done : (seen : List (Seen K)) (before now : World) (items : List (Held K)) (closed : List Closed) → Closing seen before items closed now → length items ≡ 0 → AllClose steps seen closed before now
+  closing_done seen before now items closed c none = go c.left items refl none c.at
+    where
+      go : (left : List (Seen K)) (items : List (Held K)) → c.left ≡ left → length items ≡ 0 → AreAt items c.left → AllClose steps seen closed before now
+      go left (x ∷ xs) is none at = absurd (omega (arith, none))
+      go (s ∷ ss) [] is none at = absurd (subst (λ (l : List (Seen K)). AreAt [] l) is at)
+      go [] [] is none at = subst (λ (l : List Closed). AllClose steps seen l before now) (append-nil closed) (c.goes_on [] now (subst (λ (l : List (Seen K)). AllClose steps l [] now now) (sym is) refl))

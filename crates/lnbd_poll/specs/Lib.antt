@@ -1,0 +1,9 @@
+pub mod Alone
+pub mod Held
+pub mod Lends
+pub mod Notices
+pub mod Seen
+pub mod Steps
+pub mod Still
+pub mod Turned
+pub mod Turns

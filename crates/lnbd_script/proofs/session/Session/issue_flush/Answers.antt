@@ -1,0 +1,19 @@
+use Rattle.std.proofs.Common.{refl}
+use Rattle.std.proofs.lemmas.Bool.{false≢true}
+use Rattle.lnbd_lines.specs.declared.command.Command.TheVariants as command
+use Rattle.lnbd_script.specs.Lines.{command_of}
+use Rattle.lnbd_script.proofs.IssuingLemmas.{issue_lacks, issue_ok}
+use Rattle.lnbd_script.proofs.session.Session.issue_flush.Goals as goal
+
+pub returns-clause-ok : goal.returns-clause-ok
+returns-clause-ok c =
+    let e = c.aio_flush-answer.ensures in
+    rw c.told_of.ensures
+    (issue_ok (command_of (command.Flush c.args.flags)) (command_of (command.Flush c.args.flags)) c.args.self.now c.aio_flush-answer.new.self c.aio_flush-answer.new.world c.aio_flush-answer.result
+    refl (λ writes. absurd (false≢true writes)) (record { cookie = e.cookie; accepted = e.accepted; made = e.ok; world = e.ok_world; faults = e.faults }))
+
+pub returns-clause-lacks : goal.returns-clause-lacks
+returns-clause-lacks c =
+    let e = c.aio_flush-answer.ensures in
+    rw c.told_of.ensures
+    (issue_lacks (command_of (command.Flush c.args.flags)) c.args.self.now c.aio_flush-answer.new.self c.aio_flush-answer.new.world c.aio_flush-answer.result (record { cookie = e.cookie; accepted = e.accepted; made = e.ok; world = e.ok_world; faults = e.faults }))
