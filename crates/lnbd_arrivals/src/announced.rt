@@ -33,6 +33,9 @@ fn is_success(head: &[u8]) -> bool
 pub fn look_head(waiting: Option<Waiting>, head: &[u8]) -> Option<Announced>
     ensures announces { IfSome result (λ announced. (waited : ℕ → Option Known) → (16 ≤ length head.now → waited (number_at 8 8 head.now) ≡ option_map seen_waiting waiting) → Announces waited head.now announced) }
 
+    // It brings as many bytes as the read asked for.
+    ensures sized { IfSome result (λ announced. (command : Known) → option_map seen_waiting waiting ≡ Some command → announced.size ≡ command.length) }
+
     // Each head of a reply without error to a read that waits is told.
     ensures all { (command : Known) → option_map seen_waiting waiting ≡ Some command → is_read command.kind ≡ true → IsSuccess head.now → IsSome result }
 {

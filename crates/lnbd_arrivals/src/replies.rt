@@ -1,9 +1,10 @@
 //! How a server replies to commands, by what was agreed.
 
-ghost use Rattle.std.specs.Prelude.{◌≡◌, ℕ, List, Option};
+ghost use Rattle.std.specs.Prelude.{◌≡◌, ℕ, List, Option, false};
 ghost use Rattle.lnbd_chunks.specs.Chunk.{Waiting as Known};
 ghost use Rattle.lnbd_history.specs.Arrivals.{shows_frame};
 ghost use Rattle.lnbd_arrivals.specs.Frames.{is_extended, is_structured, shows_by};
+ghost use Rattle.lnbd_arrivals.specs.declared.replies.Replies.TheVariants.{Simple};
 
 /// How a server replies to commands.
 #[derive(Clone, Copy, Debug, PartialEq, Eq)]
@@ -20,7 +21,8 @@ impl Replies {
     /// Where structured replies and extended headers are on or not. Under extended headers nothing hangs on structured replies.
     #[tactic(auto, unfolding(lnbd_history::specs::Arrivals::shows_frame, lnbd_chunks::specs::Reply::shows_reply))]
     pub fn agreed(structured: bool, extended: bool) -> Replies
-        ensures { (waited : ℕ → Option Known) (bytes : List ℕ) → shows_by result waited bytes ≡ shows_frame structured extended waited bytes }
+        ensures shows { (waited : ℕ → Option Known) (bytes : List ℕ) → shows_by result waited bytes ≡ shows_frame structured extended waited bytes }
+        ensures simple { structured ≡ false → extended ≡ false → result ≡ Simple }
     {
         if extended {
             Replies::Extended

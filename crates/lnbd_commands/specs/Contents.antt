@@ -13,6 +13,12 @@ abbrev pub brought_in : Option Content → List ℕ → List ℕ
 brought_in None own = own
 brought_in (Some content) own = bytes_in content
 
+-- a buffer of so many bytes comes back for one that was handed in
+abbrev pub IsSpare : Option Content → ℕ → Type 0
+IsSpare None size = Unit {0}
+IsSpare (Some (Copied bytes)) size = Unit {0}
+IsSpare (Some (Moved buffer)) size = size ≡ length buffer.items
+
 abbrev pub FitsIn : Option Content → ℕ → Type 0
 FitsIn None size = Unit {0}
 FitsIn (Some content) size = length (bytes_in content) ≡ size

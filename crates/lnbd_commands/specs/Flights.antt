@@ -1,5 +1,5 @@
 -- What a desk keeps of the callbacks of one command.
-use Rattle.std.specs.Prelude.{◌≡◌, ℕ, ◌+◌, List, [], ◌∷◌, ◌++◌, Bool, false, Option, Some, None}
+use Rattle.std.specs.Prelude.{◌≡◌, ℕ, ◌+◌, List, [], ◌∷◌, ◌++◌, Bool, false, is_some, Option, Some, None}
 use Rattle.lnbd_callbacks.specs.Desk.{Log, with_admission, with_completion, with_free}
 use Rattle.lnbd_callbacks.specs.Slot.{Slot, IsLiveOn}
 use Rattle.lnbd_callbacks.specs.declared.caller.Verdict.{Verdict}
@@ -33,6 +33,11 @@ module _ {K : Type 0} where
   abbrev pub admitting : Option K → Log → Log
   admitting None log = with_admission log
   admitting (Some first) log = with_admission (with_admission log)
+
+  -- a command in flight has a chunk or extents callback
+  abbrev pub has_first : Option (Flight K) → Bool
+  has_first None = false
+  has_first (Some flight) = is_some flight.first
 
   -- the numbers of a command in flight, each with whether it was completed
   abbrev pub first_numbers : Option (Slot K) → List (ℕ × Bool)

@@ -9,7 +9,9 @@ ghost use Rattle.lnbd_history.specs.Entries.{Dropped, Framed, Lost};
 ghost use Rattle.lnbd_machine.specs.Machine.{Row as SeenRow, file_all, file_in, flying, refused};
 ghost use Rattle.lnbd_machine.specs.Now.{completed_row};
 ghost use Rattle.lnbd_commands.specs.Commands.{Commands as Seen, cleared, issuing, no_commands, payload_at, retiring, waiting_at};
-ghost use Rattle.lnbd_commands.specs.Contents.{bytes_in};
+ghost use Rattle.lnbd_commands.specs.Contents.{IsSpare, bytes_in};
+ghost use Rattle.lnbd_commands.specs.Flights.{has_first};
+ghost use Rattle.lnbd_commands.specs.Rows.{flight_of_row};
 ghost use Rattle.lnbd_commands.specs.Seen.{seen_waiting};
 ghost use Rattle.lnbd_commands.specs.Takes.{IsReply, Takes, TakesReply};
 
@@ -157,6 +159,7 @@ impl<K: Caller> Commands<K> {
     ) -> Result<(), NoMemory>
         requires { IsReply (waiting_at cookie self.old) error bytes.now }
         ensures ok { OnOk result (TakesReply K.steps cookie (waiting_at cookie self.old) error bytes.now self.old self.new world.old world.new) }
+        ensures needed { OnErr result (has_first (flight_of_row (value_at cookie self.old.rows)) ≡ true) }
         ensures err { OnErr result (self.new ≡ self.old) }
         ensures err_world { OnErr result (world.new ≡ world.old) }
     {
@@ -166,8 +169,8 @@ impl<K: Caller> Commands<K> {
         }
     }
 
-    /// The same of a reply whose bytes fill a buffer, which is taken over: nothing is copied. A buffer that is not needed
-    /// any more comes back; for want of memory the one that was handed over does, and nothing has changed.
+    /// The same of a reply whose bytes fill a buffer, which is taken over: nothing is copied. Another one of its length comes
+    /// back; for want of memory the one that was handed over does, and nothing has changed.
     pub fn reply_filled(
         &mut self,
         world: &mut K::World,
@@ -177,6 +180,8 @@ impl<K: Caller> Commands<K> {
     ) -> Result<Vec<u8>, Vec<u8>>
         requires { IsReply (waiting_at cookie self.old) error buffer.items }
         ensures ok { OnOk result (TakesReply K.steps cookie (waiting_at cookie self.old) error buffer.items self.old self.new world.old world.new) }
+        ensures spare { IfOk result (λ spare. length spare.items ≡ length buffer.items) }
+        ensures needed { OnErr result (has_first (flight_of_row (value_at cookie self.old.rows)) ≡ true) }
         ensures handed_back { IfErr result (λ back. back.items ≡ buffer.items) }
         ensures err { OnErr result (self.new ≡ self.old) }
         ensures err_world { OnErr result (world.new ≡ world.old) }
@@ -198,11 +203,13 @@ impl<K: Caller> Commands<K> {
     ) -> Result<Vec<u8>, Content<'a>>
         requires { IsReply (waiting_at cookie self.old) error (bytes_in content) }
         ensures ok { OnOk result (TakesReply K.steps cookie (waiting_at cookie self.old) error (bytes_in content.entry) self.old self.new world.old world.new) }
+        ensures spare { IfOk result (λ spare. IsSpare (Some content.entry) (length spare.items)) }
+        ensures needed { OnErr result (has_first (flight_of_row (value_at cookie self.old.rows)) ≡ true) }
         ensures handed_back { IfErr result (λ back. back ≡ content.entry) }
         ensures err { OnErr result (self.new ≡ self.old) }
         ensures err_world { OnErr result (world.new ≡ world.old) }
     {
-        let landed = match answer_in(
+        let (landed, spare) = match answer_in(
             &mut self.table,
             self.alloc,
             &mut self.desk,
@@ -211,12 +218,13 @@ impl<K: Caller> Commands<K> {
             error,
             content,
         ) {
-            Ok(landed) => landed,
+            Ok(end) => end,
             Err(content) => return Err(content),
         };
         let _admitted = self.desk.admitted();
         self.freed += landed.count();
-        Ok(finish_in(&mut self.table, &mut self.desk, world, cookie, landed))
+        finish_in(&mut self.table, &mut self.desk, world, cookie, landed);
+        Ok(spare)
     }
 
     /// Fails each command in flight with 107, ENOTCONN, or an earlier error of its own, in order of

@@ -1,7 +1,7 @@
 //! The callbacks of one command: admitted together, called at its end, and freed together. Which
 //! command they belong to is not known here.
 
-ghost use Rattle.std.specs.Prelude.{◌≡◌, ◌++◌, map, Some, is_some, IfOk, IfErr, OnOk, OnErr};
+ghost use Rattle.std.specs.Prelude.{◌≡◌, ◌++◌, map, true, Some, is_some, IfOk, IfErr, OnOk, OnErr};
 ghost use Rattle.lnbd_history.specs.Commands.{flight_of};
 ghost use Rattle.lnbd_history.specs.Entries.{call_of, note_of, hears, first_acts, first_free_acts, free_acts, completion_acts};
 ghost use Rattle.lnbd_commands.specs.Lands.{IsCounted};
@@ -144,6 +144,7 @@ impl<K: Caller> Flight<K> {
         ensures world { IfOk result (λ heard. K.steps world.old (map call_of (first_acts self.now.first (told_to told.entry) heard)) world.new) }
         ensures log { IfOk result (λ heard. desk.new.log ≡ record desk.old.log { notes = desk.old.log.notes ++ map note_of (first_acts self.now.first (told_to told.entry) heard) }) }
         ensures succeeds { OnErr result (desk.old.room ≡ 0) }
+        ensures needed { OnErr result (is_some self.now.first ≡ true) }
         ensures err_world { OnErr result (world.new ≡ world.old) }
         ensures err_desk { OnErr result (desk.new ≡ desk.old) }
     {

@@ -6,12 +6,12 @@ ghost use Rattle.std.specs.Option.{option_map};
 ghost use Rattle.lnbd_model.specs.Kind.{is_read};
 ghost use Rattle.lnbd_outcome.specs.Outcome.{buffer, error_number, failing, or_else};
 ghost use Rattle.lnbd_history.specs.Entries.{heard_error};
-ghost use Rattle.lnbd_commands.specs.Contents.{FitsIn, brought_in, bytes_in};
-ghost use Rattle.lnbd_commands.specs.Flights.{flight_count};
+ghost use Rattle.lnbd_commands.specs.Contents.{FitsIn, IsSpare, brought_in, bytes_in};
+ghost use Rattle.lnbd_commands.specs.Flights.{flight_count, has_first};
 ghost use Rattle.lnbd_commands.specs.Lands.{EndsAs, Hears, IsLiveRow, IsWhole, lacking, lost, reply_bad, reply_failure, reply_hearing};
 ghost use Rattle.lnbd_commands.specs.Seen.{seen_waiting, told_to};
 
-use crate::content::Content;
+use crate::content::{Content, spare_of};
 use crate::flight::{Flight, Hearing};
 use lnbd_callbacks::{Caller, Desk, Heard};
 use lnbd_history::Completed;
@@ -70,13 +70,12 @@ impl Model for Kept {
 }
 
 /// What a command in flight came to: its callbacks, what its chunk callback answered last, its error, if any, and
-/// its bytes; and a buffer that is not needed any more.
+/// its bytes.
 pub(crate) struct Landed<K> {
     pub(crate) flight: Flight<K>,
     pub(crate) heard: Option<Heard>,
     pub(crate) failure: Option<Failure>,
     pub(crate) bytes: Bytes,
-    pub(crate) spare: Vec<u8>,
 }
 
 impl<K> Model for Landed<K> {
@@ -210,21 +209,23 @@ impl<K> Row<K> {
     }
 
     /// Takes the callbacks and the buffer of a command that ends with this error, if any. The bytes of a
-    /// read that is done are this content or what its buffer holds, those of one that failed are zeroes, and a write has its own.
+    /// read that is done are this content or what its buffer holds, those of one that failed are zeroes, and a write has its own. A
+    /// buffer that is not needed any more comes back beside.
     fn land(
         &mut self,
         alloc: Global,
         heard: Option<Heard>,
         failure: Option<Failure>,
         content: Option<Content<'_>>,
-    ) -> Landed<K>
+    ) -> (Landed<K>, Vec<u8>)
         requires flies { is_some self.old.flight ≡ true }
         requires held { self.old.kept ≡ None }
         requires whole { is_read self.old.kind ≡ true → error_number failure ≡ 0 → IsWhole content self.old }
-        ensures flight { self.old.flight ≡ Some result.flight }
-        ensures heard { result.heard ≡ heard }
-        ensures failure { result.failure ≡ failure }
-        ensures bytes { result.bytes ≡ buffer self.old.kind self.old.length self.old.bytes (error_number failure) (brought_in content.entry self.old.bytes) }
+        ensures flight { self.old.flight ≡ Some result.0.flight }
+        ensures heard { result.0.heard ≡ heard }
+        ensures failure { result.0.failure ≡ failure }
+        ensures bytes { result.0.bytes ≡ buffer self.old.kind self.old.length self.old.bytes (error_number failure) (brought_in content.entry self.old.bytes) }
+        ensures spare { IsSpare content.entry (length result.1.items) }
         ensures row { self.new ≡ landed failure (unanswered failure) self.old }
     {
         let Some(flight) = self.flight.take() else {
@@ -238,13 +239,13 @@ impl<K> Row<K> {
             error,
             bytes: Bytes::from_vec(Vec::new(alloc)),
         });
-        Landed {
+        let landed = Landed {
             flight,
             heard,
             failure,
             bytes: Bytes::from_vec(bytes),
-            spare,
-        }
+        };
+        (landed, spare)
     }
 
     /// Ends the command because the connection died. It takes no memory.
@@ -256,7 +257,7 @@ impl<K> Row<K> {
         ensures row { self.new ≡ landed result.failure (unanswered result.failure) self.old }
     {
         let failure = first_of(self.assembly.failure(), failing(Origin::Lost, ENOTCONN));
-        self.land(alloc, None, failure, None)
+        self.land(alloc, None, failure, None).0
     }
 
     /// Ends the command after its last chunk, to which its callback answered this: what was not told is its error, if it
@@ -274,7 +275,7 @@ impl<K> Row<K> {
     {
         let lack = self.lack(contexts);
         let failure = first_of(self.assembly.failure(), lack);
-        self.land(alloc, heard, failure, None)
+        self.land(alloc, heard, failure, None).0
     }
 
     /// The error of a command whose last frame came, where not all was told.
@@ -375,7 +376,8 @@ fn finish(
     content: Option<Content<'_>>,
 ) -> (Vec<u8>, Vec<u8>)
     requires { is_read kind ≡ true → error ≡ 0 → FitsIn content (vec_len own) }
-    ensures { result.0.items ≡ buffer kind (length own.items) own.items error (brought_in content.entry own.items) }
+    ensures bytes { result.0.items ≡ buffer kind (length own.items) own.items error (brought_in content.entry own.items) }
+    ensures spare { IsSpare content.entry (length result.1.items) }
 {
     let mut bytes = own;
     match kind {
@@ -391,7 +393,7 @@ fn finish(
         Kind::Write => {}
         _ => bytes.clear(),
     }
-    (bytes, Vec::new(alloc))
+    (bytes, spare_of(alloc, content))
 }
 
 /// Ends a flight that is not there.
@@ -411,7 +413,7 @@ impl<K: Caller> Row<K> {
     ghost use Rattle.lnbd_commands.specs.Lands.{IsLiveRow, Lands, known_of, reply_item};
 
     /// Ends the command by a simple reply with this error, as the wire tells it, and these bytes. For want of memory they are
-    /// handed back, and nothing has changed.
+    /// handed back, and nothing has changed. A buffer that is not needed any more comes back beside what the command came to.
     pub(crate) fn answer<'a>(
         &mut self,
         alloc: Global,
@@ -419,13 +421,17 @@ impl<K: Caller> Row<K> {
         world: &mut K::World,
         error: u32,
         content: Content<'a>,
-    ) -> Result<Landed<K>, Content<'a>>
+    ) -> Result<(Landed<K>, Vec<u8>), Content<'a>>
         requires flies { is_some self.old.flight ≡ true }
         requires held { self.old.kept ≡ None }
         requires live { IsLiveRow self.old.flight desk.old.log }
         requires sized { length (bytes_in content) ≡ content_size (known_of self.old) error }
-        ensures lands { IfOk result (λ landed. Lands K.steps self.old (reply_item self.old error (bytes_in content.entry)) landed desk.old.log desk.new.log world.old world.new) }
-        ensures row { IfOk result (λ end. self.new ≡ landed end.failure (unanswered end.failure) self.old) }
+        ensures lands { IfOk result (λ end. Lands K.steps self.old (reply_item self.old error (bytes_in content.entry)) end.0 desk.old.log desk.new.log world.old world.new) }
+        ensures row { IfOk result (λ end. self.new ≡ landed end.0.failure (unanswered end.0.failure) self.old) }
+        ensures spare { IfOk result (λ end. IsSpare (Some content.entry) (length end.1.items)) }
+
+        // Memory is wanted for the note of a chunk callback alone.
+        ensures needed { OnErr result (has_first self.old.flight ≡ true) }
         ensures handed_back { IfErr result (λ back. back ≡ content.entry) }
         ensures err_row { OnErr result (self.new ≡ self.old) }
         ensures err_desk { OnErr result (desk.new ≡ desk.old) }
@@ -501,6 +507,7 @@ pub(crate) fn hear<K: Caller>(
     requires { IsLiveRow flight.now desk.old.log }
     ensures hears { IfOk result (λ heard. Hears K.steps flight.now (told_to told.entry) heard desk.old.log desk.new.log world.old world.new) }
     ensures succeeds { OnErr result (desk.old.room ≡ 0) }
+    ensures needed { OnErr result (has_first flight.now ≡ true) }
     ensures err_desk { OnErr result (desk.new ≡ desk.old) }
     ensures err_world { OnErr result (world.new ≡ world.old) }
 {

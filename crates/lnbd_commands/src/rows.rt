@@ -1,14 +1,14 @@
 //! Changes of one row of the table, with the callbacks of its command. Which commands there are, and
 //! what holds of all of them, is not said here.
 
-ghost use Rattle.std.specs.Prelude.{◌≡◌, map, true, false, None, IsSome, IfOk, IfErr, OnErr, is_some};
+ghost use Rattle.std.specs.Prelude.{◌≡◌, map, length, true, false, None, Some, IsSome, IfOk, IfErr, OnErr, is_some};
 ghost use Rattle.lnbd_keyed.specs.Keyed.{value_at, without};
 ghost use Rattle.lnbd_inflight.specs.Done.{is_done, forgetting};
 ghost use Rattle.lnbd_callbacks.specs.declared.caller.Verdict.{Verdict};
 ghost use Rattle.lnbd_outcome.specs.Outcome.{error_number};
 ghost use Rattle.lnbd_history.specs.Entries.{call_of, completion_acts};
-ghost use Rattle.lnbd_commands.specs.Contents.{bytes_in};
-ghost use Rattle.lnbd_commands.specs.Flights.{IsLiveFlight, completing};
+ghost use Rattle.lnbd_commands.specs.Contents.{IsSpare, bytes_in};
+ghost use Rattle.lnbd_commands.specs.Flights.{IsLiveFlight, completing, has_first};
 ghost use Rattle.lnbd_structured.specs.Told.{content_in};
 ghost use Rattle.lnbd_commands.specs.Lands.{AnswerableAt, EndsAt, HearsAt, LandsAt, LosableAt, LostAt, TellableAt, told_row};
 ghost use Rattle.lnbd_commands.specs.Rows.{changed, ended, flight_of_row, keeping, kept_of_row, landed, unanswered};
@@ -22,7 +22,8 @@ use lnbd_model::{Bytes, Contexts, NoMemory};
 use lnbd_structured::Told;
 use std::alloc::Global;
 
-/// Ends the command of a cookie by a simple reply, and takes its callbacks out of its row.
+/// Ends the command of a cookie by a simple reply, and takes its callbacks out of its row. A buffer that is not needed any more
+/// comes back beside.
 pub(crate) fn answer_in<'a, K: Caller>(
     table: &mut Table<Row<K>>,
     alloc: Global,
@@ -31,10 +32,12 @@ pub(crate) fn answer_in<'a, K: Caller>(
     cookie: u64,
     error: u32,
     content: Content<'a>,
-) -> Result<Landed<K>, Content<'a>>
+) -> Result<(Landed<K>, Vec<u8>), Content<'a>>
     requires { AnswerableAt (value_at cookie table.old.rows) error (bytes_in content) desk.old.log }
-    ensures lands { IfOk result (λ landed. LandsAt K.steps (value_at cookie table.old.rows) error (bytes_in content.entry) landed desk.old.log desk.new.log world.old world.new) }
-    ensures rows { IfOk result (λ end. table.new ≡ record table.old { rows = changed (landed end.failure (unanswered end.failure)) cookie table.old.rows }) }
+    ensures lands { IfOk result (λ end. LandsAt K.steps (value_at cookie table.old.rows) error (bytes_in content.entry) end.0 desk.old.log desk.new.log world.old world.new) }
+    ensures rows { IfOk result (λ end. table.new ≡ record table.old { rows = changed (landed end.0.failure (unanswered end.0.failure)) cookie table.old.rows }) }
+    ensures spare { IfOk result (λ end. IsSpare (Some content.entry) (length end.1.items)) }
+    ensures needed { OnErr result (has_first (flight_of_row (value_at cookie table.old.rows)) ≡ true) }
     ensures handed_back { IfErr result (λ back. back ≡ content.entry) }
     ensures err_table { OnErr result (table.new ≡ table.old) }
     ensures err_desk { OnErr result (desk.new ≡ desk.old) }
@@ -127,15 +130,14 @@ pub(crate) fn drop_in<K>(table: &mut Table<Row<K>>, cookie: u64)
     }
 }
 
-/// Completes a command that landed, frees its callbacks, and keeps or retires it. A buffer that is not needed any more
-/// comes back.
+/// Completes a command that landed, frees its callbacks, and keeps or retires it.
 pub(crate) fn finish_in<K: Caller>(
     table: &mut Table<Row<K>>,
     desk: &mut Desk,
     world: &mut K::World,
     cookie: u64,
     landed: Landed<K>,
-) -> Vec<u8>
+)
     requires landed { is_some (kept_of_row (value_at cookie table.old.rows)) ≡ true }
     requires empty { flight_of_row (value_at cookie table.old.rows) ≡ None }
     requires undone { is_done cookie table.old.done ≡ false }
@@ -149,7 +151,6 @@ pub(crate) fn finish_in<K: Caller>(
         heard: _,
         failure,
         bytes,
-        spare,
     } = landed;
     match complete(flight, desk, world, error_number(failure), bytes) {
         Verdict::Keep { error, buf } => {
@@ -158,5 +159,4 @@ pub(crate) fn finish_in<K: Caller>(
         }
         Verdict::Retire => drop_in(table, cookie),
     }
-    spare
 }

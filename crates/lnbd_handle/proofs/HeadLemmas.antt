@@ -1,6 +1,6 @@
 -- Data behind the head of a reply.
 use Rattle.std.proofs.Common.{◌≡◌, ℕ, ◌+◌, ◌<◌, ◌≤◌, true, false, Option, Some, None, IfSome, List, [], ◌++◌, length, take, drop, Result, Ok, Err, OnOk, refl, ap, sym, ◌∙◌, subst, arith, append_assoc}
-use Rattle.std.specs.Result.{is_err}
+use Rattle.std.specs.Result.{IsOk, is_err}
 use Rattle.std.specs.Option.{option_map}
 use Rattle.std.proofs.lemmas.List.{take_all, length-append, drop-append-le, drop_all}
 use Rattle.lnbd_callbacks.specs.Calls.{Call}
@@ -28,6 +28,10 @@ use Rattle.lnbd_handle.proofs.TurnLemmas.{shown_frame, turn_reply}
 pub ok_of : {A E P : Type 0} (r : Result A E) → is_err r ≡ false → OnOk r P → P
 ok_of (Ok a) e h = h
 ok_of (Err x) e h = cc
+
+pub not_err : {A E : Type 0} (r : Result A E) → IsOk r → is_err r ≡ true → ⊥
+not_err (Ok a) e h = cc
+not_err (Err x) e h = cc
 
 -- behind a head of so many bytes stands the rest
 pub behind : (n : ℕ) (head got : List ℕ) → length head ≡ n → drop n (head ++ got) ≡ got

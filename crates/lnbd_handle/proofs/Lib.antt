@@ -1,4 +1,7 @@
 pub mod QueuedLemmas
+pub mod RoomLemmas
+pub mod CalmLemmas
+pub mod PlacesLemmas
 pub mod RunLemmas
 pub mod FrontLemmas
 pub mod TurnLemmas

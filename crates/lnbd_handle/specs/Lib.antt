@@ -1,4 +1,5 @@
 pub mod Seen
+pub mod Room
 pub mod Runs
 pub mod Greets
 pub mod Turns

@@ -1,7 +1,7 @@
 //! How negotiation is given up: ABORT goes out, and what arrives from then on is passed over. So many bytes may come and no
 //! more.
 
-ghost use Rattle.std.specs.Prelude.{◌≡◌, ◌∷◌, []};
+ghost use Rattle.std.specs.Prelude.{◌≡◌, ◌≢◌, ◌∷◌, []};
 ghost use Rattle.lnbd_records.specs.Limits.{max_passed};
 ghost use Rattle.lnbd_history.specs.declared.kinds.Stage.TheVariants.{Aborting, Open};
 ghost use Rattle.lnbd_history.specs.Outgoing.{abort_part};
@@ -42,6 +42,7 @@ pub(crate) fn turn_aborting<K: Caller>(
     requires aborting { connection.old.stage ≡ Aborting }
     ensures means { TurnMeans K.steps connection.old world.old rest.now result connection.new world.new }
     ensures sound { IsSound connection.new }
+    ensures memory { result ≢ Turn.Short }
 {
     let count = rest.len();
     if count == 0 {

@@ -1,20 +1,29 @@
 //! Takes the bytes that arrived, record by record, and holds those that are no whole record yet.
 
-ghost use Rattle.std.specs.Prelude.{◌≡◌, ◌≤◌, ◌+◌, [], true, length, OnOk, OnErr};
+ghost use Rattle.std.specs.Prelude.{◌≡◌, ◌≢◌, ◌≤◌, ◌<◌, ◌+◌, [], true, false, length, take, vec_len, vec_capacity, IfSome, IsOk, OnOk, OnErr};
+ghost use Rattle.lnbd_records.specs.Transmission.{simple_head_size};
+ghost use Rattle.lnbd_keyed.specs.Keyed.{value_at};
+ghost use Rattle.lnbd_commands.specs.Commands.{waiting_at};
+ghost use Rattle.lnbd_commands.specs.Flights.{has_first};
+ghost use Rattle.lnbd_commands.specs.Rows.{flight_of_row};
+ghost use Rattle.lnbd_commands.specs.Takes.{IsReply, TakesReply};
 ghost use Rattle.lnbd_handle.specs.Held.{held_in};
-ghost use Rattle.lnbd_handle.specs.Seen.{IsSound, machine_of};
-ghost use Rattle.lnbd_handle.specs.Turns.{Arrives, Brings, Drained, HoldMeans};
+ghost use Rattle.lnbd_handle.specs.Room.{AreOrdered, AreWithin, HasPlaces, IsCalm, IsHeadWithin, IsKept, IsQuiet, NoneHears, ReadsFit, RepliesSimply};
+ghost use Rattle.lnbd_handle.specs.Seen.{IsSound, machine_of, state_of};
+ghost use Rattle.lnbd_handle.specs.Turns.{Arrives, Brings, Drained, HoldMeans, ShowsNothing, is_speaking};
 ghost use Rattle.lnbd_machine.specs.Laws.{IsPartial};
 
 use crate::connection::Connection;
 use crate::heads::announced_in;
 use crate::kinds::{Holding, Short, Taken, Turn};
 use crate::lacking::lacking;
-use crate::pending::Pending;
+use crate::pending::{Pending, SIMPLE_HEAD};
 use crate::turns::turn;
 use lnbd_arrivals::Announced;
 use lnbd_callbacks::Caller;
+use lnbd_commands::Commands;
 use lnbd_model::NoMemory;
+use std::alloc::Global;
 use std::mem::replace;
 
 /// Takes the records of a buffer.
@@ -22,6 +31,7 @@ fn drain<K: Caller>(connection: &mut Connection<K>, world: &mut K::World, buffer
     requires { IsSound connection.old }
     ensures drained { Drained K.steps connection.old world.old buffer.now result connection.new world.new }
     ensures sound { IsSound connection.new }
+    ensures memory { IsCalm (state_of connection.old) → result.short ≡ false }
 {
     let all = buffer.len();
     let mut used = 0;
@@ -48,8 +58,15 @@ pub(crate) fn take_fresh<K: Caller>(
 ) -> Result<(), Short>
     requires sound { IsSound connection.old }
     requires fresh { held_in pending.old ≡ [] }
+    requires kept { IsKept pending.old }
+    requires fits { ReadsFit (vec_len pending.old.content) connection.old.commands.rows }
+    requires ordered { AreOrdered connection.old.talk.structured connection.old.talk.extended }
     ensures arrives { Arrives K.steps connection.old (held_in pending.old) world.old bytes.now result connection.new (held_in pending.new) world.new }
     ensures sound { IsSound connection.new }
+    ensures kept { IsKept pending.new }
+    ensures room { vec_len pending.new.content ≡ vec_len pending.old.content }
+    ensures split { RepliesSimply connection.new.stage connection.new.talk.phase connection.new.talk.structured connection.new.talk.extended → length pending.new.head.items ≤ simple_head_size }
+    ensures memory { IsCalm (state_of connection.old) → IsOk result }
 {
     let taken = drain(connection, world, bytes);
     if taken.short {
@@ -68,17 +85,20 @@ fn hold_rest<K>(
     pending: &mut Pending,
     rest: &[u8],
 ) -> Result<(), NoMemory>
-    requires { held_in pending.old ≡ [] }
+    requires empty { held_in pending.old ≡ [] }
+    requires kept { IsKept pending.old }
+    requires fits { ReadsFit (vec_len pending.old.content) connection.now.commands.rows }
+    requires partial { ShowsNothing (state_of connection.now) rest.now }
     ensures ok { OnOk result (held_in pending.new ≡ rest.now) }
     ensures err { OnErr result (held_in pending.new ≡ []) }
+    ensures kept { IsKept pending.new }
+    ensures room { vec_len pending.new.content ≡ vec_len pending.old.content }
+    ensures split { RepliesSimply connection.now.stage connection.now.talk.phase connection.now.talk.structured connection.now.talk.extended → length pending.new.head.items ≤ simple_head_size }
+    ensures memory { (is_speaking connection.now.stage ≡ true → RepliesSimply connection.now.stage connection.now.talk.phase connection.now.talk.structured connection.now.talk.extended) → IsOk result }
 {
-    let (head, content) = rest.split_at(rest.len().min(16));
+    let (head, data) = rest.split_at(rest.len().min(SIMPLE_HEAD));
     match announced_in(connection, head) {
-        Some(announced) if content.len() <= announced.size => pending.hold_apart(
-            head,
-            content,
-            announced.size,
-        ),
+        Some(announced) if data.len() <= announced.size => pending.hold_apart(head, data),
         _ => pending.hold(rest),
     }
 }
@@ -95,6 +115,10 @@ fn hold_front<K: Caller>(
     requires partial { IsPartial (machine_of connection.old pending.old.items) }
     ensures means { HoldMeans K.steps connection.old pending.old.items world.old front.now result connection.new pending.new.items world.new }
     ensures sound { IsSound connection.new }
+    ensures still { result ≡ Holding.More → connection.new ≡ connection.old }
+    ensures capacity { vec_capacity pending.old ≤ vec_capacity pending.new }
+    ensures len { length pending.new.items ≤ length pending.old.items + length front.now }
+    ensures memory { IsCalm (state_of connection.old) → vec_len pending.old + length front.now ≤ vec_capacity pending.old → result ≢ Holding.Short }
 {
     let before = pending.len();
     if pending.extend_from_slice(front).is_err() {
@@ -126,13 +150,54 @@ fn hold_record<K: Caller>(
 ) -> Holding
     requires sound { IsSound connection.old }
     requires partial { IsPartial (machine_of connection.old (held_in pending.old)) }
+    requires kept { IsKept pending.old }
     ensures means { HoldMeans K.steps connection.old (held_in pending.old) world.old front.now result connection.new (held_in pending.new) world.new }
     ensures sound { IsSound connection.new }
+    ensures still { result ≡ Holding.More → connection.new ≡ connection.old }
+    ensures kept { IsKept pending.new }
+    ensures room { vec_len pending.new.content ≡ vec_len pending.old.content }
+    ensures memory { IsCalm (state_of connection.old) → IsHeadWithin pending.old front.now → result ≢ Holding.Short }
+    ensures head { IsHeadWithin pending.old front.now → length pending.new.head.items ≤ simple_head_size }
 {
     if pending.join().is_err() {
         return Holding::Short;
     }
     hold_front(connection, &mut pending.head, world, front)
+}
+
+/// Files the simple reply of which all data are there. Where they fill the buffer it becomes the command's own, whose buffer takes
+/// its place; else they are copied.
+fn file_data<K: Caller>(
+    commands: &mut Commands<K>,
+    alloc: Global,
+    buffer: &mut Vec<u8>,
+    world: &mut K::World,
+    announced: Announced,
+) -> Result<(), NoMemory>
+    requires there { announced.size ≤ vec_len buffer.old }
+    requires reply { IsReply (waiting_at announced.cookie commands.old) 0 (take announced.size buffer.old.items) }
+    ensures ok { OnOk result (TakesReply K.steps announced.cookie (waiting_at announced.cookie commands.old) 0 (take announced.size buffer.old.items) commands.old commands.new world.old world.new) }
+    ensures needed { OnErr result (has_first (flight_of_row (value_at announced.cookie commands.old.rows)) ≡ true) }
+    ensures err { OnErr result (commands.new ≡ commands.old) }
+    ensures err_buffer { OnErr result (buffer.new.items ≡ buffer.old.items) }
+    ensures err_world { OnErr result (world.new ≡ world.old) }
+    ensures room { vec_len buffer.new ≡ vec_len buffer.old }
+{
+    if announced.size < buffer.len() {
+        let (data, _) = buffer.split_at(announced.size);
+        return commands.reply(world, announced.cookie, 0, data);
+    }
+    let data = replace(buffer, Vec::new(alloc));
+    match commands.reply_filled(world, announced.cookie, 0, data) {
+        Ok(spare) => {
+            *buffer = spare;
+            Ok(())
+        }
+        Err(data) => {
+            *buffer = data;
+            Err(NoMemory)
+        }
+    }
 }
 
 /// Holds data behind the head of a reply, and takes the reply that ends in it.
@@ -146,41 +211,39 @@ fn hold_content<K: Caller>(
     requires sound { IsSound connection.old }
     requires partial { IsPartial (machine_of connection.old (held_in pending.old)) }
     requires brings { Brings connection.old pending.old.head.items announced }
-    requires fits { length pending.old.content.items + length front.now ≤ announced.size }
+    requires fits { pending.old.came + length front.now ≤ announced.size }
+    requires there { announced.size ≤ vec_len pending.old.content }
+    requires kept { IsKept pending.old }
     ensures means { HoldMeans K.steps connection.old (held_in pending.old) world.old front.now result connection.new (held_in pending.new) world.new }
     ensures sound { IsSound connection.new }
+    ensures still { result ≡ Holding.More → connection.new ≡ connection.old }
+    ensures kept { IsKept pending.new }
+    ensures room { vec_len pending.new.content ≡ vec_len pending.old.content }
+    ensures memory { NoneHears connection.old.commands.rows → result ≢ Holding.Short }
+    ensures head { length pending.new.head.items ≤ simple_head_size }
 {
-    let before = pending.content.len();
-    if pending.hold_content(front, announced.size).is_err() {
-        return Holding::Short;
-    }
-    if pending.content.len() < announced.size {
+    let before = pending.came;
+    pending.put(front);
+    if pending.came < announced.size {
         return Holding::More;
     }
-    let buffer = replace(&mut pending.content, Vec::new(connection.alloc));
-    match connection
-        .commands
-        .reply_filled(world, announced.cookie, 0, buffer)
-    {
-        Ok(spare) => {
-            pending.content = spare;
+    let filed = file_data(
+        &mut connection.commands,
+        connection.alloc,
+        &mut pending.content,
+        world,
+        announced,
+    );
+    match filed {
+        Ok(()) => {
             pending.clear();
             Holding::Took(front.len())
         }
-        Err(buffer) => {
-            pending.content = buffer;
-            pending.content.truncate(before);
+        Err(_) => {
+            pending.came = before;
             Holding::Short
         }
     }
-}
-
-/// Whether these bytes are all data of a reply that brings so many.
-fn fits(pending: &Pending, front: &[u8], size: usize) -> bool
-    ensures { result ≡ true → length pending.now.content.items + length front.now ≤ size }
-{
-    let held = pending.content.len();
-    held <= size && front.len() <= size - held
 }
 
 /// Holds bytes behind those that are held, which show nothing yet, and takes the record that ends in them, if one does.
@@ -188,19 +251,37 @@ fn hold<K: Caller>(
     connection: &mut Connection<K>,
     pending: &mut Pending,
     world: &mut K::World,
+    announced: Option<Announced>,
     front: &[u8],
 ) -> Holding
     requires sound { IsSound connection.old }
     requires partial { IsPartial (machine_of connection.old (held_in pending.old)) }
+    requires kept { IsKept pending.old }
+    requires brings { IfSome announced (λ some. Brings connection.old pending.old.head.items some) }
+    requires there { IfSome announced (λ some. some.size ≤ vec_len pending.old.content) }
     ensures means { HoldMeans K.steps connection.old (held_in pending.old) world.old front.now result connection.new (held_in pending.new) world.new }
     ensures sound { IsSound connection.new }
+    ensures still { result ≡ Holding.More → connection.new ≡ connection.old }
+    ensures kept { IsKept pending.new }
+    ensures room { vec_len pending.new.content ≡ vec_len pending.old.content }
+    ensures memory { IsCalm (state_of connection.old) → AreWithin announced pending.old front.now → result ≢ Holding.Short }
+    ensures split { AreWithin announced pending.old front.now → length pending.new.head.items ≤ simple_head_size }
 {
-    match announced_in(connection, &pending.head) {
+    match announced {
         Some(announced) if fits(pending, front, announced.size) => {
             hold_content(connection, pending, world, announced, front)
         }
         _ => hold_record(connection, pending, world, front),
     }
+}
+
+/// Whether these bytes are all data of a reply that brings so many.
+fn fits(pending: &Pending, front: &[u8], size: usize) -> bool
+    ensures yes { result ≡ true → pending.now.came + length front.now ≤ size }
+    ensures no { result ≡ false → size < pending.now.came + length front.now }
+{
+    let held = pending.came;
+    held <= size && front.len() <= size - held
 }
 
 /// Takes bytes behind those that are held, which show nothing yet. Of the record that these begin so many are held as it
@@ -213,15 +294,21 @@ pub(crate) fn take_behind<K: Caller>(
 ) -> Result<(), Short>
     requires sound { IsSound connection.old }
     requires partial { IsPartial (machine_of connection.old (held_in pending.old)) }
+    requires places { HasPlaces connection.old.stage connection.old.talk.phase connection.old.talk.structured connection.old.talk.extended connection.old.commands.rows pending.old }
     ensures arrives { Arrives K.steps connection.old (held_in pending.old) world.old bytes.now result connection.new (held_in pending.new) world.new }
     ensures sound { IsSound connection.new }
+    ensures kept { IsKept pending.new }
+    ensures room { vec_len pending.new.content ≡ vec_len pending.old.content }
+    ensures split { RepliesSimply connection.new.stage connection.new.talk.phase connection.new.talk.structured connection.new.talk.extended → length pending.new.head.items ≤ simple_head_size }
+    ensures memory { IsQuiet (state_of connection.old) → IsOk result }
 {
     let mut used = 0;
     while used < bytes.len() {
         let (_, rest) = bytes.split_at(used);
-        let most = lacking(connection, pending).min(rest.len());
+        let announced = announced_in(connection, &pending.head);
+        let most = lacking(connection, pending, announced).min(rest.len());
         let (front, _) = rest.split_at(most);
-        match hold(connection, pending, world, front) {
+        match hold(connection, pending, world, announced, front) {
             Holding::More => used += most,
             Holding::Took(n) => {
                 let (_, rest) = rest.split_at(n);

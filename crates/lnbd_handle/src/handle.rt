@@ -1,6 +1,6 @@
 //! The calls of a handle.
 
-ghost use Rattle.std.specs.Prelude.{◌≡◌, [], ◌≤◌, ◌≢◌, true, false, Some, None, length, take, IfOk, OnOk, OnErr, IfErr};
+ghost use Rattle.std.specs.Prelude.{◌≡◌, [], ◌≤◌, ◌≢◌, true, false, Some, None, length, take, IfOk, IsOk, OnOk, OnErr, IfErr};
 ghost use Rattle.std.specs.Option.{option_copied};
 ghost use Rattle.lnbd_model.specs.declared.state.State.TheVariants as state;
 ghost use Rattle.lnbd_history.specs.declared.kinds.Stage.TheVariants.{Created};
@@ -12,6 +12,7 @@ ghost use Rattle.lnbd_machine.specs.Machine.{calls, created, step};
 ghost use Rattle.lnbd_machine.specs.Now.{state_now, in_flight_now, info_now, out_now, direction_now, peeked_now};
 ghost use Rattle.lnbd_standing.specs.Standing.{StandsFor};
 ghost use Rattle.lnbd_handle.specs.Histories.{Adds, AddsAnswered, AddsOnOk, Closes, ForEach, max_unretired};
+ghost use Rattle.lnbd_handle.specs.Room.{IsPlain};
 ghost use Rattle.lnbd_handle.specs.Runs.{Answered};
 
 use crate::connection::Connection;
@@ -42,13 +43,14 @@ impl<K> Model for Handle<K> {
     ghost use Rattle.lnbd_machine.specs.Machine.{Machine};
     ghost use Rattle.lnbd_machine.specs.Laws.{IsPartial};
     ghost use Rattle.lnbd_handle.specs.Held.{held_in};
+    ghost use Rattle.lnbd_handle.specs.Room.{HasPlaces};
     ghost use Rattle.lnbd_handle.specs.Seen.{machine_of, IsSound};
 
     ghost Value = { Machine K };
 
     ghost view = { λ h. machine_of h.connection (held_in h.pending) };
 
-    ghost invariant = { λ h. IsSound h.connection × IsPartial (machine_of h.connection (held_in h.pending)) };
+    ghost invariant = { λ h. IsSound h.connection × IsPartial (machine_of h.connection (held_in h.pending)) × HasPlaces h.connection.stage h.connection.talk.phase h.connection.talk.structured h.connection.talk.extended h.connection.commands.rows h.pending };
 }
 
 impl<K> Handle<K> {
@@ -58,6 +60,7 @@ impl<K> Handle<K> {
         ensures stands { IfOk result (λ handle. StandsFor max_unretired [] handle) }
     {
         let queue = Queue::new(alloc)?;
+        let pending = Pending::new(alloc)?;
         let talk = Talk::new(
             alloc,
             Config {
@@ -80,7 +83,7 @@ impl<K> Handle<K> {
                 written: 0,
                 commands: Commands::new(alloc),
             },
-            pending: Pending::new(alloc),
+            pending,
         })
     }
 
@@ -222,6 +225,9 @@ impl<K: Caller> Handle<K> {
     pub fn arrive(&mut self, bytes: &[u8], world: &mut K::World) -> Result<(), Short>
         requires { is_living self.old.known.stage ≡ true }
         ensures ok { OnOk result (Answered K.steps (Arrived bytes.now) self.old self.new world.old world.new) }
+
+        // It takes no memory where simple replies alone come and no chunk callback makes a note.
+        ensures memory { IsPlain self.old.known → IsOk result }
         ensures within { IfErr result (λ short. short.taken ≤ length bytes.now) }
         ensures short { IfErr result (λ short. Answered K.steps (Arrived (take short.taken bytes.now)) self.old self.new world.old world.new) }
         ensures stands { OnOk result (ForEach self.old (AddsAnswered K.steps (Arrived bytes.now) self.new world.old world.new)) }

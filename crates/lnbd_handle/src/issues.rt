@@ -1,21 +1,24 @@
 //! The calls that issue a command. Each tells the command's cookie: 1, 2, 3 and so on. What issuing and refusing do is not
 //! said here.
 
-ghost use Rattle.std.specs.Prelude.{◌≡◌, true, None, Some, IfErr, IfOk, OnOk, vec_len, length};
+ghost use Rattle.std.specs.Prelude.{◌≡◌, ◌≤◌, true, None, Some, IfErr, IfOk, OnOk, vec_len, length};
 ghost use Rattle.lnbd_model.specs.Kind.{is_read};
 ghost use Rattle.lnbd_history.specs.Events.{Issue};
 ghost use Rattle.lnbd_history.specs.Laws.{HasItsBytes};
 ghost use Rattle.lnbd_machine.specs.Machine.{step};
 ghost use Rattle.lnbd_machine.specs.Now.{refusal_now};
 ghost use Rattle.lnbd_commands.specs.Asks.{command_of};
+ghost use Rattle.lnbd_handle.specs.Held.{held_in};
+ghost use Rattle.lnbd_handle.specs.Room.{IsKept};
 ghost use Rattle.lnbd_handle.specs.Histories.{Adds, AddsFault, ForEach, max_unretired};
 ghost use Rattle.lnbd_handle.specs.Issues.{Faults, block_status_of, cache_of, flush_of, range_of, read_of, structured_read_of, trim_of, with_bytes, write_of, zero_of};
 
 use crate::handle::Handle;
 use crate::issue::{IssueFault, handed_back, issue, refuse};
+use crate::pending::Pending;
 use lnbd_callbacks::Caller;
 use lnbd_commands::Asked;
-use lnbd_model::Kind;
+use lnbd_model::{Kind, NoMemory};
 
 /// A read into a buffer, or a write of its bytes.
 fn with_bytes<K>(
@@ -37,6 +40,21 @@ fn with_bytes<K>(
         buf,
         first,
         done,
+    }
+}
+
+/// Makes room for the data of a read.
+fn room_for<K>(pending: &mut Pending, asked: &Asked<K>) -> Result<(), NoMemory>
+    requires { IsKept pending.old }
+    ensures held { held_in pending.new ≡ held_in pending.old }
+    ensures head { pending.new.head ≡ pending.old.head }
+    ensures kept { IsKept pending.new }
+    ensures ok { OnOk result (is_read asked.now.kind ≡ true → vec_len asked.now.buf ≤ vec_len pending.new.content) }
+    ensures grows { vec_len pending.old.content ≤ vec_len pending.new.content }
+{
+    match asked.kind {
+        Kind::Read => pending.make_room(asked.buf.len()),
+        _ => Ok(()),
     }
 }
 
@@ -79,6 +97,9 @@ impl<K: Caller> Handle<K> {
         let terms = self.connection.terms();
         if let Some(why) = terms.refusal(asked.kind, asked.flags, asked.offset, asked.length) {
             return Err(refuse(&mut self.connection, world, asked, why));
+        }
+        if room_for(&mut self.pending, &asked).is_err() {
+            return Err(handed_back(asked));
         }
         match issue(&mut self.connection, asked) {
             Ok(cookie) => Ok(cookie),

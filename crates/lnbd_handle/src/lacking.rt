@@ -1,14 +1,15 @@
 //! How many bytes a record lacks of which some are held: so many are held and no more, and what follows
 //! is taken from where it arrived. What a handle answers does not hang on it, only what is copied.
 
-ghost use Rattle.std.specs.Prelude.{◌≡◌, ◌+◌, ◌<◌, if◌then◌else◌, length, nat_lt};
+ghost use Rattle.std.specs.Prelude.{◌≡◌, ◌+◌, ◌<◌, ◌≤◌, if◌then◌else◌, length, nat_lt, IfNone, IfSome};
 ghost use Rattle.lnbd_records.specs.Numbers.{number_at};
+ghost use Rattle.lnbd_records.specs.Transmission.{simple_head_size};
+ghost use Rattle.lnbd_history.specs.declared.kinds.Phase.TheVariants.{Ready};
 
 use crate::connection::Connection;
-use crate::heads::announced_in;
 use crate::pending::Pending;
 use crate::turns::{by_name_size, has_no_zeroes, waiting_at};
-use lnbd_arrivals::content_size;
+use lnbd_arrivals::{Announced, content_size};
 use lnbd_commands::Waiting;
 use lnbd_history::Phase;
 use lnbd_records::u32_at;
@@ -25,7 +26,9 @@ fn option_size(bytes: &[u8]) -> usize
 }
 
 /// How many bytes a simple reply has, as far as these show.
-fn frame_size(waiting: Option<Waiting>, bytes: &[u8]) -> usize {
+fn frame_size(waiting: Option<Waiting>, bytes: &[u8]) -> usize
+    ensures { length bytes.now < simple_head_size → result ≡ simple_head_size }
+{
     if bytes.len() < 16 {
         return 16;
     }
@@ -36,7 +39,9 @@ fn frame_size(waiting: Option<Waiting>, bytes: &[u8]) -> usize {
 }
 
 /// How many bytes the record at the front has in this phase, as far as these show.
-fn size_at<K>(connection: &Connection<K>, phase: Phase, bytes: &[u8]) -> usize {
+fn size_at<K>(connection: &Connection<K>, phase: Phase, bytes: &[u8]) -> usize
+    ensures { phase ≡ Ready → length bytes.now < simple_head_size → result ≡ simple_head_size }
+{
     match phase {
         Phase::Greeting => 18,
         Phase::Asked(_) => option_size(bytes),
@@ -48,11 +53,17 @@ fn size_at<K>(connection: &Connection<K>, phase: Phase, bytes: &[u8]) -> usize {
 }
 
 /// How many bytes the record that these begin still lacks, as far as they show, and one at least.
-pub(crate) fn lacking<K>(connection: &Connection<K>, pending: &Pending) -> usize
-    ensures { 0 < result }
+pub(crate) fn lacking<K>(
+    connection: &Connection<K>,
+    pending: &Pending,
+    announced: Option<Announced>,
+) -> usize
+    ensures some { 0 < result }
+    ensures data { IfSome announced (λ some. pending.now.came < some.size → pending.now.came + result ≤ some.size) }
+    ensures head { IfNone announced (connection.now.talk.phase ≡ Ready → length pending.now.head.items < simple_head_size → length pending.now.head.items + result ≤ simple_head_size) }
 {
-    let lacks = match announced_in(connection, &pending.head) {
-        Some(announced) => announced.size.saturating_sub(pending.content.len()),
+    let lacks = match announced {
+        Some(announced) => announced.size.saturating_sub(pending.came),
         None => {
             let size = size_at(connection, connection.talk.phase(), &pending.head);
             size.saturating_sub(pending.head.len())

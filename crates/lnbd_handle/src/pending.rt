@@ -1,94 +1,153 @@
 //! The bytes that arrived and are no whole record yet. Of a reply with data its head is held, and apart from it the data that
-//! came so far, in the buffer that the command gets: so they are copied once. What the bytes mean is not known here.
+//! came so far, in a buffer with room for each read in flight: once it is full it becomes the command's own. So they are copied
+//! once, and holding them takes no memory. What the bytes mean is not known here.
 
-ghost use Rattle.std.specs.Prelude.{◌≡◌, ◌++◌, [], true, OnOk, OnErr};
-ghost use Rattle.lnbd_handle.specs.Held.{held_in};
+ghost use Rattle.std.specs.Prelude.{◌≡◌, ◌≤◌, ◌<◌, ◌+◌, ◌++◌, [], true, false, length, take, vec_len, IfOk, IsOk, OnOk, OnErr};
+ghost use Rattle.lnbd_records.specs.Transmission.{simple_head_size};
+ghost use Rattle.lnbd_structured.specs.Placed.{written};
+ghost use Rattle.lnbd_handle.specs.Held.{data_in, held_in};
+ghost use Rattle.lnbd_handle.specs.Room.{IsKept};
 
 use lnbd_model::NoMemory;
 use std::alloc::Global;
+
+/// The size of the head of a simple reply (NBD protocol, "Simple reply message"), for which there is always room.
+pub(crate) const SIMPLE_HEAD: usize = 16;
 
 /// Bytes in two parts, one behind the other.
 #[derive(Drop)]
 pub(crate) struct Pending {
     /// The front of a record.
     pub(crate) head: Vec<u8>,
-    /// Data behind the head of a reply.
+    /// A buffer that begins with data behind the head of a reply.
     pub(crate) content: Vec<u8>,
+    /// How many data came, in bytes.
+    pub(crate) came: usize,
 }
 
 impl Pending {
-    /// None. It takes no memory.
-    pub(crate) fn new(alloc: Global) -> Pending
-        ensures { held_in result ≡ [] }
+    /// None.
+    pub(crate) fn new(alloc: Global) -> Result<Pending, NoMemory>
+        ensures empty { IfOk result (λ pending. held_in pending ≡ []) }
+        ensures head { IfOk result (λ pending. pending.head.items ≡ []) }
+        ensures kept { IfOk result IsKept }
     {
-        Pending {
-            head: Vec::new(alloc),
+        Ok(Pending {
+            head: Vec::with_capacity(alloc, SIMPLE_HEAD)?,
             content: Vec::new(alloc),
-        }
+            came: 0,
+        })
     }
 
     pub(crate) fn is_empty(&self) -> bool
-        ensures { result ≡ true → held_in self.now ≡ [] }
+        requires { IsKept self.now }
+        ensures none { result ≡ true → held_in self.now ≡ [] }
+        ensures some { result ≡ false → 0 < length (held_in self.now) }
     {
-        self.head.is_empty() && self.content.is_empty()
+        self.head.is_empty() && self.came == 0
     }
 
     /// Drops all of them, and keeps their memory.
     pub(crate) fn clear(&mut self)
-        ensures { held_in self.new ≡ [] }
+        requires { IsKept self.old }
+        ensures empty { held_in self.new ≡ [] }
+        ensures head { self.new.head.items ≡ [] }
+        ensures kept { IsKept self.new }
+        ensures room { self.new.content ≡ self.old.content }
     {
         self.head.clear();
-        self.content.clear();
+        self.came = 0;
     }
 
-    /// Puts all into the first part.
+    /// Puts all into the first part. It takes no memory where they are there.
     pub(crate) fn join(&mut self) -> Result<(), NoMemory>
-        ensures ok { OnOk result (self.new.content.items ≡ []) }
+        requires { IsKept self.old }
+        ensures ok { OnOk result (self.new.came ≡ 0) }
         ensures same { held_in self.new ≡ held_in self.old }
+        ensures kept { IsKept self.new }
+        ensures room { self.new.content ≡ self.old.content }
+        ensures memory { self.old.came ≡ 0 → IsOk result }
+        ensures there { self.old.came ≡ 0 → self.new ≡ self.old }
     {
-        self.head.extend_from_slice(&self.content)?;
-        self.content.clear();
+        if self.came == 0 {
+            return Ok(());
+        }
+        let (data, _) = self.content.split_at(self.came);
+        self.head.extend_from_slice(data)?;
+        self.came = 0;
         Ok(())
     }
 
-    /// Holds the front of a record, where nothing is held. For want of memory still nothing is.
+    /// Holds the front of a record, where nothing is held. For want of memory still nothing is, but there is room for the head of
+    /// a simple reply.
     pub(crate) fn hold(&mut self, front: &[u8]) -> Result<(), NoMemory>
-        requires { held_in self.old ≡ [] }
+        requires empty { held_in self.old ≡ [] }
+        requires kept { IsKept self.old }
         ensures ok { OnOk result (held_in self.new ≡ front.now) }
         ensures err { OnErr result (held_in self.new ≡ []) }
+        ensures kept { IsKept self.new }
+        ensures room { self.new.content ≡ self.old.content }
+        ensures head { length self.new.head.items ≤ length front.now }
+        ensures memory { length front.now ≤ simple_head_size → IsOk result }
     {
         self.head.extend_from_slice(front)?;
         Ok(())
     }
 
-    /// Holds more data, of so many bytes in all, whose memory is taken at once. For want of it nothing has changed.
-    pub(crate) fn hold_content(&mut self, content: &[u8], size: usize) -> Result<(), NoMemory>
-        ensures head { self.new.head.items ≡ self.old.head.items }
-        ensures ok { OnOk result (self.new.content.items ≡ self.old.content.items ++ content.now) }
-        ensures err { OnErr result (self.new.content.items ≡ self.old.content.items) }
+    /// Holds more data, for which there is room.
+    pub(crate) fn put(&mut self, more: &[u8])
+        requires whole { length self.old.head.items ≡ simple_head_size }
+        requires fits { self.old.came + length more.now ≤ vec_len self.old.content }
+        requires kept { IsKept self.old }
+        ensures head { self.new.head ≡ self.old.head }
+        ensures came { self.new.came ≡ self.old.came + length more.now }
+        ensures data { data_in self.new ≡ data_in self.old ++ more.now }
+        ensures before { take self.old.came self.new.content.items ≡ data_in self.old }
+        ensures kept { IsKept self.new }
+        ensures room { vec_len self.new.content ≡ vec_len self.old.content }
     {
-        self.content
-            .reserve_exact(size.saturating_sub(self.content.len()))?;
-        self.content.extend_from_slice(content)?;
+        write_at(&mut self.content, self.came, more);
+        self.came += more.len();
+    }
+
+    /// Holds the head of a simple reply, and apart from it some of its data, where nothing is held. It takes no memory.
+    pub(crate) fn hold_apart(&mut self, head: &[u8], more: &[u8]) -> Result<(), NoMemory>
+        requires empty { held_in self.old ≡ [] }
+        requires whole { length head.now ≡ simple_head_size }
+        requires fits { length more.now ≤ vec_len self.old.content }
+        requires kept { IsKept self.old }
+        ensures held { held_in self.new ≡ head.now ++ more.now }
+        ensures head { self.new.head.items ≡ head.now }
+        ensures kept { IsKept self.new }
+        ensures room { vec_len self.new.content ≡ vec_len self.old.content }
+        ensures memory { IsOk result }
+    {
+        self.head.extend_from_slice(head)?;
+        self.put(more);
         Ok(())
     }
 
-    /// Holds the head of a reply, and apart from it some of its data, where nothing is held. For want of memory still nothing is.
-    pub(crate) fn hold_apart(
-        &mut self,
-        head: &[u8],
-        content: &[u8],
-        size: usize,
-    ) -> Result<(), NoMemory>
-        requires { held_in self.old ≡ [] }
-        ensures ok { OnOk result (held_in self.new ≡ head.now ++ content.now) }
-        ensures err { OnErr result (held_in self.new ≡ []) }
+    /// Makes room for so many data. For want of memory nothing has changed but that.
+    pub(crate) fn make_room(&mut self, size: usize) -> Result<(), NoMemory>
+        requires { IsKept self.old }
+        ensures held { held_in self.new ≡ held_in self.old }
+        ensures head { self.new.head ≡ self.old.head }
+        ensures kept { IsKept self.new }
+        ensures ok { OnOk result (size ≤ vec_len self.new.content) }
+        ensures grows { vec_len self.old.content ≤ vec_len self.new.content }
     {
-        self.hold_content(content, size)?;
-        if self.head.extend_from_slice(head).is_err() {
-            self.content.clear();
-            return Err(NoMemory);
+        if self.content.len() < size {
+            self.content.resize(size, 0)?;
         }
         Ok(())
     }
+}
+
+/// Writes bytes into a buffer from a place on.
+fn write_at(buffer: &mut Vec<u8>, at: usize, bytes: &[u8])
+    requires { at + length bytes.now ≤ vec_len buffer.old }
+    ensures bytes { buffer.new.items ≡ written buffer.old.items at bytes.now }
+    ensures len { vec_len buffer.new ≡ vec_len buffer.old }
+{
+    buffer[at..at + bytes.len()].copy_from_slice(bytes);
 }

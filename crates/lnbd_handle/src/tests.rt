@@ -278,6 +278,21 @@ fn data_comes_in_pieces(rt: HostRuntime) -> Result<(), Fail> {
 }
 
 #[test]
+fn reads_of_two_lengths_come_in_pieces(rt: HostRuntime) -> Result<(), Fail> {
+    let mut session = Session::reading(&rt, rt.alloc(), 1, &[0xff; 4], KEEP)?;
+    assert_eq!(rt; session.pread(&[0xff; 2], KEEP), 2);
+    assert!(rt; session.goes_out(usize::MAX));
+    assert!(rt; session.feed_by_byte(&head(2)));
+    assert!(rt; session.feed_by_byte(b"ab"));
+    assert!(rt; session.feed_by_byte(&head(1)));
+    assert!(rt; session.feed_by_byte(b"cdef"));
+    assert!(rt; session.came_to(2, 0, b"ab"));
+    assert!(rt; session.came_to(1, 0, b"cdef"));
+    assert_eq!(rt; session.close(), (2, 2));
+    Ok(())
+}
+
+#[test]
 fn a_piece_ends_one_reply_and_brings_others(rt: HostRuntime) -> Result<(), Fail> {
     let mut session = Session::reading(&rt, rt.alloc(), 3, &[0xff], KEEP)?;
     // The first piece has a part of the first head, the second ends in the third head.

@@ -1,6 +1,6 @@
 //! One turn: what is done with the record at the front of the bytes that arrived, at each phase.
 
-ghost use Rattle.std.specs.Prelude.{◌≡◌, ◌≤◌, if◌then◌else◌, true, length};
+ghost use Rattle.std.specs.Prelude.{◌≡◌, ◌≢◌, ◌≤◌, if◌then◌else◌, true, false, length};
 ghost use Rattle.std.specs.Option.{option_map};
 ghost use Rattle.lnbd_records.specs.Numbers.{number_at};
 ghost use Rattle.lnbd_history.specs.declared.kinds.Phase.TheVariants.{Greeting, AskedByName, Ready};
@@ -10,6 +10,8 @@ ghost use Rattle.lnbd_machine.specs.Machine.{waited};
 ghost use Rattle.lnbd_commands.specs.Seen.{seen_waiting};
 ghost use Rattle.lnbd_handle.specs.Seen.{IsSound, state_of};
 ghost use Rattle.lnbd_handle.specs.Turns.{AreAgreed, TurnMeans, is_speaking, takes_options};
+ghost use Rattle.lnbd_handle.specs.Room.{IsCalm, IsQuiet};
+ghost use Rattle.lnbd_arrivals.specs.declared.replies.Replies.TheVariants.{Simple};
 ghost use Rattle.lnbd_arrivals.specs.Frames.{IsChunk};
 
 use crate::aborting::turn_aborting;
@@ -139,7 +141,8 @@ pub(crate) fn waiting_at<K>(connection: &Connection<K>, rest: &[u8]) -> Option<W
 
 /// How the server replies to commands, by what is agreed.
 pub(crate) fn replies_of<K>(connection: &Connection<K>) -> Replies
-    ensures { AreAgreed connection.now result }
+    ensures agreed { AreAgreed connection.now result }
+    ensures simple { connection.now.talk.structured ≡ false → connection.now.talk.extended ≡ false → result ≡ Simple }
 {
     Replies::agreed(connection.talk.structured(), connection.talk.extended())
 }
@@ -183,6 +186,7 @@ fn turn_frame<K: Caller>(connection: &mut Connection<K>, world: &mut K::World, r
     requires ready { connection.old.talk.phase ≡ Ready }
     ensures means { TurnMeans K.steps connection.old world.old rest.now result connection.new world.new }
     ensures sound { IsSound connection.new }
+    ensures memory { IsQuiet (state_of connection.old) → result ≢ Turn.Short }
 {
     let waiting = waiting_at(connection, rest);
     let replies = replies_of(connection);
@@ -213,6 +217,7 @@ fn turn_open<K: Caller>(connection: &mut Connection<K>, world: &mut K::World, re
     requires open { connection.old.stage ≡ Open }
     ensures means { TurnMeans K.steps connection.old world.old rest.now result connection.new world.new }
     ensures sound { IsSound connection.new }
+    ensures memory { IsQuiet (state_of connection.old) → result ≢ Turn.Short }
 {
     match connection.talk.phase() {
         Phase::Greeting => turn_hello(connection, world, rest),
@@ -233,6 +238,7 @@ pub(crate) fn turn<K: Caller>(
     requires { IsSound connection.old }
     ensures means { TurnMeans K.steps connection.old world.old rest.now result connection.new world.new }
     ensures sound { IsSound connection.new }
+    ensures memory { IsCalm (state_of connection.old) → result ≢ Turn.Short }
 {
     match connection.stage {
         Stage::Open => turn_open(connection, world, rest),

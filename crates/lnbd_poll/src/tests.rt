@@ -273,6 +273,11 @@ fn a_read_notices_what_the_wires_answered(rt: HostRuntime) -> Result<(), Fail> {
     Ok(())
 }
 
+/// Hands in a server's hello, where the handle reads.
+fn greeted(handle: &mut Handle<Keeper>, world: &mut u64) -> bool {
+    handle.direction() != 0 && handle.arrive(&HELLO, world).is_ok()
+}
+
 #[test]
 fn a_write_notices_what_the_wires_answered(rt: HostRuntime) -> Result<(), Fail> {
     let alloc = rt.alloc();
@@ -294,9 +299,7 @@ fn a_write_notices_what_the_wires_answered(rt: HostRuntime) -> Result<(), Fail> 
     let mut handle: Handle<Keeper> = Handle::create(alloc)?;
     assert!(rt; handle.start().is_ok());
     assert_eq!(rt; notify_write(&mut handle, &mut wires, 0), Noticed::Idle);
-    if handle.direction() != 0 {
-        assert!(rt; handle.arrive(&HELLO, &mut world).is_ok());
-    }
+    assert!(rt; greeted(&mut handle, &mut world));
     // Of the client's flags three bytes go out first.
     assert_eq!(rt; notify_write(&mut handle, &mut wires, 0), Noticed::Moved(3));
     assert_eq!(rt; notify_write(&mut handle, &mut wires, 0), Noticed::NotReady);

@@ -4,6 +4,7 @@ use Rattle.lnbd_handle.specs.Runs.{Runs}
 use Rattle.lnbd_handle.specs.Seen.{machine_of}
 use Rattle.lnbd_handle.specs.Turns.{arriving}
 use Rattle.lnbd_handle.proofs.DrainLemmas.{start_walk, walk_more, drained_all}
+use Rattle.lnbd_handle.proofs.CalmLemmas.{runs_calm}
 use Rattle.lnbd_handle.proofs.drain.drain.Goals as goal
 
 pub loop-n-init : goal.loop-n-init
@@ -27,3 +28,7 @@ loop-n-preserved g c =
       so_far = walk_more g.K.Caller.steps g.met.K.Caller.empty g.met.K.Caller.append c.args.connection.now c.loop-n.connection c.turn.new.connection c.args.world.now c.loop-n.world c.turn.new.world c.args.buffer.now c.loop-n.used
           c.loop-n.invariant.within c.loop-n.invariant.so_far c.in-Took.n one;
     }
+
+pub returns-in-Short-clause-memory : goal.returns-in-Short-clause-memory
+returns-in-Short-clause-memory g c calm =
+    absurd (c.in-Short.ensures.memory (runs_calm g.K.Caller.steps (take c.loop-n.used c.args.buffer.now) (machine_of c.args.connection.now []) (machine_of c.loop-n.connection []) c.args.world.now c.loop-n.world c.loop-n.invariant.so_far calm) refl)

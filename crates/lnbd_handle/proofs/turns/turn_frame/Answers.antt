@@ -7,6 +7,9 @@ use Rattle.lnbd_commands.specs.Takes as takes
 use Rattle.lnbd_handle.specs.Seen.{state_of}
 use Rattle.lnbd_handle.proofs.TurnLemmas.{shown_frame, turn_broken, turn_reply, waited_row}
 use Rattle.lnbd_handle.proofs.QueuedLemmas.{kept_sound}
+use Rattle.std.proofs.lemmas.Bool.{true≢false}
+use Rattle.lnbd_arrivals.specs.Frames.{is_structured}
+use Rattle.lnbd_handle.proofs.CalmLemmas.{first_none}
 use Rattle.lnbd_handle.proofs.turns.turn_frame.Goals as goal
 
 pub split_at-requires : goal.split_at-requires
@@ -31,7 +34,7 @@ reply-requires g c =
 pub returns-in-Broken-clause-means : goal.returns-in-Broken-clause-means
 returns-in-Broken-clause-means g c =
     turn_broken g.K.Caller.steps c.args.connection.now c.args.connection.now c.die.new.connection c.args.world.now c.die.new.world c.args.rest.now c.in-Broken.breach (Broke c.in-Broken.breach) refl
-    (λ answers made. shown_frame c.args.connection.now c.replies_of-replies.result c.args.rest.now c.requires.speaking c.requires.ready c.replies_of-replies.ensures answers made ∙ c.in-Broken.ensures (waited (state_of c.args.connection.now)) c.waiting_at-waiting.ensures) refl
+    (λ answers made. shown_frame c.args.connection.now c.replies_of-replies.result c.args.rest.now c.requires.speaking c.requires.ready c.replies_of-replies.ensures.agreed answers made ∙ c.in-Broken.ensures (waited (state_of c.args.connection.now)) c.waiting_at-waiting.ensures) refl
     c.die.ensures.acts c.die.ensures.dead
 
 pub returns-in-Ok-clause-means : goal.returns-in-Ok-clause-means
@@ -41,7 +44,7 @@ returns-in-Ok-clause-means g c =
       omega arith,
       is.there,
       (turn_reply g.K.Caller.steps c.args.connection.now c.replies_of-replies.result c.reply.new.self c.args.world.now c.reply.new.world c.args.rest.now c.in-Whole.cookie c.in-Whole.error c.in-Whole.size c.split_at-in-Whole.result.0.now
-          c.requires.speaking c.requires.ready c.replies_of-replies.ensures c.requires.sound is there c.in-Ok.ensures.ok).0,
+          c.requires.speaking c.requires.ready c.replies_of-replies.ensures.agreed c.requires.sound is there c.in-Ok.ensures.ok).0,
     )
 
 pub returns-in-Ok-clause-sound : goal.returns-in-Ok-clause-sound
@@ -49,5 +52,14 @@ returns-in-Ok-clause-sound g c =
     let is = c.in-Whole.ensures (waited (state_of c.args.connection.now)) c.waiting_at-waiting.ensures in
     let there : c.split_at-in-Whole.result.0.now ≡ take c.in-Whole.size (drop 16 c.args.rest.now) = c.split_at-in-Whole.ensures.front ∙ ap (take c.in-Whole.size) c.split_at.ensures.back in
     let turned = turn_reply g.K.Caller.steps c.args.connection.now c.replies_of-replies.result c.reply.new.self c.args.world.now c.reply.new.world c.args.rest.now c.in-Whole.cookie c.in-Whole.error c.in-Whole.size c.split_at-in-Whole.result.0.now
-    c.requires.speaking c.requires.ready c.replies_of-replies.ensures c.requires.sound is there c.in-Ok.ensures.ok in
+    c.requires.speaking c.requires.ready c.replies_of-replies.ensures.agreed c.requires.sound is there c.in-Ok.ensures.ok in
     kept_sound c.args.connection.now c.reply.new.self turned.2 turned.1 c.requires.sound
+
+pub returns-in-Err-clause-memory : goal.returns-in-Err-clause-memory
+returns-in-Err-clause-memory g c quiet =
+    absurd (first_none (value_at c.in-Whole.cookie c.args.connection.now.commands.rows) c.args.connection.now.commands.rows c.in-Whole.cookie refl quiet.1 c.in-Err.ensures.needed)
+
+pub returns-in-Chunk-clause-memory : goal.returns-in-Chunk-clause-memory
+returns-in-Chunk-clause-memory g c quiet =
+    let is = c.in-Chunk.ensures (waited (state_of c.args.connection.now)) c.waiting_at-waiting.ensures in
+    absurd (true≢false (sym is.agreed ∙ ap is_structured (c.replies_of-replies.ensures.simple quiet.0.compact quiet.0.short)))

@@ -36,5 +36,5 @@ returns-clause-lands g c =
     c.reply_hearing-told.ensures ∙ rw (c.is_bad-bad.ensures, c.as_slice.ensures, c.error_number.ensures, c.failure-before.ensures, facts, ← c.self.view_is) refl in
     let told = subst (λ (o : Option Hearing). Hears g.K.Caller.steps c.self.inside.flight o c.in-Ok.heard c.args.desk.now.log c.hear.new.desk.log c.args.world.now c.hear.new.world) hearing c.in-Ok.ensures.hears in
     let flown = subst (λ r. Hears g.K.Caller.steps r.flight (reply_hearing c.args.self.now.kind (reply_bad c.args.self.now c.args.error) c.args.error c.args.self.now.offset (bytes_in c.args.content) (error_number c.args.self.now.facts.failure)) c.in-Ok.heard c.args.desk.now.log c.hear.new.desk.log c.args.world.now c.hear.new.world) c.self.view_is told in
-    lands_reply g.K.Caller.steps c.args.self.now c.args.error (bytes_in c.args.content) c.land.result c.args.desk.now.log c.hear.new.desk.log c.args.world.now c.hear.new.world
+    lands_reply g.K.Caller.steps c.args.self.now c.args.error (bytes_in c.args.content) c.land.result.0 c.args.desk.now.log c.hear.new.desk.log c.args.world.now c.hear.new.world
     real c.requires.sized c.land.ensures.flight (rw c.land.ensures.heard flown) (rw (c.land.ensures.heard, c.land.ensures.failure) fails) (c.land.ensures.bytes ∙ ap (λ (o : Option Failure). buffer c.args.self.now.kind c.args.self.now.length c.args.self.now.bytes (error_number o) (bytes_in c.args.content)) (sym c.land.ensures.failure))

@@ -22,5 +22,5 @@ returns-clause-landed g c =
     let held = opened c.self.inside.kept _ c.self.inside.buf.items c.self.inside.assembly kept c.self.invariant in
     let facts : c.args.self.now.facts ≡ c.self.inside.assembly.facts = sym (ap (λ r. r.facts) c.self.view_is) ∙ opened_facts c.self.inside.kept c.self.inside.assembly c.self.inside.failure kept in
     let fails : c.first_of-failure.result ≡ or_else c.args.self.now.facts.failure (failing from.Lost 107) = c.first_of-failure.ensures ∙ rw (c.failure.ensures, c.failing.ensures, facts) refl in
-    lands_lost c.args.self.now c.land.result c.land.ensures.heard (c.land.ensures.failure ∙ fails)
+    lands_lost c.args.self.now c.land.result.0 c.land.ensures.heard (c.land.ensures.failure ∙ fails)
     (c.land.ensures.bytes ∙ ap (λ (o : Option Failure). buffer c.args.self.now.kind c.args.self.now.length c.args.self.now.bytes (error_number o) c.args.self.now.bytes) (sym c.land.ensures.failure))

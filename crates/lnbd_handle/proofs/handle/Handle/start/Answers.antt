@@ -5,6 +5,7 @@ use Rattle.lnbd_machine.proofs.Partial.{step_partial}
 use Rattle.lnbd_handle.specs.Held.{held_in}
 use Rattle.lnbd_handle.specs.Seen.{Stands, machine_of}
 use Rattle.lnbd_handle.proofs.HistoryLemmas.{adds}
+use Rattle.lnbd_handle.proofs.PlacesLemmas.{places_started}
 use Rattle.lnbd_handle.proofs.handle.Handle.start.Goals as goal
 
 pub invariant_of-self : goal.invariant_of-self
@@ -13,6 +14,7 @@ invariant_of-self g c =
     let s = c.self.invariant.0 in (
       record { fits = s.fits; ahead = s.ahead; stands = subst (λ t. Stands t old.talk.phase old.queue.ended) c.in-Created.is s.stands; counted = s.counted },
       step_partial Start (machine_of old (held_in c.self.inside.pending)) c.in-Created.is c.self.invariant.1,
+      places_started old c.self.inside.pending c.in-Created.is c.self.invariant.1 c.self.invariant.2,
     )
 
 pub returns-in-Created-clause-stands : goal.returns-in-Created-clause-stands

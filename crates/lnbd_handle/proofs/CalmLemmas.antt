@@ -1,0 +1,285 @@
+-- Where simple replies alone come: what is shown then, and that it stays so while bytes arrive.
+use Rattle.std.proofs.Common.{◌≡◌, ◌⊎◌, inl, inr, ℕ, ◌+◌, ◌<◌, ◌≤◌, Bool, true, false, ◌||◌, ◌==◌, nat_lt, nat_le, if◌then◌else◌, List, [], ◌∷◌, ◌++◌, length, replicate, Option, Some, None, refl, ap, sym, ◌∙◌, subst, arith}
+use Rattle.std.specs.Prelude.{is_some, IfNone, IfSome, IsSome}
+use Rattle.std.specs.Option.{IsSomeAnd, option_map}
+use Rattle.std.proofs.lemmas.Bool.{cases_lt, eqb-true, false≢true, ltb-true}
+use Rattle.std.proofs.lemmas.List.{length-append, length-replicate, length-take}
+use Rattle.lnbd_keyed.specs.Keyed.{value_at}
+use Rattle.lnbd_model.specs.Kind.{is_read}
+use Rattle.lnbd_model.specs.declared.breach.Breach.TheVariants.{BadReplyMagic, TooManyReplies, UnknownCookie}
+use Rattle.lnbd_records.specs.Numbers.{number_at}
+use Rattle.lnbd_records.specs.Limits.{max_passed}
+use Rattle.lnbd_records.specs.Transmission.{simple_reply_magic, simple_head_size}
+use Rattle.lnbd_stream.specs.Grammar.{once, wants}
+use Rattle.lnbd_stream.proofs.Grammar.{once_some, once_there}
+use Rattle.lnbd_stream.proofs.Stream.{feed_lasts}
+use Rattle.lnbd_callbacks.specs.Calls.{Call}
+use Rattle.lnbd_chunks.specs.Chunk.{Waiting}
+use Rattle.lnbd_chunks.specs.Reply.{content_size, shows_compact, shows_reply, shows_simple}
+use Rattle.lnbd_history.specs.declared.kinds.Phase.{Phase}
+use Rattle.lnbd_history.specs.declared.kinds.Phase.TheVariants as phase
+use Rattle.lnbd_history.specs.declared.kinds.Stage.{Stage}
+use Rattle.lnbd_history.specs.declared.kinds.Stage.TheVariants.{Created, Open, Disconnecting, Aborting, Closed, Dead}
+use Rattle.lnbd_history.specs.Arrivals.{Shown, Hello, OptionReply, ExportReply, Reply, Broken, Passed, Ignored, Sight, reply, shows_at, shows_frame, shows_ignored, shows_in, shows_passed}
+use Rattle.lnbd_history.specs.Commands.{Flight}
+use Rattle.lnbd_history.specs.Entries.{Framed}
+use Rattle.lnbd_machine.specs.Machine.{Row, Machine, State, Doing, enter, file_in, kill, sight, table_rules, waited, waited_of, waiting_row}
+use Rattle.lnbd_chunks.proofs.Steady.{at_more}
+use Rattle.lnbd_commands.specs.Flights.{has_first}
+use Rattle.lnbd_commands.specs.Rows.{flight_of_row}
+use Rattle.lnbd_commands.specs.Seen.{seen_waiting}
+use Rattle.lnbd_commands.specs.declared.row.Waiting.{Waiting as Told}
+use Rattle.lnbd_arrivals.specs.Frames.{Announces, IsSuccess}
+use Rattle.lnbd_arrivals.specs.declared.announced.Announced.{Announced}
+use Rattle.lnbd_handle.specs.declared.connection.Connection.{Connection}
+use Rattle.lnbd_handle.specs.declared.pending.Pending.{Pending}
+use Rattle.lnbd_handle.specs.Held.{data_in}
+use Rattle.lnbd_handle.specs.Runs.{Runs, under}
+use Rattle.lnbd_handle.specs.Seen.{state_of}
+use Rattle.lnbd_handle.specs.Turns.{Brings, ShowsNothing, arriving, is_speaking}
+use Rattle.lnbd_handle.specs.Room.{AreWithin, IfFlies, IsCalm, IsKept, NoneHears, ReadsFit, RepliesSimply}
+use Rattle.lnbd_handle.proofs.RoomLemmas.{each_at, file_each, killed_stage, seen_in}
+
+-- what shows where no more is negotiated
+abbrev pub IsLate : Shown → Type 0
+IsLate (Hello flags) = ⊥
+IsLate (OptionReply told) = ⊥
+IsLate (ExportReply size flags) = ⊥
+IsLate (Reply frame) = Unit {0}
+IsLate (Broken breach) = Unit {0}
+IsLate Passed = Unit {0}
+IsLate Ignored = Unit {0}
+
+is_late : (found shown : Shown) → IsLate shown → Some shown ≡ Some found → IsLate found
+is_late found shown late e = let same : shown ≡ found = cc in subst IsLate same late
+
+-- Of a read nothing is shown before all its data are there.
+pub record Lacks (waits : ℕ → Option Waiting) (bytes : List ℕ) : Type 0 where
+  pub magic : number_at 0 4 bytes ≡ simple_reply_magic
+  pub command : Waiting
+  pub there : waits (number_at 8 8 bytes) ≡ Some command
+  pub read : is_read command.kind ≡ true
+  pub error : number_at 4 4 bytes ≡ 0
+  pub short : length bytes < simple_head_size + command.length
+
+once_none : (n : ℕ) (bytes : List ℕ) (shown : Shown) → once n bytes (Some shown) ≡ None → length bytes < n
+unfolding once
+once_none n bytes shown e = go (nat_lt (length bytes) n) refl e
+  where
+    go : (b : Bool) → nat_lt (length bytes) n ≡ b → (if b then None else Some shown) ≡ None → length bytes < n
+    go true w e = ltb-true (length bytes) n w
+    go false w e = let c : Some shown ≡ None = e in cc
+
+sized : (command : Waiting) (error size : ℕ) → content_size command error ≡ size → 0 < size → (error ≡ 0) × (is_read command.kind ≡ true) × (command.length ≡ size)
+sized command error size e some = go (error == 0) (is_read command.kind) refl refl e
+  where
+    go : (a b : Bool) → (error == 0) ≡ a → is_read command.kind ≡ b → (if a then if b then command.length else 0 else 0) ≡ size → (error ≡ 0) × (is_read command.kind ≡ true) × (command.length ≡ size)
+    go true true x y e = (eqb-true error 0 x, y, e)
+    go true false x y e = absurd (omega (arith, some, e))
+    go false b x y e = absurd (omega (arith, some, e))
+
+module _ (waits : ℕ → Option Waiting) (bytes : List ℕ) where
+  simple_late : (command : Option Waiting) (found : Shown) → shows_simple Broken reply false command bytes ≡ Some found → IsLate found
+  unfolding shows_simple wants
+  simple_late None found e = is_late found (Broken UnknownCookie) tt e
+  simple_late (Some command) found e = is_late found _ tt (once_some _ bytes _ found e).1
+
+  simple_lacks : (command : Option Waiting) → shows_simple Broken reply false command bytes ≡ None → (known : Waiting) × (command ≡ Some known) × (length bytes < simple_head_size + content_size known (number_at 4 4 bytes))
+  unfolding shows_simple wants
+  simple_lacks None e = let c : Some (Broken UnknownCookie) ≡ None = e in absurd (none_some (sym c))
+    where
+      none_some : None ≡ Some (Broken UnknownCookie) → ⊥
+      none_some e = cc
+  simple_lacks (Some command) e = (command, refl, once_none _ bytes _ e)
+
+  compact_late : (found : Shown) → shows_compact Broken reply false waits bytes ≡ Some found → IsLate found
+  unfolding shows_compact wants
+  compact_late found e = go (number_at 0 4 bytes == simple_reply_magic) _ e
+    where
+      go : (b : Bool) (other : Option Shown) → (if b || false then (if b then once simple_head_size bytes (shows_simple Broken reply false (waits (number_at 8 8 bytes)) bytes) else other) else Some (Broken BadReplyMagic)) ≡ Some found → IsLate found
+      go true other e = simple_late _ found (once_some simple_head_size bytes _ found e).1
+      go false other e = is_late found (Broken BadReplyMagic) tt e
+
+  frame_late : (found : Shown) → shows_frame false false waits bytes ≡ Some found → IsLate found
+  unfolding shows_frame shows_reply
+  frame_late found e = compact_late found (once_some 4 bytes _ found e).1
+
+  compact_lacks : simple_head_size ≤ length bytes → shows_compact Broken reply false waits bytes ≡ None → Lacks waits bytes
+  unfolding shows_compact wants
+  compact_lacks long e = go (number_at 0 4 bytes == simple_reply_magic) refl _ e
+    where
+      go : (b : Bool) → (number_at 0 4 bytes == simple_reply_magic) ≡ b → (other : Option Shown) → (if b || false then (if b then once simple_head_size bytes (shows_simple Broken reply false (waits (number_at 8 8 bytes)) bytes) else other) else Some (Broken BadReplyMagic)) ≡ None → Lacks waits bytes
+      go true w other e =
+          let s = simple_lacks (waits (number_at 8 8 bytes)) (sym (once_there simple_head_size bytes _ long) ∙ e) in
+          let r = sized s.0 (number_at 4 4 bytes) (content_size s.0 (number_at 4 4 bytes)) refl (omega (arith, s.2, long)) in
+          record { magic = eqb-true _ _ w; command = s.0; there = s.1; read = r.1; error = r.0; short = omega (arith, s.2, r.2) }
+      go false w other e = let c : Some (Broken BadReplyMagic) ≡ None = e in absurd (none_some (sym c))
+        where
+          none_some : None ≡ Some (Broken BadReplyMagic) → ⊥
+          none_some e = cc
+
+  pub frame_lacks : simple_head_size ≤ length bytes → shows_frame false false waits bytes ≡ None → Lacks waits bytes
+  unfolding shows_frame shows_reply
+  frame_lacks long e = compact_lacks long (sym (once_there 4 bytes _ (omega (arith, long))) ∙ e)
+
+-- Stages.
+
+passed_late : (passed : ℕ) (bytes : List ℕ) (found : Shown) → shows_passed passed bytes ≡ Some found → IsLate found
+passed_late passed [] found e = absurd (none_some e)
+  where
+    none_some : None ≡ Some found → ⊥
+    none_some e = cc
+passed_late passed (byte ∷ bytes) found e = go (nat_lt passed max_passed) e
+  where
+    go : (b : Bool) → (if b then Some Passed else Some (Broken TooManyReplies)) ≡ Some found → IsLate found
+    go true e = is_late found Passed tt e
+    go false e = is_late found (Broken TooManyReplies) tt e
+
+ignored_late : (bytes : List ℕ) (found : Shown) → shows_ignored bytes ≡ Some found → IsLate found
+ignored_late [] found e = absurd (none_some e)
+  where
+    none_some : None ≡ Some found → ⊥
+    none_some e = cc
+ignored_late (byte ∷ bytes) found e = is_late found Ignored tt e
+
+in_frame : (p : Phase) (structured extended : Bool) (seen : Sight) (waits : ℕ → Option Waiting) (bytes : List ℕ) → p ≡ phase.Ready → seen.structured ≡ false → seen.extended ≡ false → shows_in p seen waits bytes ≡ shows_frame false false waits bytes
+in_frame p structured extended seen waits bytes ready compact short =
+    ap (λ q. shows_in q seen waits bytes) ready ∙ ap (λ (b : Bool). shows_frame b seen.extended waits bytes) compact ∙ ap (λ (b : Bool). shows_frame false b waits bytes) short
+
+-- where simple replies alone come
+pub simple_shows : (stage : Stage) (seen : Sight) (waits : ℕ → Option Waiting) (bytes : List ℕ) → RepliesSimply stage seen.phase seen.structured seen.extended → shows_at stage seen waits bytes ≡ shows_frame false false waits bytes
+simple_shows Created seen waits bytes s = absurd (false≢true s.speaking)
+simple_shows Open seen waits bytes s = in_frame seen.phase seen.structured seen.extended seen waits bytes s.ready s.compact s.short
+simple_shows Disconnecting seen waits bytes s = in_frame seen.phase seen.structured seen.extended seen waits bytes s.ready s.compact s.short
+simple_shows Aborting seen waits bytes s = absurd (false≢true s.speaking)
+simple_shows Closed seen waits bytes s = absurd (false≢true s.speaking)
+simple_shows (Dead cause) seen waits bytes s = absurd (false≢true s.speaking)
+
+late_at : (stage : Stage) (seen : Sight) (waits : ℕ → Option Waiting) (bytes : List ℕ) (found : Shown) → (is_speaking stage ≡ true → RepliesSimply stage seen.phase seen.structured seen.extended) → shows_at stage seen waits bytes ≡ Some found → IsLate found
+late_at Created seen waits bytes found s e = ignored_late bytes found e
+late_at Open seen waits bytes found s e = frame_late waits bytes found (sym (simple_shows Open seen waits bytes (s refl)) ∙ e)
+late_at Disconnecting seen waits bytes found s e = frame_late waits bytes found (sym (simple_shows Disconnecting seen waits bytes (s refl)) ∙ e)
+late_at Aborting seen waits bytes found s e = passed_late seen.passed bytes found e
+late_at Closed seen waits bytes found s e = ignored_late bytes found e
+late_at (Dead cause) seen waits bytes found s e = ignored_late bytes found e
+
+module _ {K : Type 0} where
+  -- It lasts.
+
+  dead_calm : (state : State K) (stage : Stage) → state.stage ≡ stage → is_speaking stage ≡ false → IsCalm state
+  dead_calm state stage is over speaking = absurd (false≢true (sym over ∙ ap is_speaking (sym is) ∙ speaking))
+
+  enter_calm : (found : Shown) (d : Doing K) → IsLate found → IsCalm d.state → IsCalm (enter found d).state
+  enter_calm (Hello flags) d late calm = absurd late
+  enter_calm (OptionReply told) d late calm = absurd late
+  enter_calm (ExportReply size flags) d late calm = absurd late
+  enter_calm (Reply frame) d late calm = λ speaking.
+      let item = Framed frame.content frame.last in
+      let seen = seen_in frame.cookie item d in
+      let quiet = calm (sym (ap is_speaking seen.0) ∙ speaking) in (
+        subst (λ t. RepliesSimply (file_in frame.cookie item d).state.stage t.phase t.structured t.extended) (sym seen.1) (subst (λ s. RepliesSimply s d.state.talk.phase d.state.talk.structured d.state.talk.extended) (sym seen.0) quiet.0),
+        file_each _ frame.cookie item d quiet.1,
+      )
+  enter_calm (Broken breach) d late calm = dead_calm (kill _ d).state (Dead _) (killed_stage _ d) refl
+  enter_calm Passed d late calm = calm
+  enter_calm Ignored d late calm = calm
+
+  calm_lasts : (d : Doing K) (bytes : List ℕ) (found : Shown) → IsCalm d.state → shows_at d.state.stage (sight d.state) (waited d.state) bytes ≡ Some found → IsCalm (enter found d).state
+  calm_lasts d bytes found calm e = enter_calm found d (late_at d.state.stage (sight d.state) (waited d.state) bytes found (λ speaking. (calm speaking).0) e) calm
+
+  module _ {World : Type 0} (steps : World → List (Call K) → World → Type 0) where
+    pub runs_calm : (bytes : List ℕ) (old new : Machine K) (before after : World) → Runs steps (arriving bytes) old new before after → IsCalm old.known → IsCalm new.known
+    runs_calm bytes old new before after r calm =
+        subst (λ h. IsCalm h.known.state) (r.does [] [])
+        (feed_lasts (table_rules {K = K}) (λ d. IsCalm d.state) (λ d shown found p e. calm_lasts d shown found p e) (under old (r.answers ++ []) []) bytes calm)
+
+  -- What waits is in flight.
+  waits_fit : (size : ℕ) (b : Bool) (row : Option (Row K)) (rows : List (ℕ × Row K)) (cookie : ℕ) (command : Waiting) → ReadsFit size rows → value_at cookie rows ≡ row → waited_of b row ≡ Some command → is_read command.kind ≡ true → command.length ≤ size
+  waits_fit size true None rows cookie command fits at e read = absurd (let c : None ≡ Some command = e in none_some c)
+    where
+      none_some : None ≡ Some command → ⊥
+      none_some e = cc
+  waits_fit size true (Some row) rows cookie command fits at e read = go row.flight (each_at _ cookie row rows fits at) e
+    where
+      go : (f : Option (Flight K)) → IfFlies (λ kind length flight. is_read kind ≡ true → length ≤ size) row.kind row.length f → waiting_row f row ≡ Some command → command.length ≤ size
+      go None here e = absurd (let c : None ≡ Some command = e in none_some c)
+        where
+          none_some : None ≡ Some command → ⊥
+          none_some e = cc
+      go (Some flight) here e =
+          let is : record { kind = row.kind; offset = row.offset; length = row.length; faults = row.facts.faults } ≡ command = cc in
+          let long : row.length ≡ command.length = ap (λ (w : Waiting). w.length) is in
+          let low = here (ap (λ (w : Waiting). is_read w.kind) is ∙ read) in omega (arith, long, low)
+  waits_fit size false row rows cookie command fits at e read = absurd (let c : None ≡ Some command = e in none_some c)
+    where
+      none_some : None ≡ Some command → ⊥
+      none_some e = cc
+
+  pub waited_fits : (size : ℕ) (state : State K) (cookie : ℕ) (command : Waiting) → ReadsFit size state.rows → waited state cookie ≡ Some command → is_read command.kind ≡ true → command.length ≤ size
+  waited_fits size state cookie command fits e read = waits_fit size (nat_le cookie state.written) (value_at cookie state.rows) state.rows cookie command fits refl e read
+
+  -- A reply that is announced to a command that waits.
+  pub announced_fits : (size : ℕ) (state : State K) (head : List ℕ) (found : Option Announced) (waiting : Option Told) → (16 ≤ length head → waited state (number_at 8 8 head) ≡ option_map seen_waiting waiting) →
+      IfSome found (λ announced. (waits : ℕ → Option Waiting) → (16 ≤ length head → waits (number_at 8 8 head) ≡ option_map seen_waiting waiting) → Announces waits head announced) →
+      IfSome found (λ announced. (command : Waiting) → option_map seen_waiting waiting ≡ Some command → announced.size ≡ command.length) →
+      ReadsFit size state.rows → IfSome found (λ announced. announced.size ≤ size)
+  announced_fits size state head None waiting waits announces long fits = tt
+  announced_fits size state head (Some announced) waiting waits announces long fits =
+      let a = announces (waited state) waits in
+      let r = a.whole (replicate announced.size 0) (length-replicate announced.size 0) in
+      let front = at_more 8 8 head (replicate announced.size 0) (omega (arith, a.sized)) in
+      let at : waited state (number_at 8 8 head) ≡ Some r.command = ap (waited state) (sym (r.cookie_is ∙ front)) ∙ r.waits in
+      let same = long r.command (sym (waits (omega (arith, a.sized))) ∙ at) in
+      go (is_read r.command.kind) r.command refl at same r.sized
+    where
+      go : (b : Bool) (command : Waiting) → is_read command.kind ≡ b → waited state (number_at 8 8 head) ≡ Some command → announced.size ≡ command.length → announced.size ≡ content_size command 0 → announced.size ≤ size
+      go true command read at same sized = subst (λ (n : ℕ). n ≤ size) (sym same) (waited_fits size state (number_at 8 8 head) command fits at read)
+      go false command read at same sized = let none : announced.size ≡ 0 = sized ∙ ap (λ (b : Bool). if b then command.length else 0) read in omega (arith, none)
+
+  -- A whole head of a read's reply, where its data are not all there, is told.
+  pub announced_all : (c : Connection K) (head rest : List ℕ) (found : Option Announced) (waiting : Option Told) → (16 ≤ length head → waited (state_of c) (number_at 8 8 head) ≡ option_map seen_waiting waiting) →
+      ((command : Waiting) → option_map seen_waiting waiting ≡ Some command → is_read command.kind ≡ true → IsSuccess head → IsSome found) →
+      IfSome found (λ announced. (command : Waiting) → option_map seen_waiting waiting ≡ Some command → announced.size ≡ command.length) →
+      RepliesSimply c.stage c.talk.phase c.talk.structured c.talk.extended → length head ≡ simple_head_size → ShowsNothing (state_of c) (head ++ rest) → IsSomeAnd found (λ announced. length rest < announced.size)
+  announced_all c head rest found waiting waits all long simply whole shown =
+      let l = frame_lacks (waited (state_of c)) (head ++ rest) (omega (arith, whole, length-append head rest)) (sym (simple_shows c.stage (sight (state_of c)) (waited (state_of c)) (head ++ rest) simply) ∙ shown) in
+      let cookie = at_more 8 8 head rest (omega (arith, whole)) in
+      let at : option_map seen_waiting waiting ≡ Some l.command = sym (waits (omega (arith, whole))) ∙ ap (waited (state_of c)) (sym cookie) ∙ l.there in
+      go found (all l.command at l.read (record { sized = whole; magic = sym (at_more 0 4 head rest (omega (arith, whole))) ∙ l.magic; error = sym (at_more 4 4 head rest (omega (arith, whole))) ∙ l.error })) long l.command at
+      (omega (arith, l.short, whole, length-append head rest))
+    where
+      go : (f : Option Announced) → IsSome f → IfSome f (λ announced. (command : Waiting) → option_map seen_waiting waiting ≡ Some command → announced.size ≡ command.length) →
+          (command : Waiting) → option_map seen_waiting waiting ≡ Some command → length rest < command.length → IsSomeAnd f (λ announced. length rest < announced.size)
+      go None some long command at short = absurd (false≢true some)
+      go (Some announced) some long command at short = let e = long command at in omega (arith, e, short)
+
+  -- Where no command in flight has a chunk callback, that of no cookie has one.
+  pub first_none : (row : Option (Row K)) (rows : List (ℕ × Row K)) (cookie : ℕ) → value_at cookie rows ≡ row → NoneHears rows → has_first (flight_of_row row) ≡ true → ⊥
+  first_none None rows cookie at none has = false≢true has
+  first_none (Some row) rows cookie at none has = go row.flight (each_at _ cookie row rows none at) has
+    where
+      go : (f : Option (Flight K)) → IfFlies (λ kind length flight. flight.first ≡ None) row.kind row.length f → has_first f ≡ true → ⊥
+      go None here has = false≢true has
+      go (Some flight) here has = false≢true (sym (ap is_some here) ∙ has)
+
+  -- What a record lacks is data that its head announced, or of the head of a simple reply.
+  pub within_lacks : (c : Connection K) (p : Pending) (announced : Option Announced) (head front : List ℕ) (lack : ℕ) → head ≡ p.head.items → RepliesSimply c.stage c.talk.phase c.talk.structured c.talk.extended → IsKept p → length p.head.items ≤ simple_head_size →
+      IfSome announced (λ some. Brings c head some) → (length head ≡ simple_head_size → IsSomeAnd announced (λ some. length (data_in p) < some.size)) →
+      IfSome announced (λ some. p.came < some.size → p.came + lack ≤ some.size) → IfNone announced (c.talk.phase ≡ phase.Ready → length p.head.items < simple_head_size → length p.head.items + lack ≤ simple_head_size) →
+      length front ≤ lack → AreWithin announced p front
+  within_lacks c p None head front lack is simply kept short brings all more rest fits =
+      let low : length p.head.items < simple_head_size = go (cases_lt (length p.head.items) simple_head_size) in
+      record { none = none (cases_lt 0 p.came) low; head = let h = rest simply.ready low in omega (arith, h, fits) }
+    where
+      go : (length p.head.items < simple_head_size) ⊎ (simple_head_size ≤ length p.head.items) → length p.head.items < simple_head_size
+      go (inl less) = less
+      go (inr most) = absurd (all (omega (arith, ap length is, most, short)))
+
+      none : (0 < p.came) ⊎ (p.came ≤ 0) → length p.head.items < simple_head_size → p.came ≡ 0
+      none (inl some) low = let e = kept.apart some in absurd (omega (arith, e, low))
+      none (inr low0) low = omega (arith, low0)
+  within_lacks c p (Some some) head front lack is simply kept short brings all more rest fits =
+      let less = all brings.announces.sized in
+      let came : p.came < some.size = omega (arith, less, length-take p.came p.content.items, kept.within, p.content.ok.0) in
+      let enough = more came in
+      omega (arith, enough, fits)

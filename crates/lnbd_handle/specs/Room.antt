@@ -1,0 +1,81 @@
+-- What lies ready for bytes that come in pieces, so that they take no memory.
+use Rattle.std.specs.Prelude.{◌≡◌, ◌⊎◌, ℕ, ◌+◌, ◌<◌, ◌≤◌, Bool, true, false, List, [], ◌∷◌, length, Option, Some, None, vec_len, vec_capacity}
+use Rattle.lnbd_model.specs.declared.kind.Kind.{Kind}
+use Rattle.lnbd_model.specs.declared.state.State.TheVariants as standing
+use Rattle.lnbd_model.specs.Kind.{is_read}
+use Rattle.lnbd_records.specs.Transmission.{simple_head_size}
+use Rattle.lnbd_history.specs.declared.kinds.Phase.{Phase}
+use Rattle.lnbd_history.specs.declared.kinds.Phase.TheVariants.{Ready}
+use Rattle.lnbd_history.specs.declared.kinds.Stage.{Stage}
+use Rattle.lnbd_history.specs.Commands.{Flight}
+use Rattle.lnbd_machine.specs.Machine.{Row, State}
+use Rattle.lnbd_machine.specs.Now.{state_now}
+use Rattle.lnbd_arrivals.specs.declared.announced.Announced.{Announced}
+use Rattle.lnbd_handle.specs.declared.pending.Pending.{Pending}
+use Rattle.lnbd_handle.specs.Turns.{is_speaking}
+
+-- Where both sides speak of commands, simple replies alone come.
+pub record RepliesSimply (stage : Stage) (phase : Phase) (structured extended : Bool) : Type 0 where
+  pub speaking : is_speaking stage ≡ true
+  pub ready : phase ≡ Ready
+  pub compact : structured ≡ false
+  pub short : extended ≡ false
+
+-- Extended headers are on only where structured replies are.
+abbrev pub AreOrdered : (structured extended : Bool) → Type 0
+AreOrdered structured extended = extended ≡ true → structured ≡ true
+
+-- The data that are held stand in front of the buffer; the head of a simple reply has room, and data are held behind a whole one.
+pub record IsKept (pending : Pending) : Type 0 where
+  pub within : pending.came ≤ vec_len pending.content
+  pub room : simple_head_size ≤ vec_capacity pending.head
+  pub apart : 0 < pending.came → length pending.head.items ≡ simple_head_size
+
+-- These bytes and those that are held are at most the head of a simple reply.
+pub record IsHeadWithin (pending : Pending) (front : List ℕ) : Type 0 where
+  pub none : pending.came ≡ 0
+  pub head : length pending.head.items + length front ≤ simple_head_size
+
+-- These bytes are data that a reply announced, or of the head of a simple reply.
+abbrev pub AreWithin : Option Announced → Pending → List ℕ → Type 0
+AreWithin None pending front = IsHeadWithin pending front
+AreWithin (Some announced) pending front = pending.came + length front ≤ announced.size
+
+module _ {K : Type 0} where
+  abbrev pub IfFlies : (Kind → ℕ → Flight K → Type 0) → Kind → ℕ → Option (Flight K) → Type 0
+  IfFlies holds kind length None = Unit {0}
+  IfFlies holds kind length (Some flight) = holds kind length flight
+
+  -- this holds of each command in flight, by its kind, its length and its callbacks
+  abbrev pub EachFlies : (Kind → ℕ → Flight K → Type 0) → List (ℕ × Row K) → Type 0
+  EachFlies holds [] = Unit {0}
+  EachFlies holds (entry ∷ rows) = IfFlies holds entry.1.kind entry.1.length entry.1.flight × EachFlies holds rows
+
+  -- No read in flight has more bytes than these.
+  abbrev pub ReadsFit : (size : ℕ) → List (ℕ × Row K) → Type 0
+  ReadsFit size rows = EachFlies (λ kind length flight. is_read kind ≡ true → length ≤ size) rows
+
+  -- No command in flight has a chunk callback.
+  abbrev pub NoneHears : List (ℕ × Row K) → Type 0
+  NoneHears rows = EachFlies (λ kind length flight. flight.first ≡ None) rows
+
+  -- The buffer of data has room for each read in flight, and of a simple reply no more than its head is held as one.
+  pub record HasPlaces (stage : Stage) (phase : Phase) (structured extended : Bool) (rows : List (ℕ × Row K)) (pending : Pending) : Type 0 where
+    pub kept : IsKept pending
+    pub fits : ReadsFit (vec_len pending.content) rows
+    pub split : RepliesSimply stage phase structured extended → length pending.head.items ≤ simple_head_size
+    pub ordered : AreOrdered structured extended
+
+  -- Simple replies alone come, and no chunk callback makes a note.
+  abbrev pub IsQuiet : State K → Type 0
+  IsQuiet state = RepliesSimply state.stage state.talk.phase state.talk.structured state.talk.extended × NoneHears state.rows
+
+  -- What arrives wants no memory.
+  abbrev pub IsCalm : State K → Type 0
+  IsCalm state = is_speaking state.stage ≡ true → IsQuiet state
+
+  -- Ready or Closing, structured replies are off, and no command in flight has a chunk callback.
+  pub record IsPlain (state : State K) : Type 0 where
+    pub stands : (state_now state ≡ standing.Ready) ⊎ (state_now state ≡ standing.Closing)
+    pub simple : state.talk.structured ≡ false
+    pub unheard : NoneHears state.rows
