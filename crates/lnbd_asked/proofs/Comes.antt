@@ -1,0 +1,36 @@
+-- What a request comes to is seen from what came for it alone.
+use Rattle.std.proofs.Common.{◌≡◌, ℕ, Bool, true, false, List, Option, Some, None, refl, ap, sym, ◌∙◌, nat_le, if◌then◌else◌}
+use Rattle.std.specs.Option.{option_map}
+use Rattle.lnbd_history.specs.declared.kinds.Phase.TheVariants as phase
+use Rattle.lnbd_history.specs.Agreement.{steps, export}
+use Rattle.lnbd_history.specs.Commands.{Command, Request}
+use Rattle.lnbd_outcome.specs.Outcome.{Outcome, Unfinished, outcome}
+use Rattle.lnbd_history.specs.Entries.{Piece, Filing, own}
+use Rattle.lnbd_history.specs.History.{request}
+use Rattle.lnbd_asked.specs.Link.{Nobody}
+use Rattle.lnbd_asked.specs.Transcript.{bare, outcome_of, size_at}
+use Rattle.lnbd_asked.specs.InStep.{silent_pieces, InStepSaysSo}
+use Rattle.lnbd_asked.proofs.Steps.{past, query_bare}
+
+abbrev comes_of : Option (Command Nobody) → List Piece → Outcome
+comes_of None all = Unfinished
+comes_of (Some asks) all = outcome (query_bare asks) all
+
+outcome_so : {K : Type 0} (asks : Option (Request K)) (filings : List (Filing K)) → outcome_of asks filings ≡ comes_of (option_map bare asks) (silent_pieces filings)
+outcome_so None filings = refl
+outcome_so (Some asks) filings = refl
+
+pub in_step_says_so : {K : Type 0} → InStepSaysSo K
+in_step_says_so history n known link s = record {
+  requests = λ c. go c (nat_le c n) refl;
+  outcomes = λ c low.
+      outcome_so (request link.requests c) (own c link.heard.entries)
+      ∙ ap (λ a. comes_of a (silent_pieces (own c link.heard.entries))) (sym (s.requests.same c low))
+      ∙ ap (comes_of (option_map bare (request history c))) (sym (s.filed c low))
+      ∙ sym (outcome_so (request history c) (own c known.entries));
+  size = ap (λ p. size_at p (export (steps link.heard.turns))) s.ready' ∙ ap (size_at phase.Ready) (sym s.told) ∙ sym (ap (λ p. size_at p (export (steps known.turns))) s.ready);
+}
+  where
+    go : (c : ℕ) (b : Bool) → nat_le c n ≡ b → option_map bare (request link.requests c) ≡ (if nat_le c n then option_map bare (request history c) else None)
+    go c true low = sym (s.requests.same c low) ∙ sym (ap (λ (b : Bool). if b then option_map bare (request history c) else None) low)
+    go c false high = ap (option_map bare) (past history n known link c s high) ∙ sym (ap (λ (b : Bool). if b then option_map bare (request history c) else None) high)

@@ -1,0 +1,261 @@
+//! What the bytes of a client show, at each stage of a session. What then happens is not known here.
+
+ghost use Rattle.std.specs.Prelude.{◌≡◌, ◌≤◌, ◌+◌, length, false};
+ghost use Rattle.lnbd_server.specs.Client.{says, says_flags, says_option, says_request, says_extended, says_asked, kind_of, data_size, lacks_data};
+ghost use Rattle.lnbd_server.specs.Session.{is_closed};
+ghost use Rattle.lnbd_server.specs.Seen.{heard_of, IsThere, used_of};
+
+use crate::stage::Stage;
+use lnbd_export::Request;
+use lnbd_model::Kind;
+use lnbd_records::{u16_at, u32_at, u64_at};
+
+/// FIXED_NEWSTYLE, which each client has to say.
+const FIXED_NEWSTYLE: u32 = 1;
+
+/// FIXED_NEWSTYLE and NO_ZEROES.
+const BOTH: u32 = 3;
+
+/// IHAVEOPT.
+const OPTION_MAGIC: u64 = 0x49484156454f5054;
+
+/// The longest data of an option request that is read.
+const MAX_OPTION_REQUEST: u32 = 131_072;
+
+const REQUEST_MAGIC: u32 = 0x25609513;
+
+const EXTENDED_REQUEST_MAGIC: u32 = 0x21e41c71;
+
+/// The types of WRITE and DISC.
+const WRITE: u16 = 1;
+
+const DISC: u16 = 2;
+
+/// The data of a request follows it.
+const PAYLOAD_LEN: u16 = 32;
+
+/// The most bytes of data that follow a request.
+const MAX_DATA: u64 = 33_554_432;
+
+/// What some bytes show.
+#[derive(Clone, Copy, Debug, PartialEq, Eq)]
+pub(crate) enum Seen {
+    Nothing,
+    Flags(u32),
+    /// So many bytes of data stand behind 16 others.
+    OptionRequest {
+        option: u32,
+        length: usize,
+    },
+    /// So many bytes of data stand behind a head.
+    Asks {
+        request: Request,
+        head: usize,
+        payload: usize,
+    },
+    Disconnect {
+        size: usize,
+    },
+    Stray,
+}
+
+impl Seen {
+    /// How many of so many bytes are used.
+    pub fn used(self, all: usize) -> usize
+        requires { used_of self all ≤ all }
+        ensures { result ≡ used_of self all }
+    {
+        match self {
+            Seen::Nothing | Seen::Stray => all,
+            Seen::Flags(_) => 4,
+            Seen::OptionRequest { length, .. } => 16 + length,
+            Seen::Asks { head, payload, .. } => head + payload,
+            Seen::Disconnect { size } => size,
+        }
+    }
+}
+
+/// What these bytes show at a stage. After the end of a session nothing is looked for.
+pub(crate) fn look(stage: Stage, extended: bool, bytes: &[u8]) -> Seen
+    requires { is_closed stage ≡ false }
+    ensures said { says stage extended bytes.now ≡ heard_of result bytes.now }
+    ensures there { IsThere result bytes.now }
+{
+    match stage {
+        Stage::Greeting => look_for_flags(bytes),
+        Stage::Haggling => look_for_option(bytes),
+        Stage::Serving => {
+            if extended {
+                look_for_extended(bytes)
+            } else {
+                look_for_request(bytes)
+            }
+        }
+        Stage::Ended | Stage::Strayed => Seen::Nothing,
+    }
+}
+
+#[tactic(auto, unfolding(crate::specs::Client::says_flags, lnbd_stream::specs::Grammar::once, lnbd_stream::specs::Grammar::wants))]
+fn look_for_flags(bytes: &[u8]) -> Seen
+    ensures said { says_flags bytes.now ≡ heard_of result bytes.now }
+    ensures there { IsThere result bytes.now }
+{
+    if bytes.len() < 4 {
+        return Seen::Nothing;
+    }
+    let flags = u32_at(bytes, 0);
+    if flags == FIXED_NEWSTYLE || flags == BOTH {
+        Seen::Flags(flags)
+    } else {
+        Seen::Stray
+    }
+}
+
+#[tactic(auto, unfolding(crate::specs::Client::says_option, lnbd_stream::specs::Grammar::once, lnbd_stream::specs::Grammar::wants))]
+fn look_for_option(bytes: &[u8]) -> Seen
+    ensures said { says_option bytes.now ≡ heard_of result bytes.now }
+    ensures there { IsThere result bytes.now }
+{
+    if bytes.len() < 8 {
+        return Seen::Nothing;
+    }
+    if u64_at(bytes, 0) != OPTION_MAGIC {
+        return Seen::Stray;
+    }
+    if bytes.len() < 16 {
+        return Seen::Nothing;
+    }
+    let length = u32_at(bytes, 12);
+    if length > MAX_OPTION_REQUEST {
+        return Seen::Stray;
+    }
+    let length = length as usize;
+    if bytes.len() < 16 + length {
+        return Seen::Nothing;
+    }
+    let option = u32_at(bytes, 8);
+    Seen::OptionRequest { option, length }
+}
+
+#[tactic(auto, unfolding(crate::specs::Client::says_request, lnbd_stream::specs::Grammar::once, lnbd_stream::specs::Grammar::wants))]
+fn look_for_request(bytes: &[u8]) -> Seen
+    ensures said { says_request bytes.now ≡ heard_of result bytes.now }
+    ensures there { IsThere result bytes.now }
+{
+    if bytes.len() < 4 {
+        return Seen::Nothing;
+    }
+    if u32_at(bytes, 0) != REQUEST_MAGIC {
+        return Seen::Stray;
+    }
+    if bytes.len() < 28 {
+        return Seen::Nothing;
+    }
+    let flags = u16_at(bytes, 4);
+    let kind = u16_at(bytes, 6);
+    let cookie = u64_at(bytes, 8);
+    let offset = u64_at(bytes, 16);
+    let length = u32_at(bytes, 24) as u64;
+    look_for_data(false, 28, kind, flags, cookie, offset, length, bytes)
+}
+
+#[tactic(auto, unfolding(crate::specs::Client::says_extended, lnbd_stream::specs::Grammar::once, lnbd_stream::specs::Grammar::wants))]
+fn look_for_extended(bytes: &[u8]) -> Seen
+    ensures said { says_extended bytes.now ≡ heard_of result bytes.now }
+    ensures there { IsThere result bytes.now }
+{
+    if bytes.len() < 4 {
+        return Seen::Nothing;
+    }
+    if u32_at(bytes, 0) != EXTENDED_REQUEST_MAGIC {
+        return Seen::Stray;
+    }
+    if bytes.len() < 32 {
+        return Seen::Nothing;
+    }
+    let flags = u16_at(bytes, 4);
+    let kind = u16_at(bytes, 6);
+    let cookie = u64_at(bytes, 8);
+    let offset = u64_at(bytes, 16);
+    let length = u64_at(bytes, 24);
+    look_for_data(true, 32, kind, flags, cookie, offset, length, bytes)
+}
+
+/// A request whose head was read, with the data that follows it.
+#[tactic(auto, unfolding(crate::specs::Client::says_asked, lnbd_stream::specs::Grammar::once, lnbd_stream::specs::Grammar::wants))]
+fn look_for_data(
+    extended: bool,
+    head: usize,
+    kind: u16,
+    flags: u16,
+    cookie: u64,
+    offset: u64,
+    size: u64,
+    bytes: &[u8],
+) -> Seen
+    requires small { head ≤ 32 }
+    requires there { head ≤ length bytes.now }
+    ensures said { says_asked extended head kind flags cookie offset size bytes.now ≡ heard_of result bytes.now }
+    ensures there { IsThere result bytes.now }
+{
+    let payload = data_size(extended, kind, flags, size);
+    if lacks_data(extended, kind, flags) || payload > MAX_DATA {
+        return Seen::Stray;
+    }
+    let payload = payload as usize;
+    if bytes.len() < head + payload {
+        return Seen::Nothing;
+    }
+    if kind == DISC {
+        return Seen::Disconnect {
+            size: head + payload,
+        };
+    }
+    let request = Request {
+        kind: kind_of(kind),
+        flags,
+        cookie,
+        offset,
+        length: size,
+    };
+    Seen::Asks {
+        request,
+        head,
+        payload,
+    }
+}
+
+/// How many bytes of data follow a head.
+fn data_size(extended: bool, kind: u16, flags: u16, length: u64) -> u64
+    ensures { result ≡ data_size extended kind flags length }
+{
+    let has_data = if extended {
+        flags & PAYLOAD_LEN != 0
+    } else {
+        kind == WRITE
+    };
+    if has_data { length } else { 0 }
+}
+
+/// Whether a write doesn't say that its data follows.
+fn lacks_data(extended: bool, kind: u16, flags: u16) -> bool
+    ensures { result ≡ lacks_data extended kind flags }
+{
+    extended && kind == WRITE && flags & PAYLOAD_LEN == 0
+}
+
+/// The command of a type, if one has it.
+fn kind_of(kind: u16) -> Option<Kind>
+    ensures { result ≡ kind_of kind }
+{
+    match kind {
+        0 => Some(Kind::Read),
+        WRITE => Some(Kind::Write),
+        3 => Some(Kind::Flush),
+        4 => Some(Kind::Trim),
+        5 => Some(Kind::Cache),
+        6 => Some(Kind::Zero),
+        7 => Some(Kind::BlockStatus),
+        _ => None,
+    }
+}
