@@ -1,2 +1,3 @@
 mod InputLemmas
 mod RunLemmas
+pub mod InfoLemmas

@@ -1,7 +1,6 @@
 -- What the status of a run tells of its end.
 use Rattle.std.proofs.Common.{◌≡◌, ◌⊎◌, inl, inr, ◌<◌, ◌≤◌, ℕ, true, false, List, [], ◌∷◌, length, get_or, Option, Some, Result, Ok, Err, refl, sym, ◌∙◌, ap, subst, arith, String}
 use Rattle.std.proofs.lemmas.Bool.{false≢true}
-use Rattle.std.proofs.lemmas.List.{append-nil}
 use Rattle.std.specs.declared.alloc.Global.{Global}
 use Rattle.lnbd_link.specs.Call.{Call}
 use Rattle.lnbd_link.specs.Count.{Rises}
@@ -10,7 +9,7 @@ use Rattle.lnbd_lines.specs.Scripts.{IsScript}
 use Rattle.lnbd_script.specs.declared.event.Event.{Event}
 use Rattle.lnbd_script.specs.declared.event.PlayFault.{PlayFault}
 use Rattle.lnbd_script.specs.declared.event.PlayFault.TheVariants as play
-use Rattle.lnbd_script.specs.Plays.{How, Finished, Silent, HasPlayed, HasPlayedPart, first_fault, is_cut, is_played}
+use Rattle.lnbd_script.specs.Plays.{How, Finished, Silent, Untold, Short, HasBeenCut, HasEnded, HasPlayed, first_fault, is_played}
 use Rattle.lnbd_cli.specs.declared.fault.Fault.{Fault}
 use Rattle.lnbd_cli.specs.declared.fault.Fault.TheVariants as fault
 use Rattle.lnbd_cli.specs.declared.input.Unread.{Unread}
@@ -136,21 +135,10 @@ played_as lines old new before after how P Q f h = record {
   plays = h.plays;
   first = f h.end.first h.first;
   closed = h.closed;
-  freed = h.freed;
 }
 
-part_of : (lines : List Line) (old new : Option (List Call)) (before after : Option (List ℕ)) (how : How) (P : Option Event → Type 0) → HasPlayed lines old new before after how P → HasPlayedPart lines old new before after
-part_of lines old new before after how P h = record {
-  calls = h.calls;
-  text = h.text;
-  how = how;
-  end = h.end;
-  grown = h.grown;
-  taken = record { front = h.text; rest = []; split = sym (append-nil h.text); taken = h.taken };
-  plays = h.plays;
-  closed = h.closed;
-  freed = h.freed;
-}
+ended_so : (lines : List Line) (old new : Option (List Call)) (before after : Option (List ℕ)) (how : How) (P : Option Event → Type 0) → HasPlayed lines old new before after how P → HasEnded lines old new before after
+ended_so lines old new before after how P h = (how, played_as lines old new before after how P (λ first. Unit {0}) (λ first p. tt) h)
 
 ran_as : (words : List (String Global)) (left left' : Option (List ℕ)) (P Q : List Line → Type 0) → ((lines : List Line) → P lines → Q lines) → Ran words left left' P → Ran words left left' Q
 ran_as words left left' P Q f r = record { calls = r.calls; lines = r.lines; script = r.script; read = r.read; played = f r.lines r.played }
@@ -158,7 +146,7 @@ ran_as words left left' P Q f r = record { calls = r.calls; lines = r.lines; scr
 -- All that is known where a run ends so.
 abbrev pub EndsSo : End → List (String Global) → Option (List ℕ) → Option (List ℕ) → Option (List Call) → Option (List Call) → Option (List ℕ) → Option (List ℕ) → Type 0 → Type 0
 EndsSo end words left left' old new before after None_ =
-    Ends end words left left' (λ lines how IsFirst. HasPlayed lines old new before after how IsFirst) (λ lines. HasPlayedPart lines old new before after) None_
+    Ends end words left left' (λ lines how IsFirst. HasPlayed lines old new before after how IsFirst) None_
 
 -- the status and what is printed
 abbrev pub Printed : ℕ → End → (List ℕ → Type 0) → Type 0
@@ -179,18 +167,18 @@ whole_end (Err (fault.Played play.Output)) words left left' old new before after
 whole_end (Err (fault.Played play.NoMemory)) words left left' old new before after None_ h e = absurd (false≢true h)
 
 weaken : (end : End) (words : List (String Global)) (left left' : Option (List ℕ)) (old new : Option (List Call)) (before after : Option (List ℕ)) (None_ : Type 0) → EndsSo end words left left' old new before after None_
-    → Ran words left left' (λ lines. HasPlayedPart lines old new before after) ⊎ None_
-weaken (Ok done) words left left' old new before after None_ e = inl (ran_as words left left' _ _ (λ lines h. part_of lines old new before after Finished _ h) e)
+    → Ran words left left' (λ lines. HasEnded lines old new before after) ⊎ None_
+weaken (Ok done) words left left' old new before after None_ e = inl (ran_as words left left' _ _ (λ lines h. ended_so lines old new before after Finished _ h) e)
 weaken (Err fault.Usage) words left left' old new before after None_ e = inr e.1
 weaken (Err (fault.Line number)) words left left' old new before after None_ e = inr e.2
 weaken (Err fault.Input) words left left' old new before after None_ e = inr e
 weaken (Err fault.NoMemory) words left left' old new before after None_ e = inr e
-weaken (Err (fault.Played play.Link)) words left left' old new before after None_ e = inl (ran_as words left left' _ _ (λ lines h. part_of lines old new before after Finished _ h) e)
-weaken (Err (fault.Played (play.Broke broken))) words left left' old new before after None_ e = inl (ran_as words left left' _ _ (λ lines h. part_of lines old new before after Finished _ h) e)
-weaken (Err (fault.Played (play.Peer option code))) words left left' old new before after None_ e = inl (ran_as words left left' _ _ (λ lines h. part_of lines old new before after Finished _ h) e)
-weaken (Err (fault.Played play.Silent)) words left left' old new before after None_ e = inl (ran_as words left left' _ _ (λ lines h. part_of lines old new before after Silent _ h) e)
-weaken (Err (fault.Played play.Output)) words left left' old new before after None_ e = inl e
-weaken (Err (fault.Played play.NoMemory)) words left left' old new before after None_ e = inl e
+weaken (Err (fault.Played play.Link)) words left left' old new before after None_ e = inl (ran_as words left left' _ _ (λ lines h. ended_so lines old new before after Finished _ h) e)
+weaken (Err (fault.Played (play.Broke broken))) words left left' old new before after None_ e = inl (ran_as words left left' _ _ (λ lines h. ended_so lines old new before after Finished _ h) e)
+weaken (Err (fault.Played (play.Peer option code))) words left left' old new before after None_ e = inl (ran_as words left left' _ _ (λ lines h. ended_so lines old new before after Finished _ h) e)
+weaken (Err (fault.Played play.Silent)) words left left' old new before after None_ e = inl (ran_as words left left' _ _ (λ lines h. ended_so lines old new before after Silent _ h) e)
+weaken (Err (fault.Played play.Output)) words left left' old new before after None_ e = inl (ran_as words left left' _ _ (λ lines h. (Untold h.0, h.1)) e)
+weaken (Err (fault.Played play.NoMemory)) words left left' old new before after None_ e = inl (ran_as words left left' _ _ (λ lines h. (Short, h)) e)
 
 -- The clauses.
 
@@ -210,11 +198,11 @@ pub waited : (s : ℕ) (end : End) (words : List (String Global)) (left left' : 
 waited s end words left left' old new before after None_ P e (inl printed) h = subst (λ (x : End). EndsSo x words left left' old new before after None_) (only_silent end (sym printed.0 ∙ h)) e
 waited s end words left left' old new before after None_ P e (inr printed) h = absurd (omega (arith, printed.0, h))
 
-pub cut : (s : ℕ) (end : End) (words : List (String Global)) (left left' : Option (List ℕ)) (old new : Option (List Call)) (before after : Option (List ℕ)) (None_ : Type 0) (P : List ℕ → Type 0) → EndsSo end words left left' old new before after None_ → Printed s end P → s ≡ 8 → Ran words left left' (λ lines. HasPlayedPart lines old new before after)
+pub cut : (s : ℕ) (end : End) (words : List (String Global)) (left left' : Option (List ℕ)) (old new : Option (List Call)) (before after : Option (List ℕ)) (None_ : Type 0) (P : List ℕ → Type 0) → EndsSo end words left left' old new before after None_ → Printed s end P → s ≡ 8 → Ran words left left' (λ lines. HasBeenCut lines old new before after)
 cut s end words left left' old new before after None_ P e (inl printed) h = subst (λ (x : End). EndsSo x words left left' old new before after None_) (only_output end (sym printed.0 ∙ h)) e
 cut s end words left left' old new before after None_ P e (inr printed) h = absurd (omega (arith, printed.0, h))
 
-pub short : (s : ℕ) (end : End) (words : List (String Global)) (left left' : Option (List ℕ)) (old new : Option (List Call)) (before after : Option (List ℕ)) (None_ : Type 0) (P : List ℕ → Type 0) → EndsSo end words left left' old new before after None_ → Printed s end P → s ≡ 9 → Ran words left left' (λ lines. HasPlayedPart lines old new before after) ⊎ None_
+pub short : (s : ℕ) (end : End) (words : List (String Global)) (left left' : Option (List ℕ)) (old new : Option (List Call)) (before after : Option (List ℕ)) (None_ : Type 0) (P : List ℕ → Type 0) → EndsSo end words left left' old new before after None_ → Printed s end P → s ≡ 9 → Ran words left left' (λ lines. HasEnded lines old new before after) ⊎ None_
 short s end words left left' old new before after None_ P e printed h = weaken end words left left' old new before after None_ e
 
 bad_as : (end : End) (words : List (String Global)) (left left' : Option (List ℕ)) (old new : Option (List Call)) (before after : Option (List ℕ)) (None_ : Type 0) (P : List ℕ → Type 0) → EndsSo end words left left' old new before after None_ → P (line_of_end end)
@@ -278,15 +266,16 @@ pub ended_by : (answer : Result (Unit {0}) PlayFault) (words : List (String Glob
     → IsCalls words → ((bytes : List ℕ) → left ≡ Some bytes → IsScript bytes lines × (left' ≡ Some []))
     → (is_played answer ≡ true → HasPlayed lines old new before after Finished (λ first. answer ≡ first_fault first))
     → (answer ≡ Err play.Silent → HasPlayed lines old new before after Silent (λ first. Unit {0}))
-    → (is_cut answer ≡ true → HasPlayedPart lines old new before after)
+    → (answer ≡ Err play.Output → HasBeenCut lines old new before after)
+    → (answer ≡ Err play.NoMemory → HasPlayed lines old new before after Short (λ first. Unit {0}))
     → EndsSo (end_of answer) words left left' old new before after None_
-ended_by (Ok done) words left left' lines old new before after None_ calls reads p w c = record { calls = calls; lines = lines; script = λ bytes is. (reads bytes is).0; read = λ bytes is. (reads bytes is).1; played = p refl }
-ended_by (Err play.Link) words left left' lines old new before after None_ calls reads p w c = record { calls = calls; lines = lines; script = λ bytes is. (reads bytes is).0; read = λ bytes is. (reads bytes is).1; played = p refl }
-ended_by (Err (play.Broke broken)) words left left' lines old new before after None_ calls reads p w c = record { calls = calls; lines = lines; script = λ bytes is. (reads bytes is).0; read = λ bytes is. (reads bytes is).1; played = p refl }
-ended_by (Err (play.Peer option code)) words left left' lines old new before after None_ calls reads p w c = record { calls = calls; lines = lines; script = λ bytes is. (reads bytes is).0; read = λ bytes is. (reads bytes is).1; played = p refl }
-ended_by (Err play.Silent) words left left' lines old new before after None_ calls reads p w c = record { calls = calls; lines = lines; script = λ bytes is. (reads bytes is).0; read = λ bytes is. (reads bytes is).1; played = w refl }
-ended_by (Err play.Output) words left left' lines old new before after None_ calls reads p w c = record { calls = calls; lines = lines; script = λ bytes is. (reads bytes is).0; read = λ bytes is. (reads bytes is).1; played = c refl }
-ended_by (Err play.NoMemory) words left left' lines old new before after None_ calls reads p w c = record { calls = calls; lines = lines; script = λ bytes is. (reads bytes is).0; read = λ bytes is. (reads bytes is).1; played = c refl }
+ended_by (Ok done) words left left' lines old new before after None_ calls reads p w c m = record { calls = calls; lines = lines; script = λ bytes is. (reads bytes is).0; read = λ bytes is. (reads bytes is).1; played = p refl }
+ended_by (Err play.Link) words left left' lines old new before after None_ calls reads p w c m = record { calls = calls; lines = lines; script = λ bytes is. (reads bytes is).0; read = λ bytes is. (reads bytes is).1; played = p refl }
+ended_by (Err (play.Broke broken)) words left left' lines old new before after None_ calls reads p w c m = record { calls = calls; lines = lines; script = λ bytes is. (reads bytes is).0; read = λ bytes is. (reads bytes is).1; played = p refl }
+ended_by (Err (play.Peer option code)) words left left' lines old new before after None_ calls reads p w c m = record { calls = calls; lines = lines; script = λ bytes is. (reads bytes is).0; read = λ bytes is. (reads bytes is).1; played = p refl }
+ended_by (Err play.Silent) words left left' lines old new before after None_ calls reads p w c m = record { calls = calls; lines = lines; script = λ bytes is. (reads bytes is).0; read = λ bytes is. (reads bytes is).1; played = w refl }
+ended_by (Err play.Output) words left left' lines old new before after None_ calls reads p w c m = record { calls = calls; lines = lines; script = λ bytes is. (reads bytes is).0; read = λ bytes is. (reads bytes is).1; played = c refl }
+ended_by (Err play.NoMemory) words left left' lines old new before after None_ calls reads p w c m = record { calls = calls; lines = lines; script = λ bytes is. (reads bytes is).0; read = λ bytes is. (reads bytes is).1; played = m refl }
 
 -- No script was read.
 

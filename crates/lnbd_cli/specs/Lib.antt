@@ -1,3 +1,4 @@
 pub mod Statuses
 pub mod Inputs
 pub mod Runs
+pub mod Informs

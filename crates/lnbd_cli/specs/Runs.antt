@@ -7,7 +7,7 @@ use Rattle.lnbd_lines.specs.declared.line.Line.{Line}
 use Rattle.lnbd_lines.specs.Scripts.{IsFault, IsScript}
 use Rattle.lnbd_script.specs.declared.event.Event.{Event}
 use Rattle.lnbd_script.specs.declared.event.PlayFault.TheVariants as play
-use Rattle.lnbd_script.specs.Plays.{How, Finished, Silent, first_fault}
+use Rattle.lnbd_script.specs.Plays.{How, Finished, Silent, Untold, Short, first_fault}
 use Rattle.lnbd_script.specs.Streams.{TakesFront}
 use Rattle.lnbd_cli.specs.declared.fault.Fault.{Fault}
 use Rattle.lnbd_cli.specs.declared.fault.Fault.TheVariants as fault
@@ -50,18 +50,18 @@ pub record IsLawful (words : List (String Global)) (left : Option (List ℕ)) : 
   pub script : IsScript bytes lines
 
 -- what the end of a run tells of it
-abbrev pub Ends : Result (Unit {0}) Fault → List (String Global) → Option (List ℕ) → Option (List ℕ) → (List Line → How → (Option Event → Type 0) → Type 0) → (List Line → Type 0) → Type 0 → Type 0
-Ends (Ok done) words left left' Whole Part None_ = Ran words left left' (λ lines. Whole lines Finished (λ first. Ok tt ≡ first_fault first))
-Ends (Err (fault.Played play.Link)) words left left' Whole Part None_ = Ran words left left' (λ lines. Whole lines Finished (λ first. Err play.Link ≡ first_fault first))
-Ends (Err (fault.Played (play.Broke broken))) words left left' Whole Part None_ = Ran words left left' (λ lines. Whole lines Finished (λ first. Err (play.Broke broken) ≡ first_fault first))
-Ends (Err (fault.Played (play.Peer option code))) words left left' Whole Part None_ = Ran words left left' (λ lines. Whole lines Finished (λ first. Err (play.Peer option code) ≡ first_fault first))
-Ends (Err (fault.Played play.Silent)) words left left' Whole Part None_ = Ran words left left' (λ lines. Whole lines Silent (λ first. Unit {0}))
-Ends (Err (fault.Played play.Output)) words left left' Whole Part None_ = Ran words left left' Part
-Ends (Err (fault.Played play.NoMemory)) words left left' Whole Part None_ = Ran words left left' Part
-Ends (Err fault.NoMemory) words left left' Whole Part None_ = None_
-Ends (Err fault.Input) words left left' Whole Part None_ = None_
-Ends (Err fault.Usage) words left left' Whole Part None_ = (¬ IsCalls words) × None_
-Ends (Err (fault.Line number)) words left left' Whole Part None_ = IsCalls words × ((bytes : List ℕ) → left ≡ Some bytes → IsFault bytes number) × None_
+abbrev pub Ends : Result (Unit {0}) Fault → List (String Global) → Option (List ℕ) → Option (List ℕ) → (List Line → How → (Option Event → Type 0) → Type 0) → Type 0 → Type 0
+Ends (Ok done) words left left' Whole None_ = Ran words left left' (λ lines. Whole lines Finished (λ first. Ok tt ≡ first_fault first))
+Ends (Err (fault.Played play.Link)) words left left' Whole None_ = Ran words left left' (λ lines. Whole lines Finished (λ first. Err play.Link ≡ first_fault first))
+Ends (Err (fault.Played (play.Broke broken))) words left left' Whole None_ = Ran words left left' (λ lines. Whole lines Finished (λ first. Err (play.Broke broken) ≡ first_fault first))
+Ends (Err (fault.Played (play.Peer option code))) words left left' Whole None_ = Ran words left left' (λ lines. Whole lines Finished (λ first. Err (play.Peer option code) ≡ first_fault first))
+Ends (Err (fault.Played play.Silent)) words left left' Whole None_ = Ran words left left' (λ lines. Whole lines Silent (λ first. Unit {0}))
+Ends (Err (fault.Played play.Output)) words left left' Whole None_ = Ran words left left' (λ lines. (last : List ℕ) × Whole lines (Untold last) (λ first. Unit {0}))
+Ends (Err (fault.Played play.NoMemory)) words left left' Whole None_ = Ran words left left' (λ lines. Whole lines Short (λ first. Unit {0}))
+Ends (Err fault.NoMemory) words left left' Whole None_ = None_
+Ends (Err fault.Input) words left left' Whole None_ = None_
+Ends (Err fault.Usage) words left left' Whole None_ = (¬ IsCalls words) × None_
+Ends (Err (fault.Line number)) words left left' Whole None_ = IsCalls words × ((bytes : List ℕ) → left ≡ Some bytes → IsFault bytes number) × None_
 
 -- all is done, the peer told an error or broke off, or memory ran out
 abbrev pub IsOneOf : ℕ → Type 0

@@ -34,7 +34,8 @@ fn status_of_play(fault: PlayFault) -> u8
     }
 }
 
-fn push_broken(text: &mut String, broken: Broken) -> Result<(), AllocError>
+/// Appends the name of what broke a run.
+pub(crate) fn push_broken(text: &mut String, broken: Broken) -> Result<(), AllocError>
     ensures { OnOk result (string_bytes text.new ≡ string_bytes text.old ++ broken_text broken) }
 {
     match broken {

@@ -3,6 +3,7 @@
 #![tactic(auto)]
 
 mod fault;
+mod informing;
 mod input;
 mod top;
 

@@ -1,13 +1,15 @@
 -- A line asks for one thing.
-use Rattle.std.proofs.Common.{◌≡◌, ◌∙◌, ℕ, List, Option, Some, None, Result, Ok, Err, IfOk, MatchOption, ap, cond, drop, eqb, sym, inl, inr}
+use Rattle.std.proofs.Common.{◌≡◌, ◌∙◌, ℕ, Bool, true, false, List, Option, Some, None, Result, Ok, Err, IfOk, MatchOption, ap, cond, drop, eqb, sym, inl, inr}
 use Rattle.std.specs.Str.Parse.{digits_value}
 use Rattle.lnbd_model.specs.declared.target.Target.TheVariants.{Tcp, Unix}
 use Rattle.lnbd_lines.proofs.CommandLemmas.{at, command_in, command_is}
 use Rattle.lnbd_lines.proofs.CutLemmas.{before, behind, before_is, behind_is}
 use Rattle.lnbd_lines.specs.Grammar.{Asks, IsCommand, IsLine, IsPassedOver, space}
-use Rattle.lnbd_lines.specs.Written.{HasNoWord}
+use Rattle.lnbd_lines.specs.Written.{HasNoOption, HasNoSwitch, HasNoWord, IsNotNamed, IsNotPlain}
 use Rattle.lnbd_lines.specs.declared.line.Line.{Line}
-use Rattle.lnbd_lines.specs.declared.line.Line.TheVariants.{Connect, Settle, Log, ClearLog, Done, Peek, InFlight, Direction, State, Info, Export, Strict, Read, Write, Disconnect, Close, Command as Issue}
+use Rattle.lnbd_lines.specs.declared.line.Line.TheVariants.{Handle, Connect, Settle, Log, ClearLog, Done, Peek, InFlight, Direction, State, Info, Export, Strict, Context, Switch as Turn, Ask, Answer, Listing, Read, Write, Disconnect, Close, Command as Issue}
+use Rattle.lnbd_lines.specs.declared.negotiation.Opt.TheVariants as opt
+use Rattle.lnbd_lines.specs.declared.negotiation.Switch.TheVariants as switch
 use Rattle.lnbd_lines.specs.declared.command.Command.{Command}
 use Rattle.lnbd_lines.specs.declared.command.Command.TheVariants.{Pread, Pwrite, Flush, Trim, Zero, Cache}
 
@@ -15,18 +17,22 @@ use Rattle.lnbd_lines.specs.declared.command.Command.TheVariants.{Pread, Pwrite,
 abbrev told : List ℕ → Option Line
 told text =
     cond (eqb (at 0 text) 99) (cond (eqb (at 1 text) 97) (Some (Issue (command_in text))) (cond (eqb (at 1 text) 108) (cond (eqb (at 2 text) 101) (Some ClearLog) (Some Close))
-    (cond (eqb (at 8 text) 116) (Some (Connect (Tcp (before space (drop 12 text)) (digits_value 10 (behind space (drop 12 text)))))) (Some (Connect (Unix (drop 13 text)))))))
+    (cond (eqb (at 3 text) 116) (Some (Context (drop 8 text))) (cond (eqb (at 8 text) 116) (Some (Connect (Tcp (before space (drop 12 text)) (digits_value 10 (behind space (drop 12 text)))))) (Some (Connect (Unix (drop 13 text))))))))
     (cond (eqb (at 0 text) 112) (cond (eqb (at 1 text) 101) (Some Peek) (Some (Issue (command_in text))))
     (cond (eqb (at 0 text) 102) (Some (Issue (command_in text)))
     (cond (eqb (at 0 text) 116) (Some (Issue (command_in text)))
     (cond (eqb (at 0 text) 122) (Some (Issue (command_in text)))
-    (cond (eqb (at 0 text) 115) (cond (eqb (at 1 text) 101) (Some Settle) (cond (eqb (at 2 text) 114) (Some (Strict (digits_value 10 (drop 7 text)))) (Some State)))
-    (cond (eqb (at 0 text) 108) (Some Log)
+    (cond (eqb (at 0 text) 115) (cond (eqb (at 1 text) 101) (Some Settle) (cond (eqb (at 2 text) 97) (Some State) (cond (eqb (at 3 text) 105) (Some (Strict (digits_value 10 (drop 7 text)))) (Some (Turn switch.Structured (eqb (at 12 text) 110))))))
+    (cond (eqb (at 0 text) 108) (cond (eqb (at 1 text) 111) (Some Log) (Some Listing))
     (cond (eqb (at 0 text) 100) (cond (eqb (at 1 text) 111) (Some (Done (digits_value 10 (drop 5 text)))) (cond (eqb (at 2 text) 114) (Some Direction) (Some Disconnect)))
     (cond (eqb (at 0 text) 105) (cond (eqb (at 2 text) 45) (Some InFlight) (Some Info))
-    (cond (eqb (at 0 text) 101) (Some (Export (drop 7 text)))
+    (cond (eqb (at 0 text) 101) (cond (eqb (at 2 text) 112) (Some (Export (drop 7 text))) (Some (Turn switch.Extended (eqb (at 10 text) 110))))
+    (cond (eqb (at 0 text) 97) (Some Answer)
+    (cond (eqb (at 0 text) 111) (cond (eqb (at 3 text) 109) (Some (Turn switch.OptMode (eqb (at 9 text) 110)))
+    (cond (eqb (at 4 text) 108) (Some (Ask opt.List)) (cond (eqb (at 4 text) 105) (Some (Ask opt.Info)) (cond (eqb (at 4 text) 109) (Some (Ask opt.Meta)) (cond (eqb (at 4 text) 103) (Some (Ask opt.Go)) (Some (Ask opt.Abort)))))))
     (cond (eqb (at 0 text) 114) (Some Read)
-    (cond (eqb (at 0 text) 119) (Some Write) None)))))))))))
+    (cond (eqb (at 0 text) 104) (Some (Handle (digits_value 10 (drop 7 text))))
+    (cond (eqb (at 0 text) 119) (Some Write) None))))))))))))))
 
 abbrev tcp : List ℕ → List ℕ → Option Line
 tcp host digits = Some (Connect (Tcp host (digits_value 10 digits)))
@@ -58,6 +64,21 @@ told_line text State is = ap told is
 told_line text Info is = ap told is
 told_line text (Export name) (rest, is, h) = ap told is ∙ ap (λ p. Some (Export p)) (sym h.same)
 told_line text (Strict bits) (rest, is, h) = ap told is ∙ ap (λ n. Some (Strict n)) h.number.value_is
+told_line text (Handle number) (rest, is, h) = ap told is ∙ ap (λ n. Some (Handle n)) h.number.value_is
+told_line text (Context name) (rest, is, h) = ap told is ∙ ap (λ p. Some (Context p)) (sym h.same)
+told_line text (Turn switch.Structured true) is = ap told is
+told_line text (Turn switch.Structured false) is = ap told is
+told_line text (Turn switch.Extended true) is = ap told is
+told_line text (Turn switch.Extended false) is = ap told is
+told_line text (Turn switch.OptMode true) is = ap told is
+told_line text (Turn switch.OptMode false) is = ap told is
+told_line text (Ask opt.List) is = ap told is
+told_line text (Ask opt.Info) is = ap told is
+told_line text (Ask opt.Meta) is = ap told is
+told_line text (Ask opt.Go) is = ap told is
+told_line text (Ask opt.Abort) is = ap told is
+told_line text Answer is = ap told is
+told_line text Listing is = ap told is
 told_line text Read is = ap told is
 told_line text Write is = ap told is
 told_line text Disconnect is = ap told is
@@ -76,42 +97,45 @@ pub line_once : (text : List ℕ) (a b : Option Line) → IsLine text a → IsLi
 line_once text a b h k = sym (told_asked text a h) ∙ told_asked text b k
 
 -- a text that is none of the lines asks for nothing
-pub asks_nothing : (text : List ℕ) → HasNoWord text
-    → ((host : List ℕ) (port : ℕ) → Asks text (Connect (Tcp host port)) → ⊥)
-    → ((path : List ℕ) → Asks text (Connect (Unix path)) → ⊥)
-    → ((command : Command) → Asks text (Issue command) → ⊥)
-    → ((cookie : ℕ) → Asks text (Done cookie) → ⊥)
-    → ((bits : ℕ) → Asks text (Strict bits) → ⊥)
-    → ((name : List ℕ) → Asks text (Export name) → ⊥)
-    → (line : Line) → Asks text line → ⊥
-asks_nothing text word tcp unix command done strict export (Connect (Tcp host port)) h = tcp host port h
-asks_nothing text word tcp unix command done strict export (Connect (Unix path)) h = unix path h
-asks_nothing text word tcp unix command done strict export (Issue issued) h = command issued h
-asks_nothing text word tcp unix command done strict export Settle h = word.settle h
-asks_nothing text word tcp unix command done strict export Log h = word.log h
-asks_nothing text word tcp unix command done strict export ClearLog h = word.clear_log h
-asks_nothing text word tcp unix command done strict export (Done cookie) h = done cookie h
-asks_nothing text word tcp unix command done strict export Peek h = word.peek h
-asks_nothing text word tcp unix command done strict export InFlight h = word.in_flight h
-asks_nothing text word tcp unix command done strict export Direction h = word.direction h
-asks_nothing text word tcp unix command done strict export State h = word.state h
-asks_nothing text word tcp unix command done strict export Info h = word.info h
-asks_nothing text word tcp unix command done strict export (Export name) h = export name h
-asks_nothing text word tcp unix command done strict export (Strict bits) h = strict bits h
-asks_nothing text word tcp unix command done strict export Read h = word.read h
-asks_nothing text word tcp unix command done strict export Write h = word.write h
-asks_nothing text word tcp unix command done strict export Disconnect h = word.disconnect h
-asks_nothing text word tcp unix command done strict export Close h = word.close h
+pub asks_nothing : (text : List ℕ) → ((command : Command) → Asks text (Issue command) → ⊥) → IsNotPlain text → IsNotNamed text → (line : Line) → Asks text line → ⊥
+asks_nothing text command plain named (Connect (Tcp host port)) h = named.tcp host port h
+asks_nothing text command plain named (Connect (Unix path)) h = named.unix path h
+asks_nothing text command plain named (Issue issued) h = command issued h
+asks_nothing text command plain named Settle h = plain.word.settle h
+asks_nothing text command plain named Log h = plain.word.log h
+asks_nothing text command plain named ClearLog h = plain.word.clear_log h
+asks_nothing text command plain named (Done cookie) h = plain.done cookie h
+asks_nothing text command plain named Peek h = plain.word.peek h
+asks_nothing text command plain named InFlight h = plain.word.in_flight h
+asks_nothing text command plain named Direction h = plain.word.direction h
+asks_nothing text command plain named State h = plain.word.state h
+asks_nothing text command plain named Info h = plain.word.info h
+asks_nothing text command plain named (Export name) h = named.export name h
+asks_nothing text command plain named (Context name) h = named.context name h
+asks_nothing text command plain named (Strict bits) h = plain.strict bits h
+asks_nothing text command plain named (Handle number) h = plain.handle number h
+asks_nothing text command plain named (Turn switch.Structured true) h = plain.switch.structured_on h
+asks_nothing text command plain named (Turn switch.Structured false) h = plain.switch.structured_off h
+asks_nothing text command plain named (Turn switch.Extended true) h = plain.switch.extended_on h
+asks_nothing text command plain named (Turn switch.Extended false) h = plain.switch.extended_off h
+asks_nothing text command plain named (Turn switch.OptMode true) h = plain.switch.optmode_on h
+asks_nothing text command plain named (Turn switch.OptMode false) h = plain.switch.optmode_off h
+asks_nothing text command plain named (Ask opt.List) h = plain.option.list h
+asks_nothing text command plain named (Ask opt.Info) h = plain.option.info h
+asks_nothing text command plain named (Ask opt.Meta) h = plain.option.meta h
+asks_nothing text command plain named (Ask opt.Go) h = plain.option.go h
+asks_nothing text command plain named (Ask opt.Abort) h = plain.option.abort h
+asks_nothing text command plain named Answer h = plain.word.answer h
+asks_nothing text command plain named Listing h = plain.word.listing h
+asks_nothing text command plain named Read h = plain.word.read h
+asks_nothing text command plain named Write h = plain.word.write h
+asks_nothing text command plain named Disconnect h = plain.word.disconnect h
+asks_nothing text command plain named Close h = plain.word.close h
 
 -- the same, where the last kind of line was tried by a call that may want memory
-pub asks_at_last : {E : Type 0} (text : List ℕ) (r : Result (Option Line) E) → HasNoWord text
-    → ((host : List ℕ) (port : ℕ) → Asks text (Connect (Tcp host port)) → ⊥)
-    → ((path : List ℕ) → Asks text (Connect (Unix path)) → ⊥)
-    → ((command : Command) → Asks text (Issue command) → ⊥)
-    → ((cookie : ℕ) → Asks text (Done cookie) → ⊥)
-    → ((bits : ℕ) → Asks text (Strict bits) → ⊥)
-    → IfOk r (λ asked. MatchOption asked ((name : List ℕ) → Asks text (Export name) → ⊥) (λ line. Asks text line))
+pub asks_at_last : {E : Type 0} (text : List ℕ) (r : Result (Option Line) E) → ((command : Command) → Asks text (Issue command) → ⊥) → IsNotPlain text
+    → IfOk r (λ asked. MatchOption asked (IsNotNamed text) (λ line. Asks text line))
     → IfOk r (λ asked. MatchOption asked ((line : Line) → Asks text line → ⊥) (λ line. Asks text line))
-asks_at_last text (Ok None) word tcp unix command done strict export = asks_nothing text word tcp unix command done strict export
-asks_at_last text (Ok (Some line)) word tcp unix command done strict asks = asks
-asks_at_last text (Err e) word tcp unix command done strict nothing = tt
+asks_at_last text (Ok None) command plain named = asks_nothing text command plain named
+asks_at_last text (Ok (Some line)) command plain asks = asks
+asks_at_last text (Err e) command plain nothing = tt

@@ -1,5 +1,5 @@
 -- The grammar of one line of a script: what it asks for.
-use Rattle.std.specs.Prelude.{ℕ, ◌^◌, ◌<◌, ◌≤◌, ◌≡◌, ◌≢◌, ◌⊎◌, true, false, List, [], ◌∷◌, ◌++◌, All, Option, MatchOption, Ok, codes, length, IsUtf8}
+use Rattle.std.specs.Prelude.{ℕ, Bool, ◌^◌, ◌<◌, ◌≤◌, ◌≡◌, ◌≢◌, ◌⊎◌, true, false, List, [], ◌∷◌, ◌++◌, All, Option, MatchOption, Ok, codes, length, IsUtf8}
 use Rattle.std.specs.Char.{is_ascii_uppercase}
 use Rattle.std.specs.List.{list_any}
 use Rattle.std.specs.Str.{all_ascii_digits}
@@ -7,7 +7,11 @@ use Rattle.std.specs.Str.Parse.{digits_value}
 use Rattle.hex.specs.Hex.{decode_of}
 use Rattle.lnbd_model.specs.declared.target.Target.TheVariants.{Tcp, Unix}
 use Rattle.lnbd_lines.specs.declared.line.Line.{Line}
-use Rattle.lnbd_lines.specs.declared.line.Line.TheVariants.{Connect, Settle, Log, ClearLog, Done, Peek, InFlight, Direction, State, Info, Export, Strict, Read, Write, Disconnect, Close, Command as Issue}
+use Rattle.lnbd_lines.specs.declared.line.Line.TheVariants.{Handle, Connect, Settle, Log, ClearLog, Done, Peek, InFlight, Direction, State, Info, Export, Strict, Context, Switch as Turn, Ask, Answer, Listing, Read, Write, Disconnect, Close, Command as Issue}
+use Rattle.lnbd_lines.specs.declared.negotiation.Opt.{Opt}
+use Rattle.lnbd_lines.specs.declared.negotiation.Opt.TheVariants as opt
+use Rattle.lnbd_lines.specs.declared.negotiation.Switch.{Switch}
+use Rattle.lnbd_lines.specs.declared.negotiation.Switch.TheVariants as switch
 use Rattle.lnbd_lines.specs.declared.command.Range.{Range}
 use Rattle.lnbd_lines.specs.declared.command.Payload.{Payload}
 use Rattle.lnbd_lines.specs.declared.command.Payload.TheVariants.{Hex, Fill}
@@ -72,6 +76,15 @@ pub record IsFlags (digits : List ℕ) (flags : ℕ) : Type 0 where
   pub number : IsNumber digits flags
   pub small : flags < 2 ^ 32
 
+-- how many handles a script has
+abbrev pub max_handles : ℕ
+max_handles = 16
+
+-- N: the number of a handle
+pub record IsHandle (digits : List ℕ) (handle : ℕ) : Type 0 where
+  pub number : IsNumber digits handle
+  pub small : handle < max_handles
+
 -- OFF FLAGS
 pub record IsFlagged (text : List ℕ) (offset flags : ℕ) : Type 0 where
   pub first : List ℕ
@@ -127,8 +140,27 @@ IsCommand text (Trim range) = Follows (codes "trim ") (λ rest. IsRange rest ran
 IsCommand text (Zero range) = Follows (codes "zero ") (λ rest. IsRange rest range) text
 IsCommand text (Cache range) = Follows (codes "cache ") (λ rest. IsRange rest range) text
 
+-- the word of an option
+abbrev pub opt_word : Opt → List ℕ
+opt_word opt.List = codes "opt-list"
+opt_word opt.Info = codes "opt-info"
+opt_word opt.Meta = codes "opt-meta"
+opt_word opt.Go = codes "opt-go"
+opt_word opt.Abort = codes "opt-abort"
+
+-- the word of a setting that is on or off
+abbrev pub switch_word : Switch → List ℕ
+switch_word switch.Structured = codes "structured"
+switch_word switch.Extended = codes "extended"
+switch_word switch.OptMode = codes "optmode"
+
+abbrev pub on_word : Bool → List ℕ
+on_word true = codes "on"
+on_word false = codes "off"
+
 -- the text of the line asks for this
 abbrev pub Asks : List ℕ → Line → Type 0
+Asks text (Handle number) = Follows (codes "handle ") (λ rest. IsHandle rest number) text
 Asks text (Connect (Tcp host port)) = Follows (codes "connect tcp ") (λ rest. IsTcp rest host port) text
 Asks text (Connect (Unix path)) = Follows (codes "connect unix ") (λ rest. IsPath rest path) text
 Asks text (Issue command) = IsCommand text command
@@ -143,6 +175,11 @@ Asks text State = text ≡ codes "state"
 Asks text Info = text ≡ codes "info"
 Asks text (Export name) = Follows (codes "export ") (λ rest. IsName rest name) text
 Asks text (Strict bits) = Follows (codes "strict ") (λ rest. IsFlags rest bits) text
+Asks text (Context name) = Follows (codes "context ") (λ rest. IsName rest name) text
+Asks text (Turn switch on) = text ≡ switch_word switch ++ space ∷ on_word on
+Asks text (Ask opt) = text ≡ opt_word opt
+Asks text Answer = text ≡ codes "answer"
+Asks text Listing = text ≡ codes "listing"
 Asks text Read = text ≡ codes "read"
 Asks text Write = text ≡ codes "write"
 Asks text Disconnect = text ≡ codes "disconnect"

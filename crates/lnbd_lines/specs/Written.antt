@@ -2,12 +2,13 @@
 use Rattle.std.specs.Prelude.{ℕ, ◌≡◌, ◌≢◌, ◌++◌, ⊤, List, [], Option, Some, None, Result, Ok, Err, codes, option_to_list}
 use Rattle.lnbd_model.specs.declared.target.Target.{Target}
 use Rattle.lnbd_model.specs.declared.target.Target.TheVariants.{Tcp, Unix}
-use Rattle.lnbd_lines.specs.Grammar.{IsCommand, IsLine, IsTcp, IsWrite}
+use Rattle.lnbd_lines.specs.Grammar.{Asks, IsCommand, IsLine, IsTcp, IsWrite}
 use Rattle.lnbd_lines.specs.Scripts.{lines_of}
 use Rattle.lnbd_lines.specs.declared.command.Range.{Range}
 use Rattle.lnbd_lines.specs.declared.command.Command.{Command}
 use Rattle.lnbd_lines.specs.declared.command.Command.TheVariants.{Pwrite, Trim, Zero, Cache}
 use Rattle.lnbd_lines.specs.declared.line.Line.{Line}
+use Rattle.lnbd_lines.specs.declared.line.Line.TheVariants.{Connect, Context, Done, Export, Handle, Strict}
 
 -- the text is none of the lines of one word
 pub record HasNoWord (text : List ℕ) : Type 0 where
@@ -19,10 +20,45 @@ pub record HasNoWord (text : List ℕ) : Type 0 where
   pub direction : text ≢ codes "direction"
   pub state : text ≢ codes "state"
   pub info : text ≢ codes "info"
+  pub answer : text ≢ codes "answer"
+  pub listing : text ≢ codes "listing"
   pub read : text ≢ codes "read"
   pub write : text ≢ codes "write"
   pub disconnect : text ≢ codes "disconnect"
   pub close : text ≢ codes "close"
+
+-- the text asks for no option
+pub record HasNoOption (text : List ℕ) : Type 0 where
+  pub list : text ≢ codes "opt-list"
+  pub info : text ≢ codes "opt-info"
+  pub meta : text ≢ codes "opt-meta"
+  pub go : text ≢ codes "opt-go"
+  pub abort : text ≢ codes "opt-abort"
+
+-- the text turns no setting on or off
+pub record HasNoSwitch (text : List ℕ) : Type 0 where
+  pub structured_on : text ≢ codes "structured on"
+  pub structured_off : text ≢ codes "structured off"
+  pub extended_on : text ≢ codes "extended on"
+  pub extended_off : text ≢ codes "extended off"
+  pub optmode_on : text ≢ codes "optmode on"
+  pub optmode_off : text ≢ codes "optmode off"
+
+-- the text is none of the lines that take no memory, but for a command
+pub record IsNotPlain (text : List ℕ) : Type 0 where
+  pub word : HasNoWord text
+  pub option : HasNoOption text
+  pub switch : HasNoSwitch text
+  pub done : (cookie : ℕ) → ¬ Asks text (Done cookie)
+  pub strict : (bits : ℕ) → ¬ Asks text (Strict bits)
+  pub handle : (number : ℕ) → ¬ Asks text (Handle number)
+
+-- the text is none of the lines that tell a name, a host or a path
+pub record IsNotNamed (text : List ℕ) : Type 0 where
+  pub tcp : (host : List ℕ) (port : ℕ) → ¬ Asks text (Connect (Tcp host port))
+  pub unix : (path : List ℕ) → ¬ Asks text (Connect (Unix path))
+  pub export : (name : List ℕ) → ¬ Asks text (Export name)
+  pub context : (name : List ℕ) → ¬ Asks text (Context name)
 
 -- the text is none of the commands with a range and no payload, but for a read
 pub record HasNoRange (text : List ℕ) : Type 0 where

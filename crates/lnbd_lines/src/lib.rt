@@ -6,6 +6,7 @@ mod commands;
 mod fault;
 mod line;
 mod lines;
+mod negotiation;
 mod number;
 mod payloads;
 mod ranges;
@@ -15,6 +16,7 @@ mod word;
 pub use command::{Command, Payload, Range};
 pub use fault::ScriptFault;
 pub use line::Line;
+pub use negotiation::{Opt, Switch};
 pub use script::{Script, parse};
 
 #[cfg(test)]

@@ -1,11 +1,14 @@
 //! What a line of a script asks for. How it is spelled stands in `specs/Grammar.antt`.
 
 use crate::command::Command;
+use crate::negotiation::{Opt, Switch};
 use lnbd_model::{Target, Text};
 
-/// One call on a handle, or a question about it.
+/// One call on the current handle, a question about it, or another handle made current.
 #[derive(Debug, Drop)]
 pub enum Line {
+    /// `handle N`: the lines behind it act on the handle of this number, which is below 16.
+    Handle { number: usize },
     /// `connect tcp HOST PORT` or `connect unix PATH`: connect, and start the handshake
     /// (nbd_connect_tcp(3), nbd_connect_unix(3)). The host and the path have 1 to 4,096 bytes.
     Connect(Target),
@@ -33,6 +36,16 @@ pub enum Line {
     Export { name: Text },
     /// `strict N`: set these bits of strict mode (nbd_set_strict_mode(3)).
     Strict { bits: u32 },
+    /// `context TEXT`: add a meta context to those that are asked for, 4,096 bytes at most (nbd_add_meta_context(3)).
+    Context { name: Text },
+    /// `structured on`, `extended off` and so on: set this before the start.
+    Switch { switch: Switch, on: bool },
+    /// Ask for this option.
+    Ask(Opt),
+    /// `answer`: what the server answered to the option that was asked last.
+    Answer,
+    /// `listing`: the exports that the server listed.
+    Listing,
     /// `read`: take what the server sent (nbd_aio_notify_read(3)).
     Read,
     /// `write`: send what waits to go out (nbd_aio_notify_write(3)).

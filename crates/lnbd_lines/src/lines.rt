@@ -3,14 +3,15 @@
 ghost use Rattle.std.specs.Prelude.{◌≤◌, ◌↔◌, IfOk, IsErrOf, IsTrue, List, MatchOption, ℕ};
 ghost use Rattle.lnbd_model.specs.declared.target.Target.{Target};
 ghost use Rattle.lnbd_lines.specs.Grammar.{Asks, IsLawful, IsLine, IsNumber, IsPassedOver, IsTcp};
-ghost use Rattle.lnbd_lines.specs.Written.{HasNoWord, IsTcpTarget};
+ghost use Rattle.lnbd_lines.specs.Written.{HasNoOption, HasNoSwitch, HasNoWord, IsNotNamed, IsNotPlain, IsTcpTarget};
 ghost use Rattle.lnbd_lines.specs.declared.line.Line.{Line};
 ghost use Rattle.lnbd_lines.specs.declared.fault.LineFault.{LineFault};
 
 use crate::commands::command;
 use crate::fault::LineFault;
 use crate::line::Line;
-use crate::number::{flags, number};
+use crate::negotiation::{Opt, Switch};
+use crate::number::{flags, handle_number, number};
 use crate::word::{cut, short};
 use lnbd_model::{NoMemory, Target};
 use std::alloc::Global;
@@ -29,12 +30,44 @@ fn word(text: &str) -> Option<Line>
         "direction" => Some(Line::Direction),
         "state" => Some(Line::State),
         "info" => Some(Line::Info),
+        "answer" => Some(Line::Answer),
+        "listing" => Some(Line::Listing),
         "read" => Some(Line::Read),
         "write" => Some(Line::Write),
         "disconnect" => Some(Line::Disconnect),
         "close" => Some(Line::Close),
         _ => None,
     }
+}
+
+/// A line that asks for an option.
+fn option(text: &str) -> Option<Line>
+    ensures { MatchOption result (HasNoOption text.now) (λ line. Asks text.now line) }
+{
+    match text {
+        "opt-list" => Some(Line::Ask(Opt::List)),
+        "opt-info" => Some(Line::Ask(Opt::Info)),
+        "opt-meta" => Some(Line::Ask(Opt::Meta)),
+        "opt-go" => Some(Line::Ask(Opt::Go)),
+        "opt-abort" => Some(Line::Ask(Opt::Abort)),
+        _ => None,
+    }
+}
+
+/// A line that turns a setting on or off.
+fn switched(text: &str) -> Option<Line>
+    ensures { MatchOption result (HasNoSwitch text.now) (λ line. Asks text.now line) }
+{
+    let (switch, on) = match text {
+        "structured on" => (Switch::Structured, true),
+        "structured off" => (Switch::Structured, false),
+        "extended on" => (Switch::Extended, true),
+        "extended off" => (Switch::Extended, false),
+        "optmode on" => (Switch::OptMode, true),
+        "optmode off" => (Switch::OptMode, false),
+        _ => return None,
+    };
+    Some(Line::Switch { switch, on })
 }
 
 /// `done C`.
@@ -61,6 +94,19 @@ fn strict(text: &str) -> Option<Line>
         return None;
     };
     Some(Line::Strict { bits })
+}
+
+/// `handle N`.
+fn handle(text: &str) -> Option<Line>
+    ensures { MatchOption result ((number : ℕ) → ¬ Asks text.now (Line.Handle number)) (λ line. Asks text.now line) }
+{
+    let Some(rest) = text.strip_prefix("handle ") else {
+        return None;
+    };
+    let Some(number) = handle_number(rest) else {
+        return None;
+    };
+    Some(Line::Handle { number })
 }
 
 /// The number from 1 to 65535 that the digits spell.
@@ -134,6 +180,57 @@ fn export(alloc: Global, text: &str) -> Result<Option<Line>, NoMemory>
     Ok(Some(Line::Export { name }))
 }
 
+/// `context TEXT`.
+fn context(alloc: Global, text: &str) -> Result<Option<Line>, NoMemory>
+    ensures { IfOk result (λ asked. MatchOption asked ((name : List ℕ) → ¬ Asks text.now (Line.Context name)) (λ line. Asks text.now line)) }
+{
+    let Some(rest) = text.strip_prefix("context ") else {
+        return Ok(None);
+    };
+    let Some(name) = short(alloc, rest)? else {
+        return Ok(None);
+    };
+    Ok(Some(Line::Context { name }))
+}
+
+/// A line that takes no memory, but for a command.
+fn plain(text: &str) -> Option<Line>
+    ensures { MatchOption result (IsNotPlain text.now) (λ line. Asks text.now line) }
+{
+    if let Some(line) = word(text) {
+        return Some(line);
+    }
+    if let Some(line) = option(text) {
+        return Some(line);
+    }
+    if let Some(line) = switched(text) {
+        return Some(line);
+    }
+    if let Some(line) = done(text) {
+        return Some(line);
+    }
+    if let Some(line) = strict(text) {
+        return Some(line);
+    }
+    handle(text)
+}
+
+/// A line that tells a name, a host or a path.
+fn named(alloc: Global, text: &str) -> Result<Option<Line>, NoMemory>
+    ensures { IfOk result (λ asked. MatchOption asked (IsNotNamed text.now) (λ line. Asks text.now line)) }
+{
+    if let Some(line) = connect_tcp(alloc, text)? {
+        return Ok(Some(line));
+    }
+    if let Some(line) = connect_unix(alloc, text)? {
+        return Ok(Some(line));
+    }
+    if let Some(line) = export(alloc, text)? {
+        return Ok(Some(line));
+    }
+    context(alloc, text)
+}
+
 /// What the text of a line asks for, if it asks for anything.
 fn asked(alloc: Global, text: &str) -> Result<Option<Line>, NoMemory>
     ensures { IfOk result (λ asked. MatchOption asked ((line : Line) → ¬ Asks text.now line) (λ line. Asks text.now line)) }
@@ -141,22 +238,10 @@ fn asked(alloc: Global, text: &str) -> Result<Option<Line>, NoMemory>
     if let Some(command) = command(alloc, text)? {
         return Ok(Some(Line::Command(command)));
     }
-    if let Some(line) = word(text) {
+    if let Some(line) = plain(text) {
         return Ok(Some(line));
     }
-    if let Some(line) = done(text) {
-        return Ok(Some(line));
-    }
-    if let Some(line) = strict(text) {
-        return Ok(Some(line));
-    }
-    if let Some(line) = connect_tcp(alloc, text)? {
-        return Ok(Some(line));
-    }
-    if let Some(line) = connect_unix(alloc, text)? {
-        return Ok(Some(line));
-    }
-    export(alloc, text)
+    named(alloc, text)
 }
 
 /// Whether the line is empty, or a comment.

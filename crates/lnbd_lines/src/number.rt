@@ -1,7 +1,7 @@
 //! Numbers of a script, in decimal digits.
 
 ghost use Rattle.std.specs.Prelude.{MatchOption, ℕ};
-ghost use Rattle.lnbd_lines.specs.Grammar.{IsFlags, IsNumber, IsSize};
+ghost use Rattle.lnbd_lines.specs.Grammar.{IsFlags, IsHandle, IsNumber, IsSize};
 
 /// The most bytes that one read asks for, or that one fill has.
 pub(crate) const MOST_BYTES: u64 = 67_108_864;
@@ -33,6 +33,19 @@ pub(crate) fn flags(digits: &str) -> Option<u32>
 {
     match number(digits) {
         Some(flags) if flags <= 4_294_967_295 => Some(flags as u32),
+        _ => None,
+    }
+}
+
+/// How many handles a script has.
+const MOST_HANDLES: u64 = 16;
+
+/// The number of a handle that the digits spell: one below 16.
+pub(crate) fn handle_number(digits: &str) -> Option<usize>
+    ensures { MatchOption result ((value : ℕ) → ¬ IsHandle digits.now value) (λ value. IsHandle digits.now value) }
+{
+    match number(digits) {
+        Some(number) if number < MOST_HANDLES => Some(number as usize),
         _ => None,
     }
 }

@@ -1,6 +1,6 @@
 //! Scripts by example. What each line asks for was read off the grammar by hand.
 
-use crate::{Command, Line, Payload, Range, Script, ScriptFault, parse};
+use crate::{Command, Line, Opt, Payload, Range, Script, ScriptFault, Switch, parse};
 use lnbd_model::Target;
 use std::alloc::Global;
 use std::process::Abort;
@@ -19,15 +19,42 @@ enum Wanted<'a> {
     Fill(u8, u32, u64, u32),
     Flush(u32),
     Strict(u32),
+    Handle(usize),
     Done(u64),
     Export(&'a str),
+    Context(&'a str),
     /// A line of one word, by its name in Rust.
     Word(&'a str),
     Nothing,
     Refused,
 }
 
-use Wanted::{Done, Export, Fill, Flush, Hex, Nothing, Ranged, Refused, Strict, Tcp, Unix, Word};
+use Wanted::{
+    Context, Done, Export, Fill, Flush, Handle, Hex, Nothing, Ranged, Refused, Strict, Tcp, Unix,
+    Word,
+};
+
+/// The name in Rust of an option.
+fn option_name(option: Opt) -> &'static str {
+    match option {
+        Opt::List => "List",
+        Opt::Info => "OptInfo",
+        Opt::Meta => "Meta",
+        Opt::Go => "Go",
+        Opt::Abort => "Abort",
+    }
+}
+
+fn switch_name(switch: Switch, on: bool) -> &'static str {
+    match (switch, on) {
+        (Switch::Structured, true) => "Structured",
+        (Switch::Structured, false) => "NotStructured",
+        (Switch::Extended, true) => "Extended",
+        (Switch::Extended, false) => "NotExtended",
+        (Switch::OptMode, true) => "OptMode",
+        (Switch::OptMode, false) => "NotOptMode",
+    }
+}
 
 /// The name in Rust of a line of one word.
 fn name(line: &Line) -> &'static str {
@@ -40,6 +67,10 @@ fn name(line: &Line) -> &'static str {
         Line::Direction => "Direction",
         Line::State => "State",
         Line::Info => "Info",
+        Line::Ask(option) => option_name(*option),
+        Line::Switch { switch, on } => switch_name(*switch, *on),
+        Line::Answer => "Answer",
+        Line::Listing => "Listing",
         Line::Read => "Read",
         Line::Write => "Write",
         Line::Disconnect => "Disconnect",
@@ -105,8 +136,10 @@ fn is_wanted(line: &Line, wanted: Wanted) -> bool {
         (Line::Connect(Target::Unix { path }), Unix(name)) => path.as_str() == name,
         (Line::Command(command), wanted) => is_command(command, wanted),
         (Line::Strict { bits }, Strict(number)) => *bits == number,
+        (Line::Handle { number }, Handle(wanted)) => *number == wanted,
         (Line::Done { cookie }, Done(number)) => *cookie == number,
         (Line::Export { name }, Export(text)) => name.as_str() == text,
+        (Line::Context { name }, Context(text)) => name.as_str() == text,
         (line, Word(word)) => name(line) == word,
         _ => false,
     }
@@ -201,10 +234,14 @@ fn lines_ask_for_what_they_spell(rt: HostRuntime) -> Result<(), Fail> {
             ("connect unix /run/a b", Unix("/run/a b")),
             ("connect unix  ", Unix(" ")),
             ("done 18446744073709551615", Done(u64::MAX)),
+            ("handle 0", Handle(0)),
+            ("handle 15", Handle(15)),
             ("strict 0", Strict(0)),
             ("strict 4294967295", Strict(u32::MAX)),
             ("export ", Export("")),
             ("export # a  b ", Export("# a  b ")),
+            ("context ", Context("")),
+            ("context base:allocation", Context("base:allocation")),
             ("settle", Word("Settle")),
             ("log", Word("Log")),
             ("clear-log", Word("ClearLog")),
@@ -213,6 +250,24 @@ fn lines_ask_for_what_they_spell(rt: HostRuntime) -> Result<(), Fail> {
             ("direction", Word("Direction")),
             ("state", Word("State")),
             ("info", Word("Info")),
+            ("optmode on", Word("OptMode")),
+            ("optmode off", Word("NotOptMode")),
+            ("structured on", Word("Structured")),
+            ("structured off", Word("NotStructured")),
+            ("extended on", Word("Extended")),
+            ("extended off", Word("NotExtended")),
+            ("opt-list", Word("List")),
+            ("opt-info", Word("OptInfo")),
+            ("opt-meta", Word("Meta")),
+            ("opt-go", Word("Go")),
+            ("opt-abort", Word("Abort")),
+            ("answer", Word("Answer")),
+            ("listing", Word("Listing")),
+            ("optmode", Refused),
+            ("optmode  on", Refused),
+            ("structured ON", Refused),
+            ("extended", Refused),
+            ("opt-lists", Refused),
             ("read", Word("Read")),
             ("write", Word("Write")),
             ("disconnect", Word("Disconnect")),
@@ -232,9 +287,13 @@ fn lines_ask_for_what_they_spell(rt: HostRuntime) -> Result<(), Fail> {
             ("done ", Refused),
             ("done 1 ", Refused),
             ("done -1", Refused),
+            ("handle", Refused),
+            ("handle 16", Refused),
+            ("handle  1", Refused),
             ("strict", Refused),
             ("strict 4294967296", Refused),
             ("export", Refused),
+            ("context", Refused),
             ("settle ", Refused),
             ("Settle", Refused),
             ("log\r", Refused),

@@ -4,6 +4,8 @@
 #![tactic(auto)]
 
 #[cfg(test)]
+mod info_tests;
+#[cfg(test)]
 mod overheard;
 #[cfg(test)]
 mod session;

@@ -30,9 +30,11 @@ pub struct Session<'a> {
     pub words: &'a [&'a str],
     /// Whether the connect fails.
     pub unreachable: bool,
-    /// What the reads of the link answer, and `End` after these.
+    /// What the reads of the first link answer, and `End` after these.
     pub reads: &'a [Told<'a>],
-    /// What its writes answer; after these each takes all.
+    /// What the reads of a second link answer, and `End` after these. Its writes take all.
+    pub second: &'a [Told<'a>],
+    /// What the writes of the first link answer; after these each takes all.
     pub writes: &'a [WriteAnswer],
     /// By how much a pause raises the count of waiting.
     pub pause: u64,
@@ -47,7 +49,7 @@ pub struct Session<'a> {
     pub last: &'a str,
     pub err: &'a str,
     pub status: u8,
-    /// All that goes out over the link, one part behind the other.
+    /// All that goes out over the links, one part behind the other.
     pub written: &'a [&'a str],
     /// The count of waiting at the end.
     pub waited: u64,
@@ -59,6 +61,7 @@ pub const SESSION: Session<'static> = Session {
     words: &["nbdcalls"],
     unreachable: false,
     reads: &[],
+    second: &[],
     writes: &[],
     pause: 1,
     input_fails_at: None,
@@ -121,16 +124,29 @@ fn push_told(alloc: Global, reads: &mut Vec<ReadAnswer>, told: Told) -> Result<(
     Ok(())
 }
 
-/// The one link of a session.
-fn link(alloc: Global, session: &Session) -> Result<ListLink, Fail> {
+/// What the reads of a link answer.
+fn answers(alloc: Global, all: &[Told]) -> Result<Vec<ReadAnswer>, Fail> {
     let mut reads = Vec::new(alloc);
-    for told in session.reads {
+    for told in all {
         push_told(alloc, &mut reads, *told)?;
     }
+    Ok(reads)
+}
+
+/// The first link of a session.
+fn first_link(alloc: Global, session: &Session) -> Result<ListLink, Fail> {
     Ok(ListLink {
         fails: session.unreachable,
-        reads,
+        reads: answers(alloc, session.reads)?,
         writes: Vec::from_slice(alloc, session.writes)?,
+    })
+}
+
+fn second_link(alloc: Global, session: &Session) -> Result<ListLink, Fail> {
+    Ok(ListLink {
+        fails: false,
+        reads: answers(alloc, session.second)?,
+        writes: Vec::new(alloc),
     })
 }
 
@@ -168,7 +184,7 @@ fn play(rt: &impl Abort, alloc: Global, session: &Session) -> Result<(), Fail> {
     let shows = session.shows;
     let words = words_of(alloc, session.words)?;
     let (script, answers) = texts(alloc, session)?;
-    let links = vec![in alloc; link(alloc, session)?]?;
+    let links = vec![in alloc; first_link(alloc, session)?, second_link(alloc, session)?]?;
     let mut wires = Overheard {
         wires: ListWires::new(alloc, links, 4096, session.pause.max(1))?,
         written: Vec::new(alloc),

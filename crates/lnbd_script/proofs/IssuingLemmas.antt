@@ -1,5 +1,5 @@
 -- What the issue of a command leaves, from what the handle answered.
-use Rattle.std.proofs.Common.{◌≡◌, ◌∙◌, inl, inr, ℕ, List, [], ◌∷◌, Option, Some, None, Result, Ok, Err, OnOk, IfOk, IfErr, OnErr, refl, sym, ap, subst}
+use Rattle.std.proofs.Common.{◌≡◌, ◌∙◌, inl, inr, ℕ, [], Option, Some, None, Result, Ok, Err, OnOk, IfOk, IfErr, OnErr, refl, sym, ap, subst}
 use Rattle.lnbd_model.specs.declared.fault.NoMemory.{NoMemory}
 use Rattle.lnbd_model.specs.declared.refusal.Why.{Why}
 use Rattle.lnbd_history.specs.Commands.{Command}

@@ -3,6 +3,10 @@ pub mod SeenLemmas
 pub mod TurnLemmas
 pub mod LineLemmas
 pub mod IssuingLemmas
-pub mod PlayLemmas
 pub mod TextLemmas
 pub mod SpendLemmas
+pub mod PlaceLemmas
+pub mod SceneLemmas
+pub mod RoundLemmas
+pub mod RoundSpendLemmas
+pub mod PlayLemmas

@@ -1,7 +1,7 @@
 -- What a line leaves, from what the handle and the wires answered.
-use Rattle.std.proofs.Common.{arith, ◌≡◌, ◌==◌, inl, inr, ◌<◌, ◌≤◌, ◌≢◌, ℕ, zero, suc, Bool, true, false, List, [], ◌∷◌, length, take, replicate, Option, Some, None, Result, Ok, Err, OnOk, IfOk, IfErr, OnErr, refl, sym, ◌∙◌, ap, subst}
-use Rattle.std.proofs.lemmas.Bool.{false≢true}
-use Rattle.std.proofs.lemmas.List.{length-take-le, length-replicate}
+use Rattle.std.proofs.Common.{arith, ◌≡◌, ◌==◌, inl, inr, ⊎_elim, ◌<◌, ◌≤◌, ◌≢◌, ℕ, zero, suc, Bool, true, false, List, [], ◌∷◌, length, take, Option, Some, None, Result, Ok, Err, OnOk, IfOk, IfErr, OnErr, refl, sym, ◌∙◌, ap, subst}
+use Rattle.std.proofs.lemmas.Bool.{cases_Bool, false≢true, ne_eqb, not-false}
+use Rattle.std.proofs.lemmas.List.{length-take-le}
 use Rattle.lnbd_model.specs.declared.refusal.Why.{Why}
 use Rattle.lnbd_model.specs.declared.state.State.{State}
 use Rattle.lnbd_model.specs.declared.state.State.TheVariants as state
@@ -12,22 +12,26 @@ use Rattle.lnbd_history.specs.declared.kinds.Phase.{Phase}
 use Rattle.lnbd_history.specs.declared.kinds.Phase.TheVariants as phase
 use Rattle.lnbd_history.specs.declared.kinds.Stage.{Stage}
 use Rattle.lnbd_history.specs.declared.kinds.Stage.TheVariants as stage
-use Rattle.lnbd_history.specs.Commands.{Command, is_write}
-use Rattle.lnbd_history.specs.Events.{Event as Happening, StrictMode, Start, Set, Name, Issue, Refuse, Disconnect, Wrote, Retire}
+use Rattle.lnbd_history.specs.Events.{Event as Happening, StrictMode, Start, Set, Name, Context, Disconnect, Wrote, Retire}
 use Rattle.lnbd_history.specs.Answers.{state_after, completed_after, out_after, state_at}
 use Rattle.lnbd_history.specs.Laws.{may_name}
-use Rattle.lnbd_history.specs.Refusals.{by_state, refusal_after}
+use Rattle.lnbd_history.specs.Refusals.{by_state}
 use Rattle.lnbd_history.specs.Strict.{unknown_bits}
 use Rattle.lnbd_machine.specs.Does.{Does}
 use Rattle.lnbd_machine.specs.Machine.{Machine, step, calls}
-use Rattle.lnbd_machine.specs.Now.{direction_now, state_now, out_now, completed_now, refusal_now}
-use Rattle.lnbd_standing.specs.Standing.{is_result}
+use Rattle.lnbd_machine.specs.Now.{direction_now, state_now, out_now, completed_now}
+use Rattle.lnbd_standing.specs.Standing.{May, is_result}
+use Rattle.lnbd_history.specs.Laws.{is_closed}
+use Rattle.lnbd_handle.specs.declared.kinds.OptFault.{OptFault}
+use Rattle.lnbd_handle.specs.declared.kinds.OptFault.TheVariants as opt
+use Rattle.lnbd_lines.specs.declared.negotiation.Opt.{Opt as Asked_option}
+use Rattle.lnbd_lines.specs.declared.negotiation.Opt.TheVariants as option
+use Rattle.lnbd_lines.specs.declared.negotiation.Switch.{Switch}
+use Rattle.lnbd_lines.specs.declared.negotiation.Switch.TheVariants as switch
 use Rattle.lnbd_model.specs.declared.fault.NoMemory.{NoMemory}
-use Rattle.lnbd_model.specs.declared.kind.Kind.TheVariants as kind
 use Rattle.lnbd_handle.specs.Completing.{completing}
-use Rattle.lnbd_handle.specs.Issues as issues
-use Rattle.lnbd_handle.specs.declared.issue.IssueFault.{IssueFault}
-use Rattle.lnbd_handle.specs.declared.issue.IssueFault.TheVariants as fault
+use Rattle.lnbd_handle.specs.Settings.{MayAdd}
+use Rattle.lnbd_records.specs.Limits.{max_contexts}
 use Rattle.lnbd_lines.specs.declared.line.Line.{Line}
 use Rattle.lnbd_lines.specs.declared.line.Line.TheVariants as line
 use Rattle.lnbd_handle.specs.declared.kinds.SetFault.{SetFault}
@@ -38,7 +42,6 @@ use Rattle.lnbd_link.proofs.Parts.{grows_none}
 use Rattle.lnbd_script.specs.declared.keeper.Keeper.{Keeper}
 use Rattle.lnbd_script.specs.declared.keeper.Heeded.{Heeded}
 use Rattle.lnbd_script.specs.declared.session.Session.{Session}
-use Rattle.lnbd_script.specs.declared.told.Halt.{Halt}
 use Rattle.lnbd_script.specs.declared.told.Halt.TheVariants as halt
 use Rattle.lnbd_script.specs.declared.told.Moved.{Moved as Transfer}
 use Rattle.lnbd_script.specs.declared.told.Moved.TheVariants as moved
@@ -47,9 +50,9 @@ use Rattle.lnbd_script.specs.declared.told.Told.TheVariants as told
 use Rattle.lnbd_script.specs.Kept.{Heeds, or_first}
 use Rattle.lnbd_script.specs.KeptLaws.{heeds_none}
 use Rattle.lnbd_script.specs.Seen.{Seen, IsAt, Went, Goes, Follows, adding}
-use Rattle.lnbd_script.specs.Turns.{is_reading, is_waiting, Settles}
-use Rattle.lnbd_script.specs.Lines.{Adds, Connects, Disconnects, Does as Line_does, Issues, LineEnd, Names, ReadsOn, SetsStrict, SettlesOn, WritesOn, connected, is_created, taking, told_link}
-use Rattle.lnbd_script.specs.Steps.{Becomes, ReadsOnce, ReadsOnceShort, WritesOnce, halted, settled_end}
+use Rattle.lnbd_script.specs.Turns.{is_reading, is_waiting}
+use Rattle.lnbd_script.specs.Lines.{Adds, AddsContext, AsksFor, Connects, Disconnects, Does as Line_does, LineEnd, ReadsOn, Sets, SetsStrict, WritesOn, asking, connected, has_all_contexts, is_created, is_opt_mode, is_structured, lacks_structured, setting_of, taking, told_link}
+use Rattle.lnbd_script.specs.Steps.{Becomes, ReadsOnce, ReadsOnceShort, Takes_option, WritesOnce, halted, option_told}
 use Rattle.lnbd_script.proofs.SeenLemmas.{add, follow, met_by}
 use Rattle.lnbd_script.proofs.TurnLemmas.{answers_at, waits_false, waits_true}
 
@@ -124,24 +127,170 @@ started seen old handle link at created is =
 -- A name, and the end.
 
 pub named : (seen : Seen) (old : Session) (handle : Machine Keeper) (name given : List ℕ) → IsAt seen old → given ≡ name → may_name (state_now old.handle.known) ≡ true → handle ≡ step old.handle (Set (Name given))
-    → (x : Seen) × Names (may_name (state_after seen.history)) name seen [] x (Ok told.Done) × IsAt x (record { handle = handle; link = old.link; heeded = old.heeded; first = old.first })
+    → (x : Seen) × Sets (may_name (state_after seen.history)) (Name name) seen [] x (Ok told.Done) × IsAt x (record { handle = handle; link = old.link; heeded = old.heeded; first = old.first })
 named seen old handle name given at same may is =
     let may' : may_name (state_after seen.history) ≡ true = ap may_name (sym (answers_at seen old at).state) ∙ may in
     let is' : handle ≡ step old.handle (Set (Name name)) = is ∙ ap (λ (t : List ℕ). step old.handle (Set (Name t))) same in (
       adding (Set (Name name)) seen,
-      subst (λ (b : Bool). Names b name seen [] (adding (Set (Name name)) seen) (Ok told.Done)) (sym may') (refl, refl, refl),
+      subst (λ (b : Bool). Sets b (Name name) seen [] (adding (Set (Name name)) seen) (Ok told.Done)) (sym may') (refl, refl, refl),
       add seen old _ handle old.heeded (Set (Name name)) at may refl (quiet old.handle handle old.heeded (Set (Name name)) is' refl) refl,
     )
 
 pub not_named : (seen : Seen) (old : Session) (handle : Machine Keeper) (name : List ℕ) (s : State) → IsAt seen old → may_name (state_now old.handle.known) ≡ false → s ≡ state_now old.handle.known → handle ≡ old.handle
-    → (x : Seen) × Names (may_name (state_after seen.history)) name seen [] x (Ok (told.RefusedState s)) × IsAt x (record { handle = handle; link = old.link; heeded = old.heeded; first = old.first })
+    → (x : Seen) × Sets (may_name (state_after seen.history)) (Name name) seen [] x (Ok (told.RefusedState s)) × IsAt x (record { handle = handle; link = old.link; heeded = old.heeded; first = old.first })
 not_named seen old handle name s at may is same =
     let right = answers_at seen old at in
     let may' : may_name (state_after seen.history) ≡ false = ap may_name (sym right.state) ∙ may in (
       seen,
-      subst (λ (b : Bool). Names b name seen [] seen (Ok (told.RefusedState s))) (sym may') (refl, refl, ap (λ (t : State). Ok (told.RefusedState t)) (is ∙ right.state)),
+      subst (λ (b : Bool). Sets b (Name name) seen [] seen (Ok (told.RefusedState s))) (sym may') (refl, refl, ap (λ (t : State). Ok (told.RefusedState t)) (is ∙ right.state)),
       same_at seen old handle at same,
     )
+
+-- A meta context.
+
+pub context_added : (seen : Seen) (old : Session) (handle : Machine Keeper) (name given : List ℕ) → IsAt seen old → given ≡ name → MayAdd old.handle.known → handle ≡ step old.handle (Set (Context given))
+    → (x : Seen) × AddsContext (may_name (state_after seen.history)) (has_all_contexts seen.history) name seen [] x (Ok told.Done) × IsAt x (record { handle = handle; link = old.link; heeded = old.heeded; first = old.first })
+context_added seen old handle name given at same may is =
+    let right = answers_at seen old at in
+    let named : may_name (state_after seen.history) ≡ true = ap may_name (sym right.state) ∙ may.0 in
+    let room : has_all_contexts seen.history ≡ false = ap (λ (w : List (List ℕ)). length w == max_contexts) (sym right.wanted) ∙ not_all (length old.handle.known.talk.wanted) may.1 in
+    let is' : handle ≡ step old.handle (Set (Context name)) = is ∙ ap (λ (t : List ℕ). step old.handle (Set (Context t))) same in (
+      adding (Set (Context name)) seen,
+      subst (λ (b : Bool). AddsContext b (has_all_contexts seen.history) name seen [] (adding (Set (Context name)) seen) (Ok told.Done)) (sym named)
+          (subst (λ (b : Bool). AddsContext true b name seen [] (adding (Set (Context name)) seen) (Ok told.Done)) (sym room) (refl, refl, refl)),
+      add seen old _ handle old.heeded (Set (Context name)) at may refl (quiet old.handle handle old.heeded (Set (Context name)) is' refl) refl,
+    )
+  where
+    not_all : (n : ℕ) → n < max_contexts → (n == max_contexts) ≡ false
+    not_all n less = ne_eqb n max_contexts (λ same. absurd (omega (arith, same, less)))
+
+pub context_refused : (seen : Seen) (old : Session) (handle : Machine Keeper) (name : List ℕ) (s : State) → IsAt seen old → may_name (state_now old.handle.known) ≡ false → s ≡ state_now old.handle.known → handle ≡ old.handle
+    → (x : Seen) × AddsContext (may_name (state_after seen.history)) (has_all_contexts seen.history) name seen [] x (Ok (told.RefusedState s)) × IsAt x (record { handle = handle; link = old.link; heeded = old.heeded; first = old.first })
+context_refused seen old handle name s at may is same =
+    let right = answers_at seen old at in
+    let may' : may_name (state_after seen.history) ≡ false = ap may_name (sym right.state) ∙ may in (
+      seen,
+      subst (λ (b : Bool). AddsContext b (has_all_contexts seen.history) name seen [] seen (Ok (told.RefusedState s))) (sym may') (refl, refl, ap (λ (t : State). Ok (told.RefusedState t)) (is ∙ right.state)),
+      same_at seen old handle at same,
+    )
+
+pub context_too_many : (seen : Seen) (old : Session) (handle : Machine Keeper) (name : List ℕ) (most : ℕ) → IsAt seen old → may_name (state_now old.handle.known) ≡ true → length old.handle.known.talk.wanted ≡ max_contexts → most ≡ max_contexts → handle ≡ old.handle
+    → (x : Seen) × AddsContext (may_name (state_after seen.history)) (has_all_contexts seen.history) name seen [] x (Ok (told.RefusedContext most)) × IsAt x (record { handle = handle; link = old.link; heeded = old.heeded; first = old.first })
+context_too_many seen old handle name most at may full is same =
+    let right = answers_at seen old at in
+    let may' : may_name (state_after seen.history) ≡ true = ap may_name (sym right.state) ∙ may in
+    let all : has_all_contexts seen.history ≡ true = ap (λ (w : List (List ℕ)). length w == max_contexts) (sym right.wanted) ∙ ap (λ (n : ℕ). n == max_contexts) full in (
+      seen,
+      subst (λ (b : Bool). AddsContext b (has_all_contexts seen.history) name seen [] seen (Ok (told.RefusedContext most))) (sym may')
+          (subst (λ (b : Bool). AddsContext true b name seen [] seen (Ok (told.RefusedContext most))) (sym all) (refl, refl, ap (λ (n : ℕ). Ok (told.RefusedContext n)) is)),
+      same_at seen old handle at same,
+    )
+
+-- What is on or off, before the start.
+
+stage_is_created : (m : Machine Keeper) → m.known.stage ≡ stage.Created → is_created (state_now m.known) ≡ true
+stage_is_created m e = ap (λ (s : Stage). is_created (state_at s m.known.talk.phase)) e
+
+stage_not_created : (m : Machine Keeper) → (m.known.stage ≢ stage.Created) → is_created (state_now m.known) ≡ false
+stage_not_created m other = ⊎_elim (λ yes. absurd (other (is_stage_created m (created_is (state_now m.known) yes)))) (λ no. no) (cases_Bool (is_created (state_now m.known)))
+
+may_switch : (switch : Switch) (on : Bool) (m : Machine Keeper) → state_now m.known ≡ state.Created → May 1024 m (Set (setting_of switch on))
+may_switch switch.Structured on m e = e
+may_switch switch.Extended on m e = e
+may_switch switch.OptMode on m e = e
+
+pub switch_set : (seen : Seen) (old : Session) (handle : Machine Keeper) (switch : Switch) (on : Bool) → IsAt seen old → old.handle.known.stage ≡ stage.Created → handle ≡ step old.handle (Set (setting_of switch on))
+    → (x : Seen) × Sets (is_created (state_after seen.history)) (setting_of switch on) seen [] x (Ok told.Done) × IsAt x (record { handle = handle; link = old.link; heeded = old.heeded; first = old.first })
+switch_set seen old handle switch on at created is =
+    let yes : is_created (state_after seen.history) ≡ true = ap is_created (sym (answers_at seen old at).state) ∙ stage_is_created old.handle created in (
+      adding (Set (setting_of switch on)) seen,
+      subst (λ (b : Bool). Sets b (setting_of switch on) seen [] (adding (Set (setting_of switch on)) seen) (Ok told.Done)) (sym yes) (refl, refl, refl),
+      add seen old _ handle old.heeded (Set (setting_of switch on)) at (may_switch switch on old.handle (at_start old.handle (stage_is_created old.handle created))) refl (quiet old.handle handle old.heeded (Set (setting_of switch on)) is refl) refl,
+    )
+
+pub switch_not_set : (seen : Seen) (old : Session) (handle : Machine Keeper) (switch : Switch) (on : Bool) (s : State) → IsAt seen old → (old.handle.known.stage ≢ stage.Created) → s ≡ state_now old.handle.known → handle ≡ old.handle
+    → (x : Seen) × Sets (is_created (state_after seen.history)) (setting_of switch on) seen [] x (Ok (told.RefusedState s)) × IsAt x (record { handle = handle; link = old.link; heeded = old.heeded; first = old.first })
+switch_not_set seen old handle switch on s at other is same =
+    let right = answers_at seen old at in
+    let no : is_created (state_after seen.history) ≡ false = ap is_created (sym right.state) ∙ stage_not_created old.handle other in (
+      seen,
+      subst (λ (b : Bool). Sets b (setting_of switch on) seen [] seen (Ok (told.RefusedState s))) (sym no) (refl, refl, ap (λ (t : State). Ok (told.RefusedState t)) (is ∙ right.state)),
+      same_at seen old handle at same,
+    )
+
+-- Options.
+
+may_ask : (option : Asked_option) (m : Machine Keeper) → state_now m.known ≡ state.OptMode → lacks_structured option m.known.talk.structured ≡ false → May 1024 m (asking option)
+may_ask option.List m e f = (e, refl, λ h. absurd (omega (arith, h)))
+may_ask option.Info m e f = (e, refl, λ h. absurd (omega (arith, h)))
+may_ask option.Meta m e f = (e, refl, λ h. not-false m.known.talk.structured f)
+may_ask option.Go m e f = (e, refl, λ h. absurd (omega (arith, h)))
+may_ask option.Abort m e f = e
+
+asking_goes_on : (option : Asked_option) (seen : Seen) → is_closed (asking option ∷ seen.history) ≡ false
+asking_goes_on option.List seen = refl
+asking_goes_on option.Info seen = refl
+asking_goes_on option.Meta seen = refl
+asking_goes_on option.Go seen = refl
+asking_goes_on option.Abort seen = refl
+
+asking_is_quiet : (option : Asked_option) (m : Machine Keeper) → calls m (asking option) ≡ []
+asking_is_quiet option.List m = refl
+asking_is_quiet option.Info m = refl
+asking_is_quiet option.Meta m = refl
+asking_is_quiet option.Go m = refl
+asking_is_quiet option.Abort m = refl
+
+not_opt_mode : (s : State) → (s ≢ state.OptMode) → is_opt_mode s ≡ false
+not_opt_mode state.Created other = refl
+not_opt_mode state.Negotiating other = refl
+not_opt_mode state.OptMode other = absurd (other refl)
+not_opt_mode state.Ready other = refl
+not_opt_mode state.Closing other = refl
+not_opt_mode state.Closed other = refl
+not_opt_mode (state.Dead cause) other = refl
+
+lacks_after : (option : Asked_option) (seen : Seen) (old : Session) → IsAt seen old → lacks_structured option old.handle.known.talk.structured ≡ lacks_structured option (is_structured seen.history)
+lacks_after option seen old at = ap (λ (on : Bool). lacks_structured option on) (answers_at seen old at).structured
+
+-- what asking for an option comes to
+abbrev Asks_option : Asked_option → Seen → Seen → LineEnd → Type 0
+Asks_option option before after end = AsksFor (is_opt_mode (state_after before.history)) (lacks_structured option (is_structured before.history)) option before [] after end
+
+asks_by : (option : Asked_option) (may lacks : Bool) (seen after : Seen) (end : LineEnd) → is_opt_mode (state_after seen.history) ≡ may → lacks_structured option (is_structured seen.history) ≡ lacks → AsksFor may lacks option seen [] after end → Asks_option option seen after end
+asks_by option may lacks seen after end mode lack asks =
+    subst (λ (b : Bool). AsksFor b (lacks_structured option (is_structured seen.history)) option seen [] after end) (sym mode)
+    (subst (λ (b : Bool). AsksFor may b option seen [] after end) (sym lack) asks)
+
+pub option_ok : (option : Asked_option) (old : Session) (handle : Machine Keeper) (answer : Result (Unit {0}) OptFault) → Takes_option option answer old.handle handle
+    → IfOk (option_told answer) (λ tells. Becomes old (record { handle = handle; link = old.link; heeded = old.heeded; first = old.first }) (λ before after. Asks_option option before after (Ok tells)))
+option_ok option old handle (Ok done) (mode, lack, is) = λ seen at.
+    let yes : is_opt_mode (state_after seen.history) ≡ true = ap is_opt_mode (sym (answers_at seen old at).state) ∙ ap is_opt_mode mode in (
+      adding (asking option) seen,
+      asks_by option true false seen (adding (asking option) seen) (Ok told.Done) yes (sym (lacks_after option seen old at) ∙ lack) (refl, refl, refl),
+      add seen old _ handle old.heeded (asking option) at (may_ask option old.handle mode lack) (asking_goes_on option seen) (quiet old.handle handle old.heeded (asking option) is (asking_is_quiet option old.handle)) refl,
+    )
+option_ok option old handle (Err opt.NoMemory) same = tt
+option_ok option old handle (Err (opt.State now)) (other, is, same) = λ seen at.
+    let right = answers_at seen old at in
+    let no : is_opt_mode (state_after seen.history) ≡ false = ap is_opt_mode (sym right.state) ∙ not_opt_mode (state_now old.handle.known) other in (
+      seen,
+      asks_by option false (lacks_structured option (is_structured seen.history)) seen seen (Ok (told.RefusedState now)) no refl (refl, refl, ap (λ (t : State). Ok (told.RefusedState t)) (is ∙ right.state)),
+      same_at seen old handle at same,
+    )
+option_ok option old handle (Err opt.NotStructured) (mode, lack, same) = λ seen at.
+    let yes : is_opt_mode (state_after seen.history) ≡ true = ap is_opt_mode (sym (answers_at seen old at).state) ∙ ap is_opt_mode mode in (
+      seen,
+      asks_by option true true seen seen (Ok told.RefusedUnstructured) yes (sym (lacks_after option seen old at) ∙ lack) (refl, refl, refl),
+      same_at seen old handle at same,
+    )
+
+pub option_lacks : (option : Asked_option) (old : Session) (handle : Machine Keeper) (answer : Result (Unit {0}) OptFault) → Takes_option option answer old.handle handle
+    → OnErr (option_told answer) (Becomes old (record { handle = handle; link = old.link; heeded = old.heeded; first = old.first }) (λ before after. after ≡ before))
+option_lacks option old handle (Ok done) took = tt
+option_lacks option old handle (Err opt.NoMemory) same = λ seen at. (seen, refl, same_at seen old handle at same)
+option_lacks option old handle (Err (opt.State now)) took = tt
+option_lacks option old handle (Err opt.NotStructured) took = tt
 
 pub strict_set : (seen : Seen) (old : Session) (handle : Machine Keeper) (bits : ℕ) → IsAt seen old → unknown_bits bits ≡ 0 → handle ≡ step old.handle (StrictMode bits)
     → (x : Seen) × SetsStrict (unknown_bits bits) bits seen [] x (Ok told.Done) × IsAt x (record { handle = handle; link = old.link; heeded = old.heeded; first = old.first })
@@ -304,44 +453,15 @@ write_on seen old new before after link m at linked some goes =
       at = w.at;
     }
 
--- Settles.
-
-settles_to : (link : ℕ) (seen after : Seen) (calls : List Call) (end : Result (Unit {0}) Halt) → Settles link seen calls after end → SettlesOn (Some link) seen calls after (settled_end end)
-settles_to link seen after calls (Ok done) s = (refl, s)
-settles_to link seen after calls (Err halt) s = s
-
-pub settle_unlinked : (seen : Seen) (old : Session) (calls : Option (List Call)) → IsAt seen old → old.link ≡ None
-    → Went calls calls old (λ own after. SettlesOn seen.link seen own after (Ok told.Settled))
-settle_unlinked seen old calls at none = record {
-  calls = [];
-  after = seen;
-  grown = grows_none calls;
-  leads = subst (λ (l : Option ℕ). SettlesOn l seen [] seen (Ok told.Settled)) (sym none ∙ at.link) (refl, refl, refl);
-  at = at;
-}
-
-pub settle_on : (seen : Seen) (old new : Session) (before after : Option (List Call)) (link : ℕ) (end : Result (Unit {0}) Halt) → IsAt seen old → old.link ≡ Some link
-    → Goes before after old new (λ s calls later. Settles link s calls later end)
-    → Went before after new (λ calls later. SettlesOn seen.link seen calls later (settled_end end))
-settle_on seen old new before after link end at linked goes =
-    let w = goes seen at in
-    record {
-      calls = w.calls;
-      after = w.after;
-      grown = w.grown;
-      leads = subst (λ (l : Option ℕ). SettlesOn l seen w.calls w.after (settled_end end)) (sym linked ∙ at.link) (settles_to link seen w.after w.calls end w.leads);
-      at = w.at;
-    }
-
 -- A name that may want memory.
 
 pub export_done : (line' : Line) (name : List ℕ) → line' ≡ line.Export name → (old new : Session) (answer : Result Told NoMemory)
-    → IfOk answer (λ tells. Becomes old new (λ before after. Names (may_name (state_after before.history)) name before [] after (Ok tells)))
+    → IfOk answer (λ tells. Becomes old new (λ before after. Sets (may_name (state_after before.history)) (Name name) before [] after (Ok tells)))
     → OnErr answer (Becomes old new (λ before after. after ≡ before))
     → Becomes old new (λ before after. Line_does line' before [] after (halted answer))
 export_done line' name is old new answer ok lacks = subst (λ (l : Line). Becomes old new (λ before after. Line_does l before [] after (halted answer))) (sym is) (go answer ok lacks)
   where
-    go : (answer : Result Told NoMemory) → IfOk answer (λ tells. Becomes old new (λ before after. Names (may_name (state_after before.history)) name before [] after (Ok tells)))
+    go : (answer : Result Told NoMemory) → IfOk answer (λ tells. Becomes old new (λ before after. Sets (may_name (state_after before.history)) (Name name) before [] after (Ok tells)))
         → OnErr answer (Becomes old new (λ before after. after ≡ before)) → Becomes old new (λ before after. Line_does (line.Export name) before [] after (halted answer))
     go (Ok tells) ok lacks seen at = let b = ok seen at in (b.0, inl b.1, b.2)
     go (Err fault) ok lacks seen at = let b = lacks seen at in (b.0, inr (refl, b.1, refl), b.2)

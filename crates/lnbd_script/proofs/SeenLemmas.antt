@@ -8,7 +8,9 @@ use Rattle.lnbd_model.specs.declared.state.State.TheVariants as state
 use Rattle.lnbd_model.specs.declared.state.Cause.TheVariants as cause
 use Rattle.lnbd_callbacks.specs.Calls.{Call}
 use Rattle.lnbd_history.specs.Events.{Event as Happening}
-use Rattle.lnbd_history.specs.Answers.{state_after}
+use Rattle.lnbd_history.specs.Answers.{opt_answer_after, state_after}
+use Rattle.lnbd_history.specs.declared.kinds.OptAnswer.{OptAnswer}
+use Rattle.lnbd_history.specs.declared.kinds.OptAnswer.TheVariants as answer
 use Rattle.lnbd_history.specs.Laws.{is_closed}
 use Rattle.lnbd_machine.specs.Does.{Does}
 use Rattle.lnbd_machine.specs.Machine.{Machine, calls}
@@ -20,12 +22,12 @@ use Rattle.lnbd_script.specs.declared.keeper.Keeper.{Keeper}
 use Rattle.lnbd_script.specs.declared.keeper.Heeded.{Heeded}
 use Rattle.lnbd_script.specs.declared.session.Session.{Session}
 use Rattle.lnbd_script.specs.Kept.{IsAsHanded, Heeds, first_error, is_faulty, or_first}
-use Rattle.lnbd_script.specs.Seen.{Seen, IsAt, Follows, adding, noting, callbacks_of, death_in, event_of_error, event_of_faulty, is_link, met, met_of}
+use Rattle.lnbd_script.specs.Seen.{Seen, IsAt, Follows, adding, noting, callbacks_of, death_in, event_of_answer, event_of_error, event_of_faulty, is_link, met, met_of}
 use Rattle.lnbd_script.specs.KeptLaws.{first_error_on}
 
 -- the event that a handle and its callbacks' world come to
 abbrev pub met_by : Machine Keeper → Heeded → Option Event
-met_by handle heeded = met_of heeded.faulty (state_now handle.known) heeded.error
+met_by handle heeded = met_of heeded.faulty (state_now handle.known) handle.known.talk.answer heeded.error
 
 -- What holds once something happened on the handle.
 record Happened (seen : Seen) (happening : Happening Keeper) (handle : Machine Keeper) (heeded : Heeded) : Type 0 where
@@ -53,9 +55,10 @@ happened seen old handle heeded happening at may going does =
 met_is : (seen : Seen) (happening : Happening Keeper) (handle : Machine Keeper) (heeded : Heeded) → Happened seen happening handle heeded → met_by handle heeded ≡ met (happening ∷ seen.history)
 met_is seen happening handle heeded now =
     let right = stands_right 1024 (happening ∷ seen.history) handle now.stands in
-    ap (λ (s : State). met_of heeded.faulty s heeded.error) right.state
-    ∙ ap (λ (e : Option ℕ). met_of heeded.faulty (state_after (happening ∷ seen.history)) e) now.error
-    ∙ ap (λ (f : Bool). met_of f (state_after (happening ∷ seen.history)) (first_error (callbacks_of (happening ∷ seen.history)))) now.faulty
+    ap (λ (s : State). met_of heeded.faulty s handle.known.talk.answer heeded.error) right.state
+    ∙ ap (λ (a : Option OptAnswer). met_of heeded.faulty (state_after (happening ∷ seen.history)) a heeded.error) right.opt_answer
+    ∙ ap (λ (e : Option ℕ). met_of heeded.faulty (state_after (happening ∷ seen.history)) (opt_answer_after (happening ∷ seen.history)) e) now.error
+    ∙ ap (λ (f : Bool). met_of f (state_after (happening ∷ seen.history)) (opt_answer_after (happening ∷ seen.history)) (first_error (callbacks_of (happening ∷ seen.history)))) now.faulty
 
 -- by a call on the wires, after which the session notes what it met
 pub follow : (seen : Seen) (old new : Session) (handle : Machine Keeper) (heeded : Heeded) (happening : Happening Keeper) (fault : Option Event)
@@ -101,11 +104,17 @@ pub either_no_link : (a b : Option Event) → is_link a ≡ false → is_link b 
 either_no_link None b p q = q
 either_no_link (Some a) b p q = p
 
+answer_no_link : (a : Option OptAnswer) → is_link (event_of_answer a) ≡ false
+answer_no_link None = refl
+answer_no_link (Some answer.Ok) = refl
+answer_no_link (Some (answer.Refused option code)) = refl
+
 faulty_no_link : (f : Bool) → is_link (event_of_faulty f) ≡ false
 faulty_no_link true = refl
 faulty_no_link false = refl
 
 pub met_no_link : (handle : Machine Keeper) (heeded : Heeded) → is_link (met_by handle heeded) ≡ false
 met_no_link handle heeded =
-    either_no_link (event_of_faulty heeded.faulty) (or_first (death_in (state_now handle.known)) (event_of_error heeded.error)) (faulty_no_link heeded.faulty)
-    (either_no_link (death_in (state_now handle.known)) (event_of_error heeded.error) (death_no_link (state_now handle.known)) (error_no_link heeded.error))
+    either_no_link (event_of_faulty heeded.faulty) (or_first (death_in (state_now handle.known)) (or_first (event_of_answer handle.known.talk.answer) (event_of_error heeded.error))) (faulty_no_link heeded.faulty)
+    (either_no_link (death_in (state_now handle.known)) (or_first (event_of_answer handle.known.talk.answer) (event_of_error heeded.error)) (death_no_link (state_now handle.known))
+    (either_no_link (event_of_answer handle.known.talk.answer) (event_of_error heeded.error) (answer_no_link handle.known.talk.answer) (error_no_link heeded.error)))

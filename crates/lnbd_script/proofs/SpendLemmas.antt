@@ -17,7 +17,6 @@ use Rattle.lnbd_script.specs.declared.event.Event.{Event}
 use Rattle.lnbd_script.specs.declared.keeper.Keeper.{Keeper}
 use Rattle.lnbd_script.specs.declared.session.Session.{Session}
 use Rattle.lnbd_script.specs.Seen.{Seen, IsAt, Follows}
-use Rattle.lnbd_script.specs.Steps.{TurnsOnce}
 use Rattle.lnbd_script.specs.Turns.{Reads, WritesAll, Nothing_waits, Takes_nothing, Fails, Takes_some, ReadsIf, Turns, is_reading, is_waiting, read_call, stirs}
 
 -- the machine of what has happened, and what may still come and go
@@ -139,11 +138,3 @@ stands_at seen session at = subst (λ (m : Machine Keeper). StandsFor 1024 seen.
 
 pub left_at : (seen : Seen) (session : Session) → IsAt seen session → budget session.handle ≡ left seen
 left_at seen session at = ap budget at.stands.same
-
-pub session_spends : (link : ℕ) (before after : Seen) (calls : List Call) (old new : Session) (stirred : Bool) → IsAt before old → IsAt after new → TurnsOnce link stirred before calls after
-    → (budget new.handle ≤ budget old.handle) × (stirred ≡ true → budget new.handle < budget old.handle)
-session_spends link before after calls old new stirred at at' once =
-    let s = turn_spends link before after calls once.turns (stands_at before old at) in
-    let a = left_at before old at in
-    let b = left_at after new at' in
-    (omega (arith, a, b, s.later), λ e. omega (arith, a, b, s.less (sym once.stirring ∙ e)))

@@ -1,5 +1,5 @@
 -- One call on the wires after another, in turns.
-use Rattle.std.proofs.Common.{◌≡◌, ◌<◌, ◌≤◌, ℕ, Bool, true, false, not, ◌||◌, ◌==◌, List, [], ◌∷◌, ◌++◌, length, Option, Result, Ok, Err, refl, sym, ◌∙◌, ap, subst, append_assoc, arith}
+use Rattle.std.proofs.Common.{◌≡◌, ◌<◌, ◌≤◌, ℕ, Bool, true, false, not, ◌||◌, ◌==◌, List, [], ◌∷◌, ◌++◌, length, Option, refl, sym, ◌∙◌, ap, subst, append_assoc, arith}
 use Rattle.std.proofs.lemmas.Bool.{false≢true}
 use Rattle.std.proofs.lemmas.List.{append-nil, length-take-le}
 use Rattle.std.proofs.lemmas.List.Folds.{list_any-append}
@@ -9,7 +9,7 @@ use Rattle.lnbd_machine.specs.Now.{out_now, direction_now, in_flight_now}
 use Rattle.lnbd_standing.specs.Standing.{AnswersAs}
 use Rattle.lnbd_standing.proofs.Standing.{stands_right}
 use Rattle.lnbd_link.specs.Answers.{IfMoved, IfSent}
-use Rattle.lnbd_link.specs.Call.{Call, Read, Write, Pause, ReadTold, WriteTold, Moved, Unready, Ended, ReadFault, Sent, Full, WriteFault, read_told, write_told}
+use Rattle.lnbd_link.specs.Call.{Call, Read, Write, ReadTold, WriteTold, Moved, Unready, Ended, ReadFault, Sent, Full, WriteFault, read_told, write_told}
 use Rattle.lnbd_link.specs.Part.{Grows, Adds}
 use Rattle.lnbd_link.specs.declared.wires.Got.{Got}
 use Rattle.lnbd_link.specs.declared.wires.Got.TheVariants as got
@@ -19,15 +19,13 @@ use Rattle.lnbd_link.specs.Count.{Rises}
 use Rattle.lnbd_link.proofs.Parts.{grows_none, grows_on, rises_earlier, rises_later}
 use Rattle.lnbd_script.specs.declared.event.Event.{Event}
 use Rattle.lnbd_script.specs.declared.session.Session.{Session}
-use Rattle.lnbd_script.specs.declared.told.Halt.{Halt}
-use Rattle.lnbd_script.specs.declared.told.Halt.TheVariants as halt
 use Rattle.lnbd_script.specs.declared.told.Moved.{Moved as Transfer}
 use Rattle.lnbd_script.specs.declared.told.Moved.TheVariants as moved
 use Rattle.lnbd_script.specs.declared.told.Told.TheVariants as told
-use Rattle.lnbd_script.specs.Seen.{Counts, Seen, IsAt, Went, Goes, is_link}
-use Rattle.lnbd_script.specs.Turns.{Reads, ReadsShort, Writes, WritesAll, Nothing_waits, Takes_nothing, Fails, Takes_some, ReadsIf, TurnsShort, Settles, At_rest, Stirs, Is_still, Is_silent, Runs_short, is_busy, is_negotiating, is_reading, is_waiting, read_call, write_call, stirs, wants}
+use Rattle.lnbd_script.specs.Seen.{Blames, Counts, Seen, IsAt, Went, Goes, is_link}
+use Rattle.lnbd_script.specs.Turns.{Reads, ReadsShort, Writes, WritesAll, Nothing_waits, Takes_nothing, Fails, Takes_some, ReadsIf, TurnsShort, is_busy, is_negotiating, is_reading, is_waiting, read_call, write_call, stirs}
 use Rattle.lnbd_script.specs.Lines.{told_read, told_write}
-use Rattle.lnbd_script.specs.Steps.{Becomes, ReadsOnce, ReadsOnceShort, WritesOnce, TurnsOnce, got_moved, took_moved, is_busy_now, is_bytes, is_stirring, wants_now}
+use Rattle.lnbd_script.specs.Steps.{Becomes, ReadsOnce, ReadsOnceShort, WritesOnce, TurnsOnce, got_moved, took_moved, is_busy_now, is_bytes, is_stirring}
 
 -- What a session's handle answers is what the history says.
 pub answers_at : (seen : Seen) (session : Session) → IsAt seen session → AnswersAs seen.history session.handle
@@ -51,6 +49,20 @@ counts_on a b c f g h i j k one two = record {
 
 pub counts_wait : (a : Option Event) (f g i j : ℕ) → f ≤ g → i ≤ j → Counts a a f g i j
 counts_wait a f g i j p q = record { faults_later = p; idles_later = q; cause = λ off on. absurd (false≢true (sym off ∙ on)) }
+
+pub blames_of : (a b : Option Event) (f g i j : ℕ) → Counts a b f g i j → Blames a b f g
+blames_of a b f g i j c = record { faults_later = c.faults_later; cause = c.cause }
+
+pub blames_none : (a : Option Event) (f g : ℕ) → f ≤ g → Blames a a f g
+blames_none a f g p = record { faults_later = p; cause = λ off on. absurd (false≢true (sym off ∙ on)) }
+
+pub blames_same : (a : Option Event) (f : ℕ) → Blames a a f f
+blames_same a f = blames_none a f f (omega arith)
+
+pub blames_on : (a b c : Option Event) (f g h : ℕ) → Blames a b f g → Blames b c g h → Blames a c f h
+blames_on a b c f g h one two =
+    let both = counts_on a b c f g h 0 0 0 (record { faults_later = one.faults_later; idles_later = omega arith; cause = one.cause }) (record { faults_later = two.faults_later; idles_later = omega arith; cause = two.cause }) in
+    blames_of a c f h 0 0 both
 
 -- One call.
 
@@ -323,94 +335,3 @@ busy_is seen session at =
     ap (λ s. is_negotiating s || (not (in_flight_now session.handle.known == 0) || (direction_now session.handle.known == 3))) right.state
     ∙ ap (λ (n : ℕ). is_negotiating (state_after seen.history) || (not (n == 0) || (direction_now session.handle.known == 3))) right.in_flight
     ∙ ap (λ (d : ℕ). is_negotiating (state_after seen.history) || (not (in_flight_after seen.history == 0) || (d == 3))) right.direction
-
--- The turns of a settle so far: whatever the others do goes on from here.
-pub record Settling (old new : Option (List Call)) (session : Session) (link : ℕ) (seen : Seen) : Type 0 where
-  pub calls : List Call
-  pub now : Seen
-  pub grown : Grows old new calls
-  pub at : IsAt now session
-  pub goes_on : (c : List Call) (after : Seen) (end : Result (Unit {0}) Halt) → Settles link now c after end → Settles link seen (calls ++ c) after end
-
-pub settling_none : (old : Option (List Call)) (session : Session) (link : ℕ) (seen : Seen) → IsAt seen session → Settling old old session link seen
-settling_none old session link seen at = record { calls = []; now = seen; grown = grows_none old; at = at; goes_on = λ c after end s. s }
-
--- a turn in which something happened
-pub settling_on : (a b c : Option (List Call)) (session session' : Session) (link : ℕ) (seen : Seen) (stirred : Bool) → stirred ≡ true → is_busy_now session.handle ≡ true
-    → Settling a b session link seen → Goes b c session session' (λ before calls after. TurnsOnce link stirred before calls after) → Settling a c session' link seen
-settling_on a b c session session' link seen stirred is busy s goes =
-    let went = goes s.now s.at in
-    let stirs_is = sym went.leads.stirring ∙ is in
-    let busy' = sym (busy_is s.now session s.at) ∙ busy in
-    record {
-      calls = s.calls ++ went.calls;
-      now = went.after;
-      grown = grows_on a b c s.calls went.calls s.grown went.grown;
-      at = went.at;
-      goes_on = λ x after end r. subst (λ (l : List Call). Settles link seen l after end) (sym (append_assoc s.calls went.calls x))
-          (s.goes_on (went.calls ++ x) after end (Stirs s.now (went.calls ++ x) after end went.calls went.after x busy' went.leads.turns stirs_is r refl));
-    }
-
--- a turn in which nothing happened, and a pause
-pub settling_still : (a b c d : Option (List Call)) (session session' : Session) (link : ℕ) (seen : Seen) (stirred : Bool) → stirred ≡ false → is_busy_now session.handle ≡ true
-    → Settling a b session link seen → Goes b c session session' (λ before calls after. TurnsOnce link stirred before calls after) → Adds c d (Pause (wants_now link session')) → Settling a d session' link seen
-settling_still a b c d session session' link seen stirred is busy s goes paused =
-    let went = goes s.now s.at in
-    let stirs_is = sym went.leads.stirring ∙ is in
-    let busy' = sym (busy_is s.now session s.at) ∙ busy in
-    let wanted : wants_now link session' ≡ wants link went.after.history = ap (λ (n : ℕ). record { link = link; direction = n } ∷ []) (answers_at went.after session' went.at).direction in
-    let pause = subst (λ ws. Adds c d (Pause ws)) wanted paused in
-    let own = went.calls ++ Pause (wants link went.after.history) ∷ [] in
-    record {
-      calls = s.calls ++ own;
-      now = went.after;
-      grown = grows_on a b d s.calls own s.grown (grows_on b c d went.calls (Pause (wants link went.after.history) ∷ []) went.grown pause);
-      at = went.at;
-      goes_on = λ x after end r. subst (λ (l : List Call). Settles link seen l after end) (sym (append_assoc s.calls own x))
-          (s.goes_on (own ++ x) after end (Is_still s.now (own ++ x) after end went.calls went.after x busy' went.leads.turns stirs_is r (append_assoc went.calls (Pause (wants link went.after.history) ∷ []) x)));
-    }
-
-pub settling_silent : (a b c d : Option (List Call)) (session session' : Session) (link : ℕ) (seen : Seen) (stirred : Bool) → stirred ≡ false → is_busy_now session.handle ≡ true
-    → Settling a b session link seen → Goes b c session session' (λ before calls after. TurnsOnce link stirred before calls after) → Adds c d (Pause (wants_now link session'))
-    → Went a d session' (λ calls after. Settles link seen calls after (Err halt.Silent))
-settling_silent a b c d session session' link seen stirred is busy s goes paused =
-    let went = goes s.now s.at in
-    let stirs_is = sym went.leads.stirring ∙ is in
-    let busy' = sym (busy_is s.now session s.at) ∙ busy in
-    let wanted : wants_now link session' ≡ wants link went.after.history = ap (λ (n : ℕ). record { link = link; direction = n } ∷ []) (answers_at went.after session' went.at).direction in
-    let pause = subst (λ ws. Adds c d (Pause ws)) wanted paused in
-    let own = went.calls ++ Pause (wants link went.after.history) ∷ [] in
-    record {
-      calls = s.calls ++ own;
-      after = went.after;
-      grown = grows_on a b d s.calls own s.grown (grows_on b c d went.calls (Pause (wants link went.after.history) ∷ []) went.grown pause);
-      leads = s.goes_on own went.after (Err halt.Silent) (Is_silent s.now own went.after (Err halt.Silent) went.calls busy' went.leads.turns stirs_is refl refl);
-      at = went.at;
-    }
-
-pub settling_short : (a b c : Option (List Call)) (session session' : Session) (link : ℕ) (seen : Seen) → is_busy_now session.handle ≡ true
-    → Settling a b session link seen → Goes b c session session' (λ before calls after. TurnsShort link before calls after)
-    → Went a c session' (λ calls after. Settles link seen calls after (Err halt.NoMemory))
-settling_short a b c session session' link seen busy s goes =
-    let went = goes s.now s.at in
-    let busy' = sym (busy_is s.now session s.at) ∙ busy in
-    record {
-      calls = s.calls ++ went.calls;
-      after = went.after;
-      grown = grows_on a b c s.calls went.calls s.grown went.grown;
-      leads = s.goes_on went.calls went.after (Err halt.NoMemory) (Runs_short s.now went.calls went.after (Err halt.NoMemory) busy' went.leads refl);
-      at = went.at;
-    }
-
--- nothing is left to do, or the turns are too many
-pub settling_done : (a b : Option (List Call)) (session : Session) (link : ℕ) (seen : Seen) → is_busy_now session.handle ≡ false → Settling a b session link seen
-    → Went a b session (λ calls after. Settles link seen calls after (Ok tt))
-settling_done a b session link seen rests s =
-    let rests' = sym (busy_is s.now session s.at) ∙ rests in
-    record {
-      calls = s.calls;
-      after = s.now;
-      grown = s.grown;
-      leads = subst (λ (l : List Call). Settles link seen l s.now (Ok tt)) (append-nil s.calls) (s.goes_on [] s.now (Ok tt) (At_rest s.now [] s.now (Ok tt) rests' refl refl refl));
-      at = s.at;
-    }

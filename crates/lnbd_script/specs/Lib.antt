@@ -5,5 +5,8 @@ pub mod Turns
 pub mod Lines
 pub mod Texts
 pub mod Streams
+pub mod Scenes
+pub mod Rounds
+pub mod Acts
 pub mod Plays
 pub mod Steps

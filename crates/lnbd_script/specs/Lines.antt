@@ -1,14 +1,17 @@
--- What one line of a script does: the calls that it makes on the wires, what then has happened, and what it tells.
-use Rattle.std.specs.Prelude.{◌≡◌, ◌⊎◌, ◌+◌, ℕ, zero, suc, Bool, true, false, List, [], ◌∷◌, length, replicate, Option, Some, None, Result, Ok, Err}
+-- What one line of a script does on the current handle: the calls that it makes on the wires, what then has happened, and what it tells.
+use Rattle.std.specs.Prelude.{◌≡◌, ◌⊎◌, ◌+◌, ℕ, zero, suc, Bool, true, false, not, ◌==◌, List, [], ◌∷◌, length, replicate, Option, Some, None, Result, Ok, Err}
 use Rattle.lnbd_model.specs.declared.refusal.Why.{Why}
 use Rattle.lnbd_model.specs.declared.state.State.{State}
 use Rattle.lnbd_model.specs.declared.state.State.TheVariants as state
 use Rattle.lnbd_model.specs.declared.target.Target.{Target}
+use Rattle.lnbd_records.specs.Options.{opt_list, opt_info, opt_set_meta_context, opt_go}
 use Rattle.lnbd_history.specs.declared.kinds.Completed.{Completed}
 use Rattle.lnbd_history.specs.declared.kinds.Completed.TheVariants as completed
 use Rattle.lnbd_history.specs.Commands.{Command}
-use Rattle.lnbd_history.specs.Events.{Start, Set, StrictMode, Name, Issue, Refuse, Disconnect, Retire, ClearLog, Close}
-use Rattle.lnbd_history.specs.History.{asked}
+use Rattle.lnbd_history.specs.Events.{Event as Happening, History, Setting, Start, Set, StrictMode, Name, Context, Structured, Extended, OptMode, Opt, Abort, Issue, Refuse, Disconnect, Retire, ClearLog, Close}
+use Rattle.lnbd_records.specs.Limits.{max_contexts}
+use Rattle.lnbd_history.specs.Agreement.{contexts_now, structured, steps}
+use Rattle.lnbd_history.specs.History.{asked, reading}
 use Rattle.lnbd_history.specs.Answers.{state_after, completed_after}
 use Rattle.lnbd_history.specs.Laws.{is_closed, may_name}
 use Rattle.lnbd_history.specs.Refusals.{refusal_after, by_state}
@@ -18,6 +21,10 @@ use Rattle.lnbd_lines.specs.declared.command.Command.{Command as Asked}
 use Rattle.lnbd_lines.specs.declared.command.Command.TheVariants as command
 use Rattle.lnbd_lines.specs.declared.command.Payload.{Payload}
 use Rattle.lnbd_lines.specs.declared.command.Payload.TheVariants as payload
+use Rattle.lnbd_lines.specs.declared.negotiation.Opt.{Opt as Asked_option}
+use Rattle.lnbd_lines.specs.declared.negotiation.Opt.TheVariants as option
+use Rattle.lnbd_lines.specs.declared.negotiation.Switch.{Switch}
+use Rattle.lnbd_lines.specs.declared.negotiation.Switch.TheVariants as switch
 use Rattle.lnbd_lines.specs.declared.line.Line.{Line}
 use Rattle.lnbd_lines.specs.declared.line.Line.TheVariants as line
 use Rattle.lnbd_script.specs.declared.event.Event.TheVariants.{Link}
@@ -29,7 +36,7 @@ use Rattle.lnbd_script.specs.declared.told.Told.{Told}
 use Rattle.lnbd_script.specs.declared.told.Told.TheVariants as told
 use Rattle.lnbd_script.specs.Kept.{or_first}
 use Rattle.lnbd_script.specs.Seen.{Seen, adding}
-use Rattle.lnbd_script.specs.Turns.{Reads, ReadsShort, Writes, Settles, is_reading, is_waiting, read_call, write_call}
+use Rattle.lnbd_script.specs.Turns.{Reads, ReadsShort, Writes, is_reading, is_waiting, read_call, write_call}
 use Rattle.lnbd_handle.specs.Histories.{max_unretired}
 use Rattle.lnbd_handle.specs.Issues.{read_of, write_of, flush_of, trim_of, zero_of, cache_of}
 
@@ -91,12 +98,6 @@ abbrev pub Issues : Option Why → Command Keeper → Seen → List Call → See
 Issues None command before calls after end = Adds (adding (Issue command) before) calls after end (told.Cookie ((asked before.history).issued + 1))
 Issues (Some why) command before calls after end = Adds (adding (Refuse command why) before) calls after end (told.Refused why)
 
--- A handle without a link has nothing to do.
-abbrev pub SettlesOn : Option ℕ → Seen → List Call → Seen → LineEnd → Type 0
-SettlesOn None before calls after end = Stays before calls after end told.Settled
-SettlesOn (Some link) before calls after (Ok tells) = (tells ≡ told.Settled) × Settles link before calls after (Ok tt)
-SettlesOn (Some link) before calls after (Err halt) = Settles link before calls after (Err halt)
-
 -- what a read and a write tell
 abbrev pub told_read : ReadTold → Told
 told_read (Moved bytes) = told.Moved (moved.Bytes (length bytes))
@@ -122,10 +123,60 @@ WritesOn true (Some link) before calls after end = (write : WriteTold) × (calls
 WritesOn true None before calls after end = Stays before calls after end (told.Moved moved.Idle)
 WritesOn false link before calls after end = Stays before calls after end (told.Moved moved.Idle)
 
--- A name is set before the start and in opt mode.
-abbrev pub Names : Bool → List ℕ → Seen → List Call → Seen → LineEnd → Type 0
-Names true name before calls after end = Adds (adding (Set (Name name)) before) calls after end told.Done
-Names false name before calls after end = Stays before calls after end (told.RefusedState (state_after before.history))
+-- A setting is accepted where the state allows it.
+abbrev pub Sets : Bool → Setting → Seen → List Call → Seen → LineEnd → Type 0
+Sets true setting before calls after end = Adds (adding (Set setting) before) calls after end told.Done
+Sets false setting before calls after end = Stays before calls after end (told.RefusedState (state_after before.history))
+
+abbrev pub is_opt_mode : State → Bool
+is_opt_mode state.Created = false
+is_opt_mode state.Negotiating = false
+is_opt_mode state.OptMode = true
+is_opt_mode state.Ready = false
+is_opt_mode state.Closing = false
+is_opt_mode state.Closed = false
+is_opt_mode (state.Dead cause) = false
+
+-- what a line turns on or off
+abbrev pub setting_of : Switch → Bool → Setting
+setting_of switch.Structured on = Structured on
+setting_of switch.Extended on = Extended on
+setting_of switch.OptMode on = OptMode on
+
+-- as many meta contexts as may be asked for were added
+abbrev pub has_all_contexts : History Keeper → Bool
+has_all_contexts history = length (contexts_now (reading history).known.turns) == max_contexts
+
+-- A meta context is added where a name may be set, up to sixteen.
+abbrev pub AddsContext : (may full : Bool) → List ℕ → Seen → List Call → Seen → LineEnd → Type 0
+AddsContext true false name before calls after end = Adds (adding (Set (Context name)) before) calls after end told.Done
+AddsContext true true name before calls after end = Stays before calls after end (told.RefusedContext max_contexts)
+AddsContext false full name before calls after end = Stays before calls after end (told.RefusedState (state_after before.history))
+
+-- what asking for an option is
+abbrev pub asking : Asked_option → Happening Keeper
+asking option.List = Opt opt_list
+asking option.Info = Opt opt_info
+asking option.Meta = Opt opt_set_meta_context
+asking option.Go = Opt opt_go
+asking option.Abort = Abort
+
+-- Meta contexts need structured replies, and they are off.
+abbrev pub lacks_structured : Asked_option → (structured : Bool) → Bool
+lacks_structured option.List on = false
+lacks_structured option.Info on = false
+lacks_structured option.Meta on = not on
+lacks_structured option.Go on = false
+lacks_structured option.Abort on = false
+
+abbrev pub is_structured : History Keeper → Bool
+is_structured history = structured (steps (reading history).known.turns)
+
+-- An option is asked for in opt mode, unless it needs structured replies that are off.
+abbrev pub AsksFor : (may lacks : Bool) → Asked_option → Seen → List Call → Seen → LineEnd → Type 0
+AsksFor true false option before calls after end = Adds (adding (asking option) before) calls after end told.Done
+AsksFor true true option before calls after end = Stays before calls after end told.RefusedUnstructured
+AsksFor false lacks option before calls after end = Stays before calls after end (told.RefusedState (state_after before.history))
 
 -- Bits that each mean something are set.
 abbrev pub SetsStrict : (unknown bits : ℕ) → Seen → List Call → Seen → LineEnd → Type 0
@@ -151,14 +202,20 @@ shut_calls (Some link) = Shut link ∷ []
 abbrev pub closing : Seen → Seen
 closing before = record { history = Close ∷ before.history; link = None; first = before.first }
 
--- what a line does on a handle that is not closed
+-- What a line does on a handle that is not closed. Two lines act on more than the current handle, and do nothing here.
 abbrev pub Does : Line → Seen → List Call → Seen → LineEnd → Type 0
 Does (line.Connect to) before calls after end = Connects (is_created (state_after before.history)) to before calls after end
 Does (line.Command asked) before calls after end = Issues (refusal_after max_unretired before.history (command_of asked)) (command_of asked) before calls after end ⊎ Lacks before calls after end
-Does line.Settle before calls after end = SettlesOn before.link before calls after end
+Does line.Settle before calls after end = ⊥
+Does (line.Handle number) before calls after end = ⊥
 Does line.Read before calls after end = ReadsOn (is_reading before.history) before.link before calls after end
 Does line.Write before calls after end = WritesOn (is_waiting before.history) before.link before calls after end
-Does (line.Export name) before calls after end = Names (may_name (state_after before.history)) name before calls after end ⊎ Lacks before calls after end
+Does (line.Export name) before calls after end = Sets (may_name (state_after before.history)) (Name name) before calls after end ⊎ Lacks before calls after end
+Does (line.Context name) before calls after end = AddsContext (may_name (state_after before.history)) (has_all_contexts before.history) name before calls after end ⊎ Lacks before calls after end
+-- names are set in opt mode too, and the others before the start alone
+Does (line.Switch switch on) before calls after end = Sets (is_created (state_after before.history)) (setting_of switch on) before calls after end
+Does (line.Ask option) before calls after end =
+    AsksFor (is_opt_mode (state_after before.history)) (lacks_structured option (is_structured before.history)) option before calls after end ⊎ Lacks before calls after end
 Does (line.Strict bits) before calls after end = SetsStrict (unknown_bits bits) bits before calls after end
 Does line.Disconnect before calls after end = Disconnects (by_state (state_after before.history) None) before calls after end
 Does (line.Done cookie) before calls after end = Adds (taking (completed_after before.history cookie) cookie before) calls after end (told.Result (completed_after before.history cookie))
@@ -170,6 +227,8 @@ Does line.InFlight before calls after end = Stays before calls after end told.In
 Does line.Direction before calls after end = Stays before calls after end told.Direction
 Does line.State before calls after end = Stays before calls after end told.State
 Does line.Info before calls after end = Stays before calls after end told.Info
+Does line.Answer before calls after end = Stays before calls after end told.Answer
+Does line.Listing before calls after end = Stays before calls after end told.Listing
 
 -- A closed handle is gone.
 abbrev pub DoesIf : Bool → Line → Seen → List Call → Seen → LineEnd → Type 0

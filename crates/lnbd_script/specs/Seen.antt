@@ -9,7 +9,9 @@ use Rattle.lnbd_callbacks.specs.Calls.{Call}
 use Rattle.lnbd_history.specs.Events.{Event as Happening, History}
 use Rattle.lnbd_history.specs.Entries.{calls}
 use Rattle.lnbd_history.specs.History.{reading}
-use Rattle.lnbd_history.specs.Answers.{state_after}
+use Rattle.lnbd_history.specs.Answers.{opt_answer_after, state_after}
+use Rattle.lnbd_history.specs.declared.kinds.OptAnswer.{OptAnswer}
+use Rattle.lnbd_history.specs.declared.kinds.OptAnswer.TheVariants as answer
 use Rattle.lnbd_machine.specs.Now.{state_now}
 use Rattle.lnbd_standing.specs.Standing.{StandsFor}
 use Rattle.lnbd_link.specs.Count.{Rises}
@@ -65,13 +67,19 @@ abbrev pub event_of_faulty : Bool → Option Event
 event_of_faulty true = Some (Broke broken.Content)
 event_of_faulty false = None
 
+-- an option that the caller asked was answered by an error
+abbrev pub event_of_answer : Option OptAnswer → Option Event
+event_of_answer None = None
+event_of_answer (Some answer.Ok) = None
+event_of_answer (Some (answer.Refused option code)) = Some (Peer (Some option) code)
+
 -- What has happened on the handle that counts: faulty content comes before a death, since nothing is read after it, and a death
--- before an error of a command.
-abbrev pub met_of : Bool → State → Option ℕ → Option Event
-met_of faulty state error = or_first (event_of_faulty faulty) (or_first (death_in state) (event_of_error error))
+-- before an error that the peer told.
+abbrev pub met_of : Bool → State → Option OptAnswer → Option ℕ → Option Event
+met_of faulty state answer error = or_first (event_of_faulty faulty) (or_first (death_in state) (or_first (event_of_answer answer) (event_of_error error)))
 
 abbrev pub met : History Keeper → Option Event
-met history = met_of (list_any is_faulty (callbacks_of history)) (state_after history) (first_error (callbacks_of history))
+met history = met_of (list_any is_faulty (callbacks_of history)) (state_after history) (opt_answer_after history) (first_error (callbacks_of history))
 
 -- How it goes on.
 
@@ -126,6 +134,11 @@ pub record Counts (first first' : Option Event) (faults faults' idles idles' : �
   pub idles_later : idles ≤ idles'
   pub cause : is_link first ≡ false → is_link first' ≡ true → Rises 1 faults faults'
 
+-- The same of the count of faults alone.
+pub record Blames (first first' : Option Event) (faults faults' : ℕ) : Type 0 where
+  pub faults_later : faults ≤ faults'
+  pub cause : is_link first ≡ false → is_link first' ≡ true → Rises 1 faults faults'
+
 -- what the session notes where a call failed or not
 abbrev pub met_now : Session → Option Event
-met_now session = met_of session.heeded.faulty (state_now session.handle.known) session.heeded.error
+met_now session = met_of session.heeded.faulty (state_now session.handle.known) session.handle.known.talk.answer session.heeded.error

@@ -1,10 +1,9 @@
 -- Words on the code's own steps.
-use Rattle.std.specs.Prelude.{◌≡◌, ℕ, Bool, true, false, not, ◌||◌, ◌==◌, List, [], ◌∷◌, ◌++◌, Option, None, Result, Ok, Err}
+use Rattle.std.specs.Prelude.{◌≡◌, ◌≢◌, ◌<◌, ◌≤◌, ℕ, Bool, true, false, not, ◌||◌, ◌==◌, List, [], ◌∷◌, ◌++◌, Option, Some, None, Result, Ok, Err, get_or, vec_len, vec_capacity}
 use Rattle.std.specs.List.{list_any}
 use Rattle.lnbd_machine.specs.Machine.{Machine}
 use Rattle.lnbd_machine.specs.Now.{state_now, in_flight_now, direction_now}
 use Rattle.lnbd_link.specs.Call.{Call, ReadTold, WriteTold}
-use Rattle.lnbd_link.specs.declared.wires.Want.{Want}
 use Rattle.lnbd_link.specs.declared.wires.Got.{Got}
 use Rattle.lnbd_link.specs.declared.wires.Got.TheVariants as got
 use Rattle.lnbd_link.specs.declared.wires.Took.{Took}
@@ -16,16 +15,24 @@ use Rattle.lnbd_script.specs.declared.told.Linked.TheVariants as linked
 use Rattle.lnbd_script.specs.declared.told.Moved.{Moved}
 use Rattle.lnbd_script.specs.declared.told.Moved.TheVariants as moved
 use Rattle.lnbd_model.specs.declared.fault.NoMemory.{NoMemory}
+use Rattle.lnbd_history.specs.Events.{Close}
 use Rattle.lnbd_history.specs.History.{asked}
 use Rattle.lnbd_history.specs.Laws.{is_closed}
+use Rattle.lnbd_link.specs.Count.{Rises}
+use Rattle.lnbd_link.specs.declared.wires.Want.{Want}
+use Rattle.lnbd_lines.specs.Grammar.{max_handles}
+use Rattle.lnbd_poll.specs.Held.{want_of, with_want}
+use Rattle.lnbd_script.specs.declared.place.Over.{Over}
+use Rattle.lnbd_script.specs.declared.place.Place.{Place}
+use Rattle.lnbd_script.specs.declared.place.Place.TheVariants as place
+use Rattle.lnbd_script.specs.declared.playing.Sum.{Sum}
+use Rattle.lnbd_script.specs.declared.sessions.Sessions.{Sessions}
+use Rattle.lnbd_script.specs.Plays.{How, Finished, Silent, Untold, Short, Plays, HasBeenCut, HasPlayed, IsTaken}
+use Rattle.lnbd_script.specs.Scenes.{Held, Scene, admitted_on, ending, held_of, seen_of, shut_all, unused}
 use Rattle.lnbd_link.specs.Part.{Grows}
 use Rattle.lnbd_lines.specs.declared.line.Line.{Line}
 use Rattle.lnbd_lines.specs.declared.line.Line.TheVariants as line
 use Rattle.lnbd_script.specs.declared.event.Event.{Event}
-use Rattle.lnbd_script.specs.declared.playing.Current.{Current}
-use Rattle.lnbd_script.specs.declared.playing.Current.TheVariants as current
-use Rattle.lnbd_script.specs.declared.playing.Over.{Over}
-use Rattle.lnbd_history.specs.Events.{History}
 use Rattle.lnbd_link.specs.Part.{Takes}
 use Rattle.lnbd_script.specs.declared.playing.Stop.{Stop}
 use Rattle.lnbd_script.specs.declared.playing.Stop.TheVariants as stop
@@ -33,14 +40,17 @@ use Rattle.lnbd_script.specs.declared.playing.Unshown.{Unshown}
 use Rattle.lnbd_script.specs.declared.playing.Unshown.TheVariants as unshown
 use Rattle.lnbd_script.specs.declared.told.Halt.{Halt}
 use Rattle.lnbd_script.specs.declared.told.Halt.TheVariants as halt
-use Rattle.lnbd_script.specs.Plays.{How, Finished, Silent, Cut, Plays, HasPlayed, HasPlayedPart, closing_at_end}
 use Rattle.lnbd_script.specs.Streams.{TakesFront}
-use Rattle.lnbd_script.specs.Texts.{last_text, ended}
 use Rattle.lnbd_script.specs.declared.told.Told.{Told}
 use Rattle.lnbd_script.specs.declared.told.Told.TheVariants as told
-use Rattle.lnbd_script.specs.Seen.{Seen, IsAt}
+use Rattle.lnbd_script.specs.Seen.{Seen, IsAt, patience}
 use Rattle.lnbd_script.specs.Turns.{Reads, ReadsShort, Writes, Turns, is_negotiating, read_call, write_call, stirs}
-use Rattle.lnbd_script.specs.Lines.{Issues, LineEnd, shut_calls, told_read, told_write}
+use Rattle.lnbd_model.specs.declared.state.State.TheVariants as state
+use Rattle.lnbd_machine.specs.Machine.{step}
+use Rattle.lnbd_handle.specs.declared.kinds.OptFault.{OptFault}
+use Rattle.lnbd_handle.specs.declared.kinds.OptFault.TheVariants as opt
+use Rattle.lnbd_lines.specs.declared.negotiation.Opt.{Opt as Asked_option}
+use Rattle.lnbd_script.specs.Lines.{Issues, asking, lacks_structured, LineEnd, told_read, told_write}
 use Rattle.lnbd_history.specs.Commands.{Command}
 use Rattle.lnbd_history.specs.Refusals.{refusal_after}
 use Rattle.lnbd_handle.specs.Histories.{max_unretired}
@@ -60,6 +70,20 @@ abbrev pub issue_told : Result ℕ (IssueFault Keeper) → Result Told NoMemory
 issue_told (Ok cookie) = Ok (told.Cookie cookie)
 issue_told (Err (fault.Refused why buf)) = Ok (told.Refused why)
 issue_told (Err (fault.NoMemory buf first done)) = Err (record {})
+
+-- so the handle takes an option, or refuses it
+abbrev pub Takes_option : Asked_option → Result (Unit {0}) OptFault → (old new : Machine Keeper) → Type 0
+Takes_option option (Ok done) old new = (state_now old.known ≡ state.OptMode) × (lacks_structured option old.known.talk.structured ≡ false) × (new ≡ step old (asking option))
+Takes_option option (Err opt.NoMemory) old new = new ≡ old
+Takes_option option (Err (opt.State told)) old new = (state_now old.known ≢ state.OptMode) × (told ≡ state_now old.known) × (new ≡ old)
+Takes_option option (Err opt.NotStructured) old new = (state_now old.known ≡ state.OptMode) × (lacks_structured option old.known.talk.structured ≡ true) × (new ≡ old)
+
+-- what its answer comes to
+abbrev pub option_told : Result (Unit {0}) OptFault → Result Told NoMemory
+option_told (Ok done) = Ok told.Done
+option_told (Err opt.NoMemory) = Err (record {})
+option_told (Err (opt.State now)) = Ok (told.RefusedState now)
+option_told (Err opt.NotStructured) = Ok told.RefusedUnstructured
 
 abbrev pub got_moved : Got → Moved
 got_moved (got.Bytes n) = moved.Bytes n
@@ -110,11 +134,17 @@ pub record TurnsOnce (link : ℕ) (stirred : Bool) (before : Seen) (calls : List
   pub turns : Turns link before calls after
   pub stirring : stirred ≡ list_any stirs calls
 
-abbrev pub wants_now : ℕ → Session → List Want
-wants_now link session = record { link = link; direction = direction_now session.handle.known } ∷ []
-
 abbrev pub is_busy_now : Machine Keeper → Bool
 is_busy_now now = is_negotiating (state_now now.known) || (not (in_flight_now now.known == 0) || (direction_now now.known == 3))
+
+-- what a session with this link has to do, and waits for
+abbrev pub is_busy_linked : Option ℕ → Session → Bool
+is_busy_linked None session = false
+is_busy_linked (Some link) session = is_busy_now session.handle
+
+abbrev pub want_linked : Option ℕ → Session → Option Want
+want_linked None session = None
+want_linked (Some link) session = want_of link (state_now session.handle.known) (in_flight_now session.handle.known) (direction_now session.handle.known)
 
 -- the line that closes the handle, and lines that make no call on the wires
 abbrev pub is_close : Line → Bool
@@ -127,6 +157,7 @@ is_alone line.Settle = false
 is_alone line.Read = false
 is_alone line.Write = false
 is_alone line.Close = false
+is_alone (line.Handle number) = false
 is_alone other = true
 
 abbrev pub halted : Result Told NoMemory → LineEnd
@@ -154,38 +185,111 @@ is_question told.InFlight = true
 is_question told.Direction = true
 is_question told.State = true
 is_question told.Info = true
+is_question told.Answer = true
+is_question told.Listing = true
 is_question other = false
 
-abbrev pub is_open : Current → Bool
-is_open (current.Open session) = true
-is_open (current.Over over) = false
+-- Places of handles.
 
-abbrev pub first_of : Current → Option Event
-first_of (current.Open session) = session.first
-first_of (current.Over over) = over.first
+abbrev pub is_used : Place → Bool
+is_used place.Unused = false
+is_used (place.Open session) = true
+is_used (place.Over over) = true
 
--- what is left of a session that was closed where the script stands
-pub record IsOver (seen : Seen) (over : Over) : Type 0 where
-  pub closed : is_closed seen.history ≡ true
-  pub link : seen.link ≡ None
-  pub first : over.first ≡ seen.first
-  pub opened : over.opened ≡ (asked seen.history).admitted
-  pub freed : over.freed ≡ (asked seen.history).admitted
+abbrev pub is_open : Place → Bool
+is_open place.Unused = false
+is_open (place.Open session) = true
+is_open (place.Over over) = false
 
-abbrev pub IsNow : Seen → Current → Type 0
-IsNow seen (current.Open session) = IsAt seen session
-IsNow seen (current.Over over) = IsOver seen over
+abbrev pub current_place : Sessions → Place
+current_place sessions = get_or sessions.places.items sessions.current place.Unused
 
--- The same of a session that may be closed.
-pub record WentNow (old new : Option (List Call)) (current : Current) (Leads : List Call → Seen → Type 0) : Type 0 where
+-- a handle that is closed where it stands
+abbrev pub closed_held : Held → Held
+closed_held held = record { history = Close ∷ held.history; link = None }
+
+-- what is left of a handle that is closed
+pub record IsOver (held : Held) (over : Over) : Type 0 where
+  pub closed : is_closed held.history ≡ true
+  pub link : held.link ≡ None
+  pub opened : over.opened ≡ (asked held.history).admitted
+  pub freed : over.freed ≡ (asked held.history).admitted
+
+abbrev pub IsHeld : Held → Place → Type 0
+IsHeld held place.Unused = held ≡ unused
+IsHeld held (place.Open session) = IsAt (seen_of held session.first) session
+IsHeld held (place.Over over) = IsOver held over
+
+abbrev pub AreHeld : List Held → List Place → Type 0
+AreHeld [] [] = Unit {0}
+AreHeld [] (place ∷ places) = ⊥
+AreHeld (held ∷ handles) [] = ⊥
+AreHeld (held ∷ handles) (place ∷ places) = IsHeld held place × AreHeld handles places
+
+-- From where one handle stands, with the first event of the run, these calls were made, and it then stands where they lead.
+pub record WentAt (old new : Option (List Call)) (place : Place) (first : Option Event) (Leads : List Call → Seen → Type 0) : Type 0 where
   pub calls : List Call
   pub after : Seen
   pub grown : Grows old new calls
   pub leads : Leads calls after
-  pub at : IsNow after current
+  pub at : IsHeld (held_of after) place
+  pub first_is : first ≡ after.first
 
-abbrev pub GoesNow : Option (List Call) → Option (List Call) → Current → Current → (Seen → List Call → Seen → Type 0) → Type 0
-GoesNow old new now now' Leads = (seen : Seen) → IsNow seen now → WentNow old new now' (Leads seen)
+abbrev pub GoesAt : Option (List Call) → Option (List Call) → Place → Place → Option Event → Option Event → (Seen → List Call → Seen → Type 0) → Type 0
+GoesAt old new place place' first first' Leads = (held : Held) → IsHeld held place → WentAt old new place' first' (Leads (seen_of held first))
+
+-- The same of all handles.
+pub record WentAll (old new : Option (List Call)) (places : List Place) (Leads : List Call → List Held → Type 0) : Type 0 where
+  pub calls : List Call
+  pub after : List Held
+  pub grown : Grows old new calls
+  pub leads : Leads calls after
+  pub at : AreHeld after places
+
+abbrev pub GoesAll : Option (List Call) → Option (List Call) → List Place → List Place → (List Held → List Call → List Held → Type 0) → Type 0
+GoesAll old new places places' Leads = (handles : List Held) → AreHeld handles places → WentAll old new places' (Leads handles)
+
+abbrev pub is_busy_place : Place → Bool
+is_busy_place place.Unused = false
+is_busy_place (place.Open session) = is_busy_linked session.link session
+is_busy_place (place.Over over) = false
+
+abbrev pub want_now : Place → Option Want
+want_now place.Unused = None
+want_now (place.Open session) = want_linked session.link session
+want_now (place.Over over) = None
+
+abbrev pub wants_now : List Place → List Want
+wants_now [] = []
+wants_now (place ∷ places) = with_want (want_now place) (wants_now places)
+
+-- The handles of a script stand where the whole does, and so much was waited since the run began.
+pub record Stands (scene : Scene) (sessions : Sessions) (idles : ℕ) : Type 0 where
+  pub held : AreHeld scene.handles sessions.places.items
+  pub count : vec_len sessions.places ≡ max_handles
+  pub current : sessions.current ≡ scene.current
+  pub inside : scene.current < max_handles
+  pub first : sessions.first ≡ scene.first
+  pub started : sessions.start ≤ idles
+  pub rises : Rises scene.waits sessions.start idles
+  pub few : scene.waits < patience
+  pub small : sessions.start ≤ 18446744073709551615
+  pub room : max_handles ≤ vec_capacity sessions.wants
+
+pub record WentOver (old new : Option (List Call)) (idles : ℕ) (sessions : Sessions) (Leads : List Call → Scene → Type 0) : Type 0 where
+  pub calls : List Call
+  pub after : Scene
+  pub grown : Grows old new calls
+  pub leads : Leads calls after
+  pub at : Stands after sessions idles
+
+abbrev pub GoesOver : Option (List Call) → Option (List Call) → (idles idles' : ℕ) → Sessions → Sessions → (Scene → List Call → Scene → Type 0) → Type 0
+GoesOver old new idles idles' sessions sessions' Leads = (scene : Scene) → Stands scene sessions idles → WentOver old new idles' sessions' (Leads scene)
+
+-- so many callbacks were admitted on handles that are closed, and as many freed
+pub record IsSum (handles : List Held) (sum : Sum) : Type 0 where
+  pub opened : sum.opened ≡ admitted_on handles
+  pub freed : sum.freed ≡ admitted_on handles
 
 -- Texts that were written: all of one, a front of it, or for want of memory nothing.
 abbrev pub Shows : Result (Unit {0}) Unshown → Option (List ℕ) → Option (List ℕ) → List ℕ → Type 0
@@ -201,31 +305,38 @@ abbrev pub stop_unshown : Unshown → Stop
 stop_unshown unshown.Output = stop.Output
 stop_unshown unshown.NoMemory = stop.NoMemory
 
-abbrev pub TakesAs : Bool → Option (List ℕ) → Option (List ℕ) → List ℕ → Type 0
-TakesAs true old new text = Takes old new text
-TakesAs false old new text = TakesFront old new text
-
--- Lines were played up to where the handle is to be closed: with that and a last text the script ends so.
-pub record Stopped (lines : List Line) (seen : Seen) (old new : Option (List Call)) (before after : Option (List ℕ)) (now : Current) (how : How) (whole : Bool) (last : History Keeper → List ℕ) : Type 0 where
+-- The lines so far: whatever the others do goes on from here.
+pub record Begun (lines rest : List Line) (scene : Scene) (old new : Option (List Call)) (before after : Option (List ℕ)) (sessions : Sessions) (idles : ℕ) : Type 0 where
   pub calls : List Call
   pub text : List ℕ
-  pub middle : Seen
+  pub middle : Scene
   pub grown : Grows old new calls
-  pub taken : TakesAs whole before after text
-  pub at : IsNow middle now
-  pub plays : Plays lines seen (calls ++ shut_calls middle.link) (text ++ last (closing_at_end middle).history) how (closing_at_end middle)
+  pub taken : Takes before after text
+  pub at : Stands middle sessions idles
+  pub goes_on : (c : List Call) (t : List ℕ) (how : How) (e : Scene) → Plays rest middle c t how e → Plays lines scene (calls ++ c) (text ++ t) how e
 
-abbrev pub LinesPlayed : List Line → Seen → Option (List Call) → Option (List Call) → Option (List ℕ) → Option (List ℕ) → Current → Result (Unit {0}) Stop → Type 0
-LinesPlayed lines seen old new before after now (Ok done) = Stopped lines seen old new before after now Finished true (λ history. ended (last_text history))
-LinesPlayed lines seen old new before after now (Err stop.Silent) = Stopped lines seen old new before after now Silent true (λ history. [])
-LinesPlayed lines seen old new before after now (Err stop.Output) = Stopped lines seen old new before after now Cut false (λ history. [])
-LinesPlayed lines seen old new before after now (Err stop.NoMemory) = Stopped lines seen old new before after now Cut false (λ history. [])
+-- Lines were played up to where the handles are to be closed: with that the script ends so.
+pub record Stopped (lines : List Line) (scene : Scene) (old new : Option (List Call)) (before after : Option (List ℕ)) (sessions : Sessions) (idles : ℕ) (how : How) : Type 0 where
+  pub calls : List Call
+  pub text : List ℕ
+  pub middle : Scene
+  pub grown : Grows old new calls
+  pub taken : IsTaken how before after text
+  pub at : Stands middle sessions idles
+  pub plays : Plays lines scene (calls ++ shut_all middle.handles) text how (ending middle)
+
+module _ (lines : List Line) (scene : Scene) (old new : Option (List Call)) (before after : Option (List ℕ)) (sessions : Sessions) (idles : ℕ) where
+  abbrev pub LinesPlayed : Result (Unit {0}) Stop → Type 0
+  LinesPlayed (Ok done) = Begun lines [] scene old new before after sessions idles
+  LinesPlayed (Err stop.Silent) = Stopped lines scene old new before after sessions idles Silent
+  LinesPlayed (Err stop.Output) = (last : List ℕ) × Stopped lines scene old new before after sessions idles (Untold last)
+  LinesPlayed (Err stop.NoMemory) = Stopped lines scene old new before after sessions idles Short
 
 abbrev pub AllPlayed : List Line → Option (List Call) → Option (List Call) → Option (List ℕ) → Option (List ℕ) → Result (Option Event) Stop → Type 0
 AllPlayed lines old new before after (Ok first) = HasPlayed lines old new before after Finished (λ met. met ≡ first)
 AllPlayed lines old new before after (Err stop.Silent) = HasPlayed lines old new before after Silent (λ met. Unit {0})
-AllPlayed lines old new before after (Err stop.Output) = HasPlayedPart lines old new before after
-AllPlayed lines old new before after (Err stop.NoMemory) = HasPlayedPart lines old new before after
+AllPlayed lines old new before after (Err stop.Output) = HasBeenCut lines old new before after
+AllPlayed lines old new before after (Err stop.NoMemory) = HasPlayed lines old new before after Short (λ met. Unit {0})
 
 abbrev pub first_in : Result (Option Event) Stop → Option Event
 first_in (Ok first) = first

@@ -1,4 +1,4 @@
--- What whole writes leave.
+-- What writes leave that do not all succeed.
 use Rattle.std.specs.Prelude.{◌≡◌, ℕ, List, ◌++◌, Option}
 use Rattle.lnbd_link.specs.Part.{Takes}
 
@@ -8,3 +8,10 @@ pub record TakesFront (old new : Option (List ℕ)) (bytes : List ℕ) : Type 0 
   pub rest : List ℕ
   pub split : bytes ≡ front ++ rest
   pub taken : Takes old new front
+
+-- all of some bytes was taken, and behind them a front of others
+pub record TakesAllAndFront (old new : Option (List ℕ)) (bytes others : List ℕ) : Type 0 where
+  pub front : List ℕ
+  pub rest : List ℕ
+  pub split : others ≡ front ++ rest
+  pub taken : Takes old new (bytes ++ front)

@@ -1,16 +1,12 @@
--- What one read, one write and the turns of a settle do, call by call.
-use Rattle.std.specs.Prelude.{◌≡◌, ◌≤◌, ◌<◌, ℕ, Bool, true, false, not, ◌||◌, ◌==◌, List, [], ◌∷◌, ◌++◌, length, take, Some, None, Result, Ok, Err}
-use Rattle.std.specs.List.{list_any}
+-- What one read, one write and the turn of a handle on its link do, call by call.
+use Rattle.std.specs.Prelude.{◌≡◌, ◌≤◌, ◌<◌, ℕ, Bool, true, false, not, ◌||◌, ◌==◌, List, [], ◌∷◌, ◌++◌, length, take, Some, None}
 use Rattle.lnbd_model.specs.declared.state.State.{State}
 use Rattle.lnbd_model.specs.declared.state.State.TheVariants as state
 use Rattle.lnbd_history.specs.Events.{Answer, History, Arrived, End, LinkFailed, Wrote}
 use Rattle.lnbd_history.specs.Answers.{state_after, in_flight_after, out_after, direction_after}
 use Rattle.lnbd_link.specs.Call.{Call, Connect, Listen, Accept, Read, Write, Pause, Shut, ReadTold, WriteTold, Moved, Unready, Ended, ReadFault, Sent, Full, WriteFault}
-use Rattle.lnbd_link.specs.declared.wires.Want.{Want}
 use Rattle.lnbd_script.specs.declared.event.Event.TheVariants.{Link}
 use Rattle.lnbd_script.specs.declared.keeper.Keeper.{Keeper}
-use Rattle.lnbd_script.specs.declared.told.Halt.{Halt}
-use Rattle.lnbd_script.specs.declared.told.Halt.TheVariants as halt
 use Rattle.lnbd_script.specs.Seen.{Seen, Follows}
 
 -- What a handle wants.
@@ -35,10 +31,6 @@ is_negotiating (state.Dead cause) = false
 -- It negotiates, has a command in flight, or bytes that wait to go out.
 abbrev pub is_busy : History Keeper → Bool
 is_busy history = is_negotiating (state_after history) || (not (in_flight_after history == 0) || is_waiting history)
-
--- a pause waits for the link, in the handle's direction
-abbrev pub wants : ℕ → History Keeper → List Want
-wants link history = record { link = link; direction = direction_after history } ∷ []
 
 -- One call.
 
@@ -128,22 +120,3 @@ stirs (Write link offered Full) = false
 stirs (Write link offered WriteFault) = true
 stirs (Pause wants) = true
 stirs (Shut link) = true
-
--- A settle takes turns until the handle is not busy, with a pause after each in which nothing happened. It ends at once where the
--- wires were idle for too long, or memory ran out.
-pub data Settles (link : ℕ) : Seen → List Call → Seen → Result (Unit {0}) Halt → Type 0 where
-  At_rest : (seen : Seen) (calls : List Call) (after : Seen) (end : Result (Unit {0}) Halt)
-      → is_busy seen.history ≡ false → calls ≡ [] → after ≡ seen → end ≡ Ok tt
-      → Settles link seen calls after end
-  Stirs : (seen : Seen) (calls : List Call) (after : Seen) (end : Result (Unit {0}) Halt) (own : List Call) (middle : Seen) (other : List Call)
-      → is_busy seen.history ≡ true → Turns link seen own middle → list_any stirs own ≡ true → Settles link middle other after end → calls ≡ own ++ other
-      → Settles link seen calls after end
-  Is_still : (seen : Seen) (calls : List Call) (after : Seen) (end : Result (Unit {0}) Halt) (own : List Call) (middle : Seen) (other : List Call)
-      → is_busy seen.history ≡ true → Turns link seen own middle → list_any stirs own ≡ false → Settles link middle other after end → calls ≡ own ++ Pause (wants link middle.history) ∷ other
-      → Settles link seen calls after end
-  Is_silent : (seen : Seen) (calls : List Call) (after : Seen) (end : Result (Unit {0}) Halt) (own : List Call)
-      → is_busy seen.history ≡ true → Turns link seen own after → list_any stirs own ≡ false → calls ≡ own ++ Pause (wants link after.history) ∷ [] → end ≡ Err halt.Silent
-      → Settles link seen calls after end
-  Runs_short : (seen : Seen) (calls : List Call) (after : Seen) (end : Result (Unit {0}) Halt)
-      → is_busy seen.history ≡ true → TurnsShort link seen calls after → end ≡ Err halt.NoMemory
-      → Settles link seen calls after end

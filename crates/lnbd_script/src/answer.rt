@@ -1,30 +1,60 @@
 //! What each line does on a handle that is not closed. No text is made here.
 
-ghost use Rattle.std.specs.Prelude.{◌≡◌, ◌-◌, bit_and, IfOk, OnErr, Ok, Err, None, Some, [], true, false};
+ghost use Rattle.std.specs.Prelude.{◌≡◌, ◌≢◌, ◌-◌, bit_and, IfErr, IfOk, OnErr, OnOk, Ok, Err, None, Some, [], true, false};
+ghost use Rattle.lnbd_machine.specs.Machine.{step};
 ghost use Rattle.lnbd_machine.specs.Now.{state_now};
+ghost use Rattle.lnbd_history.specs.declared.kinds.Stage.TheVariants.{Created};
 ghost use Rattle.lnbd_history.specs.Answers.{state_after, completed_after};
-ghost use Rattle.lnbd_history.specs.Events.{ClearLog};
+ghost use Rattle.lnbd_history.specs.Events.{ClearLog, Name, Set};
 ghost use Rattle.lnbd_history.specs.Laws.{may_name};
 ghost use Rattle.lnbd_history.specs.Refusals.{by_state};
 ghost use Rattle.lnbd_history.specs.Strict.{unknown_bits};
-ghost use Rattle.lnbd_link.specs.Count.{Rises};
-ghost use Rattle.lnbd_script.specs.Lines.{Adds, Connects, Disconnects, Does, Names, ReadsOn, SetsStrict, SettlesOn, WritesOn, connected, is_created, taking};
-ghost use Rattle.lnbd_script.specs.Seen.{Counts, Goes, IsAt, Seen, adding, patience};
-ghost use Rattle.lnbd_script.specs.Steps.{Becomes, halted, is_alone, is_close, linked_told, moved_end, settled_end};
+ghost use Rattle.lnbd_script.specs.Acts.{reach_of};
+ghost use Rattle.lnbd_script.specs.Lines.{Adds, AddsContext, Connects, Disconnects, AsksFor, Does, ReadsOn, Sets, SetsStrict, WritesOn, connected, has_all_contexts, is_created, is_opt_mode, is_structured, lacks_structured, setting_of, taking};
+ghost use Rattle.lnbd_script.specs.Seen.{Counts, Goes, adding};
+ghost use Rattle.lnbd_script.specs.Steps.{Becomes, Takes_option, halted, is_alone, is_close, linked_told, moved_end, option_told};
 ghost use Rattle.lnbd_script.specs.Turns.{is_reading, is_waiting};
+ghost use Rattle.lnbd_script.specs.declared.reach.Reach.TheVariants as reach;
 ghost use Rattle.lnbd_script.specs.declared.told.Halt.TheVariants as halt;
 ghost use Rattle.lnbd_script.specs.declared.told.Told.TheVariants as told;
 
 use crate::event::Event;
+use crate::keeper::Keeper;
 use crate::session::{Session, or_first};
 use crate::told::{Halt, Linked, Moved, Told};
-use crate::turns::settle;
-use lnbd_handle::SetFault;
 use lnbd_handle::strict::ALL;
-use lnbd_lines::Line;
+use lnbd_handle::{Handle, OptFault, SetFault};
+use lnbd_lines::{Line, Opt, Switch};
 use lnbd_link::Wires;
 use lnbd_model::{NoMemory, State, Target, Text};
 use std::alloc::Global;
+
+/// Turns a setting of a handle on or off.
+fn turn(handle: &mut Handle<Keeper>, switch: Switch, on: bool) -> Result<(), SetFault>
+    ensures ok { OnOk result (handle.new ≡ step handle.old (Set (setting_of switch on))) }
+    ensures allowed { OnOk result (handle.old.known.stage ≡ Created) }
+    ensures refused { IfErr result (λ fault. (handle.old.known.stage ≢ Created) × (fault ≡ SetFault.State (state_now handle.old.known))) }
+    ensures err { OnErr result (handle.new ≡ handle.old) }
+{
+    match switch {
+        Switch::Structured => handle.set_request_structured_replies(on),
+        Switch::Extended => handle.set_request_extended_headers(on),
+        Switch::OptMode => handle.set_opt_mode(on),
+    }
+}
+
+/// Hands an option to a handle.
+fn opt(handle: &mut Handle<Keeper>, option: Opt) -> Result<(), OptFault>
+    ensures takes { Takes_option option result handle.old handle.new }
+{
+    match option {
+        Opt::List => handle.opt_list(),
+        Opt::Info => handle.opt_info(),
+        Opt::Meta => handle.opt_set_meta_context(),
+        Opt::Go => handle.opt_go(),
+        Opt::Abort => handle.opt_abort(),
+    }
+}
 
 impl Session {
     /// Starts the handle on its new link.
@@ -46,7 +76,7 @@ impl Session {
 
     /// Sets the export's name.
     fn set_name(&mut self, alloc: Global, name: &Text) -> Result<Told, NoMemory>
-        ensures ok { IfOk result (λ tells. Becomes self.old self.new (λ before after. Names (may_name (state_after before.history)) name.now before [] after (Ok tells))) }
+        ensures ok { IfOk result (λ tells. Becomes self.old self.new (λ before after. Sets (may_name (state_after before.history)) (Name name.now) before [] after (Ok tells))) }
         ensures lacks { OnErr result (Becomes self.old self.new (λ before after. after ≡ before)) }
         ensures first { self.new.first ≡ self.old.first }
     {
@@ -67,6 +97,43 @@ impl Session {
             Ok(()) => Told::Done,
             Err(_) => Told::RefusedStrict(unknown_bits(bits)),
         }
+    }
+
+    /// Adds a meta context.
+    fn add_context(&mut self, alloc: Global, name: &Text) -> Result<Told, NoMemory>
+        ensures ok { IfOk result (λ tells. Becomes self.old self.new (λ before after. AddsContext (may_name (state_after before.history)) (has_all_contexts before.history) name.now before [] after (Ok tells))) }
+        ensures lacks { OnErr result (Becomes self.old self.new (λ before after. after ≡ before)) }
+        ensures first { self.new.first ≡ self.old.first }
+    {
+        let name = name.try_clone(alloc)?;
+        match self.handle.add_meta_context(name) {
+            Ok(()) => Ok(Told::Done),
+            Err(SetFault::State(state)) => Ok(Told::RefusedState(state)),
+            Err(SetFault::TooMany(most)) => Ok(Told::RefusedContext(most)),
+            Err(SetFault::NoMemory) => Err(NoMemory),
+        }
+    }
+
+    /// Turns a setting on or off, before the start.
+    fn set_switch(&mut self, switch: Switch, on: bool) -> Told
+        ensures told { Becomes self.old self.new (λ before after. Sets (is_created (state_after before.history)) (setting_of switch on) before [] after (Ok result)) }
+        ensures first { self.new.first ≡ self.old.first }
+    {
+        match turn(&mut self.handle, switch, on) {
+            Ok(()) => Told::Done,
+            Err(SetFault::State(state)) => Told::RefusedState(state),
+            Err(_) => unreachable!(),
+        }
+    }
+
+    /// Asks for an option.
+    fn ask(&mut self, option: Opt) -> Result<Told, NoMemory>
+        ensures ok { IfOk result (λ tells. Becomes self.old self.new (λ before after. AsksFor (is_opt_mode (state_after before.history)) (lacks_structured option (is_structured before.history)) option before [] after (Ok tells))) }
+        ensures lacks { OnErr result (Becomes self.old self.new (λ before after. after ≡ before)) }
+        ensures first { self.new.first ≡ self.old.first }
+    {
+        let answer = opt(&mut self.handle, option);
+        told_of_option(answer)
     }
 
     /// Asks for the end.
@@ -102,6 +169,18 @@ fn unknown_bits(bits: u32) -> u32
     ensures { result ≡ unknown_bits bits }
 {
     bits - (bits & ALL)
+}
+
+/// What the handle's answer to an option comes to.
+fn told_of_option(answer: Result<(), OptFault>) -> Result<Told, NoMemory>
+    ensures { result ≡ option_told answer }
+{
+    match answer {
+        Ok(()) => Ok(Told::Done),
+        Err(OptFault::State(state)) => Ok(Told::RefusedState(state)),
+        Err(OptFault::NotStructured) => Ok(Told::RefusedUnstructured),
+        Err(OptFault::NoMemory) => Err(NoMemory),
+    }
 }
 
 fn is_created(state: State) -> bool
@@ -192,19 +271,6 @@ fn write_once<W: Wires>(session: &mut Session, wires: &mut W) -> Moved
     }
 }
 
-/// Takes turns until nothing is left to do, where the handle is connected.
-fn settle_once<W: Wires>(session: &mut Session, wires: &mut W) -> Result<(), Halt>
-    requires reached { (seen : Seen) × IsAt seen session.old }
-    ensures told { Goes (W.told wires.old) (W.told wires.new) session.old session.new (λ before calls after. SettlesOn before.link before calls after (settled_end result)) }
-    ensures silent { result ≡ Err halt.Silent → Rises patience (W.idles wires.old) (W.idles wires.new) }
-    ensures counts { Counts session.old.first session.new.first (W.faults wires.old) (W.faults wires.new) (W.idles wires.old) (W.idles wires.new) }
-{
-    match session.link {
-        None => Ok(()),
-        Some(link) => settle(session, wires, link),
-    }
-}
-
 /// What the answer comes to where memory may have run out.
 fn or_halt(told: Result<Told, NoMemory>) -> Result<Told, Halt>
     ensures { result ≡ halted told }
@@ -225,6 +291,9 @@ fn act_alone(alloc: Global, session: &mut Session, line: &Line) -> Result<Told, 
     match line {
         Line::Command(command) => or_halt(session.issue(alloc, command)),
         Line::Export { name } => or_halt(session.set_name(alloc, name)),
+        Line::Context { name } => or_halt(session.add_context(alloc, name)),
+        Line::Switch { switch, on } => Ok(session.set_switch(*switch, *on)),
+        Line::Ask(option) => or_halt(session.ask(*option)),
         Line::Strict { bits } => Ok(session.set_strict(*bits)),
         Line::Disconnect => Ok(session.disconnect()),
         Line::Done { cookie } => Ok(session.take_result(*cookie)),
@@ -238,11 +307,13 @@ fn act_alone(alloc: Global, session: &mut Session, line: &Line) -> Result<Told, 
         Line::Direction => Ok(Told::Direction),
         Line::State => Ok(Told::State),
         Line::Info => Ok(Told::Info),
+        Line::Answer => Ok(Told::Answer),
+        Line::Listing => Ok(Told::Listing),
         _ => unreachable!(),
     }
 }
 
-/// Does what a line asks, but for `close`.
+/// Does what a line asks of the current handle, but for `close`.
 pub(crate) fn act<W: Wires>(
     alloc: Global,
     session: &mut Session,
@@ -250,14 +321,13 @@ pub(crate) fn act<W: Wires>(
     line: &Line,
 ) -> Result<Told, Halt>
     requires open { is_close line.now ≡ false }
-    requires reached { (seen : Seen) × IsAt seen session.old }
+    requires alone { reach_of line.now ≡ reach.Current }
     ensures told { Goes (W.told wires.old) (W.told wires.new) session.old session.new (λ before calls after. Does line.now before calls after result) }
-    ensures silent { result ≡ Err halt.Silent → Rises patience (W.idles wires.old) (W.idles wires.new) }
+    ensures spoken { ¬ (result ≡ Err halt.Silent) }
     ensures counts { Counts session.old.first session.new.first (W.faults wires.old) (W.faults wires.new) (W.idles wires.old) (W.idles wires.new) }
 {
     match line {
         Line::Connect(to) => Ok(Told::of_connect(connect(session, wires, to))),
-        Line::Settle => Told::of_settle(settle_once(session, wires)),
         Line::Read => Told::of_read(read_once(session, wires)),
         Line::Write => Ok(Told::Moved(write_once(session, wires))),
         _ => act_alone(alloc, session, line),

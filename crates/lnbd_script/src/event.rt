@@ -1,8 +1,9 @@
 //! What happens in a script that decides how its run ends, and how a play ends.
 
 ghost use Rattle.std.specs.Prelude.{◌≡◌};
-ghost use Rattle.lnbd_script.specs.Seen.{death_in, death_of, event_of_error, event_of_faulty};
+ghost use Rattle.lnbd_script.specs.Seen.{death_in, death_of, event_of_answer, event_of_error, event_of_faulty};
 
+use lnbd_handle::OptAnswer;
 use lnbd_model::{Broken, Cause, State};
 use thiserror::Error;
 
@@ -73,6 +74,19 @@ impl Event {
         match faulty {
             true => Some(Event::Broke(Broken::Content)),
             false => None,
+        }
+    }
+
+    /// The event of the answer to an option that the caller asked.
+    pub(crate) fn of_answer(answer: Option<OptAnswer>) -> Option<Event>
+        ensures { result ≡ event_of_answer answer }
+    {
+        match answer {
+            Some(OptAnswer::Refused { option, code }) => Some(Event::Peer {
+                option: Some(option),
+                code,
+            }),
+            _ => None,
         }
     }
 

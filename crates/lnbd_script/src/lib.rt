@@ -1,4 +1,4 @@
-//! Scripts of calls: their text, and how one is played over a handle and the wires. Which tool plays them and what its
+//! Scripts of calls: their text, and how one is played over handles and the wires. Which tool plays them and what its
 //! status is are no matter here.
 #![tactic(auto)]
 
@@ -6,8 +6,12 @@ mod answer;
 mod event;
 mod issuing;
 mod keeper;
+mod place;
 mod playing;
+mod reach;
+mod rounds;
 mod session;
+mod sessions;
 mod streams;
 mod texts;
 mod told;

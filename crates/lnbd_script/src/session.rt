@@ -5,19 +5,17 @@ ghost use Rattle.lnbd_history.specs.Answers.{is_living};
 ghost use Rattle.lnbd_history.specs.Outgoing.{total};
 ghost use Rattle.lnbd_machine.specs.Now.{direction_now, out_now};
 ghost use Rattle.lnbd_link.specs.Answers.{IfMoved, IfSent, ReadFailed, WriteFailed};
-ghost use Rattle.lnbd_link.specs.Call.{Moved as Came, Ended, ReadFault, WriteFault, read_told, write_told, Pause};
-ghost use Rattle.lnbd_link.specs.Count.{Rises};
-ghost use Rattle.lnbd_link.specs.Part.{Adds};
+ghost use Rattle.lnbd_link.specs.Call.{Moved as Came, Ended, ReadFault, WriteFault, read_told, write_told};
 ghost use Rattle.lnbd_script.specs.Kept.{or_first};
 ghost use Rattle.lnbd_script.specs.Seen.{Counts, Goes, is_link, met_now};
-ghost use Rattle.lnbd_script.specs.Steps.{Becomes, ReadsOnce, ReadsOnceShort, WritesOnce, got_moved, took_moved, is_busy_now, is_bytes, wants_now};
+ghost use Rattle.lnbd_script.specs.Steps.{Becomes, ReadsOnce, ReadsOnceShort, WritesOnce, got_moved, took_moved, is_busy_now, is_bytes};
 ghost use Rattle.lnbd_script.specs.Turns.{Loses, Reads, ReadsShort, Writes};
 
 use crate::event::Event;
 use crate::keeper::{Heeded, Keeper};
 use crate::told::Moved;
 use lnbd_handle::Handle;
-use lnbd_link::{Got, Took, Want, Wires};
+use lnbd_link::{Got, Took, Wires};
 use lnbd_model::{NoMemory, State};
 
 /// The handle of a script that is not closed, its link once it is connected, and the first event that the run
@@ -69,8 +67,9 @@ impl Session {
     {
         let content = Event::of_faulty(self.heeded.faulty);
         let death = Event::in_state(self.handle.state());
+        let answer = Event::of_answer(self.handle.opt_answer());
         let error = Event::of_error(self.heeded.error);
-        let met = or_first(content, or_first(death, error));
+        let met = or_first(content, or_first(death, or_first(answer, error)));
         self.first = or_first(self.first, or_first(fault, met));
     }
 
@@ -223,15 +222,5 @@ impl Session {
     {
         let negotiates = matches!(self.handle.state(), State::Negotiating);
         negotiates || self.handle.in_flight() != 0 || self.handle.direction() == 3
-    }
-
-    /// Waits until the link can move bytes in a direction that the handle wants.
-    pub(crate) fn pause<W: Wires>(&self, wires: &mut W, link: u32)
-        ensures told { Adds (W.told wires.old) (W.told wires.new) (Pause (wants_now link self.now)) }
-        ensures faults { W.faults wires.old ≤ W.faults wires.new }
-        ensures idles { Rises 1 (W.idles wires.old) (W.idles wires.new) }
-    {
-        let direction = self.handle.direction();
-        wires.pause(&[Want { link, direction }]);
     }
 }

@@ -3,15 +3,17 @@
 ghost use Rattle.std.specs.Prelude.{◌≡◌, ◌++◌, OnOk, string_bytes, true, false};
 ghost use Rattle.lnbd_history.specs.Events.{History};
 ghost use Rattle.lnbd_script.specs.declared.keeper.Keeper.{Keeper as Callback};
+ghost use Rattle.lnbd_script.specs.Scenes.{Held};
 ghost use Rattle.lnbd_script.specs.Seen.{Seen, IsAt};
-ghost use Rattle.lnbd_script.specs.Steps.{IsNow, is_open, is_question};
+ghost use Rattle.lnbd_script.specs.Steps.{IsHeld, is_open, is_question};
 ghost use Rattle.lnbd_script.specs.Texts.{moved_text, text_of};
 
-use crate::playing::Current;
+use crate::place::Place;
 use crate::session::Session;
 use crate::told::{Moved, Told};
 use lnbd_texts::{
-    push_completed, push_info, push_log, push_peeked, push_refusal, push_refused_state, push_state,
+    push_completed, push_info, push_listing, push_log, push_opt_answer, push_peeked, push_refusal,
+    push_refused_state, push_state,
 };
 use std::alloc::AllocError;
 
@@ -39,6 +41,8 @@ fn push_plain(text: &mut String, told: &Told) -> Result<(), AllocError>
         Told::NotConnected => text.push_str("connect failed"),
         Told::Settled => text.push_str("settled"),
         Told::RefusedState(state) => push_refused_state(text, *state),
+        Told::RefusedContext(most) => write!(text, "refused too-many {most}"),
+        Told::RefusedUnstructured => text.push_str("refused not-structured"),
         Told::RefusedStrict(bits) => write!(text, "refused strict {bits}"),
         Told::Cookie(cookie) => write!(text, "cookie {cookie}"),
         Told::Refused(why) => push_refusal(text, *why),
@@ -68,6 +72,8 @@ fn push_answer(text: &mut String, told: &Told, session: &Session) -> Result<(), 
         }
         Told::State => push_state(text, handle.state()),
         Told::Info => push_info(text, handle.info()),
+        Told::Answer => push_opt_answer(text, handle.opt_answer()),
+        Told::Listing => push_listing(text, handle.listed().as_slice()),
         _ => Ok(()),
     }
 }
@@ -76,22 +82,28 @@ fn is_question(told: &Told) -> bool
     ensures { result ≡ is_question told.now }
 {
     match told {
-        Told::Log | Told::Peek | Told::InFlight | Told::Direction | Told::State | Told::Info =>
-            true,
+        Told::Log
+        | Told::Peek
+        | Told::InFlight
+        | Told::Direction
+        | Told::State
+        | Told::Info
+        | Told::Answer
+        | Told::Listing => true,
         _ => false,
     }
 }
 
 /// What a line tells, where the script then stands.
-pub(crate) fn push_told(text: &mut String, told: &Told, current: &Current) -> Result<(), AllocError>
-    requires open { is_question told.now ≡ true → is_open current.now ≡ true }
-    ensures { OnOk result ((seen : Seen) → IsNow seen current.now → string_bytes text.new ≡ string_bytes text.old ++ text_of seen.history told.now) }
+pub(crate) fn push_told(text: &mut String, told: &Told, place: &Place) -> Result<(), AllocError>
+    requires open { is_question told.now ≡ true → is_open place.now ≡ true }
+    ensures { OnOk result ((held : Held) → IsHeld held place.now → string_bytes text.new ≡ string_bytes text.old ++ text_of held.history told.now) }
 {
     if !is_question(told) {
         return push_plain(text, told);
     }
-    match current {
-        Current::Open(session) => push_answer(text, told, session),
-        Current::Over(_) => unreachable!(),
+    match place {
+        Place::Open(session) => push_answer(text, told, session),
+        Place::Unused | Place::Over(_) => unreachable!(),
     }
 }

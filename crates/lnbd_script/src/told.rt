@@ -43,6 +43,10 @@ pub(crate) enum Told {
     Settled,
     /// The handle is in this state.
     RefusedState(State),
+    /// So many meta contexts, the most, were added.
+    RefusedContext(u32),
+    /// Structured replies are off.
+    RefusedUnstructured,
     /// These bits of strict mode mean nothing.
     RefusedStrict(u32),
     Cookie(u64),
@@ -57,6 +61,8 @@ pub(crate) enum Told {
     Direction,
     State,
     Info,
+    Answer,
+    Listing,
 }
 
 /// What ends a script in a line.

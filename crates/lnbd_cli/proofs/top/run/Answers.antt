@@ -6,34 +6,37 @@ use Rattle.lnbd_cli.proofs.RunLemmas.{bad, bad_end, cut, known, line_of, memory_
 use Rattle.lnbd_cli.proofs.top.run.Goals as goal
 
 pub returns-clause-played : goal.returns-clause-played
-returns-clause-played g c = played c.print_end.result c.tool-end.result _ _ _ _ _ _ _ _ (λ (t : List ℕ). Prints (g.E.Sink.taken c.args.err.now) (g.E.Sink.taken c.print_end.new.err) (g.E.Sink.faults c.args.err.now) (g.E.Sink.faults c.print_end.new.err) t) c.tool-end.ensures.ends c.print_end.ensures
+returns-clause-played g c other = played c.print_end.result c.tool-end.result _ _ _ _ _ _ _ _ (λ (t : List ℕ). Prints (g.E.Sink.taken c.args.err.now) (g.E.Sink.taken c.print_end.new.err) (g.E.Sink.faults c.args.err.now) (g.E.Sink.faults c.print_end.new.err) t) c.tool-end.ensures.ends c.print_end.ensures
 
 pub returns-clause-waited : goal.returns-clause-waited
-returns-clause-waited g c = waited c.print_end.result c.tool-end.result _ _ _ _ _ _ _ _ (λ (t : List ℕ). Prints (g.E.Sink.taken c.args.err.now) (g.E.Sink.taken c.print_end.new.err) (g.E.Sink.faults c.args.err.now) (g.E.Sink.faults c.print_end.new.err) t) c.tool-end.ensures.ends c.print_end.ensures
+returns-clause-waited g c other = waited c.print_end.result c.tool-end.result _ _ _ _ _ _ _ _ (λ (t : List ℕ). Prints (g.E.Sink.taken c.args.err.now) (g.E.Sink.taken c.print_end.new.err) (g.E.Sink.faults c.args.err.now) (g.E.Sink.faults c.print_end.new.err) t) c.tool-end.ensures.ends c.print_end.ensures
 
 pub returns-clause-cut : goal.returns-clause-cut
-returns-clause-cut g c = cut c.print_end.result c.tool-end.result _ _ _ _ _ _ _ _ (λ (t : List ℕ). Prints (g.E.Sink.taken c.args.err.now) (g.E.Sink.taken c.print_end.new.err) (g.E.Sink.faults c.args.err.now) (g.E.Sink.faults c.print_end.new.err) t) c.tool-end.ensures.ends c.print_end.ensures
+returns-clause-cut g c other = cut c.print_end.result c.tool-end.result _ _ _ _ _ _ _ _ (λ (t : List ℕ). Prints (g.E.Sink.taken c.args.err.now) (g.E.Sink.taken c.print_end.new.err) (g.E.Sink.faults c.args.err.now) (g.E.Sink.faults c.print_end.new.err) t) c.tool-end.ensures.ends c.print_end.ensures
 
 pub returns-clause-short : goal.returns-clause-short
-returns-clause-short g c = short c.print_end.result c.tool-end.result _ _ _ _ _ _ _ _ (λ (t : List ℕ). Prints (g.E.Sink.taken c.args.err.now) (g.E.Sink.taken c.print_end.new.err) (g.E.Sink.faults c.args.err.now) (g.E.Sink.faults c.print_end.new.err) t) c.tool-end.ensures.ends c.print_end.ensures
+returns-clause-short g c other = short c.print_end.result c.tool-end.result _ _ _ _ _ _ _ _ (λ (t : List ℕ). Prints (g.E.Sink.taken c.args.err.now) (g.E.Sink.taken c.print_end.new.err) (g.E.Sink.faults c.args.err.now) (g.E.Sink.faults c.print_end.new.err) t) c.tool-end.ensures.ends c.print_end.ensures
 
 pub returns-clause-bad : goal.returns-clause-bad
-returns-clause-bad g c h = (bad c.print_end.result c.tool-end.result _ _ _ _ _ _ _ _ (λ (t : List ℕ). Prints (g.E.Sink.taken c.args.err.now) (g.E.Sink.taken c.print_end.new.err) (g.E.Sink.faults c.args.err.now) (g.E.Sink.faults c.print_end.new.err) t) c.tool-end.ensures.ends c.print_end.ensures h).0
+returns-clause-bad g c other h = (bad c.print_end.result c.tool-end.result _ _ _ _ _ _ _ _ (λ (t : List ℕ). Prints (g.E.Sink.taken c.args.err.now) (g.E.Sink.taken c.print_end.new.err) (g.E.Sink.faults c.args.err.now) (g.E.Sink.faults c.print_end.new.err) t) c.tool-end.ensures.ends c.print_end.ensures h).0
 
 pub returns-clause-silent_line : goal.returns-clause-silent_line
-returns-clause-silent_line g c h = line_of c.print_end.result 7 c.tool-end.result (Err (fault.Played play.Silent)) (λ (t : List ℕ). Prints (g.E.Sink.taken c.args.err.now) (g.E.Sink.taken c.print_end.new.err) (g.E.Sink.faults c.args.err.now) (g.E.Sink.faults c.print_end.new.err) t) c.print_end.ensures h (λ e. absurd (omega (arith, e))) (only_silent c.tool-end.result)
+returns-clause-silent_line g c other h = line_of c.print_end.result 7 c.tool-end.result (Err (fault.Played play.Silent)) (λ (t : List ℕ). Prints (g.E.Sink.taken c.args.err.now) (g.E.Sink.taken c.print_end.new.err) (g.E.Sink.faults c.args.err.now) (g.E.Sink.faults c.print_end.new.err) t) c.print_end.ensures h (λ e. absurd (omega (arith, e))) (only_silent c.tool-end.result)
 
 pub returns-clause-output_line : goal.returns-clause-output_line
-returns-clause-output_line g c h = line_of c.print_end.result 8 c.tool-end.result (Err (fault.Played play.Output)) (λ (t : List ℕ). Prints (g.E.Sink.taken c.args.err.now) (g.E.Sink.taken c.print_end.new.err) (g.E.Sink.faults c.args.err.now) (g.E.Sink.faults c.print_end.new.err) t) c.print_end.ensures h (λ e. absurd (omega (arith, e))) (only_output c.tool-end.result)
+returns-clause-output_line g c other h = line_of c.print_end.result 8 c.tool-end.result (Err (fault.Played play.Output)) (λ (t : List ℕ). Prints (g.E.Sink.taken c.args.err.now) (g.E.Sink.taken c.print_end.new.err) (g.E.Sink.faults c.args.err.now) (g.E.Sink.faults c.print_end.new.err) t) c.print_end.ensures h (λ e. absurd (omega (arith, e))) (only_output c.tool-end.result)
 
 pub returns-clause-input_line : goal.returns-clause-input_line
 returns-clause-input_line g c h = line_of c.print_end.result 10 c.tool-end.result (Err fault.Input) (λ (t : List ℕ). Prints (g.E.Sink.taken c.args.err.now) (g.E.Sink.taken c.print_end.new.err) (g.E.Sink.faults c.args.err.now) (g.E.Sink.faults c.print_end.new.err) t) c.print_end.ensures h (λ e. absurd (omega (arith, e))) (only_input c.tool-end.result)
 
 pub returns-clause-memory_line : goal.returns-clause-memory_line
-returns-clause-memory_line g c = memory_line c.print_end.result c.tool-end.result (λ (t : List ℕ). Prints (g.E.Sink.taken c.args.err.now) (g.E.Sink.taken c.print_end.new.err) (g.E.Sink.faults c.args.err.now) (g.E.Sink.faults c.print_end.new.err) t) c.print_end.ensures
+returns-clause-memory_line g c other = memory_line c.print_end.result c.tool-end.result (λ (t : List ℕ). Prints (g.E.Sink.taken c.args.err.now) (g.E.Sink.taken c.print_end.new.err) (g.E.Sink.faults c.args.err.now) (g.E.Sink.faults c.print_end.new.err) t) c.print_end.ensures
 
 pub returns-clause-bad_script : goal.returns-clause-bad_script
-returns-clause-bad_script g c calls h = c.tool-end.ensures.bad_script calls (bad_end c.print_end.result c.tool-end.result (λ (t : List ℕ). Prints (g.E.Sink.taken c.args.err.now) (g.E.Sink.taken c.print_end.new.err) (g.E.Sink.faults c.args.err.now) (g.E.Sink.faults c.print_end.new.err) t) c.print_end.ensures h)
+returns-clause-bad_script g c other calls h = c.tool-end.ensures.bad_script calls (bad_end c.print_end.result c.tool-end.result (λ (t : List ℕ). Prints (g.E.Sink.taken c.args.err.now) (g.E.Sink.taken c.print_end.new.err) (g.E.Sink.faults c.args.err.now) (g.E.Sink.faults c.print_end.new.err) t) c.print_end.ensures h)
 
 pub returns-clause-known : goal.returns-clause-known
-returns-clause-known g c = known c.print_end.result c.tool-end.result (λ (t : List ℕ). Prints (g.E.Sink.taken c.args.err.now) (g.E.Sink.taken c.print_end.new.err) (g.E.Sink.faults c.args.err.now) (g.E.Sink.faults c.print_end.new.err) t) c.print_end.ensures
+returns-clause-known g c other = known c.print_end.result c.tool-end.result (λ (t : List ℕ). Prints (g.E.Sink.taken c.args.err.now) (g.E.Sink.taken c.print_end.new.err) (g.E.Sink.faults c.args.err.now) (g.E.Sink.faults c.print_end.new.err) t) c.print_end.ensures
+
+pub returns-then-names_info-clause-bad_script : goal.returns-then-names_info-clause-bad_script
+returns-then-names_info-clause-bad_script g c other calls is = absurd (other (c.names_info.ensures.yes c.if-names_info.true))

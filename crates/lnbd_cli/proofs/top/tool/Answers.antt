@@ -12,7 +12,7 @@ pub returns-in-Err-clause-input_cause : goal.returns-in-Err-clause-input_cause
 returns-in-Err-clause-input_cause g c = rw c.fault_of.ensures (unread_cause c.in-Err.unread _ _ c.in-Err.ensures.cause)
 
 pub returns-clause-ends : goal.returns-clause-ends
-returns-clause-ends g c = rw c.end_of.ensures (ended_by c.play.result _ _ _ _ _ _ _ _ _ (c.names_calls.ensures.yes c.if-not-names_calls.false) c.in-Ok.ensures.reads c.play.ensures.played c.play.ensures.waited c.play.ensures.cut)
+returns-clause-ends g c = rw c.end_of.ensures (ended_by c.play.result _ _ _ _ _ _ _ _ _ (c.names_calls.ensures.yes c.if-not-names_calls.false) c.in-Ok.ensures.reads c.play.ensures.played c.play.ensures.waited c.play.ensures.cut c.play.ensures.short)
 
 pub returns-in-Err-clause-bad_script : goal.returns-in-Err-clause-bad_script
 returns-in-Err-clause-bad_script g c calls = rw c.fault_of.ensures (unread_read c.in-Err.unread _ _ c.in-Err.ensures.reads)

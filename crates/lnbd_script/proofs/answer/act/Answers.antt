@@ -9,9 +9,6 @@ use Rattle.lnbd_script.proofs.answer.act.Goals as goal
 pub returns-in-Connect-clause-told : goal.returns-in-Connect-clause-told
 returns-in-Connect-clause-told g c seen at = act_as c.args.line.now _ _ _ seen _ _ _ c.in-Connect.is (ap (λ (t : Told). Ok t) c.of_connect.ensures) (c.connect.ensures.told seen at)
 
-pub returns-in-Settle-clause-told : goal.returns-in-Settle-clause-told
-returns-in-Settle-clause-told g c seen at = act_as c.args.line.now _ _ _ seen _ _ _ c.in-Settle.is c.of_settle.ensures (c.settle_once.ensures.told seen at)
-
 pub returns-in-Read-clause-told : goal.returns-in-Read-clause-told
 returns-in-Read-clause-told g c seen at = act_as c.args.line.now _ _ _ seen _ _ _ c.in-Read.is c.of_read.ensures (c.read_once.ensures.told seen at)
 
@@ -21,6 +18,6 @@ returns-in-Write-clause-told g c seen at = act_as c.args.line.now _ _ _ seen _ _
 pub returns-in_default : goal.returns-in_default
 returns-in_default g c = record {
   told = went_alone c.args.line.now _ _ c.act_alone.result _ c.act_alone.ensures.told;
-  silent = λ e. absurd (c.act_alone.ensures.spoken e);
+  spoken = c.act_alone.ensures.spoken;
   counts = subst (λ (f : Option Event). Counts c.args.session.now.first f (g.W.Wires.faults c.args.wires.now) (g.W.Wires.faults c.args.wires.now) (g.W.Wires.idles c.args.wires.now) (g.W.Wires.idles c.args.wires.now)) (sym c.act_alone.ensures.first) (counts_none _ _ _);
 }

@@ -1,0 +1,10 @@
+use Rattle.std.proofs.Common.{refl}
+use Rattle.lnbd_ask.specs.Quiet.{Passes}
+use Rattle.lnbd_ask.proofs.EndLemmas.{connected, not_connected}
+use Rattle.lnbd_ask.proofs.collecting.dial.Goals as goal
+
+pub returns-in-Ok-clause-collects : goal.returns-in-Ok-clause-collects
+returns-in-Ok-clause-collects g c = connected Passes c.args.place.now _ _ _ c.in-Ok.link c.collect_on.result c.in-Ok.ensures.told c.collect_on.ensures.collects
+
+pub returns-in-Err-clause-collects : goal.returns-in-Err-clause-collects
+returns-in-Err-clause-collects g c = not_connected Passes c.args.place.now _ _ _ _ _ refl c.in-Err.ensures.told
