@@ -13,12 +13,26 @@ use Rattle.lnbd_stream.specs.Grammar.{once, wants}
 use Rattle.lnbd_chunks.specs.Chunk.{shows_data, shows_hole, shows_status, shows_extended_status, shows_error, shows_chunk}
 use Rattle.lnbd_chunks.specs.Reply.{shows_simple, shows_chunk_for, shows_compact, shows_extended, shows_reply}
 use Rattle.lnbd_history.specs.Arrivals.{shows_hello, shows_option, shows_by_name, shows_frame}
-use Rattle.lnbd_asked.specs.Client.{says_flags, says_option, says_request, says_next}
+use Rattle.lnbd_asked.specs.Client.{says_flags, says_option, says_request, says_next, type_write}
 
 -- what is unfolded so that bytes are computed with
 unfoldable pub computing : Unit {0}
 unfolding once wants number_at row body_of are_blocks is_utf8 chars encode_utf8 shows_hello shows_option shows_by_name shows_frame shows_reply shows_compact shows_extended shows_simple shows_chunk_for shows_chunk shows_data shows_hole shows_status shows_extended_status shows_error says_flags says_option says_request says_next asked_of
 computing = tt
+
+-- The other types of a request, and no flags of it.
+
+abbrev pub type_read : ℕ
+type_read = 0
+
+abbrev pub type_zeroes : ℕ
+type_zeroes = 6
+
+abbrev pub type_status : ℕ
+type_status = 7
+
+abbrev pub no_flags : ℕ
+no_flags = 0
 
 -- What a server sends first, with both flags.
 abbrev pub hello : List ℕ
@@ -71,16 +85,16 @@ context_told = row (option_reply_head 10 4 19) ++ row (number 4 1 ∷ []) ++ all
 -- 0 on under cookie 2, and DISC.
 
 abbrev pub read : List ℕ
-read = row (request 0 0 1 1 2)
+read = row (request no_flags type_read 1 1 2)
 
 abbrev pub write : List ℕ
-write = row (request 0 1 1 0 2) ++ 5 ∷ 6 ∷ []
+write = row (request no_flags type_write 1 0 2) ++ 5 ∷ 6 ∷ []
 
 abbrev pub status : List ℕ
-status = row (request 0 7 1 0 4)
+status = row (request no_flags type_status 1 0 4)
 
 abbrev pub zeroes : List ℕ
-zeroes = row (request 0 6 2 0 2)
+zeroes = row (request no_flags type_zeroes 2 0 2)
 
 abbrev pub disc : List ℕ
 disc = row disconnect
@@ -88,13 +102,13 @@ disc = row disconnect
 -- With extended headers the same BLOCK_STATUS, the same WRITE, and one without PAYLOAD_LEN.
 
 abbrev pub extended_status : List ℕ
-extended_status = row (extended_request 0 7 1 0 4)
+extended_status = row (extended_request no_flags type_status 1 0 4)
 
 abbrev pub extended_write : List ℕ
-extended_write = row (extended_request 0x20 1 1 0 2) ++ 5 ∷ 6 ∷ []
+extended_write = row (extended_request 0x20 type_write 1 0 2) ++ 5 ∷ 6 ∷ []
 
 abbrev pub lacking_write : List ℕ
-lacking_write = row (extended_request 0 1 1 0 2) ++ 5 ∷ 6 ∷ []
+lacking_write = row (extended_request no_flags type_write 1 0 2) ++ 5 ∷ 6 ∷ []
 
 -- Simple replies to 1: done, with these bytes, and EIO.
 
