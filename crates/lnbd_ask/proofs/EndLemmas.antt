@@ -78,11 +78,11 @@ no_context : (answer : Result Found InfoFault) (told : InfoFault) → answer ≡
 no_context (Ok found) told is other = tt
 no_context (Err why) told is other = λ e. other (cc (is, e))
 
-halt_context : (why : Halt) (told : InfoFault) → IsOfHalt why told → told ≢ fault.NoContext
+pub halt_context : (why : Halt) (told : InfoFault) → IsOfHalt why told → told ≢ fault.NoContext
 halt_context halt.Silent told is e = absurd (cc (is.1, e))
 halt_context halt.NoMemory told is e = absurd (cc (is, e))
 
-death_context : (why : Cause) (told : InfoFault) → IsOfDeath why told → told ≢ fault.NoContext
+pub death_context : (why : Cause) (told : InfoFault) → IsOfDeath why told → told ≢ fault.NoContext
 death_context (cause.Broke breach) told is e = absurd (cc (is, e))
 death_context (cause.Refused option code) told is e = absurd (cc (is, e))
 death_context cause.Ended told is e = absurd (cc (is, e))

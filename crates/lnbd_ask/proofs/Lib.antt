@@ -5,3 +5,14 @@ pub mod SpendLemmas
 pub mod LostLemmas
 pub mod TalkLemmas
 pub mod EndLemmas
+pub mod MadeLemmas
+pub mod LayLemmas
+pub mod AskLemmas
+pub mod InquireLemmas
+pub mod LearnLemmas
+pub mod DiscussLemmas
+pub mod MapEndLemmas
+pub mod PartLemmas
+pub mod ActLemmas
+pub mod EachLemmas
+pub mod ListLemmas

@@ -34,13 +34,13 @@ use Rattle.lnbd_ask.specs.Asks.{Breaks_off, Parts, Talks, begins, disconnecting,
 use Rattle.lnbd_ask.proofs.StillLemmas.{untold}
 use Rattle.lnbd_ask.specs.Waits.{Is_silent, Is_still, Is_there, Moves, Runs_short, Waits}
 
-abbrev is_link_failed : Cause → Bool
+abbrev pub is_link_failed : Cause → Bool
 is_link_failed (cause.Broke breach) = false
 is_link_failed (cause.Refused option code) = false
 is_link_failed cause.Ended = false
 is_link_failed cause.LinkFailed = true
 
-abbrev has_lost : Stage → Bool
+abbrev pub has_lost : Stage → Bool
 has_lost Created = false
 has_lost Open = false
 has_lost Disconnecting = false
@@ -48,7 +48,7 @@ has_lost Aborting = false
 has_lost Closed = false
 has_lost (Dead cause) = is_link_failed cause
 
-lost_stage : (s : Stage) (p : Phase) → state_at s p ≡ state.Dead cause.LinkFailed → has_lost s ≡ true
+pub lost_stage : (s : Stage) (p : Phase) → state_at s p ≡ state.Dead cause.LinkFailed → has_lost s ≡ true
 lost_stage Created p e = cc
 lost_stage Disconnecting p e = cc
 lost_stage Aborting p e = cc
@@ -62,7 +62,7 @@ lost_stage Open phase.Ready e = cc
 lost_stage Open (phase.Refused code) e = cc
 
 module _ {K : Type 0} where
-  abbrev Kept : Known K → Type 0
+  abbrev pub Kept : Known K → Type 0
   Kept known = has_lost known.stage ≡ false
 
   under_stage : (asks : Option (Request K)) (cookie : ℕ) (item : Item) (known : Known K) → (file_under asks cookie item known).stage ≡ known.stage
@@ -101,7 +101,7 @@ module _ {K : Type 0} where
   entered_kept before Passed known kept = kept
   entered_kept before Ignored known kept = kept
 
-  abbrev IsKept : History K → Type 0
+  abbrev pub IsKept : History K → Type 0
   IsKept history = Kept (reading history).known
 
   arrived_kept : (before : History K) (bytes : List ℕ) (answers : List Answer) → IsKept before → IsKept (Arrived bytes answers ∷ before)
@@ -122,22 +122,22 @@ module _ {K : Type 0} where
   ended_kept : (before : History K) (answers : List Answer) → IsKept before → IsKept (End answers ∷ before)
   ended_kept before answers kept = ended_at_kept (reading before).known.stage before (change (with_answers answers) (reading before)) kept
 
-  parting_kept : (b : Bool) (history : History K) → IsKept history → IsKept (disconnecting b history)
+  pub parting_kept : (b : Bool) (history : History K) → IsKept history → IsKept (disconnecting b history)
   parting_kept true history kept = refl
   parting_kept false history kept = kept
 
 -- No call failed.
-abbrev AllWell : List wire.Call → Type 0
+abbrev pub AllWell : List wire.Call → Type 0
 AllWell calls = list_any has_failed calls ≡ false
 
-well_first : (xs ys : List wire.Call) → AllWell (xs ++ ys) → AllWell xs
+pub well_first : (xs ys : List wire.Call) → AllWell (xs ++ ys) → AllWell xs
 well_first xs ys well = go (list_any has_failed xs) (list_any has_failed ys) (sym (list_any-append has_failed xs ys) ∙ well)
   where
     go : (a b : Bool) → (a || b) ≡ false → a ≡ false
     go false b e = refl
     go true b e = e
 
-well_later : (xs ys : List wire.Call) → AllWell (xs ++ ys) → AllWell ys
+pub well_later : (xs ys : List wire.Call) → AllWell (xs ++ ys) → AllWell ys
 well_later xs ys well = go (list_any has_failed xs) (list_any has_failed ys) (sym (list_any-append has_failed xs ys) ∙ well)
   where
     go : (a b : Bool) → (a || b) ≡ false → b ≡ false
@@ -191,7 +191,7 @@ module _ {K World : Type 0} (steps : World → List (Call K) → World → Type 
       let middle : Seen K = record { link = before.link; history = t.middle; unread = before.unread } in
       read_kept (is_reading t.middle) notice middle after t.read t.half world' t.reads (well_later t.written t.read well') (writes_kept before.link before.history world t.written t.middle t.half t.sent t.writes (well_first t.written t.read well') kept)
 
-  waits_kept : (awaited : Awaited) (before : Seen K) (world : World) (calls : List wire.Call) (after : Seen K) (world' : World) (end : Result (Unit {0}) Halt) → Waits steps awaited before world calls after world' end → AllWell calls → IsKept before.history → IsKept after.history
+  pub waits_kept : (awaited : Awaited) (before : Seen K) (world : World) (calls : List wire.Call) (after : Seen K) (world' : World) (end : Result (Unit {0}) Halt) → Waits steps awaited before world calls after world' end → AllWell calls → IsKept before.history → IsKept after.history
   waits_kept awaited before world calls after world' end (Is_there _ _ _ _ _ _ there none same world_is end_is) well kept = subst (λ (s : Seen K). IsKept s.history) (sym same) kept
   waits_kept awaited before world calls after world' end (Moves _ _ _ _ _ _ notice n own middle half other busy turns enough rest calls_are) well kept =
       let well' = subst AllWell calls_are well in

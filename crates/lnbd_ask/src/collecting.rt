@@ -26,7 +26,7 @@ use lnbd_poll::Handles;
 use std::alloc::Global;
 
 /// Asks for the end, where commands may be issued.
-fn part<K>(handles: &mut Handles<K>)
+pub(crate) fn part<K>(handles: &mut Handles<K>)
     requires { length handles.old ≡ 1 }
     ensures { (seen : Seen K) → Holds handles.old seen → Holds handles.new (parting seen) }
 {
@@ -83,7 +83,7 @@ fn converse<W: Wires>(
 }
 
 /// Closes what is held and shuts its link.
-fn hang_up<W: Wires>(handles: Handles<Quiet>, wires: &mut W, link: u32)
+pub(crate) fn hang_up<W: Wires>(handles: Handles<Quiet>, wires: &mut W, link: u32)
     ensures told { Adds (W.told wires.old) (W.told wires.new) (Shut link) }
     ensures contents { Keeps (W.contents wires.old) (W.contents wires.new) }
     ensures faults { W.faults wires.old ≤ W.faults wires.new }

@@ -27,7 +27,8 @@ pub(crate) struct Counts {
     pub(crate) idles: u64,
 }
 
-fn of_halt(halt: Halt, now: Counts) -> InfoFault
+/// What is told where the conversation broke off.
+pub(crate) fn of_halt(halt: Halt, now: Counts) -> InfoFault
     ensures told { IsOfHalt halt result }
     ensures silent { IfSilent result (λ idles. (halt ≡ Halt.Silent) × (idles ≡ now.idles)) }
     ensures link { IfLink result (λ before after. ⊥) }
@@ -38,7 +39,8 @@ fn of_halt(halt: Halt, now: Counts) -> InfoFault
     }
 }
 
-fn of_death(death: Cause, start: Counts, now: Counts) -> InfoFault
+/// What is told where the connection is dead.
+pub(crate) fn of_death(death: Cause, start: Counts, now: Counts) -> InfoFault
     ensures told { IsOfDeath death result }
     ensures link { IfLink result (λ before after. (death ≡ cause.LinkFailed) × (before ≡ start.faults) × (after ≡ now.faults)) }
     ensures silent { IfSilent result (λ idles. ⊥) }

@@ -9,10 +9,10 @@ use std::process::Abort;
 use std::test::Fail;
 
 /// The server's hello.
-const HELLO: [u8; 18] = *b"NBDMAGICIHAVEOPT\0\x03";
+pub(crate) const HELLO: [u8; 18] = *b"NBDMAGICIHAVEOPT\0\x03";
 
 /// It doesn't know EXTENDED_HEADERS, acknowledges STRUCTURED_REPLY, and agrees to base:allocation under the number 1.
-const AGREED: [u8; 99] = *b"\0\x03\xe8\x89\x04\x55\x65\xa9\0\0\0\x0b\x80\0\0\x01\0\0\0\0\
+pub(crate) const AGREED: [u8; 99] = *b"\0\x03\xe8\x89\x04\x55\x65\xa9\0\0\0\x0b\x80\0\0\x01\0\0\0\0\
 \0\x03\xe8\x89\x04\x55\x65\xa9\0\0\0\x08\0\0\0\x01\0\0\0\0\
 \0\x03\xe8\x89\x04\x55\x65\xa9\0\0\0\x0a\0\0\0\x04\0\0\0\x13\0\0\0\x01base:allocation\
 \0\x03\xe8\x89\x04\x55\x65\xa9\0\0\0\x0a\0\0\0\x01\0\0\0\0";
@@ -25,11 +25,11 @@ const GO: [u8; 52] =
 /// GO is answered by TLS_REQD.
 const NO_GO: [u8; 20] = *b"\0\x03\xe8\x89\x04\x55\x65\xa9\0\0\0\x07\x80\0\0\x05\0\0\0\0";
 
-fn came(alloc: Global, bytes: &[u8]) -> Result<ReadAnswer, NoMemory> {
+pub(crate) fn came(alloc: Global, bytes: &[u8]) -> Result<ReadAnswer, NoMemory> {
     Ok(ReadAnswer::Bytes(Bytes::from_vec(bytes.to_vec(alloc)?)))
 }
 
-fn place(alloc: Global) -> Result<Place, TextFault> {
+pub(crate) fn place(alloc: Global) -> Result<Place, TextFault> {
     Ok(Place {
         to: Target::Unix {
             path: Text::from_bytes(alloc, b"ab")?,

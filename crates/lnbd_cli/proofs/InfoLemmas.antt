@@ -1,23 +1,26 @@
 -- What the words of nbdinfo come to, and the status of its run.
 use Rattle.std.proofs.Common.{◌≡◌, ◌≢◌, ◌⊎◌, inl, inr, ◌≤◌, ℕ, Bool, true, false, List, [], ◌∷◌, length, get_or, drop, Option, Some, None, Result, Ok, Err, refl, sym, ◌∙◌, ap, subst, arith, String}
-use Rattle.std.specs.Prelude.{IsErrOf}
+use Rattle.std.specs.Prelude.{IfErr, IfOk, IsErrOf}
 use Rattle.std.specs.declared.alloc.Global.{Global}
 use Rattle.lnbd_args.specs.declared.asked.Asked.{Asked}
 use Rattle.lnbd_args.specs.declared.asked.What.{What}
+use Rattle.lnbd_args.specs.declared.asked.What.TheVariants as what
 use Rattle.lnbd_args.specs.declared.fault.ArgsFault.{ArgsFault}
 use Rattle.lnbd_args.specs.declared.fault.ArgsFault.TheVariants as args
 use Rattle.lnbd_args.specs.Tools.{Asks}
-use Rattle.lnbd_ask.specs.Asks.{Collected, IfLink, IfSilent}
-use Rattle.lnbd_ask.specs.Quiet.{Passes}
+use Rattle.lnbd_ask.specs.Asks.{IfLink, IfSilent}
 use Rattle.lnbd_ask.specs.declared.fault.InfoFault.{InfoFault}
 use Rattle.lnbd_ask.specs.declared.fault.InfoFault.TheVariants as info
-use Rattle.lnbd_info.specs.declared.told.Found.{Found}
 use Rattle.lnbd_link.specs.Call.{Call}
 use Rattle.lnbd_link.specs.Count.{Rises}
-use Rattle.lnbd_cli.specs.declared.informing.Question.{Question}
-use Rattle.lnbd_cli.specs.declared.informing.Uninformed.{Uninformed}
-use Rattle.lnbd_cli.specs.declared.informing.Uninformed.TheVariants as why
-use Rattle.lnbd_cli.specs.Informs.{InfoEnds, IsInfoDone, IsLawfulInfo, ServedEnds, TellEnds, is_info_status, question_of, spelled, status_of_asked, status_of_info}
+use Rattle.lnbd_link.specs.Part.{Takes}
+use Rattle.lnbd_model.specs.declared.target.Place.{Place}
+use Rattle.lnbd_script.specs.Streams.{TakesFront}
+use Rattle.lnbd_cli.specs.declared.ending.Uninformed.{Uninformed}
+use Rattle.lnbd_cli.specs.declared.ending.Uninformed.TheVariants as why
+use Rattle.lnbd_cli.specs.declared.hearing.Question.{Question}
+use Rattle.lnbd_cli.specs.Heard.{Fails, Says, Unheard, WasAsked}
+use Rattle.lnbd_cli.specs.Informs.{AskedEnds, InfoEnds, IsInfoDone, IsLawfulInfo, Printed, Tells, ended, is_info_status, question_of, spelled, status_of_asked, status_of_info, status_of_why}
 
 pub first_word : {A : Type 0} (words : List A) (x : A) → 1 ≤ length words → x ≡ get_or words 0 x → words ≡ x ∷ drop 1 words
 first_word [] x some is = absurd (omega (arith, some))
@@ -25,31 +28,6 @@ first_word (y ∷ words) x some is = ap (λ w. w ∷ words) (sym is)
 
 abbrev pub End : Type 0
 End = Result Bool Uninformed
-
--- What was found is told.
-
-pub served : (end : End) (q : Question) (found : Found) (told told' : Option (List Call)) (taken taken' : Option (List ℕ)) (Unprinted : Type 0) → Collected Passes q.place told told' (Ok found) → TellEnds end q.what q.json found taken taken' Unprinted → ServedEnds end q told told' taken taken' Unprinted
-served (Ok holds) q found told told' taken taken' Unprinted collected t = record { answer = Ok found; collected = collected; so = (found, refl, t.0, t.1) }
-served (Err why.Output) q found told told' taken taken' Unprinted collected t = record { answer = Ok found; collected = collected; so = (found, refl, t) }
-served (Err why.NoMemory) q found told told' taken taken' Unprinted collected t = (record { answer = Ok found; collected = collected; so = tt }, t)
-served (Err (why.Asked fault)) q found told told' taken taken' Unprinted collected t = absurd t
-served (Err why.Usage) q found told told' taken taken' Unprinted collected t = absurd t
-served (Err (why.Uri fault)) q found told told' taken taken' Unprinted collected t = absurd t
-
--- where something was found, the status is 0, 2, 8 or 9
-pub record IsTold (status : ℕ) : Type 0 where
-  pub link : status ≢ 5
-  pub rule : status ≢ 6
-  pub silent : status ≢ 7
-
-pub told_status : (end : End) (what : What) (json : Bool) (found : Found) (taken taken' : Option (List ℕ)) (Unprinted : Type 0) → TellEnds end what json found taken taken' Unprinted → IsTold (status_of_info end)
-told_status (Ok true) what json found taken taken' Unprinted t = record { link = λ e. omega (arith, e); rule = λ e. omega (arith, e); silent = λ e. omega (arith, e) }
-told_status (Ok false) what json found taken taken' Unprinted t = record { link = λ e. omega (arith, e); rule = λ e. omega (arith, e); silent = λ e. omega (arith, e) }
-told_status (Err why.Output) what json found taken taken' Unprinted t = record { link = λ e. omega (arith, e); rule = λ e. omega (arith, e); silent = λ e. omega (arith, e) }
-told_status (Err why.NoMemory) what json found taken taken' Unprinted t = record { link = λ e. omega (arith, e); rule = λ e. omega (arith, e); silent = λ e. omega (arith, e) }
-told_status (Err (why.Asked fault)) what json found taken taken' Unprinted t = absurd t
-told_status (Err why.Usage) what json found taken taken' Unprinted t = absurd t
-told_status (Err (why.Uri fault)) what json found taken taken' Unprinted t = absurd t
 
 -- Faults of the asking.
 
@@ -85,14 +63,62 @@ output_of (info.Link before after) = λ e. omega (arith, e)
 output_of (info.Silent idles) = λ e. omega (arith, e)
 output_of info.NoMemory = λ e. omega (arith, e)
 
+-- What was heard is told.
+
+pub told_ends : (result : End) (q : Question) (text : List ℕ) (end : Result Bool ℕ) (told told' : Option (List Call)) (taken taken' : Option (List ℕ)) (Unprinted : Type 0) → Says q.what q.json q.place told told' text end → Tells result text end taken taken' → AskedEnds result q told told' taken taken' Unprinted
+told_ends result q text (Ok holds) told told' taken taken' Unprinted says (inl all) = subst (λ (r : End). AskedEnds r q told told' taken taken' Unprinted) (sym all.0) (record { text = text; says = says; takes = all.1 })
+told_ends result q text (Err code) told told' taken taken' Unprinted says (inl all) = subst (λ (r : End). AskedEnds r q told told' taken taken' Unprinted) (sym all.0) (record { text = text; says = says; takes = all.1 })
+told_ends result q text end told told' taken taken' Unprinted says (inr front) = subst (λ (r : End). AskedEnds r q told told' taken taken' Unprinted) (sym front.0) (record { text = text; end = end; says = says; takes = front.1 })
+
+pub unheard_ends : (why : Uninformed) (q : Question) (told told' : Option (List Call)) (taken : Option (List ℕ)) (Unprinted : Type 0) → Unprinted → Unheard q.what q.place told told' why → AskedEnds (Err why) q told told' taken taken Unprinted
+unheard_ends why.NoMemory q told told' taken Unprinted none unheard = (unheard, none)
+unheard_ends (why.Asked fault) q told told' taken Unprinted none unheard = (unheard, none)
+unheard_ends (why.NoContext context) q told told' taken Unprinted none unheard = (unheard, none)
+unheard_ends (why.Refused code) q told told' taken Unprinted none unheard = absurd unheard
+unheard_ends why.Output q told told' taken Unprinted none unheard = absurd unheard
+unheard_ends why.Usage q told told' taken Unprinted none unheard = absurd unheard
+unheard_ends (why.Uri fault) q told told' taken Unprinted none unheard = absurd unheard
+
+-- The status of what was told is 0, 2, 3 or 8.
+
+pub record IsTold (result : End) : Type 0 where
+  pub link : status_of_info result ≢ 5
+  pub rule : status_of_info result ≢ 6
+  pub silent : status_of_info result ≢ 7
+  pub output : status_of_info result ≡ 8 → result ≡ Err why.Output
+
+told_end : (end : Result Bool ℕ) → IsTold (ended end)
+told_end (Ok true) = record { link = λ e. omega (arith, e); rule = λ e. omega (arith, e); silent = λ e. omega (arith, e); output = λ e. absurd (omega (arith, e)) }
+told_end (Ok false) = record { link = λ e. omega (arith, e); rule = λ e. omega (arith, e); silent = λ e. omega (arith, e); output = λ e. absurd (omega (arith, e)) }
+told_end (Err code) = record { link = λ e. omega (arith, e); rule = λ e. omega (arith, e); silent = λ e. omega (arith, e); output = λ e. absurd (omega (arith, e)) }
+
+told_output : IsTold (Err why.Output)
+told_output = record { link = λ e. omega (arith, e); rule = λ e. omega (arith, e); silent = λ e. omega (arith, e); output = λ e. refl }
+
+pub told_status : (result : End) (text : List ℕ) (end : Result Bool ℕ) (taken taken' : Option (List ℕ)) → Tells result text end taken taken' → IsTold result
+told_status result text end taken taken' (inl all) = subst IsTold (sym all.0) (told_end end)
+told_status result text end taken taken' (inr front) = subst IsTold (sym front.0) told_output
+
+-- Nothing was printed of what was not heard.
+pub unheard_output : (why : Uninformed) (what : What) (place : Place) (told told' : Option (List Call)) → Unheard what place told told' why → status_of_why why ≢ 8
+unheard_output why.NoMemory what place told told' unheard = λ e. omega (arith, e)
+unheard_output (why.Asked fault) what place told told' unheard = output_of fault
+unheard_output (why.NoContext context) what place told told' unheard = λ e. omega (arith, e)
+unheard_output (why.Refused code) what place told told' unheard = absurd unheard
+unheard_output why.Output what place told told' unheard = absurd unheard
+unheard_output why.Usage what place told told' unheard = absurd unheard
+unheard_output (why.Uri fault) what place told told' unheard = absurd unheard
+
 -- The words.
 
 module _ (words : List (String Global)) (wish : Asked) (q : Question) (asks : Asks (spelled words) wish) (is : question_of wish ≡ Some q) (told told' : Option (List Call)) (taken taken' : Option (List ℕ)) (Uncalled Unprinted : Type 0) where
-  pub informed : (end : End) → ServedEnds end q told told' taken taken' Unprinted → InfoEnds end words told told' taken taken' Uncalled Unprinted
+  pub informed : (end : End) → AskedEnds end q told told' taken taken' Unprinted → InfoEnds end words told told' taken taken' Uncalled Unprinted
   informed (Ok holds) ends = record { asked = wish; question = q; asks = asks; is = is; ends = ends }
   informed (Err why.Output) ends = record { asked = wish; question = q; asks = asks; is = is; ends = ends }
   informed (Err why.NoMemory) ends = inr (record { asked = wish; question = q; asks = asks; is = is; ends = ends })
   informed (Err (why.Asked fault)) ends = record { asked = wish; question = q; asks = asks; is = is; ends = ends }
+  informed (Err (why.NoContext context)) ends = record { asked = wish; question = q; asks = asks; is = is; ends = ends }
+  informed (Err (why.Refused code)) ends = record { asked = wish; question = q; asks = asks; is = is; ends = ends }
   informed (Err why.Usage) ends = absurd ends
   informed (Err (why.Uri fault)) ends = absurd ends
 
@@ -104,14 +130,16 @@ asked_usage (info.Link before after) = λ e. omega (arith, e)
 asked_usage (info.Silent idles) = λ e. omega (arith, e)
 asked_usage info.NoMemory = λ e. omega (arith, e)
 
-pub served_accepts : (end : End) (q : Question) (told told' : Option (List Call)) (taken taken' : Option (List ℕ)) (Unprinted : Type 0) → ServedEnds end q told told' taken taken' Unprinted → status_of_info end ≢ 1
-served_accepts (Ok true) q told told' taken taken' Unprinted ends = λ e. omega (arith, e)
-served_accepts (Ok false) q told told' taken taken' Unprinted ends = λ e. omega (arith, e)
-served_accepts (Err why.Output) q told told' taken taken' Unprinted ends = λ e. omega (arith, e)
-served_accepts (Err why.NoMemory) q told told' taken taken' Unprinted ends = λ e. omega (arith, e)
-served_accepts (Err (why.Asked fault)) q told told' taken taken' Unprinted ends = asked_usage fault
-served_accepts (Err why.Usage) q told told' taken taken' Unprinted ends = absurd ends
-served_accepts (Err (why.Uri fault)) q told told' taken taken' Unprinted ends = absurd ends
+pub asked_accepts : (end : End) (q : Question) (told told' : Option (List Call)) (taken taken' : Option (List ℕ)) (Unprinted : Type 0) → AskedEnds end q told told' taken taken' Unprinted → status_of_info end ≢ 1
+asked_accepts (Ok true) q told told' taken taken' Unprinted ends = λ e. omega (arith, e)
+asked_accepts (Ok false) q told told' taken taken' Unprinted ends = λ e. omega (arith, e)
+asked_accepts (Err why.Output) q told told' taken taken' Unprinted ends = λ e. omega (arith, e)
+asked_accepts (Err why.NoMemory) q told told' taken taken' Unprinted ends = λ e. omega (arith, e)
+asked_accepts (Err (why.Asked fault)) q told told' taken taken' Unprinted ends = asked_usage fault
+asked_accepts (Err (why.Refused code)) q told told' taken taken' Unprinted ends = λ e. omega (arith, e)
+asked_accepts (Err (why.NoContext context)) q told told' taken taken' Unprinted ends = λ e. omega (arith, e)
+asked_accepts (Err why.Usage) q told told' taken taken' Unprinted ends = absurd ends
+asked_accepts (Err (why.Uri fault)) q told told' taken taken' Unprinted ends = absurd ends
 
 -- Lawful words are not refused.
 
@@ -133,27 +161,29 @@ record IsKnown (status : ℕ) : Type 0 where
   known : is_info_status status ≡ true
   done : status ≢ 1 → (status ≡ 5 → ⊥) → (status ≡ 7 → ⊥) → (status ≡ 8 → ⊥) → IsInfoDone status
 
-known_asked : (fault : InfoFault) → status_of_asked fault ≢ 6 → IsKnown (status_of_asked fault)
-known_asked (info.Peer option code) rule = record { known = refl; done = λ a b c d. inr (inr (inl refl)) }
-known_asked (info.Broke broken) rule = record { known = refl; done = λ a b c d. inr (inr (inr (inl refl))) }
-known_asked (info.Link before after) rule = record { known = refl; done = λ a b c d. absurd (b refl) }
-known_asked info.NoContext rule = absurd (rule refl)
-known_asked (info.Silent idles) rule = record { known = refl; done = λ a b c d. absurd (c refl) }
-known_asked info.NoMemory rule = record { known = refl; done = λ a b c d. inr (inr (inr (inr refl))) }
+known_asked : (fault : InfoFault) → IsKnown (status_of_asked fault)
+known_asked (info.Peer option code) = record { known = refl; done = λ a b c d. inr (inr (inl refl)) }
+known_asked (info.Broke broken) = record { known = refl; done = λ a b c d. inr (inr (inr (inl refl))) }
+known_asked (info.Link before after) = record { known = refl; done = λ a b c d. absurd (b refl) }
+known_asked info.NoContext = record { known = refl; done = λ a b c d. inr (inr (inr (inr (inl refl)))) }
+known_asked (info.Silent idles) = record { known = refl; done = λ a b c d. absurd (c refl) }
+known_asked info.NoMemory = record { known = refl; done = λ a b c d. inr (inr (inr (inr (inr refl)))) }
 
-known_end : (end : End) → status_of_info end ≢ 6 → IsKnown (status_of_info end)
-known_end (Ok true) rule = record { known = refl; done = λ a b c d. inl refl }
-known_end (Ok false) rule = record { known = refl; done = λ a b c d. inr (inl refl) }
-known_end (Err why.Usage) rule = record { known = refl; done = λ a b c d. absurd (a refl) }
-known_end (Err (why.Uri fault)) rule = record { known = refl; done = λ a b c d. absurd (a refl) }
-known_end (Err why.Output) rule = record { known = refl; done = λ a b c d. absurd (d refl) }
-known_end (Err why.NoMemory) rule = record { known = refl; done = λ a b c d. inr (inr (inr (inr refl))) }
-known_end (Err (why.Asked fault)) rule = known_asked fault rule
+known_end : (end : End) → IsKnown (status_of_info end)
+known_end (Ok true) = record { known = refl; done = λ a b c d. inl refl }
+known_end (Ok false) = record { known = refl; done = λ a b c d. inr (inl refl) }
+known_end (Err why.Usage) = record { known = refl; done = λ a b c d. absurd (a refl) }
+known_end (Err (why.Uri fault)) = record { known = refl; done = λ a b c d. absurd (a refl) }
+known_end (Err why.Output) = record { known = refl; done = λ a b c d. absurd (d refl) }
+known_end (Err why.NoMemory) = record { known = refl; done = λ a b c d. inr (inr (inr (inr (inr refl)))) }
+known_end (Err (why.NoContext context)) = record { known = refl; done = λ a b c d. inr (inr (inr (inr (inl refl)))) }
+known_end (Err (why.Refused code)) = record { known = refl; done = λ a b c d. inr (inr (inl refl)) }
+known_end (Err (why.Asked fault)) = known_asked fault
 
-pub known_status : (status : ℕ) (end : End) (P Q : Type 0) → status_of_info end ≢ 6 → ((status ≡ status_of_info end) × P) ⊎ ((status ≡ 9) × Q) → is_info_status status ≡ true
-known_status status end P Q rule (inl told) = ap is_info_status told.0 ∙ (known_end end rule).known
-known_status status end P Q rule (inr told) = ap is_info_status told.0
+pub known_status : (status : ℕ) (end : End) (P Q : Type 0) → ((status ≡ status_of_info end) × P) ⊎ ((status ≡ 9) × Q) → is_info_status status ≡ true
+known_status status end P Q (inl told) = ap is_info_status told.0 ∙ (known_end end).known
+known_status status end P Q (inr told) = ap is_info_status told.0
 
-pub done_status : (status : ℕ) (end : End) (P Q : Type 0) → status_of_info end ≢ 6 → status_of_info end ≢ 1 → (status_of_info end ≡ 5 → ⊥) → (status_of_info end ≡ 7 → ⊥) → (status_of_info end ≡ 8 → ⊥) → ((status ≡ status_of_info end) × P) ⊎ ((status ≡ 9) × Q) → IsInfoDone status
-done_status status end P Q rule usage link silent output (inl told) = subst IsInfoDone (sym told.0) ((known_end end rule).done usage link silent output)
-done_status status end P Q rule usage link silent output (inr told) = inr (inr (inr (inr told.0)))
+pub done_status : (status : ℕ) (end : End) (P Q : Type 0) → status_of_info end ≢ 1 → (status_of_info end ≡ 5 → ⊥) → (status_of_info end ≡ 7 → ⊥) → (status_of_info end ≡ 8 → ⊥) → ((status ≡ status_of_info end) × P) ⊎ ((status ≡ 9) × Q) → IsInfoDone status
+done_status status end P Q usage link silent output (inl told) = subst IsInfoDone (sym told.0) ((known_end end).done usage link silent output)
+done_status status end P Q usage link silent output (inr told) = inr (inr (inr (inr (inr told.0))))

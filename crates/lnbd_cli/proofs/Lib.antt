@@ -1,3 +1,5 @@
 mod InputLemmas
 mod RunLemmas
 pub mod InfoLemmas
+pub mod HeardLemmas
+pub mod ServeLemmas

@@ -1,4 +1,6 @@
 pub mod Statuses
 pub mod Inputs
 pub mod Runs
+pub mod Heard
 pub mod Informs
+pub mod Serves

@@ -2,9 +2,12 @@
 //! the status that it ends with. Nothing is read or written but through the traits of the outside.
 #![tactic(auto)]
 
+mod ending;
 mod fault;
+mod hearing;
 mod informing;
 mod input;
+mod serving;
 mod top;
 
 pub use top::{no_memory, run, usage};

@@ -6,6 +6,7 @@ ghost use Rattle.lnbd_script.specs.Plays.{Finished, HasBeenCut, HasEnded, HasPla
 ghost use Rattle.lnbd_cli.specs.Inputs.{ReadAtMost, ReadUpTo, fault_of, most_read};
 ghost use Rattle.lnbd_cli.specs.Runs.{Ends, IsBad, IsCalls, IsLawful, IsOneOf, Nothing, Prints, Ran};
 ghost use Rattle.lnbd_cli.specs.Informs.{InfoRan, IsInfo, IsInfoDone, IsLawfulInfo, is_info_status};
+ghost use Rattle.lnbd_cli.specs.Serves.{IsLawfulServe, IsOther, IsServe, IsServeDone, ServeRan, is_serve_status};
 ghost use Rattle.lnbd_cli.specs.Statuses.{end_line, end_of, fault_line, is_bad, is_status, is_whole, line_of_end, status_of, status_of_end};
 ghost use Rattle.lnbd_cli.specs.declared.fault.Fault.TheVariants as fault;
 ghost use Rattle.lnbd_script.specs.declared.event.PlayFault.TheVariants as play;
@@ -14,6 +15,7 @@ ghost use Rattle.lnbd_script.specs.Seen.{patience};
 use crate::fault::Fault;
 use crate::informing::{names_info, run_info};
 use crate::input::{Unread, read_script};
+use crate::serving::{names_serve, run_serve};
 use lnbd_link::{Sink, Source, Wires};
 use lnbd_script::{PlayFault, play, put};
 use std::alloc::{AllocError, Global};
@@ -21,7 +23,7 @@ use std::alloc::{AllocError, Global};
 /// Runs the tool that the words name over this outside, and tells the status that it ends with.
 ///
 /// 0: all is done. 1: words or a script are in no grammar. 2: what nbdinfo was asked is false. 3: the peer answered an option or a command by an error. 4: it broke
-/// the protocol, or ended before the run was done. 5: a link failed. 7: the wires were idle for too long. 8: `out` failed.
+/// the protocol, or ended before the run was done; a client of serve broke it. 5: a link failed. 6: the server did not agree to a map's context. 7: the wires were idle for too long. 8: `out` failed.
 /// 9: memory ran out. 10: `input` failed. Every status but 0 and 2 prints its line on `err`.
 pub fn run<W: Wires, I: Source, O: Sink, E: Sink>(
     alloc: Global,
@@ -32,52 +34,62 @@ pub fn run<W: Wires, I: Source, O: Sink, E: Sink>(
     err: &mut E,
 ) -> u8
     // On 0, 3, 4 and 5 the whole script was played, by its first event: out took all its lines, and err the line of the event.
-    ensures played { (¬ IsInfo words.now) → is_whole result ≡ true → Ran words.now (I.left input.old) (I.left input.new) (λ lines. HasPlayed lines (W.told wires.old) (W.told wires.new) (O.taken out.old) (O.taken out.new) Finished (λ first. (result ≡ status_of (first_fault first)) × Prints (E.taken err.old) (E.taken err.new) (E.faults err.old) (E.faults err.new) (end_line (first_fault first)))) }
+    ensures played { (¬ IsOther words.now) → is_whole result ≡ true → Ran words.now (I.left input.old) (I.left input.new) (λ lines. HasPlayed lines (W.told wires.old) (W.told wires.new) (O.taken out.old) (O.taken out.new) Finished (λ first. (result ≡ status_of (first_fault first)) × Prints (E.taken err.old) (E.taken err.new) (E.faults err.old) (E.faults err.new) (end_line (first_fault first)))) }
 
     // On 7 a line waited for too long: out took those before it.
-    ensures waited { (¬ IsInfo words.now) → result ≡ 7 → Ran words.now (I.left input.old) (I.left input.new) (λ lines. HasPlayed lines (W.told wires.old) (W.told wires.new) (O.taken out.old) (O.taken out.new) Silent (λ first. Unit {0})) }
+    ensures waited { (¬ IsOther words.now) → result ≡ 7 → Ran words.now (I.left input.old) (I.left input.new) (λ lines. HasPlayed lines (W.told wires.old) (W.told wires.new) (O.taken out.old) (O.taken out.new) Silent (λ first. Unit {0})) }
 
     // On 8 out took all but the last played line, of that a front, and no later line was played. On 9 the script ended in one of
     // these ways, or between two lines, or nothing was begun.
-    ensures cut { (¬ IsInfo words.now) → result ≡ 8 → Ran words.now (I.left input.old) (I.left input.new) (λ lines. HasBeenCut lines (W.told wires.old) (W.told wires.new) (O.taken out.old) (O.taken out.new)) }
-    ensures short { (¬ IsInfo words.now) → result ≡ 9 → Ran words.now (I.left input.old) (I.left input.new) (λ lines. HasEnded lines (W.told wires.old) (W.told wires.new) (O.taken out.old) (O.taken out.new)) ⊎ Nothing wires.old wires.new out.old out.new }
+    ensures cut { (¬ IsOther words.now) → result ≡ 8 → Ran words.now (I.left input.old) (I.left input.new) (λ lines. HasBeenCut lines (W.told wires.old) (W.told wires.new) (O.taken out.old) (O.taken out.new)) }
+    ensures short { (¬ IsOther words.now) → result ≡ 9 → Ran words.now (I.left input.old) (I.left input.new) (λ lines. HasEnded lines (W.told wires.old) (W.told wires.new) (O.taken out.old) (O.taken out.new)) ⊎ Nothing wires.old wires.new out.old out.new }
 
     // On 1 the words or the script are in no grammar, and on 10 the input failed: nothing was begun.
-    ensures bad { (¬ IsInfo words.now) → result ≡ 1 → IsBad words.now (I.left input.old) (λ fault. Prints (E.taken err.old) (E.taken err.new) (E.faults err.old) (E.faults err.new) (fault_line fault)) }
-    ensures bad_alone { (¬ IsInfo words.now) → result ≡ 1 → Nothing wires.old wires.new out.old out.new }
+    ensures bad { (¬ IsOther words.now) → result ≡ 1 → IsBad words.now (I.left input.old) (λ fault. Prints (E.taken err.old) (E.taken err.new) (E.faults err.old) (E.faults err.new) (fault_line fault)) }
+    ensures bad_alone { (¬ IsOther words.now) → result ≡ 1 → Nothing wires.old wires.new out.old out.new }
     ensures unread { result ≡ 10 → Rises 1 (I.faults input.old) (I.faults input.new) }
     ensures unread_alone { result ≡ 10 → Nothing wires.old wires.new out.old out.new }
 
     // Words that name no tool leave the input as it was. A script that is refused was read to its end, or to one byte
     // more than the longest one has, and never is more read.
     ensures unasked { (¬ IsCalls words.now) → input.new ≡ input.old }
-    ensures bad_script { (¬ IsInfo words.now) → IsCalls words.now → result ≡ 1 → ReadUpTo most_read (I.left input.old) (I.left input.new) }
+    ensures bad_script { (¬ IsOther words.now) → IsCalls words.now → result ≡ 1 → ReadUpTo most_read (I.left input.old) (I.left input.new) }
     ensures most { ReadAtMost most_read (I.left input.old) (I.left input.new) }
 
     // The lines of the others, and the counts that rose.
-    ensures silent_line { (¬ IsInfo words.now) → result ≡ 7 → Prints (E.taken err.old) (E.taken err.new) (E.faults err.old) (E.faults err.new) (fault_line (fault.Played play.Silent)) }
-    ensures output_line { (¬ IsInfo words.now) → result ≡ 8 → Prints (E.taken err.old) (E.taken err.new) (E.faults err.old) (E.faults err.new) (fault_line (fault.Played play.Output)) }
-    ensures memory_line { (¬ IsInfo words.now) → result ≡ 9 → Prints (E.taken err.old) (E.taken err.new) (E.faults err.old) (E.faults err.new) (fault_line fault.NoMemory) }
+    ensures silent_line { (¬ IsOther words.now) → result ≡ 7 → Prints (E.taken err.old) (E.taken err.new) (E.faults err.old) (E.faults err.new) (fault_line (fault.Played play.Silent)) }
+    ensures output_line { (¬ IsOther words.now) → result ≡ 8 → Prints (E.taken err.old) (E.taken err.new) (E.faults err.old) (E.faults err.new) (fault_line (fault.Played play.Output)) }
+    ensures memory_line { (¬ IsOther words.now) → result ≡ 9 → Prints (E.taken err.old) (E.taken err.new) (E.faults err.old) (E.faults err.new) (fault_line fault.NoMemory) }
     ensures input_line { result ≡ 10 → Prints (E.taken err.old) (E.taken err.new) (E.faults err.old) (E.faults err.new) (fault_line fault.Input) }
     ensures link_cause { result ≡ 5 → Rises 1 (W.faults wires.old) (W.faults wires.new) }
     ensures silent_cause { result ≡ 7 → Rises patience (W.idles wires.old) (W.idles wires.new) }
     ensures output_cause { result ≡ 8 → Rises 1 (O.faults out.old) (O.faults out.new) }
 
     // No other status is told.
-    ensures known { (¬ IsInfo words.now) → is_status result ≡ true }
+    ensures known { (¬ IsOther words.now) → is_status result ≡ true }
     ensures info_known { IsInfo words.now → is_info_status result ≡ true }
+    ensures serve_known { IsServe words.now → is_serve_status result ≡ true }
 
     // Where words and script are lawful and no count rose, the script is played to its end, or memory runs out.
-    ensures complete { (¬ IsInfo words.now) → IsLawful words.now (I.left input.old) → (¬ Rises 1 (W.faults wires.old) (W.faults wires.new)) → (¬ Rises patience (W.idles wires.old) (W.idles wires.new)) → (¬ Rises 1 (O.faults out.old) (O.faults out.new)) → (¬ Rises 1 (I.faults input.old) (I.faults input.new)) → IsOneOf result }
+    ensures complete { (¬ IsOther words.now) → IsLawful words.now (I.left input.old) → (¬ Rises 1 (W.faults wires.old) (W.faults wires.new)) → (¬ Rises patience (W.idles wires.old) (W.idles wires.new)) → (¬ Rises 1 (O.faults out.old) (O.faults out.new)) → (¬ Rises 1 (I.faults input.old) (I.faults input.new)) → IsOneOf result }
 
     // Words whose first is nbdinfo: the export was asked for and what was told of it printed, or the run ended for this cause.
     ensures info { IsInfo words.now → InfoRan words.now (W.told wires.old) (W.told wires.new) (O.taken out.old) (O.taken out.new) (wires.new ≡ wires.old) (out.new ≡ out.old) (Prints (E.taken err.old) (E.taken err.new) (E.faults err.old) (E.faults err.new)) result }
 
-    // Where they ask for what is told so far and no count rose, it is told, the peer told an error or broke off, or memory runs out.
+    // Where they ask something of a server and no count rose, it is told, the peer told an error, agreed to no map's context or broke off, or memory runs out.
     ensures info_complete { IsInfo words.now → IsLawfulInfo words.now → (¬ Rises 1 (W.faults wires.old) (W.faults wires.new)) → (¬ Rises patience (W.idles wires.old) (W.idles wires.new)) → (¬ Rises 1 (O.faults out.old) (O.faults out.new)) → IsInfoDone result }
+
+    // Words whose first is serve: the export was made and served and its lines printed, or the run ended for this cause.
+    ensures serve { IsServe words.now → ServeRan words.now (W.told wires.old) (W.told wires.new) (O.taken out.old) (O.taken out.new) (wires.new ≡ wires.old) (out.new ≡ out.old) (Prints (E.taken err.old) (E.taken err.new) (E.faults err.old) (E.faults err.new)) result }
+
+    // Where they are lawful and no count rose, all clients were served, one of them broke the protocol, or memory runs out.
+    ensures serve_complete { IsServe words.now → IsLawfulServe words.now → (¬ Rises 1 (W.faults wires.old) (W.faults wires.new)) → (¬ Rises patience (W.idles wires.old) (W.idles wires.new)) → (¬ Rises 1 (O.faults out.old) (O.faults out.new)) → IsServeDone result }
 {
     if names_info(words) {
         return run_info(alloc, words, wires, out, err);
+    }
+    if names_serve(words) {
+        return run_serve(alloc, words, wires, out, err);
     }
     let end = tool(alloc, words, input, wires, out);
     print_end(alloc, end, err)

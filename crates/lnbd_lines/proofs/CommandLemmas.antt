@@ -7,12 +7,12 @@ use Rattle.hex.specs.declared.error.FromHexError.{FromHexError}
 use Rattle.lnbd_lines.proofs.CutLemmas.{before, behind, before_is, behind_is, uncut_before, uncut_behind}
 use Rattle.lnbd_lines.proofs.NumberLemmas.{digits_no_space}
 use Rattle.lnbd_lines.specs.Grammar.{IsCommand, IsHex, IsPayload, IsPlace, IsRange, IsWrite, colon, space}
-use Rattle.lnbd_lines.specs.Written.{HasNoRange}
+use Rattle.lnbd_lines.specs.Written.{HasNoRange, HasNoRead}
 use Rattle.lnbd_lines.specs.declared.command.Range.{Range}
 use Rattle.lnbd_lines.specs.declared.command.Payload.{Payload}
 use Rattle.lnbd_lines.specs.declared.command.Payload.TheVariants.{Hex, Fill}
 use Rattle.lnbd_lines.specs.declared.command.Command.{Command}
-use Rattle.lnbd_lines.specs.declared.command.Command.TheVariants.{Pread, Pwrite, Flush, Trim, Zero, Cache}
+use Rattle.lnbd_lines.specs.declared.command.Command.TheVariants.{Pread, PreadStructured, Pwrite, Flush, Trim, Zero, Cache, BlockStatus}
 
 -- What the parts of a command are, told by the places of the marks.
 
@@ -85,33 +85,38 @@ at i text = get_or text i 0
 -- which command a text is, if it is one: told by the bytes at which they differ
 abbrev pub command_in : List ℕ → Command
 command_in text =
-    cond (eqb (at 0 text) 112) (cond (eqb (at 1 text) 114) (Pread (range_in (drop 6 text))) (write_in (drop 7 text)))
+    cond (eqb (at 0 text) 112) (cond (eqb (at 1 text) 114) (cond (eqb (at 5 text) 32) (Pread (range_in (drop 6 text))) (PreadStructured (range_in (drop 17 text)))) (write_in (drop 7 text)))
     (cond (eqb (at 0 text) 102) (Flush (number (drop 6 text)))
     (cond (eqb (at 0 text) 116) (Trim (range_in (drop 5 text)))
-    (cond (eqb (at 0 text) 122) (Zero (range_in (drop 5 text))) (Cache (range_in (drop 6 text))))))
+    (cond (eqb (at 0 text) 122) (Zero (range_in (drop 5 text)))
+    (cond (eqb (at 0 text) 98) (BlockStatus (range_in (drop 13 text))) (Cache (range_in (drop 6 text)))))))
 
 pub command_is : (text : List ℕ) (command : Command) → IsCommand text command → command_in text ≡ command
 command_is text (Pread range) ((rest, is, h), small) = ap command_in is ∙ ap (λ (r : Range). Pread r) (range_is rest range h)
+command_is text (PreadStructured range) ((rest, is, h), small) = ap command_in is ∙ ap (λ (r : Range). PreadStructured r) (range_is rest range h)
 command_is text (Pwrite payload offset flags) (rest, is, h) = ap command_in is ∙ write_is rest payload offset flags h
 command_is text (Flush flags) (inl (is, none)) = ap command_in is ∙ ap (λ (f : ℕ). Flush f) (sym none)
 command_is text (Flush flags) (inr (rest, is, h)) = ap command_in is ∙ ap (λ (f : ℕ). Flush f) h.number.value_is
 command_is text (Trim range) (rest, is, h) = ap command_in is ∙ ap (λ (r : Range). Trim r) (range_is rest range h)
 command_is text (Zero range) (rest, is, h) = ap command_in is ∙ ap (λ (r : Range). Zero r) (range_is rest range h)
 command_is text (Cache range) (rest, is, h) = ap command_in is ∙ ap (λ (r : Range). Cache r) (range_is rest range h)
+command_is text (BlockStatus range) (rest, is, h) = ap command_in is ∙ ap (λ (r : Range). BlockStatus r) (range_is rest range h)
 
 -- a text that is none of the commands
 pub no_command : {E : Type 0} (text : List ℕ) (r : Result (Option Command) E)
-    → ((range : Range) → IsCommand text (Pread range) → ⊥) → HasNoRange text → ((flags : ℕ) → IsCommand text (Flush flags) → ⊥)
+    → HasNoRead text → HasNoRange text → ((flags : ℕ) → IsCommand text (Flush flags) → ⊥)
     → IfOk r (λ found. MatchOption found ((payload : Payload) (offset flags : ℕ) → IsCommand text (Pwrite payload offset flags) → ⊥) (λ command. IsCommand text command))
     → IfOk r (λ found. MatchOption found ((command : Command) → IsCommand text command → ⊥) (λ command. IsCommand text command))
 no_command text (Ok None) read range flush write = none
   where
     none : (command : Command) → IsCommand text command → ⊥
-    none (Pread r) h = read r h
+    none (Pread r) h = read.plain r h
+    none (PreadStructured r) h = read.structured r h
     none (Pwrite payload offset flags) h = write payload offset flags h
     none (Flush flags) h = flush flags h
     none (Trim r) h = range.trim r h
     none (Zero r) h = range.zero r h
     none (Cache r) h = range.cache r h
+    none (BlockStatus r) h = range.status r h
 no_command text (Ok (Some command)) read range flush is = is
 no_command text (Err e) read range flush write = tt

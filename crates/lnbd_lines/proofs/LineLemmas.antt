@@ -5,54 +5,68 @@ use Rattle.lnbd_model.specs.declared.target.Target.TheVariants.{Tcp, Unix}
 use Rattle.lnbd_lines.proofs.CommandLemmas.{at, command_in, command_is}
 use Rattle.lnbd_lines.proofs.CutLemmas.{before, behind, before_is, behind_is}
 use Rattle.lnbd_lines.specs.Grammar.{Asks, IsCommand, IsLine, IsPassedOver, space}
-use Rattle.lnbd_lines.specs.Written.{HasNoOption, HasNoSwitch, HasNoWord, IsNotNamed, IsNotPlain}
+use Rattle.lnbd_lines.specs.Written.{HasNoIssue, HasNoOption, HasNoSwitch, HasNoWord, IsNotNamed, IsNotPlain}
 use Rattle.lnbd_lines.specs.declared.line.Line.{Line}
-use Rattle.lnbd_lines.specs.declared.line.Line.TheVariants.{Handle, Connect, Settle, Log, ClearLog, Done, Peek, InFlight, Direction, State, Info, Export, Strict, Context, Switch as Turn, Ask, Answer, Listing, Read, Write, Disconnect, Close, Command as Issue}
+use Rattle.lnbd_lines.specs.declared.line.Line.TheVariants.{Handle, Connect, Settle, Log, Heard, ClearLog, Done, Peek, InFlight, Direction, State, Info, Export, Strict, Context, Switch as Turn, Ask, Answer, Listing, Read, Write, Disconnect, Close, Command as Issue}
 use Rattle.lnbd_lines.specs.declared.negotiation.Opt.TheVariants as opt
 use Rattle.lnbd_lines.specs.declared.negotiation.Switch.TheVariants as switch
 use Rattle.lnbd_lines.specs.declared.command.Command.{Command}
-use Rattle.lnbd_lines.specs.declared.command.Command.TheVariants.{Pread, Pwrite, Flush, Trim, Zero, Cache}
+use Rattle.lnbd_lines.specs.declared.command.Command.TheVariants.{Pread, PreadStructured, Pwrite, Flush, Trim, Zero, Cache, BlockStatus}
+use Rattle.lnbd_lines.specs.declared.command.Manner.TheVariants.{Keep, Retire, Fail}
+
+abbrev failing : List ℕ → List ℕ → Option Line
+failing digits text = Some (Issue (Fail (digits_value 10 digits)) (command_in text))
 
 -- what a line asks for, if it asks for anything: told by the bytes at which the lines differ
 abbrev told : List ℕ → Option Line
 told text =
-    cond (eqb (at 0 text) 99) (cond (eqb (at 1 text) 97) (Some (Issue (command_in text))) (cond (eqb (at 1 text) 108) (cond (eqb (at 2 text) 101) (Some ClearLog) (Some Close))
+    cond (eqb (at 0 text) 99) (cond (eqb (at 1 text) 97) (Some (Issue Keep (command_in text))) (cond (eqb (at 1 text) 108) (cond (eqb (at 2 text) 101) (Some ClearLog) (Some Close))
     (cond (eqb (at 3 text) 116) (Some (Context (drop 8 text))) (cond (eqb (at 8 text) 116) (Some (Connect (Tcp (before space (drop 12 text)) (digits_value 10 (behind space (drop 12 text)))))) (Some (Connect (Unix (drop 13 text))))))))
-    (cond (eqb (at 0 text) 112) (cond (eqb (at 1 text) 101) (Some Peek) (Some (Issue (command_in text))))
-    (cond (eqb (at 0 text) 102) (Some (Issue (command_in text)))
-    (cond (eqb (at 0 text) 116) (Some (Issue (command_in text)))
-    (cond (eqb (at 0 text) 122) (Some (Issue (command_in text)))
+    (cond (eqb (at 0 text) 112) (cond (eqb (at 1 text) 101) (Some Peek) (Some (Issue Keep (command_in text))))
+    (cond (eqb (at 0 text) 102) (cond (eqb (at 1 text) 97) (failing (before space (drop 5 text)) (behind space (drop 5 text))) (Some (Issue Keep (command_in text))))
+    (cond (eqb (at 0 text) 98) (Some (Issue Keep (command_in text)))
+    (cond (eqb (at 0 text) 116) (Some (Issue Keep (command_in text)))
+    (cond (eqb (at 0 text) 122) (Some (Issue Keep (command_in text)))
     (cond (eqb (at 0 text) 115) (cond (eqb (at 1 text) 101) (Some Settle) (cond (eqb (at 2 text) 97) (Some State) (cond (eqb (at 3 text) 105) (Some (Strict (digits_value 10 (drop 7 text)))) (Some (Turn switch.Structured (eqb (at 12 text) 110))))))
     (cond (eqb (at 0 text) 108) (cond (eqb (at 1 text) 111) (Some Log) (Some Listing))
     (cond (eqb (at 0 text) 100) (cond (eqb (at 1 text) 111) (Some (Done (digits_value 10 (drop 5 text)))) (cond (eqb (at 2 text) 114) (Some Direction) (Some Disconnect)))
     (cond (eqb (at 0 text) 105) (cond (eqb (at 2 text) 45) (Some InFlight) (Some Info))
     (cond (eqb (at 0 text) 101) (cond (eqb (at 2 text) 112) (Some (Export (drop 7 text))) (Some (Turn switch.Extended (eqb (at 10 text) 110))))
-    (cond (eqb (at 0 text) 97) (Some Answer)
+    (cond (eqb (at 0 text) 97) (cond (eqb (at 1 text) 117) (Some (Issue Retire (command_in (drop 5 text)))) (Some Answer))
     (cond (eqb (at 0 text) 111) (cond (eqb (at 3 text) 109) (Some (Turn switch.OptMode (eqb (at 9 text) 110)))
     (cond (eqb (at 4 text) 108) (Some (Ask opt.List)) (cond (eqb (at 4 text) 105) (Some (Ask opt.Info)) (cond (eqb (at 4 text) 109) (Some (Ask opt.Meta)) (cond (eqb (at 4 text) 103) (Some (Ask opt.Go)) (Some (Ask opt.Abort)))))))
     (cond (eqb (at 0 text) 114) (Some Read)
-    (cond (eqb (at 0 text) 104) (Some (Handle (digits_value 10 (drop 7 text))))
-    (cond (eqb (at 0 text) 119) (Some Write) None))))))))))))))
+    (cond (eqb (at 0 text) 104) (cond (eqb (at 1 text) 101) (Some Heard) (Some (Handle (digits_value 10 (drop 7 text)))))
+    (cond (eqb (at 0 text) 119) (Some Write) None)))))))))))))))
 
 abbrev tcp : List ℕ → List ℕ → Option Line
 tcp host digits = Some (Connect (Tcp host (digits_value 10 digits)))
 
 -- a command is told as one
-told_command : (text : List ℕ) (command : Command) → IsCommand text command → told text ≡ Some (Issue (command_in text))
-told_command text (Pread range) ((rest, is, h), small) = ap told is ∙ ap (λ (t : List ℕ). Some (Issue (command_in t))) (sym is)
-told_command text (Pwrite payload offset flags) (rest, is, h) = ap told is ∙ ap (λ (t : List ℕ). Some (Issue (command_in t))) (sym is)
-told_command text (Flush flags) (inl (is, none)) = ap told is ∙ ap (λ (t : List ℕ). Some (Issue (command_in t))) (sym is)
-told_command text (Flush flags) (inr (rest, is, h)) = ap told is ∙ ap (λ (t : List ℕ). Some (Issue (command_in t))) (sym is)
-told_command text (Trim range) (rest, is, h) = ap told is ∙ ap (λ (t : List ℕ). Some (Issue (command_in t))) (sym is)
-told_command text (Zero range) (rest, is, h) = ap told is ∙ ap (λ (t : List ℕ). Some (Issue (command_in t))) (sym is)
-told_command text (Cache range) (rest, is, h) = ap told is ∙ ap (λ (t : List ℕ). Some (Issue (command_in t))) (sym is)
+told_command : (text : List ℕ) (command : Command) → IsCommand text command → told text ≡ Some (Issue Keep (command_in text))
+told_command text (Pread range) ((rest, is, h), small) = ap told is ∙ ap (λ (t : List ℕ). Some (Issue Keep (command_in t))) (sym is)
+told_command text (PreadStructured range) ((rest, is, h), small) = ap told is ∙ ap (λ (t : List ℕ). Some (Issue Keep (command_in t))) (sym is)
+told_command text (Pwrite payload offset flags) (rest, is, h) = ap told is ∙ ap (λ (t : List ℕ). Some (Issue Keep (command_in t))) (sym is)
+told_command text (Flush flags) (inl (is, none)) = ap told is ∙ ap (λ (t : List ℕ). Some (Issue Keep (command_in t))) (sym is)
+told_command text (Flush flags) (inr (rest, is, h)) = ap told is ∙ ap (λ (t : List ℕ). Some (Issue Keep (command_in t))) (sym is)
+told_command text (Trim range) (rest, is, h) = ap told is ∙ ap (λ (t : List ℕ). Some (Issue Keep (command_in t))) (sym is)
+told_command text (Zero range) (rest, is, h) = ap told is ∙ ap (λ (t : List ℕ). Some (Issue Keep (command_in t))) (sym is)
+told_command text (Cache range) (rest, is, h) = ap told is ∙ ap (λ (t : List ℕ). Some (Issue Keep (command_in t))) (sym is)
+told_command text (BlockStatus range) (rest, is, h) = ap told is ∙ ap (λ (t : List ℕ). Some (Issue Keep (command_in t))) (sym is)
 
 told_line : (text : List ℕ) (line : Line) → Asks text line → told text ≡ Some line
 told_line text (Connect (Tcp host port)) (rest, is, h) =
     ap told is ∙ ap (λ a. tcp a (behind space rest)) (before_is space rest host h.digits h.cut)
     ∙ ap (λ b. tcp host b) (behind_is space rest host h.digits h.cut) ∙ ap (λ n. Some (Connect (Tcp host n))) h.number.value_is
 told_line text (Connect (Unix path)) (rest, is, h) = ap told is ∙ ap (λ p. Some (Connect (Unix p))) (sym h.same)
-told_line text (Issue command) h = told_command text command h ∙ ap (λ (c : Command). Some (Issue c)) (command_is text command h)
+told_line text (Issue Keep command) h = told_command text command h ∙ ap (λ (c : Command). Some (Issue Keep c)) (command_is text command h)
+told_line text (Issue Retire command) (rest, is, h) = ap told is ∙ ap (λ (c : Command). Some (Issue Retire c)) (command_is rest command h)
+told_line text (Issue (Fail error) command) (rest, is, h) =
+    ap told is ∙ ap (λ a. failing a (behind space rest)) (before_is space rest h.first h.second h.cut)
+    ∙ ap (λ b. failing h.first b) (behind_is space rest h.first h.second h.cut)
+    ∙ ap (λ n. Some (Issue (Fail n) (command_in h.second))) h.error_is.number.value_is
+    ∙ ap (λ (c : Command). Some (Issue (Fail error) c)) (command_is h.second command h.command_is)
+told_line text Heard is = ap told is
 told_line text Settle is = ap told is
 told_line text Log is = ap told is
 told_line text ClearLog is = ap told is
@@ -97,10 +111,13 @@ pub line_once : (text : List ℕ) (a b : Option Line) → IsLine text a → IsLi
 line_once text a b h k = sym (told_asked text a h) ∙ told_asked text b k
 
 -- a text that is none of the lines asks for nothing
-pub asks_nothing : (text : List ℕ) → ((command : Command) → Asks text (Issue command) → ⊥) → IsNotPlain text → IsNotNamed text → (line : Line) → Asks text line → ⊥
+pub asks_nothing : (text : List ℕ) → HasNoIssue text → IsNotPlain text → IsNotNamed text → (line : Line) → Asks text line → ⊥
 asks_nothing text command plain named (Connect (Tcp host port)) h = named.tcp host port h
 asks_nothing text command plain named (Connect (Unix path)) h = named.unix path h
-asks_nothing text command plain named (Issue issued) h = command issued h
+asks_nothing text command plain named (Issue Keep issued) h = command.keep issued h
+asks_nothing text command plain named (Issue Retire issued) h = command.retire issued h
+asks_nothing text command plain named (Issue (Fail error) issued) h = command.fail error issued h
+asks_nothing text command plain named Heard h = plain.word.heard h
 asks_nothing text command plain named Settle h = plain.word.settle h
 asks_nothing text command plain named Log h = plain.word.log h
 asks_nothing text command plain named ClearLog h = plain.word.clear_log h
@@ -133,7 +150,7 @@ asks_nothing text command plain named Disconnect h = plain.word.disconnect h
 asks_nothing text command plain named Close h = plain.word.close h
 
 -- the same, where the last kind of line was tried by a call that may want memory
-pub asks_at_last : {E : Type 0} (text : List ℕ) (r : Result (Option Line) E) → ((command : Command) → Asks text (Issue command) → ⊥) → IsNotPlain text
+pub asks_at_last : {E : Type 0} (text : List ℕ) (r : Result (Option Line) E) → HasNoIssue text → IsNotPlain text
     → IfOk r (λ asked. MatchOption asked (IsNotNamed text) (λ line. Asks text line))
     → IfOk r (λ asked. MatchOption asked ((line : Line) → Asks text line → ⊥) (λ line. Asks text line))
 asks_at_last text (Ok None) command plain named = asks_nothing text command plain named

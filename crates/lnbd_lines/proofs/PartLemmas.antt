@@ -6,10 +6,10 @@ use Rattle.std.proofs.lemmas.List.Elements.{All-from_get_or, All-get_or}
 use Rattle.std.proofs.lemmas.Str.Pattern.{IsSplitOnceResult, split_after, split_parts}
 use Rattle.lnbd_lines.proofs.CutLemmas.{cut_once, uncut}
 use Rattle.lnbd_lines.proofs.NumberLemmas.{digits_no_space, number_once}
-use Rattle.lnbd_lines.specs.Grammar.{Follows, IsCommand, IsCut, IsFill, IsFlags, IsHex, IsNumber, IsPayload, IsPlace, IsRange, IsSize, IsTcp, IsWrite, colon, space}
+use Rattle.lnbd_lines.specs.Grammar.{Follows, IsCommand, IsCut, IsFailing, IsFill, IsFlags, IsHex, IsNumber, IsPayload, IsPlace, IsRange, IsSize, IsTcp, IsWrite, colon, space}
 use Rattle.lnbd_lines.specs.Written.{IsWriteOf}
 use Rattle.lnbd_lines.specs.declared.command.Command.{Command}
-use Rattle.lnbd_lines.specs.declared.command.Command.TheVariants.{Pread, Pwrite, Flush, Trim, Zero, Cache}
+use Rattle.lnbd_lines.specs.declared.command.Command.TheVariants.{Pread, PreadStructured, Pwrite, Flush, Trim, Zero, Cache, BlockStatus}
 use Rattle.lnbd_lines.specs.declared.command.Payload.{Payload}
 use Rattle.lnbd_lines.specs.declared.command.Payload.TheVariants.{Hex, Fill}
 use Rattle.lnbd_lines.specs.declared.command.Range.{Range}
@@ -111,6 +111,8 @@ pub write_at : {E : Type 0} (text rest : List ℕ) (r : Result (Option Command) 
 write_at text rest (Ok None) is none = λ payload offset flags h. none payload offset flags (follows_at (codes "pwrite ") text rest (λ t. IsWrite t payload offset flags) is h)
 write_at text rest (Ok (Some (Pwrite payload offset flags))) is h = (rest, is, h)
 write_at text rest (Ok (Some (Pread range))) is h = absurd h
+write_at text rest (Ok (Some (PreadStructured range))) is h = absurd h
+write_at text rest (Ok (Some (BlockStatus range))) is h = absurd h
 write_at text rest (Ok (Some (Flush flags))) is h = absurd h
 write_at text rest (Ok (Some (Trim range))) is h = absurd h
 write_at text rest (Ok (Some (Zero range))) is h = absurd h
@@ -139,3 +141,15 @@ pub no_port : (text a b : List ℕ) → IsCut space text a b → ((v : ℕ) → 
 no_port text a b cut none host port h =
     let same = cut_once space text a b host h.digits cut h.cut in
     none port (subst (λ d. IsNumber d port) (sym same.1) h.number) h.low h.high
+
+-- what fails no command
+
+pub no_error : (text a b : List ℕ) → IsCut space text a b → ((n : ℕ) → IsFlags a n → ⊥) → (error : ℕ) (command : Command) → IsFailing text error command → ⊥
+no_error text a b cut none error command h =
+    let same = cut_once space text a b h.first h.second cut h.cut in
+    none error (subst (λ d. IsFlags d error) (sym same.0) h.error_is)
+
+pub no_failed : (text a b : List ℕ) → IsCut space text a b → ((command : Command) → IsCommand b command → ⊥) → (error : ℕ) (command : Command) → IsFailing text error command → ⊥
+no_failed text a b cut none error command h =
+    let same = cut_once space text a b h.first h.second cut h.cut in
+    none command (subst (λ d. IsCommand d command) (sym same.1) h.command_is)

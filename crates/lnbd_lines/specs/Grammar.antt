@@ -7,7 +7,7 @@ use Rattle.std.specs.Str.Parse.{digits_value}
 use Rattle.hex.specs.Hex.{decode_of}
 use Rattle.lnbd_model.specs.declared.target.Target.TheVariants.{Tcp, Unix}
 use Rattle.lnbd_lines.specs.declared.line.Line.{Line}
-use Rattle.lnbd_lines.specs.declared.line.Line.TheVariants.{Handle, Connect, Settle, Log, ClearLog, Done, Peek, InFlight, Direction, State, Info, Export, Strict, Context, Switch as Turn, Ask, Answer, Listing, Read, Write, Disconnect, Close, Command as Issue}
+use Rattle.lnbd_lines.specs.declared.line.Line.TheVariants.{Handle, Connect, Settle, Log, Heard, ClearLog, Done, Peek, InFlight, Direction, State, Info, Export, Strict, Context, Switch as Turn, Ask, Answer, Listing, Read, Write, Disconnect, Close, Command as Issue}
 use Rattle.lnbd_lines.specs.declared.negotiation.Opt.{Opt}
 use Rattle.lnbd_lines.specs.declared.negotiation.Opt.TheVariants as opt
 use Rattle.lnbd_lines.specs.declared.negotiation.Switch.{Switch}
@@ -16,7 +16,9 @@ use Rattle.lnbd_lines.specs.declared.command.Range.{Range}
 use Rattle.lnbd_lines.specs.declared.command.Payload.{Payload}
 use Rattle.lnbd_lines.specs.declared.command.Payload.TheVariants.{Hex, Fill}
 use Rattle.lnbd_lines.specs.declared.command.Command.{Command}
-use Rattle.lnbd_lines.specs.declared.command.Command.TheVariants.{Pread, Pwrite, Flush, Trim, Zero, Cache}
+use Rattle.lnbd_lines.specs.declared.command.Command.TheVariants.{Pread, PreadStructured, Pwrite, Flush, Trim, Zero, Cache, BlockStatus}
+use Rattle.lnbd_lines.specs.declared.command.Manner.{Manner}
+use Rattle.lnbd_lines.specs.declared.command.Manner.TheVariants.{Keep, Retire, Fail}
 
 -- one or more decimal digits, with a value below 2^64
 pub record IsNumber (digits : List ℕ) (value : ℕ) : Type 0 where
@@ -134,11 +136,27 @@ pub record IsWrite (text : List ℕ) (payload : Payload) (offset flags : ℕ) : 
 -- the text is this command
 abbrev pub IsCommand : List ℕ → Command → Type 0
 IsCommand text (Pread range) = Follows (codes "pread ") (λ rest. IsRange rest range) text × (range.length ≤ max_bytes)
+IsCommand text (PreadStructured range) = Follows (codes "pread-structured ") (λ rest. IsRange rest range) text × (range.length ≤ max_bytes)
 IsCommand text (Pwrite payload offset flags) = Follows (codes "pwrite ") (λ rest. IsWrite rest payload offset flags) text
 IsCommand text (Flush flags) = ((text ≡ codes "flush") × (flags ≡ 0)) ⊎ Follows (codes "flush ") (λ rest. IsFlags rest flags) text
 IsCommand text (Trim range) = Follows (codes "trim ") (λ rest. IsRange rest range) text
 IsCommand text (Zero range) = Follows (codes "zero ") (λ rest. IsRange rest range) text
 IsCommand text (Cache range) = Follows (codes "cache ") (λ rest. IsRange rest range) text
+IsCommand text (BlockStatus range) = Follows (codes "block-status ") (λ rest. IsRange rest range) text
+
+-- N COMMAND
+pub record IsFailing (text : List ℕ) (error : ℕ) (command : Command) : Type 0 where
+  pub first : List ℕ
+  pub second : List ℕ
+  pub cut : IsCut space text first second
+  pub error_is : IsFlags first error
+  pub command_is : IsCommand second command
+
+-- a command, and what its callbacks answer
+abbrev pub IsIssue : List ℕ → Manner → Command → Type 0
+IsIssue text Keep command = IsCommand text command
+IsIssue text Retire command = Follows (codes "auto ") (λ rest. IsCommand rest command) text
+IsIssue text (Fail error) command = Follows (codes "fail ") (λ rest. IsFailing rest error command) text
 
 -- the word of an option
 abbrev pub opt_word : Opt → List ℕ
@@ -163,9 +181,10 @@ abbrev pub Asks : List ℕ → Line → Type 0
 Asks text (Handle number) = Follows (codes "handle ") (λ rest. IsHandle rest number) text
 Asks text (Connect (Tcp host port)) = Follows (codes "connect tcp ") (λ rest. IsTcp rest host port) text
 Asks text (Connect (Unix path)) = Follows (codes "connect unix ") (λ rest. IsPath rest path) text
-Asks text (Issue command) = IsCommand text command
+Asks text (Issue manner command) = IsIssue text manner command
 Asks text Settle = text ≡ codes "settle"
 Asks text Log = text ≡ codes "log"
+Asks text Heard = text ≡ codes "heard"
 Asks text ClearLog = text ≡ codes "clear-log"
 Asks text (Done cookie) = Follows (codes "done ") (λ rest. IsNumber rest cookie) text
 Asks text Peek = text ≡ codes "peek"

@@ -6,14 +6,16 @@ use Rattle.lnbd_lines.specs.Grammar.{Asks, IsCommand, IsLine, IsTcp, IsWrite}
 use Rattle.lnbd_lines.specs.Scripts.{lines_of}
 use Rattle.lnbd_lines.specs.declared.command.Range.{Range}
 use Rattle.lnbd_lines.specs.declared.command.Command.{Command}
-use Rattle.lnbd_lines.specs.declared.command.Command.TheVariants.{Pwrite, Trim, Zero, Cache}
+use Rattle.lnbd_lines.specs.declared.command.Command.TheVariants.{Pread, PreadStructured, Pwrite, Trim, Zero, Cache, BlockStatus}
 use Rattle.lnbd_lines.specs.declared.line.Line.{Line}
-use Rattle.lnbd_lines.specs.declared.line.Line.TheVariants.{Connect, Context, Done, Export, Handle, Strict}
+use Rattle.lnbd_lines.specs.declared.line.Line.TheVariants.{Connect, Context, Done, Export, Handle, Strict, Command as Issue}
+use Rattle.lnbd_lines.specs.declared.command.Manner.TheVariants.{Keep, Retire, Fail}
 
 -- the text is none of the lines of one word
 pub record HasNoWord (text : List ℕ) : Type 0 where
   pub settle : text ≢ codes "settle"
   pub log : text ≢ codes "log"
+  pub heard : text ≢ codes "heard"
   pub clear_log : text ≢ codes "clear-log"
   pub peek : text ≢ codes "peek"
   pub in_flight : text ≢ codes "in-flight"
@@ -60,11 +62,23 @@ pub record IsNotNamed (text : List ℕ) : Type 0 where
   pub export : (name : List ℕ) → ¬ Asks text (Export name)
   pub context : (name : List ℕ) → ¬ Asks text (Context name)
 
+-- the text is no read
+pub record HasNoRead (text : List ℕ) : Type 0 where
+  pub plain : (range : Range) → ¬ IsCommand text (Pread range)
+  pub structured : (range : Range) → ¬ IsCommand text (PreadStructured range)
+
+-- the text issues nothing
+pub record HasNoIssue (text : List ℕ) : Type 0 where
+  pub keep : (command : Command) → ¬ Asks text (Issue Keep command)
+  pub retire : (command : Command) → ¬ Asks text (Issue Retire command)
+  pub fail : (error : ℕ) (command : Command) → ¬ Asks text (Issue (Fail error) command)
+
 -- the text is none of the commands with a range and no payload, but for a read
 pub record HasNoRange (text : List ℕ) : Type 0 where
   pub trim : (range : Range) → ¬ IsCommand text (Trim range)
   pub zero : (range : Range) → ¬ IsCommand text (Zero range)
   pub cache : (range : Range) → ¬ IsCommand text (Cache range)
+  pub status : (range : Range) → ¬ IsCommand text (BlockStatus range)
 
 -- BYTES OFF [FLAGS] spells what this command writes
 abbrev pub IsWriteOf : List ℕ → Command → Type 0

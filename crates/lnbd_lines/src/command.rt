@@ -27,6 +27,8 @@ pub enum Payload {
 pub enum Command {
     /// `pread LEN OFF [FLAGS]`: read so many bytes, at most 67,108,864 (nbd_aio_pread(3)).
     Pread(Range),
+    /// `pread-structured LEN OFF [FLAGS]`: the same, with a callback that hears each piece (nbd_aio_pread_structured(3)).
+    PreadStructured(Range),
     /// `pwrite BYTES OFF [FLAGS]`: write these bytes from this offset on (nbd_aio_pwrite(3)).
     Pwrite {
         payload: Payload,
@@ -43,4 +45,17 @@ pub enum Command {
     Zero(Range),
     /// `cache LEN OFF [FLAGS]`: have the server read the range ahead (nbd_aio_cache(3)).
     Cache(Range),
+    /// `block-status LEN OFF [FLAGS]`: ask what the range consists of (nbd_aio_block_status(3)).
+    BlockStatus(Range),
+}
+
+/// What the callbacks of a command answer.
+#[derive(Clone, Copy, Debug, PartialEq, Eq)]
+pub enum Manner {
+    /// The result is kept until it is asked for.
+    Keep,
+    /// `auto COMMAND`: the command is retired as soon as it completes.
+    Retire,
+    /// `fail N COMMAND`: the chunk or extents callback fails the command by this error.
+    Fail { error: u32 },
 }

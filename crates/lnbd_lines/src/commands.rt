@@ -1,13 +1,13 @@
 //! A command of a script, from its text.
 
-ghost use Rattle.std.specs.Prelude.{◌≡◌, MatchOption, IfOk, List, ℕ};
-ghost use Rattle.lnbd_lines.specs.Grammar.{IsCommand, IsWrite};
-ghost use Rattle.lnbd_lines.specs.Written.{HasNoRange, IsWriteOf};
+ghost use Rattle.std.specs.Prelude.{◌≡◌, ◌≤◌, MatchOption, IfOk, List, ℕ};
+ghost use Rattle.lnbd_lines.specs.Grammar.{Follows, IsCommand, IsRange, IsWrite, max_bytes};
+ghost use Rattle.lnbd_lines.specs.Written.{HasNoRange, HasNoRead, IsWriteOf};
 ghost use Rattle.lnbd_lines.specs.declared.command.Command.{Command};
 ghost use Rattle.lnbd_lines.specs.declared.command.Payload.{Payload};
 ghost use Rattle.lnbd_lines.specs.declared.command.Range.{Range};
 
-use crate::command::{Command, Payload};
+use crate::command::{Command, Payload, Range};
 use crate::number::{MOST_BYTES, flags};
 use crate::payloads::payload;
 use crate::ranges::{place, range_behind};
@@ -15,17 +15,30 @@ use crate::word::cut;
 use lnbd_model::NoMemory;
 use std::alloc::Global;
 
-/// `pread LEN OFF [FLAGS]`.
-fn pread(text: &str) -> Option<Command>
-    ensures { MatchOption result ((range : Range) → ¬ IsCommand text.now (Command.Pread range)) (λ command. IsCommand text.now command) }
+/// The range of a read behind this front: one of so many bytes as a read may ask for.
+fn read_behind(text: &str, front: &str) -> Option<Range>
+    ensures { MatchOption result ((range : Range) → ¬ (Follows front.now (λ rest. IsRange rest range) text.now × (range.length ≤ max_bytes))) (λ range. Follows front.now (λ rest. IsRange rest range) text.now × (range.length ≤ max_bytes)) }
 {
-    let Some(range) = range_behind(text, "pread ") else {
+    let Some(range) = range_behind(text, front) else {
         return None;
     };
     if range.length > MOST_BYTES {
         return None;
     }
-    Some(Command::Pread(range))
+    Some(range)
+}
+
+/// A read.
+fn read(text: &str) -> Option<Command>
+    ensures { MatchOption result (HasNoRead text.now) (λ command. IsCommand text.now command) }
+{
+    if let Some(range) = read_behind(text, "pread ") {
+        return Some(Command::Pread(range));
+    }
+    match read_behind(text, "pread-structured ") {
+        Some(range) => Some(Command::PreadStructured(range)),
+        None => None,
+    }
 }
 
 /// `BYTES OFF [FLAGS]`.
@@ -84,8 +97,11 @@ fn ranged(text: &str) -> Option<Command>
     if let Some(range) = range_behind(text, "zero ") {
         return Some(Command::Zero(range));
     }
-    match range_behind(text, "cache ") {
-        Some(range) => Some(Command::Cache(range)),
+    if let Some(range) = range_behind(text, "cache ") {
+        return Some(Command::Cache(range));
+    }
+    match range_behind(text, "block-status ") {
+        Some(range) => Some(Command::BlockStatus(range)),
         None => None,
     }
 }
@@ -94,7 +110,7 @@ fn ranged(text: &str) -> Option<Command>
 pub(crate) fn command(alloc: Global, text: &str) -> Result<Option<Command>, NoMemory>
     ensures { IfOk result (λ found. MatchOption found ((command : Command) → ¬ IsCommand text.now command) (λ command. IsCommand text.now command)) }
 {
-    if let Some(command) = pread(text) {
+    if let Some(command) = read(text) {
         return Ok(Some(command));
     }
     if let Some(command) = ranged(text) {

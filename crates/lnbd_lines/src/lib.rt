@@ -4,6 +4,7 @@
 mod command;
 mod commands;
 mod fault;
+mod issues;
 mod line;
 mod lines;
 mod negotiation;
@@ -13,7 +14,7 @@ mod ranges;
 mod script;
 mod word;
 
-pub use command::{Command, Payload, Range};
+pub use command::{Command, Manner, Payload, Range};
 pub use fault::ScriptFault;
 pub use line::Line;
 pub use negotiation::{Opt, Switch};

@@ -1,6 +1,6 @@
 //! What a line of a script asks for. How it is spelled stands in `specs/Grammar.antt`.
 
-use crate::command::Command;
+use crate::command::{Command, Manner};
 use crate::negotiation::{Opt, Switch};
 use lnbd_model::{Target, Text};
 
@@ -12,12 +12,14 @@ pub enum Line {
     /// `connect tcp HOST PORT` or `connect unix PATH`: connect, and start the handshake
     /// (nbd_connect_tcp(3), nbd_connect_unix(3)). The host and the path have 1 to 4,096 bytes.
     Connect(Target),
-    /// A command: issue it.
-    Command(Command),
+    /// A command: issue it, with callbacks that answer so.
+    Command { manner: Manner, command: Command },
     /// `settle`: take turns until nothing is in flight and nothing waits to go out.
     Settle,
     /// `log`: show the notes.
     Log,
+    /// `heard`: show what callbacks of this handle heard since the last time.
+    Heard,
     /// `clear-log`: forget the notes.
     ClearLog,
     /// `done C`: whether the command of this cookie is completed (nbd_aio_command_completed(3)).

@@ -7,8 +7,8 @@ ghost use Rattle.lnbd_lines.specs.Written.{HasNoOption, HasNoSwitch, HasNoWord, 
 ghost use Rattle.lnbd_lines.specs.declared.line.Line.{Line};
 ghost use Rattle.lnbd_lines.specs.declared.fault.LineFault.{LineFault};
 
-use crate::commands::command;
 use crate::fault::LineFault;
+use crate::issues::issue;
 use crate::line::Line;
 use crate::negotiation::{Opt, Switch};
 use crate::number::{flags, handle_number, number};
@@ -24,6 +24,7 @@ fn word(text: &str) -> Option<Line>
     match text {
         "settle" => Some(Line::Settle),
         "log" => Some(Line::Log),
+        "heard" => Some(Line::Heard),
         "clear-log" => Some(Line::ClearLog),
         "peek" => Some(Line::Peek),
         "in-flight" => Some(Line::InFlight),
@@ -235,8 +236,8 @@ fn named(alloc: Global, text: &str) -> Result<Option<Line>, NoMemory>
 fn asked(alloc: Global, text: &str) -> Result<Option<Line>, NoMemory>
     ensures { IfOk result (λ asked. MatchOption asked ((line : Line) → ¬ Asks text.now line) (λ line. Asks text.now line)) }
 {
-    if let Some(command) = command(alloc, text)? {
-        return Ok(Some(Line::Command(command)));
+    if let Some(line) = issue(alloc, text)? {
+        return Ok(Some(line));
     }
     if let Some(line) = plain(text) {
         return Ok(Some(line));

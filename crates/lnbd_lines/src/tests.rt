@@ -1,6 +1,6 @@
 //! Scripts by example. What each line asks for was read off the grammar by hand.
 
-use crate::{Command, Line, Opt, Payload, Range, Script, ScriptFault, Switch, parse};
+use crate::{Command, Line, Manner, Opt, Payload, Range, Script, ScriptFault, Switch, parse};
 use lnbd_model::Target;
 use std::alloc::Global;
 use std::process::Abort;
@@ -18,6 +18,10 @@ enum Wanted<'a> {
     /// A write of one byte so often.
     Fill(u8, u32, u64, u32),
     Flush(u32),
+    /// A flush that is retired as it completes, with these flags.
+    Auto(u32),
+    /// A flush that fails by this error, with these flags.
+    Failing(u32, u32),
     Strict(u32),
     Handle(usize),
     Done(u64),
@@ -30,8 +34,8 @@ enum Wanted<'a> {
 }
 
 use Wanted::{
-    Context, Done, Export, Fill, Flush, Handle, Hex, Nothing, Ranged, Refused, Strict, Tcp, Unix,
-    Word,
+    Auto, Context, Done, Export, Failing, Fill, Flush, Handle, Hex, Nothing, Ranged, Refused,
+    Strict, Tcp, Unix, Word,
 };
 
 /// The name in Rust of an option.
@@ -61,6 +65,7 @@ fn name(line: &Line) -> &'static str {
     match line {
         Line::Settle => "Settle",
         Line::Log => "Log",
+        Line::Heard => "Heard",
         Line::ClearLog => "ClearLog",
         Line::Peek => "Peek",
         Line::InFlight => "InFlight",
@@ -90,6 +95,8 @@ fn is_named(command: &Command, name: &str) -> bool {
         Command::Trim(_) => name == "Trim",
         Command::Zero(_) => name == "Zero",
         Command::Cache(_) => name == "Cache",
+        Command::PreadStructured(_) => name == "PreadStructured",
+        Command::BlockStatus(_) => name == "BlockStatus",
         _ => false,
     }
 }
@@ -112,7 +119,9 @@ fn is_command(command: &Command, wanted: Wanted) -> bool {
             Command::Pread(range)
             | Command::Trim(range)
             | Command::Zero(range)
-            | Command::Cache(range),
+            | Command::Cache(range)
+            | Command::PreadStructured(range)
+            | Command::BlockStatus(range),
             Ranged(name, length, offset, flags),
         ) => is_named(command, name) && is_range(range, length, offset, flags),
         (
@@ -128,13 +137,25 @@ fn is_command(command: &Command, wanted: Wanted) -> bool {
     }
 }
 
+/// Whether a command with its manner is wanted: a flush stands for all where it isn't kept.
+fn is_issue(manner: Manner, command: &Command, wanted: Wanted) -> bool {
+    match (manner, wanted) {
+        (Manner::Retire, Auto(flags)) => is_command(command, Flush(flags)),
+        (Manner::Fail { error }, Failing(number, flags)) => {
+            error == number && is_command(command, Flush(flags))
+        }
+        (Manner::Keep, wanted) => is_command(command, wanted),
+        _ => false,
+    }
+}
+
 fn is_wanted(line: &Line, wanted: Wanted) -> bool {
     match (line, wanted) {
         (Line::Connect(Target::Tcp { host, port }), Tcp(name, number)) => {
             host.as_str() == name && *port == number
         }
         (Line::Connect(Target::Unix { path }), Unix(name)) => path.as_str() == name,
-        (Line::Command(command), wanted) => is_command(command, wanted),
+        (Line::Command { manner, command }, wanted) => is_issue(*manner, command, wanted),
         (Line::Strict { bits }, Strict(number)) => *bits == number,
         (Line::Handle { number }, Handle(wanted)) => *number == wanted,
         (Line::Done { cookie }, Done(number)) => *cookie == number,
@@ -261,6 +282,26 @@ fn lines_ask_for_what_they_spell(rt: HostRuntime) -> Result<(), Fail> {
             ("opt-meta", Word("Meta")),
             ("opt-go", Word("Go")),
             ("opt-abort", Word("Abort")),
+            ("heard", Word("Heard")),
+            (
+                "pread-structured 512 1024 4",
+                Ranged("PreadStructured", 512, 1024, 4),
+            ),
+            ("pread-structured 67108865 0", Refused),
+            (
+                "block-status 67108865 0",
+                Ranged("BlockStatus", 67_108_865, 0, 0),
+            ),
+            ("auto flush", Auto(0)),
+            ("auto flush 3", Auto(3)),
+            ("fail 5 flush 1", Failing(5, 1)),
+            ("fail 0 flush", Failing(0, 0)),
+            ("fail 4294967296 flush", Refused),
+            ("fail flush", Refused),
+            ("auto", Refused),
+            ("auto settle", Refused),
+            ("auto auto flush", Refused),
+            ("auto fail 5 flush", Refused),
             ("answer", Word("Answer")),
             ("listing", Word("Listing")),
             ("optmode", Refused),

@@ -6,7 +6,15 @@
 #[cfg(test)]
 mod info_tests;
 #[cfg(test)]
+mod list_tests;
+#[cfg(test)]
+mod map_tests;
+#[cfg(test)]
+mod option_tests;
+#[cfg(test)]
 mod overheard;
+#[cfg(test)]
+mod serve_tests;
 #[cfg(test)]
 mod session;
 #[cfg(test)]

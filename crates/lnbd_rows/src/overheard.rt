@@ -1,26 +1,25 @@
 //! Wires that keep what goes out over them. What they answer is no matter here.
 
-ghost use Rattle.std.specs.Prelude.{◌≤◌, None};
-ghost use Rattle.lnbd_link.specs.Listed.{told_by};
+ghost use Rattle.std.specs.Prelude.{◌≤◌};
 
-use lnbd_link::{Accepted, Got, ListWires, Took, Want, WireFailed, Wires};
+use lnbd_link::{Accepted, Got, Took, Want, WireFailed, Wires};
 use lnbd_model::Target;
 
-/// Links in memory, and all bytes that they took, in order.
+/// Wires, and all bytes that they took, in order.
 #[derive(Drop)]
-pub struct Overheard {
-    pub wires: ListWires,
+pub struct Overheard<W: Wires + Drop> {
+    pub wires: W,
     pub written: Vec<u8>,
 }
 
-impl Wires for Overheard {
-    ghost told = { λ w. told_by w.wires };
+impl<W: Wires + Drop> Wires for Overheard<W> {
+    ghost told = { λ w. W.told w.wires };
 
-    ghost contents = { λ w. None };
+    ghost contents = { λ w. W.contents w.wires };
 
-    ghost faults = { λ w. w.wires.faults };
+    ghost faults = { λ w. W.faults w.wires };
 
-    ghost idles = { λ w. w.wires.idles };
+    ghost idles = { λ w. W.idles w.wires };
 
     fn connect(&mut self, to: &Target) -> Result<u32, WireFailed> {
         self.wires.connect(to)

@@ -98,7 +98,7 @@ fn bytes_of(alloc: Global, text: &str) -> Result<Vec<u8>, Fail> {
 }
 
 /// The bytes of several parts.
-fn all_of(alloc: Global, parts: &[&str]) -> Result<Vec<u8>, Fail> {
+pub fn all_of(alloc: Global, parts: &[&str]) -> Result<Vec<u8>, Fail> {
     let mut bytes = Vec::new(alloc);
     for part in parts {
         bytes.extend_from_slice(bytes_of(alloc, part)?.as_slice())?;
@@ -171,7 +171,7 @@ fn texts(alloc: Global, session: &Session) -> Result<(String, String), Fail> {
     Ok((script, answers))
 }
 
-fn words_of(alloc: Global, words: &[&str]) -> Result<Vec<String>, Fail> {
+pub fn words_of(alloc: Global, words: &[&str]) -> Result<Vec<String>, Fail> {
     let mut owned = Vec::new(alloc);
     for word in words {
         owned.push(String::from_str(alloc, word)?)?;

@@ -5,20 +5,21 @@ use lnbd_link::WriteAnswer;
 use std::test::Fail;
 
 /// NBDMAGIC, IHAVEOPT and the flags FIXED_NEWSTYLE and NO_ZEROES.
-const HELLO: Told<'static> = Told::Bytes("4e42444d41474943 49484156454f5054 0003");
+pub(crate) const HELLO: Told<'static> = Told::Bytes("4e42444d41474943 49484156454f5054 0003");
 
 /// GO's reply for an export of 1 MiB with the flags 1, and its ACK.
-const GO: Told<'static> = Told::Bytes(
+pub(crate) const GO: Told<'static> = Told::Bytes(
     "0003e889045565a9 00000007 00000003 0000000c 0000 0000000000100000 0001 \
      0003e889045565a9 00000007 00000001 00000000",
 );
 
 /// The client's flags FIXED_NEWSTYLE and NO_ZEROES, and GO for the empty name with NAME, DESCRIPTION and BLOCK_SIZE.
-const HANDSHAKE: &str = "00000003 49484156454f5054 00000007 0000000c 00000000 0003 0001 0002 0003";
+pub(crate) const HANDSHAKE: &str =
+    "00000003 49484156454f5054 00000007 0000000c 00000000 0003 0001 0002 0003";
 
-const CONNECT: (&str, &str) = ("connect tcp localhost 10809", "connected");
+pub(crate) const CONNECT: (&str, &str) = ("connect tcp localhost 10809", "connected");
 
-const SETTLE: (&str, &str) = ("settle", "settled");
+pub(crate) const SETTLE: (&str, &str) = ("settle", "settled");
 
 static READS: [Session<'static>; 4] = [
     Session {

@@ -10,3 +10,4 @@ pub mod SceneLemmas
 pub mod RoundLemmas
 pub mod RoundSpendLemmas
 pub mod PlayLemmas
+pub mod FreedLemmas

@@ -1,5 +1,5 @@
 -- What a line leaves, from what the handle and the wires answered.
-use Rattle.std.proofs.Common.{arith, ◌≡◌, ◌==◌, inl, inr, ⊎_elim, ◌<◌, ◌≤◌, ◌≢◌, ℕ, zero, suc, Bool, true, false, List, [], ◌∷◌, length, take, Option, Some, None, Result, Ok, Err, OnOk, IfOk, IfErr, OnErr, refl, sym, ◌∙◌, ap, subst}
+use Rattle.std.proofs.Common.{arith, string_bytes, ◌≡◌, ◌==◌, inl, inr, ⊎_elim, ◌<◌, ◌≤◌, ◌≢◌, ℕ, zero, suc, Bool, true, false, List, [], ◌∷◌, length, take, Option, Some, None, Result, Ok, Err, OnOk, IfOk, IfErr, OnErr, refl, sym, ◌∙◌, ap, subst}
 use Rattle.std.proofs.lemmas.Bool.{cases_Bool, false≢true, ne_eqb, not-false}
 use Rattle.std.proofs.lemmas.List.{length-take-le}
 use Rattle.lnbd_model.specs.declared.refusal.Why.{Why}
@@ -47,13 +47,17 @@ use Rattle.lnbd_script.specs.declared.told.Moved.{Moved as Transfer}
 use Rattle.lnbd_script.specs.declared.told.Moved.TheVariants as moved
 use Rattle.lnbd_script.specs.declared.told.Told.{Told}
 use Rattle.lnbd_script.specs.declared.told.Told.TheVariants as told
-use Rattle.lnbd_script.specs.Kept.{Heeds, or_first}
+use Rattle.lnbd_callbacks.specs.Calls.{Call as Call_of}
+use Rattle.std.proofs.Math.Seq.{drop-length}
+use Rattle.lnbd_script.specs.declared.event.Event.{Event}
+use Rattle.lnbd_script.specs.declared.event.Event.TheVariants.{Link}
+use Rattle.lnbd_script.specs.Kept.{Heeds, lines_of, or_first, tally_of}
 use Rattle.lnbd_script.specs.KeptLaws.{heeds_none}
-use Rattle.lnbd_script.specs.Seen.{Seen, IsAt, Went, Goes, Follows, adding}
+use Rattle.lnbd_script.specs.Seen.{Seen, IsAt, Went, Goes, Follows, adding, callbacks_of}
 use Rattle.lnbd_script.specs.Turns.{is_reading, is_waiting}
-use Rattle.lnbd_script.specs.Lines.{Adds, AddsContext, AsksFor, Connects, Disconnects, Does as Line_does, LineEnd, ReadsOn, Sets, SetsStrict, WritesOn, asking, connected, has_all_contexts, is_created, is_opt_mode, is_structured, lacks_structured, setting_of, taking, told_link}
+use Rattle.lnbd_script.specs.Lines.{Adds, AddsContext, AsksFor, Hears, TellsHeard, hearing, Connects, Disconnects, Does as Line_does, LineEnd, ReadsOn, Sets, SetsStrict, WritesOn, asking, connected, has_all_contexts, is_created, is_opt_mode, is_structured, lacks_structured, setting_of, taking, told_link}
 use Rattle.lnbd_script.specs.Steps.{Becomes, ReadsOnce, ReadsOnceShort, Takes_option, WritesOnce, halted, option_told}
-use Rattle.lnbd_script.proofs.SeenLemmas.{add, follow, met_by}
+use Rattle.lnbd_script.proofs.SeenLemmas.{add, follow, is_plain, met_by}
 use Rattle.lnbd_script.proofs.TurnLemmas.{answers_at, waits_false, waits_true}
 
 -- a session whose handle is as before
@@ -119,10 +123,52 @@ pub at_start : (m : Machine Keeper) → is_created (state_now m.known) ≡ true 
 at_start m e = created_is (state_now m.known) e
 
 pub started : (seen : Seen) (old : Session) (handle : Machine Keeper) (link : ℕ) → IsAt seen old → state_now old.handle.known ≡ state.Created → handle ≡ step old.handle Start
-    → (x : Seen) × (x ≡ record { history = Start ∷ seen.history; link = Some link; first = seen.first }) × IsAt x (record { handle = handle; link = Some link; heeded = old.heeded; first = old.first })
+    → (x : Seen) × (x ≡ connected (Some link) seen) × IsAt x (record { handle = handle; link = Some link; heeded = old.heeded; first = old.first })
 started seen old handle link at created is =
-    let on = add seen old (record { handle = handle; link = old.link; heeded = old.heeded; first = old.first }) handle old.heeded Start at (is_stage_created old.handle created) refl (quiet old.handle handle old.heeded Start is refl) refl in
-    (record { history = Start ∷ seen.history; link = Some link; first = seen.first }, refl, record { stands = on.stands; link = refl; first = on.first; kept = on.kept; heeded = on.heeded; faulty = on.faulty })
+    let on = add seen old (record { handle = handle; link = old.link; heeded = old.heeded; first = old.first }) handle old.heeded Start at (is_stage_created old.handle created) refl (quiet old.handle handle old.heeded Start is refl) refl in (
+      connected (Some link) seen,
+      refl,
+      record { stands = on.stands; link = refl; first = on.first; answered = on.answered; tally = on.tally; shown = on.shown; heard = on.heard; freed = on.freed },
+    )
+
+-- the connect failed
+pub blamed : (seen : Seen) (old : Session) (first : Option Event) → IsAt seen old → first ≡ or_first old.first (Some Link)
+    → (x : Seen) × (x ≡ connected None seen) × IsAt x (record { handle = old.handle; link = old.link; heeded = old.heeded; first = first })
+blamed seen old first at is = (
+  connected None seen,
+  refl,
+  record {
+    stands = at.stands;
+    link = at.link;
+    first = is ∙ ap (λ (f : Option Event). or_first f (Some Link)) at.first;
+    answered = at.answered;
+    tally = at.tally;
+    shown = at.shown;
+    heard = at.heard;
+    freed = at.freed;
+  },
+)
+
+-- What callbacks heard is taken.
+
+pub heard_taken : (seen : Seen) (old : Session) (tells : Told) (heeded : Heeded) → IsAt seen old → old.heeded.hears ≡ true → TellsHeard (string_bytes old.heeded.heard) tells
+    → tally_of heeded ≡ tally_of old.heeded → heeded.freed ≡ old.heeded.freed → string_bytes heeded.heard ≡ []
+    → (x : Seen) × Hears seen [] x (Ok tells) × IsAt x (record { handle = old.handle; link = old.link; heeded = heeded; first = old.first })
+heard_taken seen old tells heeded at hears told' same freed none =
+    let cs = callbacks_of seen.history in (
+      hearing seen,
+      (tells, subst (λ (t : List ℕ). TellsHeard t tells) (at.heard hears) told', (refl, refl, refl)),
+      record {
+        stands = at.stands;
+        link = at.link;
+        first = at.first;
+        answered = at.answered;
+        tally = same ∙ at.tally;
+        shown = omega arith;
+        heard = λ e. none ∙ ap (λ (l : List (Call_of Keeper)). lines_of l) (sym (drop-length cs));
+        freed = freed ∙ at.freed;
+      },
+    )
 
 -- A name, and the end.
 
@@ -227,12 +273,12 @@ may_ask option.Meta m e f = (e, refl, λ h. not-false m.known.talk.structured f)
 may_ask option.Go m e f = (e, refl, λ h. absurd (omega (arith, h)))
 may_ask option.Abort m e f = e
 
-asking_goes_on : (option : Asked_option) (seen : Seen) → is_closed (asking option ∷ seen.history) ≡ false
-asking_goes_on option.List seen = refl
-asking_goes_on option.Info seen = refl
-asking_goes_on option.Meta seen = refl
-asking_goes_on option.Go seen = refl
-asking_goes_on option.Abort seen = refl
+asking_is_plain : (option : Asked_option) → is_plain (asking option) ≡ true
+asking_is_plain option.List = refl
+asking_is_plain option.Info = refl
+asking_is_plain option.Meta = refl
+asking_is_plain option.Go = refl
+asking_is_plain option.Abort = refl
 
 asking_is_quiet : (option : Asked_option) (m : Machine Keeper) → calls m (asking option) ≡ []
 asking_is_quiet option.List m = refl
@@ -268,7 +314,7 @@ option_ok option old handle (Ok done) (mode, lack, is) = λ seen at.
     let yes : is_opt_mode (state_after seen.history) ≡ true = ap is_opt_mode (sym (answers_at seen old at).state) ∙ ap is_opt_mode mode in (
       adding (asking option) seen,
       asks_by option true false seen (adding (asking option) seen) (Ok told.Done) yes (sym (lacks_after option seen old at) ∙ lack) (refl, refl, refl),
-      add seen old _ handle old.heeded (asking option) at (may_ask option old.handle mode lack) (asking_goes_on option seen) (quiet old.handle handle old.heeded (asking option) is (asking_is_quiet option old.handle)) refl,
+      add seen old _ handle old.heeded (asking option) at (may_ask option old.handle mode lack) (asking_is_plain option) (quiet old.handle handle old.heeded (asking option) is (asking_is_quiet option old.handle)) refl,
     )
 option_ok option old handle (Err opt.NoMemory) same = tt
 option_ok option old handle (Err (opt.State now)) (other, is, same) = λ seen at.
@@ -463,6 +509,30 @@ export_done line' name is old new answer ok lacks = subst (λ (l : Line). Become
   where
     go : (answer : Result Told NoMemory) → IfOk answer (λ tells. Becomes old new (λ before after. Sets (may_name (state_after before.history)) (Name name) before [] after (Ok tells)))
         → OnErr answer (Becomes old new (λ before after. after ≡ before)) → Becomes old new (λ before after. Line_does (line.Export name) before [] after (halted answer))
+    go (Ok tells) ok lacks seen at = let b = ok seen at in (b.0, inl b.1, b.2)
+    go (Err fault) ok lacks seen at = let b = lacks seen at in (b.0, inr (refl, b.1, refl), b.2)
+
+-- The line of an option may want memory.
+pub ask_done : (line' : Line) (option : Asked_option) → line' ≡ line.Ask option → (old new : Session) (answer : Result Told NoMemory)
+    → IfOk answer (λ tells. Becomes old new (λ before after. Asks_option option before after (Ok tells)))
+    → OnErr answer (Becomes old new (λ before after. after ≡ before))
+    → Becomes old new (λ before after. Line_does line' before [] after (halted answer))
+ask_done line' option is old new answer ok lacks = subst (λ (l : Line). Becomes old new (λ before after. Line_does l before [] after (halted answer))) (sym is) (go answer ok lacks)
+  where
+    go : (answer : Result Told NoMemory) → IfOk answer (λ tells. Becomes old new (λ before after. Asks_option option before after (Ok tells)))
+        → OnErr answer (Becomes old new (λ before after. after ≡ before)) → Becomes old new (λ before after. Line_does (line.Ask option) before [] after (halted answer))
+    go (Ok tells) ok lacks seen at = let b = ok seen at in (b.0, inl b.1, b.2)
+    go (Err fault) ok lacks seen at = let b = lacks seen at in (b.0, inr (refl, b.1, refl), b.2)
+
+-- The line that tells what callbacks heard may want memory.
+pub heard_done : (line' : Line) → line' ≡ line.Heard → (old new : Session) (answer : Result Told NoMemory)
+    → IfOk answer (λ tells. Becomes old new (λ before after. Hears before [] after (Ok tells)))
+    → OnErr answer (Becomes old new (λ before after. after ≡ before))
+    → Becomes old new (λ before after. Line_does line' before [] after (halted answer))
+heard_done line' is old new answer ok lacks = subst (λ (l : Line). Becomes old new (λ before after. Line_does l before [] after (halted answer))) (sym is) (go answer ok lacks)
+  where
+    go : (answer : Result Told NoMemory) → IfOk answer (λ tells. Becomes old new (λ before after. Hears before [] after (Ok tells)))
+        → OnErr answer (Becomes old new (λ before after. after ≡ before)) → Becomes old new (λ before after. Line_does line.Heard before [] after (halted answer))
     go (Ok tells) ok lacks seen at = let b = ok seen at in (b.0, inl b.1, b.2)
     go (Err fault) ok lacks seen at = let b = lacks seen at in (b.0, inr (refl, b.1, refl), b.2)
 

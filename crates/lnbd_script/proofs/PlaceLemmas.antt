@@ -1,11 +1,12 @@
 -- One handle of a script: made, closed, and a line on it.
-use Rattle.std.proofs.Common.{◌≡◌, ℕ, Bool, true, false, List, [], Option, None, Ok, Err, IfOk, refl, sym, ◌∙◌, ap, subst, arith}
+use Rattle.std.proofs.Common.{◌≡◌, ◌≤◌, string_bytes, ℕ, Bool, true, false, List, [], ◌∷◌, Option, None, Ok, Err, IfOk, refl, sym, ◌∙◌, ap, subst, arith}
 use Rattle.std.proofs.lemmas.Bool.{false≢true}
 use Rattle.lnbd_history.specs.Events.{Close}
-use Rattle.lnbd_history.specs.History.{asked}
+use Rattle.lnbd_history.specs.Entries.{frees, notes}
+use Rattle.lnbd_history.specs.History.{asked, reading}
 use Rattle.lnbd_history.specs.Laws.{is_closed}
-use Rattle.lnbd_machine.specs.Machine.{Machine, created, step}
-use Rattle.lnbd_standing.proofs.Standing.{closing_right, created_right}
+use Rattle.lnbd_machine.specs.Machine.{Machine, calls, created, step}
+use Rattle.lnbd_standing.proofs.Standing.{closing_right, created_right, stands_calls}
 use Rattle.lnbd_link.specs.Call.{Call}
 use Rattle.lnbd_link.specs.Part.{Grows}
 use Rattle.lnbd_link.proofs.Parts.{grows_none}
@@ -20,21 +21,26 @@ use Rattle.lnbd_script.specs.declared.session.Session.{Session}
 use Rattle.lnbd_script.specs.declared.told.Told.TheVariants as told
 use Rattle.lnbd_script.specs.Lines.{Answers, DoesIf, Does, LineEnd, closing, shut_calls}
 use Rattle.lnbd_script.specs.Scenes.{Held, ended_held, ended_if, held_of, seen_of, unused}
-use Rattle.lnbd_script.specs.Seen.{Seen, IsAt, Goes}
+use Rattle.lnbd_script.specs.declared.keeper.Heeded.{Heeded}
+use Rattle.lnbd_script.specs.Kept.{Heeds, freed_by, no_tally, tally_of}
+use Rattle.lnbd_script.specs.KeptLaws.{freed_on}
+use Rattle.lnbd_script.specs.Seen.{Seen, IsAt, Goes, callbacks_of}
+use Rattle.lnbd_script.proofs.FreedLemmas.{freed_is}
 use Rattle.lnbd_script.specs.Steps.{GoesAt, IsHeld, IsOver, closed_held, is_open, is_question, is_used}
 
 -- The first event is the run's: a session takes it before a line and leaves it after.
 pub at_first : (held : Held) (session : Session) (first : Option Event) → IsAt (seen_of held session.first) session
     → IsAt (seen_of held first) (record { handle = session.handle; link = session.link; heeded = session.heeded; first = first })
-at_first held session first at = record { stands = at.stands; link = at.link; first = refl; kept = at.kept; heeded = at.heeded; faulty = at.faulty }
+at_first held session first at = record { stands = at.stands; link = at.link; first = refl; answered = at.answered; tally = at.tally; shown = at.shown; heard = at.heard; freed = at.freed }
 
 pub held_again : (after : Seen) (session : Session) → IsAt after session → IsHeld (held_of after) (place.Open session)
-held_again after session at = record { stands = at.stands; link = at.link; first = refl; kept = at.kept; heeded = at.heeded; faulty = at.faulty }
+held_again after session at = record { stands = at.stands; link = at.link; first = refl; answered = at.answered; tally = at.tally; shown = at.shown; heard = at.heard; freed = at.freed }
 
 -- A handle that was just created stands at the beginning.
-pub begins : (handle : Machine Keeper) → handle ≡ created → IsAt (seen_of unused None) (record { handle = handle; link = None; heeded = record { error = None; faulty = false }; first = None })
-begins handle is = subst (λ (h : Machine Keeper). IsAt (seen_of unused None) (record { handle = h; link = None; heeded = record { error = None; faulty = false }; first = None })) (sym is)
-    (record { stands = created_right 1024; link = refl; first = refl; kept = λ k d h. absurd (omega (arith, h)); heeded = refl; faulty = refl })
+pub begins : (handle : Machine Keeper) (heeded : Heeded) → handle ≡ created → tally_of heeded ≡ no_tally → string_bytes heeded.heard ≡ [] → heeded.freed ≡ 0
+    → IsAt (seen_of unused None) (record { handle = handle; link = None; heeded = heeded; first = None })
+begins handle heeded is tally heard freed = subst (λ (h : Machine Keeper). IsAt (seen_of unused None) (record { handle = h; link = None; heeded = heeded; first = None })) (sym is)
+    (record { stands = created_right 1024; link = refl; first = refl; answered = λ k d h. absurd (omega (arith, h)); tally = tally; shown = omega arith; heard = λ e. heard; freed = freed })
 
 pub made : (held : Held) (old : Place) (session : Session) → is_used old ≡ false → IsHeld held old → IsAt (seen_of unused None) session → IsHeld held (place.Open session)
 made held place.Unused session none is at = subst (λ (h : Held). IsHeld h (place.Open session)) (sym is) (held_again (seen_of unused None) session at)
@@ -43,10 +49,19 @@ made held (place.Over over) session none is at = absurd (false≢true (sym none)
 
 -- Closing.
 
-pub over_is : (held : Held) (session : Session) (over : Over) → IsAt (seen_of held session.first) session → over.opened ≡ (step session.handle Close).known.admitted → over.opened ≡ over.freed → IsOver (closed_held held) over
-over_is held session over at opened equal =
-    let all : over.opened ≡ (asked held.history).admitted = opened ∙ (closing_right 1024 held.history session.handle at.stands).admitted in
-    record { closed = refl; link = refl; opened = all; freed = sym equal ∙ all }
+-- What the callbacks counted is how many were admitted.
+pub over_is : (held : Held) (session : Session) (over : Over) (heeded : Heeded) (noted : ℕ) → IsAt (seen_of held session.first) session → Heeds session.heeded (calls session.handle Close) heeded
+    → over.opened ≡ (step session.handle Close).known.admitted → noted ≡ (step session.handle Close).known.freed → over.opened ≡ noted → noted ≤ 18446744073709551615 → over.freed ≡ heeded.freed
+    → IsOver (closed_held held) over
+over_is held session over heeded noted at heeds opened told equal fits freed =
+    let right = closing_right 1024 held.history session.handle at.stands in
+    let more = stands_calls 1024 held.history session.handle Close at.stands tt in
+    let all : over.opened ≡ (asked held.history).admitted = opened ∙ right.admitted in
+    let entries = (reading (Close ∷ held.history)).known.entries in
+    let frees_are : frees (notes entries) ≡ noted = sym right.freed ∙ sym told in
+    let count : heeded.freed ≡ freed_by 0 (callbacks_of (Close ∷ held.history))
+    = heeds.freed ∙ ap (λ (n : ℕ). freed_by n (calls session.handle Close)) at.freed ∙ sym (freed_on 0 (callbacks_of held.history) (calls session.handle Close)) ∙ ap (freed_by 0) (sym more) in
+    record { closed = refl; link = refl; opened = all; freed = freed ∙ count ∙ freed_is entries (omega (arith, frees_are, fits)) ∙ frees_are ∙ sym equal ∙ all }
 
 pub shut_is : (held : Held) (session : Session) (a b : Option (List Call)) → IsAt (seen_of held session.first) session → Grows a b (shut_calls session.link) → Grows a b (shut_calls held.link)
 shut_is held session a b at grown = subst (λ (l : Option ℕ). Grows a b (shut_calls l)) at.link grown

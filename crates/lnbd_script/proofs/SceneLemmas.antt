@@ -120,7 +120,7 @@ inside_if n m false is small = small
 
 -- a handle is made current
 pub chosen : (line : Line) (number : ℕ) (sessions new : Sessions) (i : ℕ) (a : Option (List Call)) → reach_of line ≡ reach.Choice number
-    → new ≡ record { places = sessions.places; current = if nat_lt number 16 then number else sessions.current; first = sessions.first; start = sessions.start; wants = sessions.wants }
+    → new ≡ record { places = sessions.places; current = if nat_lt number 16 then number else sessions.current; first = sessions.first; start = sessions.start; wants = sessions.wants; hears = sessions.hears }
     → GoesOver a a i i sessions new (λ before calls after. Acts line before calls after (Ok told.Done))
 chosen line number sessions new i a reach is scene s = record {
   calls = [];

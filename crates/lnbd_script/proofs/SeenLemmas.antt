@@ -1,13 +1,15 @@
 -- Where a script stands after something happened on its handle.
-use Rattle.std.proofs.Common.{◌≡◌, ◌||◌, ℕ, Bool, true, false, List, ◌∷◌, All, Option, Some, None, refl, sym, ◌∙◌, ap, subst}
-use Rattle.std.specs.List.{list_any}
+use Rattle.std.proofs.Common.{arith, ◌≡◌, ◌≤◌, ◌+◌, ◌++◌, ℕ, Bool, true, false, List, ◌∷◌, All, drop, length, length-append, string_bytes, Option, Some, None, refl, sym, ◌∙◌, ap, subst}
+use Rattle.std.proofs.Math.Seq.{drop-length}
+use Rattle.std.proofs.lemmas.Bool.{false≢true}
 use Rattle.std.proofs.lemmas.List.Elements.{All-append}
-use Rattle.std.proofs.lemmas.List.Folds.{list_any-append}
+use Rattle.std.proofs.lemmas.List.{drop-append-le}
+use Rattle.std.proofs.lemmas.Grind.{flat_map-append}
 use Rattle.lnbd_model.specs.declared.state.State.{State}
 use Rattle.lnbd_model.specs.declared.state.State.TheVariants as state
 use Rattle.lnbd_model.specs.declared.state.Cause.TheVariants as cause
 use Rattle.lnbd_callbacks.specs.Calls.{Call}
-use Rattle.lnbd_history.specs.Events.{Event as Happening}
+use Rattle.lnbd_history.specs.Events.{Event as Happening, History, Set, StrictMode, Start, Opt, Abort, Issue, Refuse, Disconnect, Wrote, Arrived, End, LinkFailed, Retire, ClearLog, Close}
 use Rattle.lnbd_history.specs.Answers.{opt_answer_after, state_after}
 use Rattle.lnbd_history.specs.declared.kinds.OptAnswer.{OptAnswer}
 use Rattle.lnbd_history.specs.declared.kinds.OptAnswer.TheVariants as answer
@@ -21,35 +23,88 @@ use Rattle.lnbd_script.specs.declared.event.Event.{Event}
 use Rattle.lnbd_script.specs.declared.keeper.Keeper.{Keeper}
 use Rattle.lnbd_script.specs.declared.keeper.Heeded.{Heeded}
 use Rattle.lnbd_script.specs.declared.session.Session.{Session}
-use Rattle.lnbd_script.specs.Kept.{IsAsHanded, Heeds, first_error, is_faulty, or_first}
-use Rattle.lnbd_script.specs.Seen.{Seen, IsAt, Follows, adding, noting, callbacks_of, death_in, event_of_answer, event_of_error, event_of_faulty, is_link, met, met_of}
-use Rattle.lnbd_script.specs.KeptLaws.{first_error_on}
+use Rattle.lnbd_script.specs.Kept.{IsAnswered, Heeds, Tally, freed_by, line_of, lines_of, or_first, tallied, tally_of}
+use Rattle.lnbd_script.specs.Seen.{Seen, IsAt, Follows, adding, noting, callbacks_of, death_in, event_of_answer, event_of_error, event_of_faulty, is_link, met, met_of, tally_after, with_command}
+use Rattle.lnbd_script.specs.Steps.{IsWorld}
+use Rattle.lnbd_script.specs.KeptLaws.{freed_on}
 
 -- the event that a handle and its callbacks' world come to
 abbrev pub met_by : Machine Keeper → Heeded → Option Event
 met_by handle heeded = met_of heeded.faulty (state_now handle.known) handle.known.talk.answer heeded.error
 
+-- Happenings that issue no command and close nothing.
+abbrev pub is_plain : Happening Keeper → Bool
+is_plain (Issue command) = false
+is_plain Close = false
+is_plain other = true
+
+plain_goes_on : (happening : Happening Keeper) (history : History Keeper) → is_plain happening ≡ true → is_closed (happening ∷ history) ≡ false
+plain_goes_on (Set setting) history p = refl
+plain_goes_on (StrictMode bits) history p = refl
+plain_goes_on Start history p = refl
+plain_goes_on (Opt option) history p = refl
+plain_goes_on Abort history p = refl
+plain_goes_on (Issue command) history p = refl
+plain_goes_on (Refuse command why) history p = refl
+plain_goes_on Disconnect history p = refl
+plain_goes_on (Wrote n) history p = refl
+plain_goes_on (Arrived bytes answers) history p = refl
+plain_goes_on (End answers) history p = refl
+plain_goes_on (LinkFailed answers) history p = refl
+plain_goes_on (Retire cookie) history p = refl
+plain_goes_on ClearLog history p = refl
+plain_goes_on Close history p = absurd (false≢true p)
+
+no_command : (happening : Happening Keeper) (tally : Tally) → is_plain happening ≡ true → with_command happening tally ≡ tally
+no_command (Set setting) tally p = refl
+no_command (StrictMode bits) tally p = refl
+no_command Start tally p = refl
+no_command (Opt option) tally p = refl
+no_command Abort tally p = refl
+no_command (Issue command) tally p = absurd (false≢true p)
+no_command (Refuse command why) tally p = refl
+no_command Disconnect tally p = refl
+no_command (Wrote n) tally p = refl
+no_command (Arrived bytes answers) tally p = refl
+no_command (End answers) tally p = refl
+no_command (LinkFailed answers) tally p = refl
+no_command (Retire cookie) tally p = refl
+no_command ClearLog tally p = refl
+no_command Close tally p = refl
+
+plain_world : (happening : Happening Keeper) (heeded : Heeded) → is_plain happening ≡ true → IsWorld (λ t. with_command happening t) heeded heeded
+plain_world happening heeded plain = record { tally = sym (no_command happening (tally_of heeded) plain); hears = refl; heard = refl; freed = refl }
+
 -- What holds once something happened on the handle.
 record Happened (seen : Seen) (happening : Happening Keeper) (handle : Machine Keeper) (heeded : Heeded) : Type 0 where
   stands : StandsFor 1024 (happening ∷ seen.history) handle
-  kept : All IsAsHanded (callbacks_of (happening ∷ seen.history))
-  error : heeded.error ≡ first_error (callbacks_of (happening ∷ seen.history))
-  faulty : heeded.faulty ≡ list_any is_faulty (callbacks_of (happening ∷ seen.history))
+  answered : All IsAnswered (callbacks_of (happening ∷ seen.history))
+  tally : tally_of heeded ≡ tally_after (happening ∷ seen.history)
+  shown : seen.shown ≤ length (callbacks_of (happening ∷ seen.history))
+  heard : heeded.hears ≡ true → string_bytes heeded.heard ≡ lines_of (drop seen.shown (callbacks_of (happening ∷ seen.history)))
+  freed : heeded.freed ≡ freed_by 0 (callbacks_of (happening ∷ seen.history))
 
-happened : (seen : Seen) (old : Session) (handle : Machine Keeper) (heeded : Heeded) (happening : Happening Keeper) → IsAt seen old → May 1024 old.handle happening → is_closed (happening ∷ seen.history) ≡ false
-    → Does Heeds happening old.handle handle old.heeded heeded → Happened seen happening handle heeded
-happened seen old handle heeded happening at may going does =
+-- A command that is issued joined the callbacks' world before.
+happened : (seen : Seen) (old : Session) (before : Heeded) (handle : Machine Keeper) (heeded : Heeded) (happening : Happening Keeper) → IsAt seen old → May 1024 old.handle happening → is_closed (happening ∷ seen.history) ≡ false
+    → IsWorld (λ t. with_command happening t) old.heeded before → Does Heeds happening old.handle handle before heeded → Happened seen happening handle heeded
+happened seen old before handle heeded happening at may going joins does =
     let on = goes_on 1024 seen.history old.handle happening at.stands may in
     let more = stands_calls 1024 seen.history old.handle happening at.stands may in
-    let told : heeded.error ≡ or_first (first_error (callbacks_of seen.history)) (first_error (calls old.handle happening))
-    = does.world.error ∙ ap (λ (e : Option ℕ). or_first e (first_error (calls old.handle happening))) at.heeded in
-    let faults : heeded.faulty ≡ (list_any is_faulty (callbacks_of seen.history) || list_any is_faulty (calls old.handle happening))
-    = does.world.faulty ∙ ap (λ (f : Bool). f || list_any is_faulty (calls old.handle happening)) at.faulty in
+    let cs = callbacks_of seen.history in
+    let own = calls old.handle happening in
+    let size : length (callbacks_of (happening ∷ seen.history)) ≡ length cs + length own = ap (λ (l : List (Call Keeper)). length l) more ∙ length-append cs own in
+    let latest : drop (length cs) (callbacks_of (happening ∷ seen.history)) ≡ own
+    = ap (λ (l : List (Call Keeper)). drop (length cs) l) more ∙ drop-append-le (length cs) cs own (omega arith) ∙ ap (λ (l : List (Call Keeper)). l ++ own) (drop-length cs) in
     record {
       stands = subst (λ (m : Machine Keeper). StandsFor 1024 (happening ∷ seen.history) m) (sym does.machine) (on.stands going);
-      kept = subst (λ (cs : List (Call Keeper)). All IsAsHanded cs) (sym more) (All-append IsAsHanded (callbacks_of seen.history) (calls old.handle happening) at.kept does.world.kept);
-      error = told ∙ sym (first_error_on (callbacks_of seen.history) (calls old.handle happening)) ∙ ap first_error (sym more);
-      faulty = faults ∙ sym (list_any-append is_faulty (callbacks_of seen.history) (calls old.handle happening)) ∙ ap (list_any is_faulty) (sym more);
+      answered = subst (λ (l : List (Call Keeper)). All IsAnswered l) (sym more) (All-append IsAnswered cs own at.answered does.world.answered);
+      tally = does.world.tally ∙ ap (λ (t : Tally). tallied t own) joins.tally ∙ ap (λ (t : Tally). tallied (with_command happening t) own) at.tally
+          ∙ ap (λ (l : List (Call Keeper)). tallied (with_command happening (tally_after seen.history)) l) (sym latest);
+      shown = omega (arith, at.shown, size);
+      heard = λ e.
+          does.world.heard e ∙ ap (λ (t : List ℕ). t ++ lines_of own) (joins.heard ∙ at.heard (sym joins.hears ∙ does.world.hears e)) ∙ sym (flat_map-append line_of (drop seen.shown cs) own)
+          ∙ ap (λ (l : List (Call Keeper)). lines_of l) (sym (drop-append-le seen.shown cs own at.shown) ∙ ap (λ (l : List (Call Keeper)). drop seen.shown l) (sym more));
+      freed = does.world.freed ∙ ap (λ (n : ℕ). freed_by n own) (joins.freed ∙ at.freed) ∙ sym (freed_on 0 cs own) ∙ ap (freed_by 0) (sym more);
     }
 
 met_is : (seen : Seen) (happening : Happening Keeper) (handle : Machine Keeper) (heeded : Heeded) → Happened seen happening handle heeded → met_by handle heeded ≡ met (happening ∷ seen.history)
@@ -57,31 +112,40 @@ met_is seen happening handle heeded now =
     let right = stands_right 1024 (happening ∷ seen.history) handle now.stands in
     ap (λ (s : State). met_of heeded.faulty s handle.known.talk.answer heeded.error) right.state
     ∙ ap (λ (a : Option OptAnswer). met_of heeded.faulty (state_after (happening ∷ seen.history)) a heeded.error) right.opt_answer
-    ∙ ap (λ (e : Option ℕ). met_of heeded.faulty (state_after (happening ∷ seen.history)) (opt_answer_after (happening ∷ seen.history)) e) now.error
-    ∙ ap (λ (f : Bool). met_of f (state_after (happening ∷ seen.history)) (opt_answer_after (happening ∷ seen.history)) (first_error (callbacks_of (happening ∷ seen.history)))) now.faulty
+    ∙ ap (λ (t : Tally). met_of t.faulty (state_after (happening ∷ seen.history)) (opt_answer_after (happening ∷ seen.history)) t.error) now.tally
 
 -- by a call on the wires, after which the session notes what it met
 pub follow : (seen : Seen) (old new : Session) (handle : Machine Keeper) (heeded : Heeded) (happening : Happening Keeper) (fault : Option Event)
-    → IsAt seen old → May 1024 old.handle happening → is_closed (happening ∷ seen.history) ≡ false → Does Heeds happening old.handle handle old.heeded heeded
+    → IsAt seen old → May 1024 old.handle happening → is_plain happening ≡ true → Does Heeds happening old.handle handle old.heeded heeded
     → new ≡ record { handle = handle; link = old.link; heeded = heeded; first = or_first old.first (or_first fault (met_by handle heeded)) }
     → (after : Seen) × Follows happening fault seen after × IsAt after new
-follow seen old new handle heeded happening fault at may going does is =
-    let now = happened seen old handle heeded happening at may going does in
+follow seen old new handle heeded happening fault at may plain does is =
+    let now = happened seen old old.heeded handle heeded happening at may (plain_goes_on happening seen.history plain) (plain_world happening old.heeded plain) does in
     let first = ap (λ (f : Option Event). or_first f (or_first fault (met_by handle heeded))) at.first
     ∙ ap (λ (m : Option Event). or_first seen.first (or_first fault m)) (met_is seen happening handle heeded now) in (
       noting fault happening seen,
-      record { is = refl; kept = now.kept },
-      subst (λ (s : Session). IsAt (noting fault happening seen) s) (sym is) (record { stands = now.stands; link = at.link; first = first; kept = now.kept; heeded = now.error; faulty = now.faulty }),
+      record { is = refl; answered = now.answered },
+      subst (λ (s : Session). IsAt (noting fault happening seen) s) (sym is)
+          (record { stands = now.stands; link = at.link; first = first; answered = now.answered; tally = now.tally; shown = now.shown; heard = now.heard; freed = now.freed }),
     )
 
 -- by a call on the handle alone
-pub add : (seen : Seen) (old new : Session) (handle : Machine Keeper) (heeded : Heeded) (happening : Happening Keeper)
-    → IsAt seen old → May 1024 old.handle happening → is_closed (happening ∷ seen.history) ≡ false → Does Heeds happening old.handle handle old.heeded heeded
+pub add_with : (seen : Seen) (old new : Session) (before : Heeded) (handle : Machine Keeper) (heeded : Heeded) (happening : Happening Keeper)
+    → IsAt seen old → May 1024 old.handle happening → is_closed (happening ∷ seen.history) ≡ false → IsWorld (λ t. with_command happening t) old.heeded before → Does Heeds happening old.handle handle before heeded
     → new ≡ record { handle = handle; link = old.link; heeded = heeded; first = old.first }
     → IsAt (adding happening seen) new
-add seen old new handle heeded happening at may going does is =
-    let now = happened seen old handle heeded happening at may going does in
-    subst (λ (s : Session). IsAt (adding happening seen) s) (sym is) (record { stands = now.stands; link = at.link; first = at.first; kept = now.kept; heeded = now.error; faulty = now.faulty })
+add_with seen old new before handle heeded happening at may going joins does is =
+    let now = happened seen old before handle heeded happening at may going joins does in
+    subst (λ (s : Session). IsAt (adding happening seen) s) (sym is)
+    (record { stands = now.stands; link = at.link; first = at.first; answered = now.answered; tally = now.tally; shown = now.shown; heard = now.heard; freed = now.freed })
+
+-- the same where no command is issued
+pub add : (seen : Seen) (old new : Session) (handle : Machine Keeper) (heeded : Heeded) (happening : Happening Keeper)
+    → IsAt seen old → May 1024 old.handle happening → is_plain happening ≡ true → Does Heeds happening old.handle handle old.heeded heeded
+    → new ≡ record { handle = handle; link = old.link; heeded = heeded; first = old.first }
+    → IsAt (adding happening seen) new
+add seen old new handle heeded happening at may plain does is =
+    add_with seen old new old.heeded handle heeded happening at may (plain_goes_on happening seen.history plain) (plain_world happening old.heeded plain) does is
 
 -- No death and no error is a fault of the link.
 death_no_link : (s : State) → is_link (death_in s) ≡ false

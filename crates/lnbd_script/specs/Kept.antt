@@ -1,57 +1,140 @@
 -- What the callbacks of a script's commands answer, and what they were told.
-use Rattle.std.specs.Prelude.{◌≡◌, ℕ, Bool, false, List, [], ◌∷◌, All, Option, Some, None, if◌then◌else◌, ◌==◌, ◌||◌}
-use Rattle.std.specs.List.{list_any}
-use Rattle.lnbd_callbacks.specs.Calls.{Call, Chunk, Extents, Complete, Free}
-use Rattle.lnbd_callbacks.specs.declared.caller.Heard.TheVariants.{Going}
-use Rattle.lnbd_callbacks.specs.declared.caller.Verdict.TheVariants.{Keep}
+use Rattle.std.specs.Prelude.{◌≡◌, ◌+◌, ◌-◌, ◌^◌, ◌==◌, ◌||◌, ◌&&◌, not, min, ℕ, Bool, true, false, List, [], ◌∷◌, ◌++◌, All, Option, Some, None, if◌then◌else◌, codes, flat_map, get_or, set, string_bytes}
+use Rattle.lnbd_model.specs.declared.errors.TheConstants.{EPROTO, ENOTCONN}
+use Rattle.lnbd_callbacks.specs.Calls.{Call, Chunk, Extents, Complete, Free, counted}
+use Rattle.lnbd_callbacks.specs.declared.caller.Heard.{Heard}
+use Rattle.lnbd_callbacks.specs.declared.caller.Heard.TheVariants.{Going, Fail}
+use Rattle.lnbd_callbacks.specs.declared.caller.Verdict.{Verdict}
+use Rattle.lnbd_callbacks.specs.declared.caller.Verdict.TheVariants.{Keep, Retire}
+use Rattle.lnbd_lines.specs.declared.command.Manner.{Manner}
+use Rattle.lnbd_lines.specs.declared.command.Manner.TheVariants as manner
+use Rattle.lnbd_texts.specs.Heard.{chunk_text, complete_text, extents_text}
 use Rattle.lnbd_script.specs.declared.keeper.Keeper.{Keeper}
 use Rattle.lnbd_script.specs.declared.keeper.Heeded.{Heeded}
 
--- A completion is kept as it is handed over.
-abbrev pub IsAsHanded : Call Keeper → Type 0
-IsAsHanded (Chunk callback bytes offset status error heard) = heard ≡ Going
-IsAsHanded (Extents callback context offset entries error heard) = heard ≡ Going
-IsAsHanded (Complete callback error bytes verdict) = verdict ≡ Keep error bytes
-IsAsHanded (Free callback) = Unit {0}
+-- Answers.
+
+-- both callbacks of a command of this number
+abbrev pub keeper_of : ℕ → Manner → Keeper
+keeper_of number manner.Keep = record { command = number; retires = false; fails = None }
+keeper_of number manner.Retire = record { command = number; retires = true; fails = None }
+keeper_of number (manner.Fail error) = record { command = number; retires = false; fails = Some error }
+
+-- A chunk or extents callback goes on or fails its command, always by one number.
+abbrev pub heard_of : Option ℕ → Heard
+heard_of None = Going
+heard_of (Some error) = Fail error
+
+-- A completion is kept as it is handed over, or retires its command.
+abbrev pub verdict_of : Bool → ℕ → List ℕ → Verdict
+verdict_of false error bytes = Keep error bytes
+verdict_of true error bytes = Retire
+
+abbrev pub IsAnswered : Call Keeper → Type 0
+IsAnswered (Chunk callback bytes offset status error heard) = heard ≡ counted (heard_of callback.fails)
+IsAnswered (Extents callback context offset entries error heard) = heard ≡ counted (heard_of callback.fails)
+IsAnswered (Complete callback error bytes verdict) = verdict ≡ verdict_of callback.retires error bytes
+IsAnswered (Free callback) = Unit {0}
+
+-- What was told.
 
 -- the first of two, where there is one
 abbrev pub or_first : {A : Type 0} → Option A → Option A → Option A
 or_first None later = later
 or_first (Some first) later = Some first
 
--- EPROTO, the error of a command whose content was faulty, and ENOTCONN, that of one whose connection is lost: no peer tells
--- these, since an unknown number of a peer counts as EINVAL
-abbrev pub faulty : ℕ
-faulty = 71
+-- What calls on the callbacks come to.
+pub record Tally : Type 0 where
+  -- the first error that the peer told a command
+  pub error : Option ℕ
+  -- a command failed by faulty content
+  pub faulty : Bool
+  -- of each command that was issued, by its number, whether its first error is its own callback's
+  pub failed : List Bool
 
-abbrev pub lost : ℕ
-lost = 107
+abbrev pub no_tally : Tally
+no_tally = record { error = None; faulty = false; failed = [] }
 
--- each other number of a command that failed was told by the peer
-abbrev pub told_number : ℕ → Option ℕ
-told_number error = if (error == 0) || ((error == faulty) || (error == lost)) then None else Some error
+-- A callback that is told no error and fails is the first to fail its command.
+abbrev pub fails_first : ℕ → Heard → Bool
+fails_first error Going = false
+fails_first error (Fail number) = error == 0
 
--- the error that the peer told a command, if it did
-abbrev pub told_error : Call Keeper → Option ℕ
-told_error (Complete callback error bytes verdict) = told_number error
-told_error (Chunk callback bytes offset status error heard) = None
-told_error (Extents callback context offset entries error heard) = None
-told_error (Free callback) = None
+abbrev pub marking : Bool → ℕ → Tally → Tally
+marking true command tally = record { error = tally.error; faulty = tally.faulty; failed = set tally.failed command true }
+marking false command tally = tally
 
--- the command failed by faulty content
-abbrev pub is_faulty : Call Keeper → Bool
-is_faulty (Complete callback error bytes verdict) = error == faulty
-is_faulty (Chunk callback bytes offset status error heard) = false
-is_faulty (Extents callback context offset entries error heard) = false
-is_faulty (Free callback) = false
+abbrev pub is_own : ℕ → List Bool → Bool
+is_own command failed = get_or failed command false
 
--- the first error that the peer told a command
-abbrev pub first_error : List (Call Keeper) → Option ℕ
-first_error [] = None
-first_error (call ∷ calls) = or_first (told_error call) (first_error calls)
+-- one command more was issued
+abbrev pub joined : Tally → Tally
+joined tally = record { error = tally.error; faulty = tally.faulty; failed = tally.failed ++ false ∷ [] }
 
--- these calls lead from one world of the callbacks to the other
+-- A completed command's error is that of its own callback; else EPROTO is that of faulty content, ENOTCONN that of a lost
+-- connection, and no peer tells these, since an unknown number of a peer counts as EINVAL; each other one was told by the peer.
+abbrev pub told_number : Bool → ℕ → Option ℕ
+told_number own error = if own || ((error == 0) || ((error == EPROTO) || (error == ENOTCONN))) then None else Some error
+
+abbrev pub is_faulty : Bool → ℕ → Bool
+is_faulty own error = not own && (error == EPROTO)
+
+abbrev pub settling : ℕ → ℕ → Tally → Tally
+settling command error tally = record {
+  error = or_first tally.error (told_number (is_own command tally.failed) error);
+  faulty = tally.faulty || is_faulty (is_own command tally.failed) error;
+  failed = tally.failed;
+}
+
+-- after one call more
+abbrev pub heed : Tally → Call Keeper → Tally
+heed tally (Chunk callback bytes offset status error heard) = marking (fails_first error heard) callback.command tally
+heed tally (Extents callback context offset entries error heard) = marking (fails_first error heard) callback.command tally
+heed tally (Complete callback error bytes verdict) = settling callback.command error tally
+heed tally (Free callback) = tally
+
+-- after these calls, the earliest first
+abbrev pub tallied : Tally → List (Call Keeper) → Tally
+tallied tally [] = tally
+tallied tally (call ∷ calls) = tallied (heed tally call) calls
+
+-- the line that a call leaves, and its end; a free leaves none
+abbrev pub line_of : Call Keeper → List ℕ
+line_of (Chunk callback bytes offset status error heard) = chunk_text bytes offset status error ++ codes "\n"
+line_of (Extents callback context offset entries error heard) = extents_text context offset entries error ++ codes "\n"
+line_of (Complete callback error bytes verdict) = complete_text error bytes ++ codes "\n"
+line_of (Free callback) = []
+
+abbrev pub lines_of : List (Call Keeper) → List ℕ
+lines_of calls = flat_map line_of calls
+
+-- a count that stands still at its end
+abbrev pub counted_on : ℕ → ℕ
+counted_on count = min (count + 1) (2 ^ 64 - 1)
+
+-- how many callbacks were freed
+abbrev pub freed_by : ℕ → List (Call Keeper) → ℕ
+freed_by count [] = count
+freed_by count (Free callback ∷ calls) = freed_by (counted_on count) calls
+freed_by count (other ∷ calls) = freed_by count calls
+
+-- The world.
+
+abbrev pub tally_of : Heeded → Tally
+tally_of heeded = record { error = heeded.error; faulty = heeded.faulty; failed = heeded.failed.items }
+
+-- These calls lead from one world of the callbacks to the other. Lines are kept where a line of the script asks for them, until one
+-- finds no memory.
 pub record Heeds (before : Heeded) (calls : List (Call Keeper)) (after : Heeded) : Type 0 where
-  pub kept : All IsAsHanded calls
-  pub error : after.error ≡ or_first before.error (first_error calls)
-  pub faulty : after.faulty ≡ (before.faulty || list_any is_faulty calls)
+  pub answered : All IsAnswered calls
+  pub tally : tally_of after ≡ tallied (tally_of before) calls
+  pub hears : after.hears ≡ true → before.hears ≡ true
+  pub heard : after.hears ≡ true → string_bytes after.heard ≡ string_bytes before.heard ++ lines_of calls
+  pub freed : after.freed ≡ freed_by before.freed calls
+
+-- One step of a callback changes the tally so, and leaves this line where lines are kept.
+pub record Notes (before after : Heeded) (change : Tally → Tally) (line : List ℕ) : Type 0 where
+  pub tally : tally_of after ≡ change (tally_of before)
+  pub hears : after.hears ≡ true → before.hears ≡ true
+  pub heard : after.hears ≡ true → string_bytes after.heard ≡ string_bytes before.heard ++ line
+  pub freed : after.freed ≡ before.freed

@@ -1,5 +1,5 @@
 -- What one line of a script does on the current handle: the calls that it makes on the wires, what then has happened, and what it tells.
-use Rattle.std.specs.Prelude.{◌≡◌, ◌⊎◌, ◌+◌, ℕ, zero, suc, Bool, true, false, not, ◌==◌, List, [], ◌∷◌, length, replicate, Option, Some, None, Result, Ok, Err}
+use Rattle.std.specs.Prelude.{◌≡◌, ◌⊎◌, ◌+◌, ℕ, zero, suc, Bool, true, false, not, ◌==◌, List, [], ◌∷◌, length, replicate, string_bytes, Option, Some, None, Result, Ok, Err}
 use Rattle.lnbd_model.specs.declared.refusal.Why.{Why}
 use Rattle.lnbd_model.specs.declared.state.State.{State}
 use Rattle.lnbd_model.specs.declared.state.State.TheVariants as state
@@ -34,11 +34,12 @@ use Rattle.lnbd_script.specs.declared.told.Halt.TheVariants as halt
 use Rattle.lnbd_script.specs.declared.told.Moved.TheVariants as moved
 use Rattle.lnbd_script.specs.declared.told.Told.{Told}
 use Rattle.lnbd_script.specs.declared.told.Told.TheVariants as told
-use Rattle.lnbd_script.specs.Kept.{or_first}
-use Rattle.lnbd_script.specs.Seen.{Seen, adding}
+use Rattle.lnbd_lines.specs.declared.command.Manner.{Manner}
+use Rattle.lnbd_script.specs.Kept.{keeper_of, or_first}
+use Rattle.lnbd_script.specs.Seen.{Seen, adding, callbacks_of, heard_after, issued_in}
 use Rattle.lnbd_script.specs.Turns.{Reads, ReadsShort, Writes, is_reading, is_waiting, read_call, write_call}
 use Rattle.lnbd_handle.specs.Histories.{max_unretired}
-use Rattle.lnbd_handle.specs.Issues.{read_of, write_of, flush_of, trim_of, zero_of, cache_of}
+use Rattle.lnbd_handle.specs.Issues.{read_of, structured_read_of, write_of, flush_of, trim_of, zero_of, cache_of, block_status_of}
 
 -- what a line tells, or what ends the script in it
 abbrev pub LineEnd : Type 0
@@ -67,8 +68,8 @@ is_created (state.Dead cause) = false
 
 -- after a connect that gave this link, if any: the handle is started, or the failed call is an event
 abbrev pub connected : Option ℕ → Seen → Seen
-connected (Some link) before = record { history = Start ∷ before.history; link = Some link; first = before.first }
-connected None before = record { history = before.history; link = before.link; first = or_first before.first (Some Link) }
+connected (Some link) before = record { history = Start ∷ before.history; shown = before.shown; link = Some link; first = before.first }
+connected None before = record { history = before.history; shown = before.shown; link = before.link; first = or_first before.first (Some Link) }
 
 abbrev pub told_link : Option ℕ → Told
 told_link (Some link) = told.Connected
@@ -84,14 +85,20 @@ abbrev pub payload_of : Payload → List ℕ
 payload_of (payload.Hex bytes) = bytes
 payload_of (payload.Fill byte size) = replicate size byte
 
--- what a line issues, a read into a buffer of zeroes
-abbrev pub command_of : Asked → Command Keeper
-command_of (command.Pread range) = read_of (replicate range.length 0) range.offset (record {}) range.flags
-command_of (command.Pwrite payload offset flags) = write_of (payload_of payload) offset (record {}) flags
-command_of (command.Flush flags) = flush_of (record {}) flags
-command_of (command.Trim range) = trim_of range.length range.offset (record {}) range.flags
-command_of (command.Zero range) = zero_of range.length range.offset (record {}) range.flags
-command_of (command.Cache range) = cache_of range.length range.offset (record {}) range.flags
+-- what a line issues with this callback, a read into a buffer of zeroes
+abbrev pub command_of : Keeper → Asked → Command Keeper
+command_of keeper (command.Pread range) = read_of (replicate range.length 0) range.offset keeper range.flags
+command_of keeper (command.PreadStructured range) = structured_read_of (replicate range.length 0) range.offset keeper keeper range.flags
+command_of keeper (command.Pwrite payload offset flags) = write_of (payload_of payload) offset keeper flags
+command_of keeper (command.Flush flags) = flush_of keeper flags
+command_of keeper (command.Trim range) = trim_of range.length range.offset keeper range.flags
+command_of keeper (command.Zero range) = zero_of range.length range.offset keeper range.flags
+command_of keeper (command.Cache range) = cache_of range.length range.offset keeper range.flags
+command_of keeper (command.BlockStatus range) = block_status_of range.length range.offset keeper keeper range.flags
+
+-- the same after a history, with callbacks that answer so
+abbrev pub issue_of : Manner → Asked → History Keeper → Command Keeper
+issue_of manner asking history = command_of (keeper_of (issued_in history) manner) asking
 
 -- A command is issued under the next cookie, or refused for this reason.
 abbrev pub Issues : Option Why → Command Keeper → Seen → List Call → Seen → LineEnd → Type 0
@@ -194,18 +201,30 @@ taking (completed.Failed error bytes) cookie before = adding (Retire cookie) bef
 taking completed.NotYet cookie before = before
 taking completed.NoSuchCookie cookie before = before
 
+-- What callbacks heard is told, and then no more.
+abbrev pub hearing : Seen → Seen
+hearing before = record { history = before.history; shown = length (callbacks_of before.history); link = before.link; first = before.first }
+
+abbrev pub TellsHeard : List ℕ → Told → Type 0
+TellsHeard lines (told.Heard text) = string_bytes text ≡ lines
+TellsHeard lines other = ⊥
+
+abbrev pub Hears : Seen → List Call → Seen → LineEnd → Type 0
+Hears before calls after end = (tells : Told) × TellsHeard (heard_after before) tells × Adds (hearing before) calls after end tells
+
 -- A close shuts the link.
 abbrev pub shut_calls : Option ℕ → List Call
 shut_calls None = []
 shut_calls (Some link) = Shut link ∷ []
 
 abbrev pub closing : Seen → Seen
-closing before = record { history = Close ∷ before.history; link = None; first = before.first }
+closing before = record { history = Close ∷ before.history; shown = before.shown; link = None; first = before.first }
 
 -- What a line does on a handle that is not closed. Two lines act on more than the current handle, and do nothing here.
 abbrev pub Does : Line → Seen → List Call → Seen → LineEnd → Type 0
 Does (line.Connect to) before calls after end = Connects (is_created (state_after before.history)) to before calls after end
-Does (line.Command asked) before calls after end = Issues (refusal_after max_unretired before.history (command_of asked)) (command_of asked) before calls after end ⊎ Lacks before calls after end
+Does (line.Command manner asking) before calls after end =
+    Issues (refusal_after max_unretired before.history (issue_of manner asking before.history)) (issue_of manner asking before.history) before calls after end ⊎ Lacks before calls after end
 Does line.Settle before calls after end = ⊥
 Does (line.Handle number) before calls after end = ⊥
 Does line.Read before calls after end = ReadsOn (is_reading before.history) before.link before calls after end
@@ -219,6 +238,7 @@ Does (line.Ask option) before calls after end =
 Does (line.Strict bits) before calls after end = SetsStrict (unknown_bits bits) bits before calls after end
 Does line.Disconnect before calls after end = Disconnects (by_state (state_after before.history) None) before calls after end
 Does (line.Done cookie) before calls after end = Adds (taking (completed_after before.history cookie) cookie before) calls after end (told.Result (completed_after before.history cookie))
+Does line.Heard before calls after end = Hears before calls after end ⊎ Lacks before calls after end
 Does line.ClearLog before calls after end = Adds (adding ClearLog before) calls after end told.Done
 Does line.Close before calls after end = (calls ≡ shut_calls before.link) × (after ≡ closing before) × (end ≡ Ok (told.Closed (asked before.history).admitted (asked before.history).admitted))
 Does line.Log before calls after end = Stays before calls after end told.Log

@@ -14,6 +14,8 @@ use Rattle.lnbd_script.specs.Seen.{Seen}
 pub record Held : Type 0 where
   -- the latest happening first
   pub history : History Keeper
+  -- how many calls on the callbacks a line `heard` has shown
+  pub shown : ℕ
   pub link : Option ℕ
 
 pub record Scene : Type 0 where
@@ -28,7 +30,7 @@ pub record Scene : Type 0 where
 
 -- a handle of which nothing was asked
 abbrev pub unused : Held
-unused = record { history = []; link = None }
+unused = record { history = []; shown = 0; link = None }
 
 -- Where a script begins: nothing has happened, and its lines act on handle 0.
 abbrev pub beginning : Scene
@@ -36,10 +38,10 @@ beginning = record { handles = replicate max_handles unused; current = 0; first 
 
 -- what one handle's lines and calls see
 abbrev pub seen_of : Held → Option Event → Seen
-seen_of held first = record { history = held.history; link = held.link; first = first }
+seen_of held first = record { history = held.history; shown = held.shown; link = held.link; first = first }
 
 abbrev pub held_of : Seen → Held
-held_of seen = record { history = seen.history; link = seen.link }
+held_of seen = record { history = seen.history; shown = seen.shown; link = seen.link }
 
 -- the handle of a number
 abbrev pub held_at : Scene → ℕ → Held
@@ -62,7 +64,7 @@ choosing number scene = record { handles = scene.handles; current = if nat_lt nu
 -- what is closed already stays so
 abbrev pub ended_if : Bool → Held → Held
 ended_if true held = held
-ended_if false held = record { history = Close ∷ held.history; link = None }
+ended_if false held = record { history = Close ∷ held.history; shown = held.shown; link = None }
 
 abbrev pub ended_held : Held → Held
 ended_held held = ended_if (is_closed held.history) held

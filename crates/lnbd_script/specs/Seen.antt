@@ -1,12 +1,11 @@
 -- Where a script stands: what has happened on its handle, its link, and the first event that counts for how the run ends.
-use Rattle.std.specs.Prelude.{◌≡◌, ◌≤◌, ℕ, Bool, true, false, List, ◌∷◌, All, Option, Some, None}
-use Rattle.std.specs.List.{list_any}
+use Rattle.std.specs.Prelude.{◌≡◌, ◌≤◌, ℕ, Bool, true, false, List, [], ◌∷◌, All, drop, length, string_bytes, Option, Some, None}
 use Rattle.lnbd_model.specs.declared.state.State.{State}
 use Rattle.lnbd_model.specs.declared.state.State.TheVariants as state
 use Rattle.lnbd_model.specs.declared.state.Cause.{Cause}
 use Rattle.lnbd_model.specs.declared.state.Cause.TheVariants as cause
 use Rattle.lnbd_callbacks.specs.Calls.{Call}
-use Rattle.lnbd_history.specs.Events.{Event as Happening, History}
+use Rattle.lnbd_history.specs.Events.{Event as Happening, History, Issue}
 use Rattle.lnbd_history.specs.Entries.{calls}
 use Rattle.lnbd_history.specs.History.{reading}
 use Rattle.lnbd_history.specs.Answers.{opt_answer_after, state_after}
@@ -22,7 +21,7 @@ use Rattle.lnbd_script.specs.declared.event.Event.{Event}
 use Rattle.lnbd_script.specs.declared.event.Event.TheVariants.{Link, Broke, Peer}
 use Rattle.lnbd_model.specs.declared.breach.Broken.TheVariants as broken
 use Rattle.lnbd_script.specs.declared.session.Session.{Session}
-use Rattle.lnbd_script.specs.Kept.{IsAsHanded, first_error, is_faulty, or_first}
+use Rattle.lnbd_script.specs.Kept.{IsAnswered, Tally, freed_by, joined, lines_of, no_tally, or_first, tallied, tally_of}
 use Rattle.lnbd_handle.specs.Histories.{max_unretired}
 
 -- how many waits in vain are borne
@@ -32,12 +31,32 @@ patience = 1000000000
 pub record Seen : Type 0 where
   -- the latest happening first
   pub history : History Keeper
+  -- how many calls on the callbacks a line `heard` has shown
+  pub shown : ℕ
   pub link : Option ℕ
   pub first : Option Event
 
 -- all calls on the callbacks of the commands
 abbrev pub callbacks_of : History Keeper → List (Call Keeper)
 callbacks_of history = calls (reading history).known.entries
+
+-- the lines that callbacks left since a line `heard` showed them
+abbrev pub heard_after : Seen → List ℕ
+heard_after seen = lines_of (drop seen.shown (callbacks_of seen.history))
+
+-- what a happening adds to the tally before it calls anything: a command that is issued joins
+abbrev pub with_command : Happening Keeper → Tally → Tally
+with_command (Issue command) tally = joined tally
+with_command other tally = tally
+
+-- what the calls on the callbacks came to, happening by happening
+abbrev pub tally_after : History Keeper → Tally
+tally_after [] = no_tally
+tally_after (happening ∷ history) = tallied (with_command happening (tally_after history)) (drop (length (callbacks_of history)) (callbacks_of (happening ∷ history)))
+
+-- how many commands were issued: the number of the next
+abbrev pub issued_in : History Keeper → ℕ
+issued_in history = length (tally_after history).failed
 
 -- Events.
 
@@ -79,7 +98,7 @@ abbrev pub met_of : Bool → State → Option OptAnswer → Option ℕ → Optio
 met_of faulty state answer error = or_first (event_of_faulty faulty) (or_first (death_in state) (or_first (event_of_answer answer) (event_of_error error)))
 
 abbrev pub met : History Keeper → Option Event
-met history = met_of (list_any is_faulty (callbacks_of history)) (state_after history) (opt_answer_after history) (first_error (callbacks_of history))
+met history = met_of (tally_after history).faulty (state_after history) (opt_answer_after history) (tally_after history).error
 
 -- How it goes on.
 
@@ -87,27 +106,30 @@ met history = met_of (list_any is_faulty (callbacks_of history)) (state_after hi
 abbrev pub noting : Option Event → Happening Keeper → Seen → Seen
 noting fault happening seen = record {
   history = happening ∷ seen.history;
+  shown = seen.shown;
   link = seen.link;
   first = or_first seen.first (or_first fault (met (happening ∷ seen.history)));
 }
 
--- This happened, and the callbacks that it called kept what was handed to them.
+-- This happened, and the callbacks that it called answered as the lines say.
 pub record Follows (happening : Happening Keeper) (fault : Option Event) (before after : Seen) : Type 0 where
   pub is : after ≡ noting fault happening before
-  pub kept : All IsAsHanded (callbacks_of (happening ∷ before.history))
+  pub answered : All IsAnswered (callbacks_of (happening ∷ before.history))
 
 -- this happened by a call on the handle alone
 abbrev pub adding : Happening Keeper → Seen → Seen
-adding happening seen = record { history = happening ∷ seen.history; link = seen.link; first = seen.first }
+adding happening seen = record { history = happening ∷ seen.history; shown = seen.shown; link = seen.link; first = seen.first }
 
 -- The session of a script stands where the script does.
 pub record IsAt (seen : Seen) (session : Session) : Type 0 where
   pub stands : StandsFor max_unretired seen.history session.handle
   pub link : session.link ≡ seen.link
   pub first : session.first ≡ seen.first
-  pub kept : All IsAsHanded (callbacks_of seen.history)
-  pub heeded : session.heeded.error ≡ first_error (callbacks_of seen.history)
-  pub faulty : session.heeded.faulty ≡ list_any is_faulty (callbacks_of seen.history)
+  pub answered : All IsAnswered (callbacks_of seen.history)
+  pub tally : tally_of session.heeded ≡ tally_after seen.history
+  pub shown : seen.shown ≤ length (callbacks_of seen.history)
+  pub heard : session.heeded.hears ≡ true → string_bytes session.heeded.heard ≡ heard_after seen
+  pub freed : session.heeded.freed ≡ freed_by 0 (callbacks_of seen.history)
 
 -- From where the script stands, these calls were made, and it then stands where they lead.
 pub record Went (old new : Option (List wire.Call)) (session : Session) (Leads : List wire.Call → Seen → Type 0) : Type 0 where

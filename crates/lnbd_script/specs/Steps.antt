@@ -1,5 +1,5 @@
 -- Words on the code's own steps.
-use Rattle.std.specs.Prelude.{◌≡◌, ◌≢◌, ◌<◌, ◌≤◌, ℕ, Bool, true, false, not, ◌||◌, ◌==◌, List, [], ◌∷◌, ◌++◌, Option, Some, None, Result, Ok, Err, get_or, vec_len, vec_capacity}
+use Rattle.std.specs.Prelude.{◌≡◌, ◌≢◌, ◌<◌, ◌≤◌, ℕ, Bool, true, false, not, ◌||◌, ◌==◌, List, [], ◌∷◌, ◌++◌, Option, Some, None, Result, Ok, Err, IfErr, IfOk, OnOk, get_or, string_bytes, vec_len, vec_capacity}
 use Rattle.std.specs.List.{list_any}
 use Rattle.lnbd_machine.specs.Machine.{Machine}
 use Rattle.lnbd_machine.specs.Now.{state_now, in_flight_now, direction_now}
@@ -50,8 +50,15 @@ use Rattle.lnbd_machine.specs.Machine.{step}
 use Rattle.lnbd_handle.specs.declared.kinds.OptFault.{OptFault}
 use Rattle.lnbd_handle.specs.declared.kinds.OptFault.TheVariants as opt
 use Rattle.lnbd_lines.specs.declared.negotiation.Opt.{Opt as Asked_option}
-use Rattle.lnbd_script.specs.Lines.{Issues, asking, lacks_structured, LineEnd, told_read, told_write}
+use Rattle.lnbd_script.specs.Lines.{Issues, asking, issue_of, lacks_structured, LineEnd, told_read, told_write}
 use Rattle.lnbd_history.specs.Commands.{Command}
+use Rattle.lnbd_history.specs.Events.{Issue}
+use Rattle.lnbd_machine.specs.Now.{refusal_now}
+use Rattle.lnbd_handle.specs.Issues.{Faults}
+use Rattle.lnbd_lines.specs.declared.command.Command.{Command as Asked}
+use Rattle.lnbd_lines.specs.declared.command.Manner.{Manner}
+use Rattle.lnbd_script.specs.declared.keeper.Heeded.{Heeded}
+use Rattle.lnbd_script.specs.Kept.{Heeds, Tally, joined, tally_of}
 use Rattle.lnbd_history.specs.Refusals.{refusal_after}
 use Rattle.lnbd_handle.specs.Histories.{max_unretired}
 use Rattle.lnbd_handle.specs.declared.issue.IssueFault.{IssueFault}
@@ -61,9 +68,31 @@ use Rattle.lnbd_handle.specs.declared.issue.IssueFault.TheVariants as fault
 abbrev pub Becomes : Session → Session → (Seen → Seen → Type 0) → Type 0
 Becomes old new Leads = (seen : Seen) → IsAt seen old → (after : Seen) × Leads seen after × IsAt after new
 
--- a command was issued, or refused, and so much is told of it
-abbrev pub Issued : Command Keeper → Session → Session → Told → Type 0
-Issued command old new tells = Becomes old new (λ before after. Issues (refusal_after max_unretired before.history command) command before [] after (Ok tells))
+-- the tally was changed so, and nothing else that is said of a world
+pub record IsWorld (change : Tally → Tally) (old new : Heeded) : Type 0 where
+  pub tally : tally_of new ≡ change (tally_of old)
+  pub hears : new.hears ≡ old.hears
+  pub heard : string_bytes new.heard ≡ string_bytes old.heard
+  pub freed : new.freed ≡ old.freed
+
+-- a command that was issued joins the tally
+abbrev pub Joins : Result ℕ (IssueFault Keeper) → Heeded → Heeded → Type 0
+Joins (Ok cookie) old new = IsWorld joined old new
+Joins (Err fault) old new = new ≡ old
+
+-- what the handle's call says of its answer to an issue
+pub record Answered (command : Command Keeper) (old new : Session) (answer : Result ℕ (IssueFault Keeper)) : Type 0 where
+  pub cookie : IfOk answer (λ cookie. cookie ≡ new.handle.known.issued)
+  pub accepted : OnOk answer (refusal_now max_unretired old.handle.known command ≡ None)
+  pub made : OnOk answer (new.handle ≡ step old.handle (Issue command))
+  pub world : OnOk answer (new.heeded ≡ old.heeded)
+  pub faults : IfErr answer (λ fault. Faults Heeds command fault old.handle new.handle old.heeded new.heeded)
+  pub same : new ≡ record old { handle = new.handle; heeded = new.heeded }
+
+-- a command was issued with callbacks that answer so, or refused, and so much is told of it
+abbrev pub Issued : Manner → Asked → Session → Session → Told → Type 0
+Issued manner asking old new tells =
+    Becomes old new (λ before after. Issues (refusal_after max_unretired before.history (issue_of manner asking before.history)) (issue_of manner asking before.history) before [] after (Ok tells))
 
 -- what the handle's answer to an issue comes to
 abbrev pub issue_told : Result ℕ (IssueFault Keeper) → Result Told NoMemory
@@ -206,7 +235,7 @@ current_place sessions = get_or sessions.places.items sessions.current place.Unu
 
 -- a handle that is closed where it stands
 abbrev pub closed_held : Held → Held
-closed_held held = record { history = Close ∷ held.history; link = None }
+closed_held held = record { history = Close ∷ held.history; shown = held.shown; link = None }
 
 -- what is left of a handle that is closed
 pub record IsOver (held : Held) (over : Over) : Type 0 where

@@ -1,5 +1,5 @@
 -- The text of what a line tells, without the end of the line.
-use Rattle.std.specs.Prelude.{ℕ, List, ◌++◌, codes, decimal}
+use Rattle.std.specs.Prelude.{ℕ, List, ◌++◌, codes, decimal, string_bytes}
 use Rattle.lnbd_history.specs.Events.{History}
 use Rattle.lnbd_history.specs.Answers.{state_after, in_flight_after, direction_after, peeked_after, info_after, listed_after, log_after, opt_answer_after}
 use Rattle.lnbd_texts.specs.States.{state_text}
@@ -36,6 +36,7 @@ text_of history (told.Cookie cookie) = codes "cookie " ++ decimal cookie
 text_of history (told.Refused why) = refusal_text why
 text_of history (told.Moved moved) = moved_text moved
 text_of history (told.Result completed) = completed_text completed
+text_of history (told.Heard lines) = string_bytes lines ++ codes "end"
 text_of history (told.Closed opened freed) = codes "closed " ++ decimal opened ++ codes " " ++ decimal freed
 text_of history told.Log = log_text (log_after history)
 text_of history told.Peek = peeked_text (peeked_after history)

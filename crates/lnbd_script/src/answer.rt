@@ -10,7 +10,7 @@ ghost use Rattle.lnbd_history.specs.Laws.{may_name};
 ghost use Rattle.lnbd_history.specs.Refusals.{by_state};
 ghost use Rattle.lnbd_history.specs.Strict.{unknown_bits};
 ghost use Rattle.lnbd_script.specs.Acts.{reach_of};
-ghost use Rattle.lnbd_script.specs.Lines.{Adds, AddsContext, Connects, Disconnects, AsksFor, Does, ReadsOn, Sets, SetsStrict, WritesOn, connected, has_all_contexts, is_created, is_opt_mode, is_structured, lacks_structured, setting_of, taking};
+ghost use Rattle.lnbd_script.specs.Lines.{Adds, AddsContext, Connects, Disconnects, AsksFor, Does, Hears, ReadsOn, Sets, SetsStrict, WritesOn, connected, has_all_contexts, is_created, is_opt_mode, is_structured, lacks_structured, setting_of, taking};
 ghost use Rattle.lnbd_script.specs.Seen.{Counts, Goes, adding};
 ghost use Rattle.lnbd_script.specs.Steps.{Becomes, Takes_option, halted, is_alone, is_close, linked_told, moved_end, option_told};
 ghost use Rattle.lnbd_script.specs.Turns.{is_reading, is_waiting};
@@ -28,6 +28,7 @@ use lnbd_lines::{Line, Opt, Switch};
 use lnbd_link::Wires;
 use lnbd_model::{NoMemory, State, Target, Text};
 use std::alloc::Global;
+use std::mem::replace;
 
 /// Turns a setting of a handle on or off.
 fn turn(handle: &mut Handle<Keeper>, switch: Switch, on: bool) -> Result<(), SetFault>
@@ -153,6 +154,19 @@ impl Session {
         ensures first { self.new.first ≡ self.old.first }
     {
         Told::Result(self.handle.command_completed(cookie))
+    }
+
+    /// Takes what callbacks heard.
+    fn take_heard(&mut self, alloc: Global) -> Result<Told, NoMemory>
+        ensures ok { IfOk result (λ tells. Becomes self.old self.new (λ before after. Hears before [] after (Ok tells))) }
+        ensures lacks { OnErr result (Becomes self.old self.new (λ before after. after ≡ before)) }
+        ensures first { self.new.first ≡ self.old.first }
+    {
+        if !self.heeded.hears {
+            return Err(NoMemory);
+        }
+        let lines = replace(&mut self.heeded.heard, String::new(alloc));
+        Ok(Told::Heard(lines))
     }
 
     /// Drops the notes.
@@ -289,7 +303,8 @@ fn act_alone(alloc: Global, session: &mut Session, line: &Line) -> Result<Told, 
     ensures spoken { ¬ (result ≡ Err halt.Silent) }
 {
     match line {
-        Line::Command(command) => or_halt(session.issue(alloc, command)),
+        Line::Command { manner, command } => or_halt(session.issue(alloc, *manner, command)),
+        Line::Heard => or_halt(session.take_heard(alloc)),
         Line::Export { name } => or_halt(session.set_name(alloc, name)),
         Line::Context { name } => or_halt(session.add_context(alloc, name)),
         Line::Switch { switch, on } => Ok(session.set_switch(*switch, *on)),

@@ -1,15 +1,15 @@
 //! Commands of a script, issued on its handle. No text is made here.
 
-ghost use Rattle.std.specs.Prelude.{◌≡◌, IfOk, OnErr, replicate};
+ghost use Rattle.std.specs.Prelude.{◌≡◌, ◌<◌, IfOk, IsOk, OnErr, replicate, vec_capacity, vec_len};
 ghost use Rattle.lnbd_lines.specs.declared.command.Command.TheVariants as command;
 ghost use Rattle.lnbd_script.specs.Lines.{command_of, payload_of};
-ghost use Rattle.lnbd_script.specs.Steps.{Becomes, Issued, issue_told};
+ghost use Rattle.lnbd_script.specs.Steps.{Answered, Becomes, Issued, Joins, issue_told};
 
-use crate::keeper::Keeper;
+use crate::keeper::{Heeded, Keeper};
 use crate::session::Session;
 use crate::told::Told;
 use lnbd_handle::IssueFault;
-use lnbd_lines::{Command, Payload, Range};
+use lnbd_lines::{Command, Manner, Payload, Range};
 use lnbd_model::{Bytes, NoMemory};
 use std::alloc::Global;
 
@@ -27,6 +27,17 @@ fn told_of(answer: Result<u64, IssueFault<Keeper>>) -> Result<Told, NoMemory>
                 done: _,
             },
         ) => Err(NoMemory),
+    }
+}
+
+/// Counts a command, where it was issued.
+fn count_in(heeded: &mut Heeded, answer: &Result<u64, IssueFault<Keeper>>)
+    requires room { IsOk answer.now → vec_len heeded.old.failed < vec_capacity heeded.old.failed }
+    ensures { Joins answer.now heeded.old heeded.new }
+{
+    match answer {
+        Ok(_) => heeded.join(),
+        Err(_) => {}
     }
 }
 
@@ -58,115 +69,167 @@ fn payload_bytes(alloc: Global, payload: &Payload) -> Result<Vec<u8>, NoMemory>
 
 impl Session {
     /// Issues a read into a buffer of zeroes.
-    fn issue_read(&mut self, alloc: Global, range: Range) -> Result<Told, NoMemory>
-        ensures ok { IfOk result (λ tells. Issued (command_of (command.Pread range)) self.old self.new tells) }
-        ensures lacks { OnErr result (Becomes self.old self.new (λ before after. after ≡ before)) }
-        ensures first { self.new.first ≡ self.old.first }
+    fn issue_read(
+        &mut self,
+        alloc: Global,
+        keeper: Keeper,
+        range: Range,
+    ) -> Result<Result<u64, IssueFault<Keeper>>, NoMemory>
+        ensures ok { IfOk result (λ answer. Answered (command_of keeper (command.Pread range)) self.old self.new answer) }
+        ensures lacks { OnErr result (self.new ≡ self.old) }
     {
         let buf = filled(alloc, 0, range.length)?;
         let answer = self
             .handle
-            .aio_pread(buf, range.offset, Keeper, range.flags, &mut self.heeded);
-        told_of(answer)
+            .aio_pread(buf, range.offset, keeper, range.flags, &mut self.heeded);
+        Ok(answer)
+    }
+
+    /// Issues a read into a buffer of zeroes, each piece of which a callback hears.
+    fn issue_structured_read(
+        &mut self,
+        alloc: Global,
+        keeper: Keeper,
+        range: Range,
+    ) -> Result<Result<u64, IssueFault<Keeper>>, NoMemory>
+        ensures ok { IfOk result (λ answer. Answered (command_of keeper (command.PreadStructured range)) self.old self.new answer) }
+        ensures lacks { OnErr result (self.new ≡ self.old) }
+    {
+        let buf = filled(alloc, 0, range.length)?;
+        let answer = self.handle.aio_pread_structured(
+            buf,
+            range.offset,
+            keeper,
+            keeper,
+            range.flags,
+            &mut self.heeded,
+        );
+        Ok(answer)
     }
 
     /// Issues a write.
     fn issue_write(
         &mut self,
         alloc: Global,
+        keeper: Keeper,
         payload: &Payload,
         offset: u64,
         flags: u32,
-    ) -> Result<Told, NoMemory>
-        ensures ok { IfOk result (λ tells. Issued (command_of (command.Pwrite payload.now offset flags)) self.old self.new tells) }
-        ensures lacks { OnErr result (Becomes self.old self.new (λ before after. after ≡ before)) }
-        ensures first { self.new.first ≡ self.old.first }
+    ) -> Result<Result<u64, IssueFault<Keeper>>, NoMemory>
+        ensures ok { IfOk result (λ answer. Answered (command_of keeper (command.Pwrite payload.now offset flags)) self.old self.new answer) }
+        ensures lacks { OnErr result (self.new ≡ self.old) }
     {
         let buf = payload_bytes(alloc, payload)?;
         let answer = self
             .handle
-            .aio_pwrite(buf, offset, Keeper, flags, &mut self.heeded);
-        told_of(answer)
+            .aio_pwrite(buf, offset, keeper, flags, &mut self.heeded);
+        Ok(answer)
     }
 
     /// Issues a flush.
-    fn issue_flush(&mut self, flags: u32) -> Result<Told, NoMemory>
-        ensures ok { IfOk result (λ tells. Issued (command_of (command.Flush flags)) self.old self.new tells) }
-        ensures lacks { OnErr result (Becomes self.old self.new (λ before after. after ≡ before)) }
-        ensures first { self.new.first ≡ self.old.first }
+    fn issue_flush(&mut self, keeper: Keeper, flags: u32) -> Result<u64, IssueFault<Keeper>>
+        ensures { Answered (command_of keeper (command.Flush flags)) self.old self.new result }
     {
-        let answer = self.handle.aio_flush(Keeper, flags, &mut self.heeded);
-        told_of(answer)
+        self.handle.aio_flush(keeper, flags, &mut self.heeded)
     }
 
     /// Issues a trim.
-    fn issue_trim(&mut self, range: Range) -> Result<Told, NoMemory>
-        ensures ok { IfOk result (λ tells. Issued (command_of (command.Trim range)) self.old self.new tells) }
-        ensures lacks { OnErr result (Becomes self.old self.new (λ before after. after ≡ before)) }
-        ensures first { self.new.first ≡ self.old.first }
+    fn issue_trim(&mut self, keeper: Keeper, range: Range) -> Result<u64, IssueFault<Keeper>>
+        ensures { Answered (command_of keeper (command.Trim range)) self.old self.new result }
     {
         let Range {
             length,
             offset,
             flags,
         } = range;
-        let answer = self
-            .handle
-            .aio_trim(length, offset, Keeper, flags, &mut self.heeded);
-        told_of(answer)
+        self.handle
+            .aio_trim(length, offset, keeper, flags, &mut self.heeded)
     }
 
     /// Issues a write of zeroes.
-    fn issue_zero(&mut self, range: Range) -> Result<Told, NoMemory>
-        ensures ok { IfOk result (λ tells. Issued (command_of (command.Zero range)) self.old self.new tells) }
-        ensures lacks { OnErr result (Becomes self.old self.new (λ before after. after ≡ before)) }
-        ensures first { self.new.first ≡ self.old.first }
+    fn issue_zero(&mut self, keeper: Keeper, range: Range) -> Result<u64, IssueFault<Keeper>>
+        ensures { Answered (command_of keeper (command.Zero range)) self.old self.new result }
     {
         let Range {
             length,
             offset,
             flags,
         } = range;
-        let answer = self
-            .handle
-            .aio_zero(length, offset, Keeper, flags, &mut self.heeded);
-        told_of(answer)
+        self.handle
+            .aio_zero(length, offset, keeper, flags, &mut self.heeded)
     }
 
     /// Issues a read ahead.
-    fn issue_cache(&mut self, range: Range) -> Result<Told, NoMemory>
-        ensures ok { IfOk result (λ tells. Issued (command_of (command.Cache range)) self.old self.new tells) }
-        ensures lacks { OnErr result (Becomes self.old self.new (λ before after. after ≡ before)) }
-        ensures first { self.new.first ≡ self.old.first }
+    fn issue_cache(&mut self, keeper: Keeper, range: Range) -> Result<u64, IssueFault<Keeper>>
+        ensures { Answered (command_of keeper (command.Cache range)) self.old self.new result }
     {
         let Range {
             length,
             offset,
             flags,
         } = range;
-        let answer = self
-            .handle
-            .aio_cache(length, offset, Keeper, flags, &mut self.heeded);
-        told_of(answer)
+        self.handle
+            .aio_cache(length, offset, keeper, flags, &mut self.heeded)
     }
 
-    /// Issues a command.
-    pub(crate) fn issue(&mut self, alloc: Global, command: &Command) -> Result<Told, NoMemory>
-        ensures ok { IfOk result (λ tells. Issued (command_of command.now) self.old self.new tells) }
-        ensures lacks { OnErr result (Becomes self.old self.new (λ before after. after ≡ before)) }
-        ensures first { self.new.first ≡ self.old.first }
+    /// Issues a question what a range consists of.
+    fn issue_block_status(
+        &mut self,
+        keeper: Keeper,
+        range: Range,
+    ) -> Result<u64, IssueFault<Keeper>>
+        ensures { Answered (command_of keeper (command.BlockStatus range)) self.old self.new result }
+    {
+        let Range {
+            length,
+            offset,
+            flags,
+        } = range;
+        self.handle
+            .aio_block_status(length, offset, keeper, keeper, flags, &mut self.heeded)
+    }
+
+    /// Issues a command with this callback.
+    fn hand_over(
+        &mut self,
+        alloc: Global,
+        keeper: Keeper,
+        command: &Command,
+    ) -> Result<Result<u64, IssueFault<Keeper>>, NoMemory>
+        ensures ok { IfOk result (λ answer. Answered (command_of keeper command.now) self.old self.new answer) }
+        ensures lacks { OnErr result (self.new ≡ self.old) }
     {
         match command {
-            Command::Pread(range) => self.issue_read(alloc, *range),
+            Command::Pread(range) => self.issue_read(alloc, keeper, *range),
+            Command::PreadStructured(range) => self.issue_structured_read(alloc, keeper, *range),
             Command::Pwrite {
                 payload,
                 offset,
                 flags,
-            } => self.issue_write(alloc, payload, *offset, *flags),
-            Command::Flush { flags } => self.issue_flush(*flags),
-            Command::Trim(range) => self.issue_trim(*range),
-            Command::Zero(range) => self.issue_zero(*range),
-            Command::Cache(range) => self.issue_cache(*range),
+            } => self.issue_write(alloc, keeper, payload, *offset, *flags),
+            Command::Flush { flags } => Ok(self.issue_flush(keeper, *flags)),
+            Command::Trim(range) => Ok(self.issue_trim(keeper, *range)),
+            Command::Zero(range) => Ok(self.issue_zero(keeper, *range)),
+            Command::Cache(range) => Ok(self.issue_cache(keeper, *range)),
+            Command::BlockStatus(range) => Ok(self.issue_block_status(keeper, *range)),
         }
+    }
+
+    /// Issues a command with callbacks that answer so.
+    pub(crate) fn issue(
+        &mut self,
+        alloc: Global,
+        manner: Manner,
+        command: &Command,
+    ) -> Result<Told, NoMemory>
+        ensures ok { IfOk result (λ tells. Issued manner command.now self.old self.new tells) }
+        ensures lacks { OnErr result (Becomes self.old self.new (λ before after. after ≡ before)) }
+        ensures first { self.new.first ≡ self.old.first }
+    {
+        let keeper = Keeper::new(self.heeded.count(), manner);
+        self.heeded.reserve()?;
+        let answer = self.hand_over(alloc, keeper, command)?;
+        count_in(&mut self.heeded, &answer);
+        told_of(answer)
     }
 }

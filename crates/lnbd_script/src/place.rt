@@ -27,7 +27,7 @@ use std::mem::replace;
 pub(crate) struct Over {
     /// How many callbacks were admitted.
     pub(crate) opened: u64,
-    /// How many were freed: all of them.
+    /// How many were freed, as they counted themselves: all of them.
     pub(crate) freed: u64,
 }
 
@@ -45,18 +45,15 @@ pub(crate) enum Place {
     Over(Over),
 }
 
-/// A handle that was just created, without a link.
-fn create(alloc: Global) -> Result<Session, NoMemory>
+/// A handle that was just created, without a link. What its callbacks hear is kept, or not.
+fn create(alloc: Global, hears: bool) -> Result<Session, NoMemory>
     ensures { IfOk result (λ session. IsAt (seen_of unused None) session) }
 {
     let handle = Handle::create(alloc)?;
     Ok(Session {
         handle,
         link: None,
-        heeded: Heeded {
-            error: None,
-            faulty: false,
-        },
+        heeded: Heeded::new(alloc, hears),
         first: None,
     })
 }
@@ -88,10 +85,23 @@ fn close<W: Wires>(session: Session, wires: &mut W) -> Over
     let Closed {
         notes: _,
         opened,
-        freed,
+        freed: noted,
     } = handle.close(&mut heeded);
     shut(wires, link);
-    Over { opened, freed }
+    left_of(opened, noted, &heeded)
+}
+
+/// What is left of a handle on which so many callbacks were admitted, and so many notes tell of their ends.
+fn left_of(opened: u64, noted: u64, heeded: &Heeded) -> Over
+    ensures opened { result.opened ≡ opened }
+    ensures freed { result.freed ≡ heeded.now.freed }
+    ensures fits { noted ≤ 18446744073709551615 }
+{
+    let _ = noted;
+    Over {
+        opened,
+        freed: heeded.freed,
+    }
 }
 
 impl Place {
@@ -109,15 +119,15 @@ impl Place {
         matches!(self, Place::Open(_))
     }
 
-    /// Makes the handle, where no line has acted on it.
-    pub(crate) fn make(&mut self, alloc: Global) -> Result<(), NoMemory>
+    /// Makes the handle, where no line has acted on it. What its callbacks hear is kept, or not.
+    pub(crate) fn make(&mut self, alloc: Global, hears: bool) -> Result<(), NoMemory>
         ensures used { OnOk result (is_used self.new ≡ true) }
         ensures same { (held : Held) → IsHeld held self.old → IsHeld held self.new }
     {
         if self.is_used() {
             return Ok(());
         }
-        let session = create(alloc)?;
+        let session = create(alloc, hears)?;
         match replace(self, Place::Open(session)) {
             Place::Unused => Ok(()),
             Place::Open(_session) => unreachable!(),

@@ -27,7 +27,7 @@ use std::alloc::{AllocError, Global};
 pub(crate) struct Sum {
     /// How many were admitted.
     pub(crate) opened: u128,
-    /// How many were freed: all of them.
+    /// How many were freed, as they counted themselves: all of them.
     pub(crate) freed: u128,
 }
 
@@ -196,6 +196,11 @@ fn finish<O: Sink>(
     }
 }
 
+/// Whether a line asks for what callbacks hear. Where none does, that is not kept.
+fn asks_for_heard(lines: &[Line]) -> bool {
+    lines.iter().any(|line| matches!(line, Line::Heard))
+}
+
 /// Plays the lines, closes the handles and shuts their links, and tells the last line.
 fn play_all<W: Wires, O: Sink>(
     alloc: Global,
@@ -208,7 +213,8 @@ fn play_all<W: Wires, O: Sink>(
     ensures output { result ≡ Err Stop.Output → Rises 1 (O.faults out.old) (O.faults out.new) }
     ensures blames { is_link (first_in result) ≡ true → Rises 1 (W.faults wires.old) (W.faults wires.new) }
 {
-    let mut sessions = match Sessions::new(alloc, wires.idles()) {
+    let hears = asks_for_heard(lines);
+    let mut sessions = match Sessions::new(alloc, wires.idles(), hears) {
         Ok(sessions) => sessions,
         Err(_) => return Err(Stop::NoMemory),
     };
@@ -219,6 +225,7 @@ fn play_all<W: Wires, O: Sink>(
         first,
         start: _,
         wants: _,
+        hears: _,
     } = sessions;
     let sum = end_all(places, wires);
     match told {

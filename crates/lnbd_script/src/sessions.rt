@@ -36,6 +36,8 @@ pub(crate) struct Sessions {
     pub(crate) start: u64,
     /// The room of a pause.
     pub(crate) wants: Vec<Want>,
+    /// Whether a line of the script asks for what callbacks hear.
+    pub(crate) hears: bool,
 }
 
 /// The places of handles that no line has acted on.
@@ -50,8 +52,8 @@ fn unused(alloc: Global) -> Result<Vec<Place>, NoMemory>
 }
 
 impl Sessions {
-    /// Where a script begins, with this count of waiting.
-    pub(crate) fn new(alloc: Global, start: u64) -> Result<Sessions, NoMemory>
+    /// Where a script begins, with this count of waiting. What callbacks hear is kept, or not.
+    pub(crate) fn new(alloc: Global, start: u64, hears: bool) -> Result<Sessions, NoMemory>
         ensures stands { IfOk result (λ sessions. Stands beginning sessions start) }
         ensures first { IfOk result (λ sessions. sessions.first ≡ None) }
         ensures start { IfOk result (λ sessions. sessions.start ≡ start) }
@@ -64,6 +66,7 @@ impl Sessions {
             first: None,
             start,
             wants,
+            hears,
         })
     }
 
@@ -84,8 +87,9 @@ impl Sessions {
         ensures start { self.new.start ≡ self.old.start }
     {
         let current = self.current;
+        let hears = self.hears;
         let place = &mut self.places[current];
-        place.make(alloc)
+        place.make(alloc, hears)
     }
 
     /// Makes the handle of this number current. A number past the last, which no script has, changes nothing.

@@ -48,6 +48,10 @@ fn push_plain(text: &mut String, told: &Told) -> Result<(), AllocError>
         Told::Refused(why) => push_refusal(text, *why),
         Told::Moved(moved) => push_moved(text, *moved),
         Told::Result(completed) => push_completed(text, completed),
+        Told::Heard(lines) => {
+            text.push_str(lines.as_str())?;
+            text.push_str("end")
+        }
         Told::Closed { opened, freed } => write!(text, "closed {opened} {freed}"),
         _ => Ok(()),
     }

@@ -53,6 +53,8 @@ pub(crate) enum Told {
     Refused(Why),
     Moved(Moved),
     Result(Completed),
+    /// A line for each call that callbacks heard.
+    Heard(String),
     /// So many callbacks were admitted, and so many freed.
     Closed { opened: u64, freed: u64 },
     Log,

@@ -2,6 +2,7 @@
 //! `pause`. They tell their counts alone.
 
 ghost use Rattle.std.specs.Prelude.{◌≡◌, ◌≤◌, ◌<◌, None, length, vec_len};
+ghost use Rattle.lnbd_link.specs.Answers.{IfSent};
 ghost use Rattle.lnbd_link.specs.Count.{Rises};
 
 use crate::socket::Socket;
@@ -15,11 +16,18 @@ use std::io;
 use std::io::ErrorKind;
 use std::net::{Net, TcpListener, TcpStream};
 
+/// A socket, and whether its last write found that it takes no byte yet.
+#[derive(Drop)]
+struct Held {
+    socket: Socket,
+    full: bool,
+}
+
 /// Links over TCP and Unix sockets. A link's number is that of its place, and no place is used twice.
 #[derive(Drop)]
 pub struct SocketWires<'a, R: Net<Listener = TcpListener, Stream = TcpStream> + Files> {
     net: &'a R,
-    sockets: Vec<Socket>,
+    sockets: Vec<Held>,
     poll: Poll,
     events: Events,
     faults: u64,
@@ -82,7 +90,7 @@ impl<'a, R: Net<Listener = TcpListener, Stream = TcpStream> + Files> Wires for S
 
     fn read(&mut self, link: u32, into: &mut [u8]) -> Got {
         let got = match self.sockets.get_mut(link as usize) {
-            Some(socket) => socket.read(into),
+            Some(held) => held.socket.read(into),
             None => Got::Failed,
         };
         if let Got::Failed = got {
@@ -93,7 +101,7 @@ impl<'a, R: Net<Listener = TcpListener, Stream = TcpStream> + Files> Wires for S
 
     fn write(&mut self, link: u32, from: &[u8]) -> Took {
         let took = match self.sockets.get_mut(link as usize) {
-            Some(socket) => socket.write(from),
+            Some(held) => held.write(from),
             None => Took::Failed,
         };
         if let Took::Failed = took {
@@ -103,6 +111,8 @@ impl<'a, R: Net<Listener = TcpListener, Stream = TcpStream> + Files> Wires for S
     }
 
     // Waits where at least one of the wanted can become ready. A wait that fails counts as one that ended.
+    // A link that is wanted for both waits to be written only where its last write found it full: a server
+    // wants each of its links for both, and would never wait at all.
     fn pause(&mut self, wants: &[Want]) {
         let mut armed = false;
         for want in wants {
@@ -120,8 +130,8 @@ impl<'a, R: Net<Listener = TcpListener, Stream = TcpStream> + Files> Wires for S
     }
 
     fn shut(&mut self, link: u32) {
-        if let Some(socket) = self.sockets.get_mut(link as usize) {
-            *socket = Socket::Shut;
+        if let Some(held) = self.sockets.get_mut(link as usize) {
+            held.socket = Socket::Shut;
         }
     }
 
@@ -134,12 +144,37 @@ impl<'a, R: Net<Listener = TcpListener, Stream = TcpStream> + Files> Wires for S
     }
 }
 
+impl Held {
+    fn write(&mut self, from: &[u8]) -> Took
+        requires { 0 < length from.now }
+        ensures { IfSent result (λ n. (0 < n) × (n ≤ length from.now)) }
+    {
+        let took = self.socket.write(from);
+        self.full = matches!(took, Took::NotReady);
+        took
+    }
+
+    // What a want waits for: 1 is reading, 2 writing, and 3 both.
+    fn interest(&self, direction: u32) -> Option<Interest> {
+        match direction {
+            1 => Some(Interest::READABLE),
+            2 => Some(Interest::WRITABLE),
+            3 if self.full => Some(Interest::READABLE | Interest::WRITABLE),
+            3 => Some(Interest::READABLE),
+            _ => None,
+        }
+    }
+}
+
 // Gives the socket a place, if it was opened and there is one.
-fn added(sockets: &mut Vec<Socket>, opened: io::Result<Socket>) -> Option<u32> {
+fn added(sockets: &mut Vec<Held>, opened: io::Result<Socket>) -> Option<u32> {
     let at = sockets.len();
     if let Ok(socket) = opened
         && at <= 0xffff_ffff
-        && let Ok(()) = sockets.push(socket)
+        && let Ok(()) = sockets.push(Held {
+            socket,
+            full: false,
+        })
     {
         return Some(at as u32);
     }
@@ -147,9 +182,9 @@ fn added(sockets: &mut Vec<Socket>, opened: io::Result<Socket>) -> Option<u32> {
 }
 
 // A link from a peer of this listener, with a place.
-fn accepted(sockets: &mut Vec<Socket>, listener: u32) -> Accepted {
+fn accepted(sockets: &mut Vec<Held>, listener: u32) -> Accepted {
     let accepted = match sockets.get(listener as usize) {
-        Some(socket) => socket.accept(),
+        Some(held) => held.socket.accept(),
         None => return Accepted::Failed,
     };
     if let Err(error) = &accepted
@@ -172,23 +207,13 @@ fn is_early(error: &io::Error) -> bool {
     )
 }
 
-// What a want waits for: 1 is reading, 2 writing, and 3 both.
-fn interest(direction: u32) -> Option<Interest> {
-    match direction {
-        1 => Some(Interest::READABLE),
-        2 => Some(Interest::WRITABLE),
-        3 => Some(Interest::READABLE | Interest::WRITABLE),
-        _ => None,
-    }
-}
-
 // Lets the next wait end when the wanted is ready. A link that is wanted twice waits for both directions.
-fn arm(poll: &Poll, sockets: &Vec<Socket>, want: &Want) -> bool {
+fn arm(poll: &Poll, sockets: &Vec<Held>, want: &Want) -> bool {
     let at = want.link as usize;
-    let Some(socket) = sockets.get(at) else {
+    let Some(held) = sockets.get(at) else {
         return false;
     };
-    let (Some(fd), Some(interest)) = (socket.fd(), interest(want.direction)) else {
+    let (Some(fd), Some(interest)) = (held.socket.fd(), held.interest(want.direction)) else {
         return false;
     };
     let registry = poll.registry();
@@ -205,9 +230,9 @@ fn arm(poll: &Poll, sockets: &Vec<Socket>, want: &Want) -> bool {
 }
 
 // The waits after it don't end by what this one wanted.
-fn disarm(poll: &Poll, sockets: &Vec<Socket>, want: &Want) {
-    if let Some(socket) = sockets.get(want.link as usize)
-        && let Some(fd) = socket.fd()
+fn disarm(poll: &Poll, sockets: &Vec<Held>, want: &Want) {
+    if let Some(held) = sockets.get(want.link as usize)
+        && let Some(fd) = held.socket.fd()
     {
         let _ = poll.registry().deregister(&mut SourceFd(&fd));
     }

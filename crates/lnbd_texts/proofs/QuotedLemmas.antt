@@ -1,6 +1,6 @@
 -- What a character is in quotes.
-use Rattle.std.proofs.Common.{◌≡◌, ◌∙◌, ◌<◌, ◌≤◌, ℕ, false, true, List, [], ◌∷◌, ◌++◌, get_or, length, zero, suc, refl, sym, ap, arith, append-nil, append_assoc, inl, inr}
-use Rattle.std.specs.Prelude.{flat_map, encode_utf8, if◌then◌else◌, is_ok, OnOk, Result, Ok, Err}
+use Rattle.std.proofs.Common.{◌≡◌, ◌∙◌, ◌<◌, ◌≤◌, ℕ, false, true, List, [], ◌∷◌, ◌++◌, get_or, length, suc, refl, sym, ap, arith, append-nil, append_assoc, inl, inr}
+use Rattle.std.specs.Prelude.{encode_utf8, if◌then◌else◌, is_ok, OnOk, Result, Ok, Err}
 use Rattle.std.proofs.lemmas.Bool.{cases_lt}
 use Rattle.std.proofs.lemmas.Bool.Decides.{nat_tests}
 use Rattle.std.proofs.lemmas.Str.{encode_ascii, inside_one}

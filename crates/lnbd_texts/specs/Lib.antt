@@ -7,3 +7,4 @@ pub mod Notes
 pub mod Information
 pub mod Quoted
 pub mod Options
+pub mod Heard

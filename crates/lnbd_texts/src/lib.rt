@@ -4,6 +4,7 @@
 //! No call is made here, and nothing is written out.
 #![tactic(auto)]
 
+mod heard;
 mod information;
 mod notes;
 mod options;
@@ -13,6 +14,7 @@ mod results;
 mod runs;
 mod states;
 
+pub use heard::{push_chunk, push_complete, push_extents};
 pub use information::push_info;
 pub use notes::{push_log, push_note};
 pub use options::{push_listing, push_opt_answer};

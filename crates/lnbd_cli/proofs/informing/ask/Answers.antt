@@ -1,30 +1,24 @@
-use Rattle.std.proofs.Common.{Err, refl}
-use Rattle.lnbd_cli.proofs.InfoLemmas.{link_of, output_of, rule_of, served, silence_of, told_status}
+use Rattle.std.proofs.Common.{refl}
+use Rattle.lnbd_cli.proofs.InfoLemmas.{told_ends, told_status, unheard_ends, unheard_output}
 use Rattle.lnbd_cli.proofs.informing.ask.Goals as goal
 
 pub returns-in-Ok-clause-ends : goal.returns-in-Ok-clause-ends
-returns-in-Ok-clause-ends g c = served c.tell.result c.args.question.now c.in-Ok.found _ _ _ _ _ c.in-Ok.ensures.collects c.tell.ensures.tells
+returns-in-Ok-clause-ends g c = told_ends c.tell.result c.args.question c.in-Ok.news.text.items c.in-Ok.news.end _ _ _ _ _ c.in-Ok.ensures.says c.tell.ensures.tells
 
 pub returns-in-Ok-clause-link : goal.returns-in-Ok-clause-link
-returns-in-Ok-clause-link g c is = absurd ((told_status c.tell.result _ _ c.in-Ok.found _ _ _ c.tell.ensures.tells).link is)
-
-pub returns-in-Ok-clause-rule : goal.returns-in-Ok-clause-rule
-returns-in-Ok-clause-rule g c = (told_status c.tell.result _ _ c.in-Ok.found _ _ _ c.tell.ensures.tells).rule
+returns-in-Ok-clause-link g c is = absurd ((told_status c.tell.result _ _ _ _ c.tell.ensures.tells).link is)
 
 pub returns-in-Ok-clause-silent : goal.returns-in-Ok-clause-silent
-returns-in-Ok-clause-silent g c is = absurd ((told_status c.tell.result _ _ c.in-Ok.found _ _ _ c.tell.ensures.tells).silent is)
+returns-in-Ok-clause-silent g c is = absurd ((told_status c.tell.result _ _ _ _ c.tell.ensures.tells).silent is)
+
+pub returns-in-Ok-clause-output : goal.returns-in-Ok-clause-output
+returns-in-Ok-clause-output g c is = c.tell.ensures.output ((told_status c.tell.result _ _ _ _ c.tell.ensures.tells).output is)
 
 pub returns-in-Err-clause-ends : goal.returns-in-Err-clause-ends
-returns-in-Err-clause-ends g c = (record { answer = Err c.in-Err.fault; collected = c.in-Err.ensures.collects; so = refl }, refl)
-
-pub returns-in-Err-clause-link : goal.returns-in-Err-clause-link
-returns-in-Err-clause-link g c is = link_of c.in-Err.fault _ _ c.in-Err.ensures.link is
-
-pub returns-in-Err-clause-rule : goal.returns-in-Err-clause-rule
-returns-in-Err-clause-rule g c = rule_of c.in-Err.fault c.in-Err.ensures.context
-
-pub returns-in-Err-clause-silent : goal.returns-in-Err-clause-silent
-returns-in-Err-clause-silent g c is = silence_of c.in-Err.fault _ _ c.in-Err.ensures.silent is
+returns-in-Err-clause-ends g c = unheard_ends c.in-Err.why c.args.question _ _ _ _ refl c.in-Err.ensures.fails
 
 pub returns-in-Err-clause-output : goal.returns-in-Err-clause-output
-returns-in-Err-clause-output g c is = absurd (output_of c.in-Err.fault is)
+returns-in-Err-clause-output g c is = absurd (unheard_output c.in-Err.why _ _ _ _ c.in-Err.ensures.fails is)
+
+pub returns-in-Ok-clause-rule : goal.returns-in-Ok-clause-rule
+returns-in-Ok-clause-rule g c is = absurd ((told_status c.tell.result _ _ _ _ c.tell.ensures.tells).rule is)

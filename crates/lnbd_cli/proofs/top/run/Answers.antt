@@ -1,8 +1,9 @@
-use Rattle.std.proofs.Common.{ℕ, List, Err, arith}
+use Rattle.std.proofs.Common.{ℕ, List, inl, inr, Err, arith}
 use Rattle.lnbd_script.specs.declared.event.PlayFault.TheVariants as play
 use Rattle.lnbd_cli.specs.declared.fault.Fault.TheVariants as fault
 use Rattle.lnbd_cli.specs.Runs.{Prints}
 use Rattle.lnbd_cli.proofs.RunLemmas.{bad, bad_end, cut, known, line_of, memory_line, only_input, only_output, only_silent, played, short, waited}
+use Rattle.lnbd_cli.proofs.ServeLemmas.{not_both}
 use Rattle.lnbd_cli.proofs.top.run.Goals as goal
 
 pub returns-clause-played : goal.returns-clause-played
@@ -38,5 +39,86 @@ returns-clause-bad_script g c other calls h = c.tool-end.ensures.bad_script call
 pub returns-clause-known : goal.returns-clause-known
 returns-clause-known g c other = known c.print_end.result c.tool-end.result (λ (t : List ℕ). Prints (g.E.Sink.taken c.args.err.now) (g.E.Sink.taken c.print_end.new.err) (g.E.Sink.faults c.args.err.now) (g.E.Sink.faults c.print_end.new.err) t) c.print_end.ensures
 
+pub returns-then-names_info-clause-played : goal.returns-then-names_info-clause-played
+returns-then-names_info-clause-played g c other = absurd (other (inl (c.names_info.ensures.yes c.if-names_info.true)))
+
+pub returns-then-names_info-clause-waited : goal.returns-then-names_info-clause-waited
+returns-then-names_info-clause-waited g c other = absurd (other (inl (c.names_info.ensures.yes c.if-names_info.true)))
+
+pub returns-then-names_info-clause-cut : goal.returns-then-names_info-clause-cut
+returns-then-names_info-clause-cut g c other = absurd (other (inl (c.names_info.ensures.yes c.if-names_info.true)))
+
+pub returns-then-names_info-clause-short : goal.returns-then-names_info-clause-short
+returns-then-names_info-clause-short g c other = absurd (other (inl (c.names_info.ensures.yes c.if-names_info.true)))
+
+pub returns-then-names_info-clause-bad : goal.returns-then-names_info-clause-bad
+returns-then-names_info-clause-bad g c other = absurd (other (inl (c.names_info.ensures.yes c.if-names_info.true)))
+
+pub returns-then-names_info-clause-bad_alone : goal.returns-then-names_info-clause-bad_alone
+returns-then-names_info-clause-bad_alone g c other = absurd (other (inl (c.names_info.ensures.yes c.if-names_info.true)))
+
 pub returns-then-names_info-clause-bad_script : goal.returns-then-names_info-clause-bad_script
-returns-then-names_info-clause-bad_script g c other calls is = absurd (other (c.names_info.ensures.yes c.if-names_info.true))
+returns-then-names_info-clause-bad_script g c other = absurd (other (inl (c.names_info.ensures.yes c.if-names_info.true)))
+
+pub returns-then-names_info-clause-silent_line : goal.returns-then-names_info-clause-silent_line
+returns-then-names_info-clause-silent_line g c other = absurd (other (inl (c.names_info.ensures.yes c.if-names_info.true)))
+
+pub returns-then-names_info-clause-output_line : goal.returns-then-names_info-clause-output_line
+returns-then-names_info-clause-output_line g c other = absurd (other (inl (c.names_info.ensures.yes c.if-names_info.true)))
+
+pub returns-then-names_info-clause-memory_line : goal.returns-then-names_info-clause-memory_line
+returns-then-names_info-clause-memory_line g c other = absurd (other (inl (c.names_info.ensures.yes c.if-names_info.true)))
+
+pub returns-then-names_info-clause-known : goal.returns-then-names_info-clause-known
+returns-then-names_info-clause-known g c other = absurd (other (inl (c.names_info.ensures.yes c.if-names_info.true)))
+
+pub returns-then-names_info-clause-complete : goal.returns-then-names_info-clause-complete
+returns-then-names_info-clause-complete g c other = absurd (other (inl (c.names_info.ensures.yes c.if-names_info.true)))
+
+pub returns-then-names_serve-clause-played : goal.returns-then-names_serve-clause-played
+returns-then-names_serve-clause-played g c other = absurd (other (inr (c.names_serve.ensures.yes c.if-names_serve.true)))
+
+pub returns-then-names_serve-clause-waited : goal.returns-then-names_serve-clause-waited
+returns-then-names_serve-clause-waited g c other = absurd (other (inr (c.names_serve.ensures.yes c.if-names_serve.true)))
+
+pub returns-then-names_serve-clause-cut : goal.returns-then-names_serve-clause-cut
+returns-then-names_serve-clause-cut g c other = absurd (other (inr (c.names_serve.ensures.yes c.if-names_serve.true)))
+
+pub returns-then-names_serve-clause-short : goal.returns-then-names_serve-clause-short
+returns-then-names_serve-clause-short g c other = absurd (other (inr (c.names_serve.ensures.yes c.if-names_serve.true)))
+
+pub returns-then-names_serve-clause-bad : goal.returns-then-names_serve-clause-bad
+returns-then-names_serve-clause-bad g c other = absurd (other (inr (c.names_serve.ensures.yes c.if-names_serve.true)))
+
+pub returns-then-names_serve-clause-bad_alone : goal.returns-then-names_serve-clause-bad_alone
+returns-then-names_serve-clause-bad_alone g c other = absurd (other (inr (c.names_serve.ensures.yes c.if-names_serve.true)))
+
+pub returns-then-names_serve-clause-bad_script : goal.returns-then-names_serve-clause-bad_script
+returns-then-names_serve-clause-bad_script g c other = absurd (other (inr (c.names_serve.ensures.yes c.if-names_serve.true)))
+
+pub returns-then-names_serve-clause-silent_line : goal.returns-then-names_serve-clause-silent_line
+returns-then-names_serve-clause-silent_line g c other = absurd (other (inr (c.names_serve.ensures.yes c.if-names_serve.true)))
+
+pub returns-then-names_serve-clause-output_line : goal.returns-then-names_serve-clause-output_line
+returns-then-names_serve-clause-output_line g c other = absurd (other (inr (c.names_serve.ensures.yes c.if-names_serve.true)))
+
+pub returns-then-names_serve-clause-memory_line : goal.returns-then-names_serve-clause-memory_line
+returns-then-names_serve-clause-memory_line g c other = absurd (other (inr (c.names_serve.ensures.yes c.if-names_serve.true)))
+
+pub returns-then-names_serve-clause-known : goal.returns-then-names_serve-clause-known
+returns-then-names_serve-clause-known g c other = absurd (other (inr (c.names_serve.ensures.yes c.if-names_serve.true)))
+
+pub returns-then-names_serve-clause-complete : goal.returns-then-names_serve-clause-complete
+returns-then-names_serve-clause-complete g c other = absurd (other (inr (c.names_serve.ensures.yes c.if-names_serve.true)))
+
+pub returns-then-names_info-clause-serve : goal.returns-then-names_info-clause-serve
+returns-then-names_info-clause-serve g c serves = absurd (not_both c.args.words.now (c.names_info.ensures.yes c.if-names_info.true) serves)
+
+pub returns-then-names_info-clause-serve_known : goal.returns-then-names_info-clause-serve_known
+returns-then-names_info-clause-serve_known g c serves = absurd (not_both c.args.words.now (c.names_info.ensures.yes c.if-names_info.true) serves)
+
+pub returns-then-names_info-clause-serve_complete : goal.returns-then-names_info-clause-serve_complete
+returns-then-names_info-clause-serve_complete g c serves = absurd (not_both c.args.words.now (c.names_info.ensures.yes c.if-names_info.true) serves)
+
+pub run_serve-requires : goal.run_serve-requires
+run_serve-requires g c = c.names_serve.ensures.yes c.if-names_serve.true

@@ -15,7 +15,7 @@ rounds-init g c = record { settling = λ scene s. settling_none _ _ _ scene s; c
 
 pub returns-then-is_long-clause-settles : goal.returns-then-is_long-clause-settles
 returns-then-is_long-clause-settles g c scene s =
-    let mid : Sessions = record { places = c.round.new.places; current = c.rounds.self.current; first = c.round.new.first; start = c.rounds.self.start; wants = c.rounds.self.wants } in
+    let mid : Sessions = record { places = c.round.new.places; current = c.rounds.self.current; first = c.round.new.first; start = c.rounds.self.start; wants = c.rounds.self.wants; hears = c.rounds.self.hears } in
     let rounded : Rounded c.rounds.self mid (g.W.Wires.idles c.rounds.wires) (g.W.Wires.idles c.round.new.wires) = record { count = c.round.ensures.count; current = refl; start = refl; room = refl; later = c.round.ensures.counts.idles_later } in
     let busy = ap (λ (ps : List Place). list_any is_busy_place ps) (sym c.deref.ensures.value) ∙ sym c.is_any_busy.ensures ∙ c.rounds-test.true in
     let paused : Paused mid c.pause.new.self = record {
@@ -43,7 +43,7 @@ returns-then-is_long-clause-silent g c e =
 
 pub returns-in-Err-clause-settles : goal.returns-in-Err-clause-settles
 returns-in-Err-clause-settles g c scene s =
-    let mid : Sessions = record { places = c.round.new.places; current = c.rounds.self.current; first = c.round.new.first; start = c.rounds.self.start; wants = c.rounds.self.wants } in
+    let mid : Sessions = record { places = c.round.new.places; current = c.rounds.self.current; first = c.round.new.first; start = c.rounds.self.start; wants = c.rounds.self.wants; hears = c.rounds.self.hears } in
     let rounded : Rounded c.rounds.self mid (g.W.Wires.idles c.rounds.wires) (g.W.Wires.idles c.round.new.wires) = record { count = c.round.ensures.count; current = refl; start = refl; room = refl; later = c.round.ensures.counts.idles_later } in
     let busy = ap (λ (ps : List Place). list_any is_busy_place ps) (sym c.deref.ensures.value) ∙ sym c.is_any_busy.ensures ∙ c.rounds-test.true in
     settling_short _ _ _ c.rounds.self mid _ _ scene (c.rounds.invariant.settling scene s) busy rounded c.in-Err.ensures.short
@@ -53,7 +53,7 @@ returns-clause-settles g c scene s = settling_done _ _ c.rounds.self _ scene (ap
 
 pub rounds-preserved : goal.rounds-preserved
 rounds-preserved g c =
-    let mid : Sessions = record { places = c.round.new.places; current = c.rounds.self.current; first = c.round.new.first; start = c.rounds.self.start; wants = c.rounds.self.wants } in
+    let mid : Sessions = record { places = c.round.new.places; current = c.rounds.self.current; first = c.round.new.first; start = c.rounds.self.start; wants = c.rounds.self.wants; hears = c.rounds.self.hears } in
     let rounded : Rounded c.rounds.self mid (g.W.Wires.idles c.rounds.wires) (g.W.Wires.idles c.round.new.wires) = record { count = c.round.ensures.count; current = refl; start = refl; room = refl; later = c.round.ensures.counts.idles_later } in
     let busy = ap (λ (ps : List Place). list_any is_busy_place ps) (sym c.deref.ensures.value) ∙ sym c.is_any_busy.ensures ∙ c.rounds-test.true in
     let paused : Paused mid c.pause.new.self = record {
@@ -74,7 +74,7 @@ rounds-preserved g c =
 
 pub rounds-preserved-in-Ok-true : goal.rounds-preserved-in-Ok-true
 rounds-preserved-in-Ok-true g c =
-    let mid : Sessions = record { places = c.round.new.places; current = c.rounds.self.current; first = c.round.new.first; start = c.rounds.self.start; wants = c.rounds.self.wants } in
+    let mid : Sessions = record { places = c.round.new.places; current = c.rounds.self.current; first = c.round.new.first; start = c.rounds.self.start; wants = c.rounds.self.wants; hears = c.rounds.self.hears } in
     let rounded : Rounded c.rounds.self mid (g.W.Wires.idles c.rounds.wires) (g.W.Wires.idles c.round.new.wires) = record { count = c.round.ensures.count; current = refl; start = refl; room = refl; later = c.round.ensures.counts.idles_later } in
     let busy = ap (λ (ps : List Place). list_any is_busy_place ps) (sym c.deref.ensures.value) ∙ sym c.is_any_busy.ensures ∙ c.rounds-test.true in
     record {

@@ -1,0 +1,3 @@
+pub mod RetoldLemmas
+pub mod StandingLemmas
+pub mod InboundLemmas

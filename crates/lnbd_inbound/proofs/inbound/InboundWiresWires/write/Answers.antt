@@ -1,0 +1,31 @@
+use Rattle.std.proofs.Common.{ℕ, length, refl, ap, arith}
+use Rattle.lnbd_link.specs.Call.{Accept, Write, WriteFault}
+use Rattle.lnbd_inbound.specs.declared.marks.Mark.TheVariants as mark
+use Rattle.lnbd_link.specs.declared.wires.Accepted.TheVariants as accepted
+use Rattle.lnbd_inbound.proofs.InboundLemmas.{kept_plain, state_of, none_written, write_tells, write_kept, write_state, write_answer, read_opened, no_listener}
+use Rattle.lnbd_inbound.proofs.StandingLemmas.{tells_call}
+use Rattle.lnbd_inbound.proofs.inbound.InboundWiresWires.write.Goals as goal
+
+pub invariant_of-self : goal.invariant_of-self
+invariant_of-self c = record { kept = kept_plain c.self.inside.beneath c.self.inside.marks c.self.inside.next c.self.inside.links c.self.inside.hearing c.self.invariant.kept (mark.Writes (length c.args.from.now)) (Accept 0 accepted.Failed) (Write 0 (length c.args.from.now) WriteFault) refl (omega arith) _ _ c.accept.ensures.state c.add.ensures refl refl refl refl; nameless = c.self.invariant.nameless; within = c.self.invariant.within }
+
+pub returns-then-link-eq0-clause-state : goal.returns-then-link-eq0-clause-state
+returns-then-link-eq0-clause-state c = none_written c.args.self.now _ c.args.link c.args.from.now c.if-link-eq0.true (state_of c.self.inside.beneath c.self.inside.marks c.self.inside.next c.self.inside.links c.self.inside.hearing c.self.invariant.kept (mark.Writes (length c.args.from.now)) (Accept 0 accepted.Failed) (Write 0 (length c.args.from.now) WriteFault) refl (omega arith) _ _ c.accept.ensures.state c.add.ensures _ c.self.view_is refl refl)
+
+pub returns-then-link-eq0-clause-told : goal.returns-then-link-eq0-clause-told
+returns-then-link-eq0-clause-told c = tells_call c.args.self.now _ (Write 0 (length c.args.from.now) WriteFault) _ (state_of c.self.inside.beneath c.self.inside.marks c.self.inside.next c.self.inside.links c.self.inside.hearing c.self.invariant.kept (mark.Writes (length c.args.from.now)) (Accept 0 accepted.Failed) (Write 0 (length c.args.from.now) WriteFault) refl (omega arith) _ _ c.accept.ensures.state c.add.ensures _ c.self.view_is refl refl) (λ fits. ap (λ (l : ℕ). Write l (length c.args.from.now) WriteFault) c.if-link-eq0.true)
+
+pub invariant_of-self-2 : goal.invariant_of-self-2
+invariant_of-self-2 c = record { kept = write_kept c.self.inside.beneath c.self.inside.marks c.self.inside.next c.self.inside.links c.self.inside.hearing c.self.invariant.kept c.args.link c.args.from.now _ _ c.write.ensures.state c.add-2.ensures; nameless = c.self.invariant.nameless; within = c.self.invariant.within }
+
+pub returns-clause-state : goal.returns-clause-state
+returns-clause-state c = write_state c.self.inside.beneath c.self.inside.marks c.self.inside.next c.self.inside.links c.self.inside.hearing c.self.invariant.kept c.args.link c.args.from.now _ _ c.write.ensures.state c.add-2.ensures _ c.self.view_is (no_listener c.args.link c.if-link-eq0.false)
+
+pub returns-clause-answer : goal.returns-clause-answer
+returns-clause-answer c = write_answer c.self.inside.beneath c.self.inside.marks c.self.inside.next c.self.inside.links c.self.inside.hearing c.self.invariant.kept c.args.link c.args.from.now _ _ c.write.ensures.state c.add-2.ensures _ c.self.view_is (no_listener c.args.link c.if-link-eq0.false) _ c.write.ensures.answer
+
+pub returns-clause-told : goal.returns-clause-told
+returns-clause-told c = write_tells c.args.self.now _ c.args.link c.args.from.now (no_listener c.args.link c.if-link-eq0.false) _ (returns-clause-state c) (returns-clause-answer c)
+
+pub returns-clause-opened : goal.returns-clause-opened
+returns-clause-opened c = read_opened c.self.inside.marks.0 c.self.inside.beneath _ c.args.link _ c.self.view_is c.write.ensures.opened

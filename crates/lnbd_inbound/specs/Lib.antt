@@ -1,0 +1,3 @@
+pub mod Retold
+pub mod Inbound
+pub mod Standing

@@ -1,9 +1,0 @@
-use Rattle.std.proofs.Common.{codes}
-use Rattle.lnbd_lines.proofs.PartLemmas.{no_small}
-use Rattle.lnbd_lines.proofs.commands.pread.Goals as goal
-
-pub returns-in_default : goal.returns-in_default
-returns-in_default c range h = c.in_default.ensures range h.0
-
-pub returns-then-range-gt-MOST_BYTES : goal.returns-then-range-gt-MOST_BYTES
-returns-then-range-gt-MOST_BYTES c range h = no_small (codes "pread ") c.args.text.now c.in-Some.range c.in-Some.ensures c.if-range-gt-MOST_BYTES.true range h
