@@ -7,12 +7,12 @@ trap 'rm -rf "$dir"' EXIT
 
 # The lines of the page, with values in the places of its capitals.
 sed -n "/^    a script's lines:$/,/^$/s/^      \(.*[^ ]\)   .*/\1/p" "$page" | sed 's/ *$//; s/, /\n/g' |
-  sed 's/LEN OFF/512 0/; s/BYTES OFF/hex:00 0/; s/COOKIE/1/; s/^strict N$/strict 31/; s/^fail N COMMAND$/fail 5 flush/; s/COMMAND/flush/; s/^handle N$/handle 0/; s/HOST PORT/127.0.0.1 1/; s/PATH\|NAME\|TEXT/x/; s/^close$//' >"$dir/script"
+  sed 's/LEN OFF/512 0/; s/BYTES OFF/hex:00 0/; s/COOKIE/1/; s/^strict N$/strict 31/; s/^fail N COMMAND$/fail 5 flush/; s/COMMAND/flush/; s/^handle N$/handle 0/; s/HOST PORT/127.0.0.1 1/; s|URI|nbd://127.0.0.1:1/x|; s/PATH\|NAME\|TEXT/x/; s/^close$//' >"$dir/script"
 count=$(grep -c . "$dir/script")
 "$program" nbdcalls <"$dir/script" >"$dir/out" 2>"$dir/err"
 code=$?
-# (the two connects find no server)
-if [ "$count" -ge 40 ] && [ "$code" -eq 5 ]; then
+# (the three connects find no server)
+if [ "$count" -ge 41 ] && [ "$code" -eq 5 ]; then
   echo "ok: each of $count lines of the page is a line of a script"
 else
   echo "failed: of $count lines of the page: the program ended with $code and wrote '$(cat "$dir/out" "$dir/err")'"
@@ -28,4 +28,4 @@ for tool in $planned; do
     echo "failed: $tool ended with $code, and the page or the README calls it otherwise"
   fi
 done
-[ "$(wc -w <<<"$planned")" -eq 3 ] || echo "failed: the page has these planned tools: $planned"
+[ "$(wc -w <<<"$planned")" -eq 2 ] || echo "failed: the page has these planned tools: $planned"

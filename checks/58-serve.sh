@@ -145,6 +145,50 @@ else
   ends 'a client that broke the protocol is told at the end' 4 'sessions 2' 'lnbd: peer broke Client'
 fi
 
+# A client that asks for more than it reads and then breaks the protocol, and sends on: what it is not read for costs nothing.
+begin "nbd+unix:///?socket=$dir/s8" --size 4194304
+said 'a client that is read no further costs the server little' little "$(timeout 60 python3 - "$dir/s8" "$server" <<'PY'
+import os, socket, struct, sys, time
+def spent(pid):
+    fields = open(f'/proc/{pid}/stat').read().rsplit(')', 1)[1].split()
+    return (int(fields[11]) + int(fields[12])) / os.sysconf('SC_CLK_TCK')
+client = socket.socket(socket.AF_UNIX)
+client.connect(sys.argv[1])
+def take(n):
+    while n:
+        n -= len(client.recv(n))
+take(18)
+# the client's flags, and the option that starts transmission
+client.sendall(struct.pack('>I', 3) + b'IHAVEOPT' + struct.pack('>II', 1, 0))
+take(10)
+for cookie in range(4):
+    client.sendall(struct.pack('>IHHQQI', 0x25609513, 0, 0, cookie, 0, 4194304))
+client.sendall(b'x' * 28)
+time.sleep(1)
+client.sendall(b'x' * 1000)
+before = spent(sys.argv[2])
+time.sleep(3)
+print('little' if spent(sys.argv[2]) - before < 1 else 'much')
+PY
+)"
+kill "$server" 2>/dev/null
+exec 4<&-
+
+# A client that asks for more than it reads, and leaves: the next one is served all the same.
+begin "nbd+unix:///?socket=$dir/s9" --size 4194304 --sessions 2
+timeout 60 python3 - "$dir/s9" <<'PY'
+import socket, struct, sys, time
+client = socket.socket(socket.AF_UNIX)
+client.connect(sys.argv[1])
+client.sendall(struct.pack('>I', 3) + b'IHAVEOPT' + struct.pack('>II', 1, 0))
+for cookie in range(4):
+    client.sendall(struct.pack('>IHHQQI', 0x25609513, 0, 0, cookie, 0, 4194304))
+time.sleep(1)
+client.close()
+PY
+said 'a client that left with replies unread is followed by another' 4194304 "$(timeout 60 nbdinfo --size "$uri" 2>&1)"
+ends 'it ended its own session alone' 0 'sessions 2' ''
+
 # ended NAME STATUS ERR WORDS ..: so serve ends at once.
 ended() {
   timeout 60 "$program" serve "${@:4}" >"$dir/said" 2>"$dir/err"
@@ -173,6 +217,6 @@ while read -r command; do
       (cd "$dir" && eval "${client//\/tmp\//$dir/}") >"$dir/said" 2>&1 && echo "ok: docs/serve.md: $client" || echo "failed: docs/serve.md: $client: $(cat "$dir/said")"
     done <"$dir/block2"
   fi
-  kill "$server"
+  kill "$server" 2>/dev/null
   exec 4<&-
 done <"$dir/block1"

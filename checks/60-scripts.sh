@@ -1,4 +1,5 @@
-# One script over two real servers: what is written on one handle is read back there and not on the other; in opt mode the exports
+# One script over two real servers: what is written on one handle is read back there and not on the other, of which
+# one connects by an address that names its export; in opt mode the exports
 # of a server are listed and asked for; structured replies, extended headers and contexts are asked for and told.
 . checks/need.sh
 need nbdkit nbdkit
@@ -35,9 +36,8 @@ plays() {
 plays 'two handles on two servers' <<'SCRIPT'
 connect unix DIR/kit
 handle 1
-export disk
 structured on
-connect unix DIR/qemu
+connect nbd+unix:///disk?socket=DIR/qemu
 settle
 state
 pwrite fill:11:65536 0
@@ -60,7 +60,6 @@ disconnect
 settle
 ===
 connected
-ok
 ok
 ok
 connected

@@ -3,3 +3,4 @@ mod RunLemmas
 pub mod InfoLemmas
 pub mod HeardLemmas
 pub mod ServeLemmas
+pub mod CopyLemmas

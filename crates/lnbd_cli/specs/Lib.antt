@@ -4,3 +4,4 @@ pub mod Runs
 pub mod Heard
 pub mod Informs
 pub mod Serves
+pub mod Copies

@@ -24,10 +24,6 @@ pub record IsServe (words : List (String Global)) : Type 0 where
   pub split : words ≡ word ∷ others
   pub named : string_bytes word ≡ codes "serve"
 
--- the first word names a tool that plays no script
-abbrev pub IsOther : List (String Global) → Type 0
-IsOther words = IsInfo words ⊎ IsServe words
-
 -- what is to be served, where that is asked
 abbrev pub service_of : Asked → Option Service
 service_of (asked.Serve place size seed read_only sessions) = Some (record { place = place; size = size; seed = seed; read_only = read_only; sessions = sessions })

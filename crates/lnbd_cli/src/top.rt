@@ -6,12 +6,14 @@ ghost use Rattle.lnbd_script.specs.Plays.{Finished, HasBeenCut, HasEnded, HasPla
 ghost use Rattle.lnbd_cli.specs.Inputs.{ReadAtMost, ReadUpTo, fault_of, most_read};
 ghost use Rattle.lnbd_cli.specs.Runs.{Ends, IsBad, IsCalls, IsLawful, IsOneOf, Nothing, Prints, Ran};
 ghost use Rattle.lnbd_cli.specs.Informs.{InfoRan, IsInfo, IsInfoDone, IsLawfulInfo, is_info_status};
-ghost use Rattle.lnbd_cli.specs.Serves.{IsLawfulServe, IsOther, IsServe, IsServeDone, ServeRan, is_serve_status};
+ghost use Rattle.lnbd_cli.specs.Serves.{IsLawfulServe, IsServe, IsServeDone, ServeRan, is_serve_status};
+ghost use Rattle.lnbd_cli.specs.Copies.{CopyRan, IsCopy, IsCopyDone, IsOther, IsTransfer, is_copy_status};
 ghost use Rattle.lnbd_cli.specs.Statuses.{end_line, end_of, fault_line, is_bad, is_status, is_whole, line_of_end, status_of, status_of_end};
 ghost use Rattle.lnbd_cli.specs.declared.fault.Fault.TheVariants as fault;
 ghost use Rattle.lnbd_script.specs.declared.event.PlayFault.TheVariants as play;
 ghost use Rattle.lnbd_script.specs.Seen.{patience};
 
+use crate::copying::{names_copy, run_copy};
 use crate::fault::Fault;
 use crate::informing::{names_info, run_info};
 use crate::input::{Unread, read_script};
@@ -23,7 +25,7 @@ use std::alloc::{AllocError, Global};
 /// Runs the tool that the words name over this outside, and tells the status that it ends with.
 ///
 /// 0: all is done. 1: words or a script are in no grammar. 2: what nbdinfo was asked is false. 3: the peer answered an option or a command by an error. 4: it broke
-/// the protocol, or ended before the run was done; a client of serve broke it. 5: a link failed. 6: the server did not agree to a map's context. 7: the wires were idle for too long. 8: `out` failed.
+/// the protocol, or ended before the run was done; a client of serve broke it. 5: a link failed. 6: the server did not agree to a map's context, or two exports don't fit for a copy. 7: the wires were idle for too long. 8: `out` failed.
 /// 9: memory ran out. 10: `input` failed. Every status but 0 and 2 prints its line on `err`.
 pub fn run<W: Wires, I: Source, O: Sink, E: Sink>(
     alloc: Global,
@@ -69,6 +71,7 @@ pub fn run<W: Wires, I: Source, O: Sink, E: Sink>(
     ensures known { (¬ IsOther words.now) → is_status result ≡ true }
     ensures info_known { IsInfo words.now → is_info_status result ≡ true }
     ensures serve_known { IsServe words.now → is_serve_status result ≡ true }
+    ensures copy_known { IsCopy words.now → is_copy_status result ≡ true }
 
     // Where words and script are lawful and no count rose, the script is played to its end, or memory runs out.
     ensures complete { (¬ IsOther words.now) → IsLawful words.now (I.left input.old) → (¬ Rises 1 (W.faults wires.old) (W.faults wires.new)) → (¬ Rises patience (W.idles wires.old) (W.idles wires.new)) → (¬ Rises 1 (O.faults out.old) (O.faults out.new)) → (¬ Rises 1 (I.faults input.old) (I.faults input.new)) → IsOneOf result }
@@ -84,12 +87,22 @@ pub fn run<W: Wires, I: Source, O: Sink, E: Sink>(
 
     // Where they are lawful and no count rose, all clients were served, one of them broke the protocol, or memory runs out.
     ensures serve_complete { IsServe words.now → IsLawfulServe words.now → (¬ Rises 1 (W.faults wires.old) (W.faults wires.new)) → (¬ Rises patience (W.idles wires.old) (W.idles wires.new)) → (¬ Rises 1 (O.faults out.old) (O.faults out.new)) → IsServeDone result }
+
+    // Words whose first is nbdcopy: what they ask was copied, or the run ended for this cause. Nothing is printed on `out`.
+    ensures copy { IsCopy words.now → CopyRan words.now (wires.new ≡ wires.old) (Prints (E.taken err.old) (E.taken err.new) (E.faults err.old) (E.faults err.new)) result }
+    ensures copy_out { IsCopy words.now → out.new ≡ out.old }
+
+    // Where they are lawful and no count rose, all is copied, a peer told an error or broke off, a rule between the exports doesn't hold, or memory runs out.
+    ensures copy_complete { IsCopy words.now → IsTransfer words.now → (¬ Rises 1 (W.faults wires.old) (W.faults wires.new)) → (¬ Rises patience (W.idles wires.old) (W.idles wires.new)) → IsCopyDone result }
 {
     if names_info(words) {
         return run_info(alloc, words, wires, out, err);
     }
     if names_serve(words) {
         return run_serve(alloc, words, wires, out, err);
+    }
+    if names_copy(words) {
+        return run_copy(alloc, words, wires, err);
     }
     let end = tool(alloc, words, input, wires, out);
     print_end(alloc, end, err)

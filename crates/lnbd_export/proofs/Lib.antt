@@ -4,4 +4,5 @@ pub mod PutLaws
 pub mod Made
 pub mod Allowed
 pub mod Exact
+pub mod EdgeLaws
 pub mod Example

@@ -2,4 +2,6 @@ pub mod Export
 pub mod Requests
 pub mod Statuses
 pub mod Walks
+pub mod Edges
+pub mod Zeros
 pub mod Generated

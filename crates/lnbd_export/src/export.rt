@@ -5,12 +5,14 @@ ghost use Rattle.std.specs.Prelude.{◌≡◌, ◌+◌, ◌<◌, ◌≤◌, ◌^
 ghost use Rattle.lnbd_extents.specs.Positions.{holds};
 ghost use Rattle.lnbd_model.specs.Kind.{has_range};
 ghost use Rattle.lnbd_export.specs.Export.{AreZeros, TellsTruly, flags, size, put, written, zeroed};
+ghost use Rattle.lnbd_export.specs.Zeros.{told};
 ghost use Rattle.lnbd_export.specs.Requests.{is_outside, refusal, refusal_of, done, effect};
 ghost use Rattle.lnbd_export.specs.Statuses.{statuses};
 
 use crate::refusals::{has_other_flags, has_range, is_change, is_unfit, range_error};
 use crate::request::{Agreed, Request};
 use crate::statuses::statuses;
+use crate::zeros::Zeros;
 use lnbd_extents::Ranges;
 use lnbd_model::{EINVAL, EPERM, Extent, Kind, NoMemory, Text};
 use std::alloc::Global;
@@ -22,20 +24,20 @@ pub struct Export {
     name: Text,
     description: Text,
     content: Vec<u8>,
-    zeros: Ranges,
+    zeros: Zeros,
     read_only: bool,
 }
 
 impl Model for Export {
-    ghost use Rattle.lnbd_extents.specs.Positions.{holds};
+    ghost use Rattle.lnbd_export.specs.Zeros.{told};
     ghost use Rattle.lnbd_export.specs.Export.{Export as Kept, AreZeros, flags};
     ghost use Rattle.std.specs.Prelude.{length};
 
     ghost Value = { Kept };
 
-    ghost view = { λ e. record { name = e.name; description = e.description; bytes = e.content.items; zeros = flags (holds e.zeros) 0 (length e.content.items); read_only = e.read_only } };
+    ghost view = { λ e. record { name = e.name; description = e.description; bytes = e.content.items; zeros = flags (told e.zeros) 0 (length e.content.items); read_only = e.read_only } };
 
-    ghost invariant = { λ e. AreZeros e.content.items (holds e.zeros) };
+    ghost invariant = { λ e. AreZeros e.content.items (told e.zeros) };
 }
 
 impl Export {
@@ -49,6 +51,20 @@ impl Export {
     ) -> Export
         requires { AreZeros content.items (holds zeros) }
         ensures { result ≡ record { name = name; description = description; bytes = content.items; zeros = flags (holds zeros) 0 (length content.items); read_only = read_only } }
+    {
+        Export::telling(name, description, content, Zeros::Given(zeros), read_only)
+    }
+
+    /// An export with this content, of which these positions are told as zero.
+    pub(crate) fn telling(
+        name: Text,
+        description: Text,
+        content: Vec<u8>,
+        zeros: Zeros,
+        read_only: bool,
+    ) -> Export
+        requires { AreZeros content.items (told zeros) }
+        ensures { result ≡ record { name = name; description = description; bytes = content.items; zeros = flags (told zeros) 0 (length content.items); read_only = read_only } }
     {
         Export {
             name,
@@ -163,7 +179,8 @@ impl Export {
         ensures ok { OnOk result (self.new ≡ written offset payload.now self.old) }
         ensures err { OnErr result (self.new ≡ self.old) }
     {
-        self.zeros.release(offset, payload.len() as u64)?;
+        let alloc = *self.content.allocator();
+        self.zeros.release(alloc, offset, payload.len() as u64)?;
         paste(&mut self.content, offset as usize, payload);
         Ok(())
     }
@@ -174,7 +191,8 @@ impl Export {
         ensures ok { OnOk result (self.new ≡ zeroed offset length self.old) }
         ensures err { OnErr result (self.new ≡ self.old) }
     {
-        self.zeros.hold(offset, length)?;
+        let alloc = *self.content.allocator();
+        self.zeros.hold(alloc, offset, length)?;
         fill_zeros(&mut self.content, offset as usize, length as usize);
         Ok(())
     }

@@ -1,11 +1,12 @@
 //! The contents that a seed gives.
 
 ghost use Rattle.std.specs.Prelude.{◌≡◌, ℕ, ◌+◌, ◌-◌, ◌*◌, ◌/◌, ◌%◌, ◌<◌, ◌≤◌, ◌^◌, ◌&&◌, IfOk, OnOk, nat_lt, length, get_or};
-ghost use Rattle.lnbd_extents.specs.Positions.{holds};
+ghost use Rattle.lnbd_export.specs.Edges.{is_told};
 ghost use Rattle.lnbd_export.specs.Generated.{mixed, is_zero_block, byte_in, byte_at, block_size, IsGenerated};
 
+use crate::edges::Edges;
 use crate::export::Export;
-use lnbd_extents::Ranges;
+use crate::zeros::Zeros;
 use lnbd_model::{NoMemory, Text};
 use std::alloc::Global;
 
@@ -31,7 +32,8 @@ pub fn generate(
 {
     let content = content(alloc, seed, size)?;
     let zeros = zeros(alloc, seed, size)?;
-    Ok(Export::new(name, Text::empty(alloc), content, zeros, read_only))
+    let description = Text::empty(alloc);
+    Ok(Export::telling(name, description, content, Zeros::Turning(zeros), read_only))
 }
 
 /// The number of a block, below 2^32.
@@ -89,12 +91,12 @@ fn byte_of(number: u64, i: u64) -> u8
     ((number / 256 + i) % 256) as u8
 }
 
-/// The ranges of the zero blocks.
-fn zeros(alloc: Global, seed: u64, size: u64) -> Result<Ranges, NoMemory>
+/// The edges of the zero blocks.
+fn zeros(alloc: Global, seed: u64, size: u64) -> Result<Edges, NoMemory>
     requires { size ≤ 2 ^ 30 }
-    ensures { IfOk result (λ zeros. (p : ℕ) → holds zeros p ≡ nat_lt p size && is_zero_block seed (p / block_size)) }
+    ensures { IfOk result (λ zeros. (p : ℕ) → is_told zeros p ≡ nat_lt p size && is_zero_block seed (p / block_size)) }
 {
-    let mut zeros = Ranges::new(alloc);
+    let mut zeros = Edges::new(alloc);
     let mut start = 0;
     while start < size {
         let count = BLOCK.min(size - start);

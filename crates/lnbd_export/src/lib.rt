@@ -2,6 +2,7 @@
 //! requests, and the contents that a seed gives. No bytes of the wire, no sessions.
 #![tactic(auto)]
 
+mod edges;
 mod export;
 mod generated;
 mod laws;
@@ -10,6 +11,7 @@ mod request;
 mod statuses;
 #[cfg(test)]
 mod tests;
+mod zeros;
 
 pub use export::Export;
 pub use generated::generate;

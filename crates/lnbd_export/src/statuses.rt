@@ -1,12 +1,16 @@
-//! The status of positions, as descriptors, by a walk over the ranges that are told as zero. What a
+//! The status of positions, as descriptors, by a walk over what is told as zero. What a
 //! block status is, and how it is put into bytes, is not known here.
 
 ghost use Rattle.std.specs.Prelude.{◌≡◌, ◌+◌, ◌-◌, ◌<◌, ◌≤◌, ◌^◌, IfOk, take, length};
 ghost use Rattle.lnbd_extents.specs.Positions.{holds};
+ghost use Rattle.lnbd_export.specs.Edges.{edge_at, is_told};
+ghost use Rattle.lnbd_export.specs.Zeros.{told};
 ghost use Rattle.lnbd_export.specs.Export.{flags};
 ghost use Rattle.lnbd_export.specs.Statuses.{statuses, status_of};
 ghost use Rattle.lnbd_export.specs.Walks.{IsRun, end_in_front, start_behind};
 
+use crate::edges::{Edges, is_odd};
+use crate::zeros::Zeros;
 use lnbd_extents::Ranges;
 use lnbd_model::{Extent, NoMemory};
 use std::alloc::Global;
@@ -24,14 +28,14 @@ pub(crate) struct Run {
 /// The status of the positions from `start` up to `end`, but no more than `most` descriptors.
 pub(crate) fn statuses(
     alloc: Global,
-    zeros: &Ranges,
+    zeros: &Zeros,
     start: u64,
     end: u64,
     most: usize,
 ) -> Result<Vec<Extent>, NoMemory>
     requires order { start ≤ end }
     requires room { end ≤ 2 ^ 63 }
-    ensures { IfOk result (λ all. all.items ≡ take most (statuses (flags (holds zeros.now) start (end - start)))) }
+    ensures { IfOk result (λ all. all.items ≡ take most (statuses (flags (told zeros.now) start (end - start)))) }
 {
     let mut extents = Vec::new(alloc);
     let mut at = start;
@@ -53,7 +57,38 @@ fn status_of(zero: bool) -> u64
 }
 
 /// The positions from here on that are told alike, up to an end.
-fn run_at(zeros: &Ranges, at: u64, end: u64) -> Run
+fn run_at(zeros: &Zeros, at: u64, end: u64) -> Run
+    requires some { at < end }
+    requires room { end ≤ 2 ^ 63 }
+    ensures { IsRun (told zeros.now) at end result }
+{
+    match zeros {
+        Zeros::Given(ranges) => run_of_ranges(ranges, at, end),
+        Zeros::Turning(edges) => run_between(edges, at, end),
+    }
+}
+
+fn run_between(edges: &Edges, at: u64, end: u64) -> Run
+    requires some { at < end }
+    requires room { end ≤ 2 ^ 63 }
+    ensures { IsRun (is_told edges.now) at end result }
+{
+    edges.rise();
+    let place = edges.place(at);
+    made_run(at, edge_at(edges, place, end), is_odd(place))
+}
+
+/// The edge at a place, but no further than the end.
+fn edge_at(edges: &Edges, place: usize, end: u64) -> u64
+    ensures { result ≡ edge_at edges.now place end }
+{
+    if place < edges.count() {
+        return edges.get(place).min(end);
+    }
+    end
+}
+
+fn run_of_ranges(zeros: &Ranges, at: u64, end: u64) -> Run
     requires some { at < end }
     requires room { end ≤ 2 ^ 63 }
     ensures { IsRun (holds zeros.now) at end result }

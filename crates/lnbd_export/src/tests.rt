@@ -219,3 +219,43 @@ fn what_is_told_as_zero(rt: HostRuntime) -> Result<(), Fail> {
     assert_eq!(rt; export.is_read_only(), false);
     Ok(())
 }
+
+// Ranges that were handed in are told, and what changes them is told as between any others.
+#[test]
+fn ranges_that_were_handed_in(rt: HostRuntime) -> Result<(), Fail> {
+    let mut ranges = Ranges::new(rt.alloc());
+    ranges.add(2, 3)?;
+    ranges.add(8, 4)?;
+    let name = Text::empty(rt.alloc());
+    let description = Text::empty(rt.alloc());
+    let content = vec![in rt.alloc(); 0; 16]?;
+    let mut export = Export::new(name, description, content, ranges, false);
+    let terms = agreed(Replies::Simple, false);
+    let told = export.statuses(rt.alloc(), 0, 16, 9)?;
+    let wanted = [
+        extent(2, DATA),
+        extent(3, ZERO),
+        extent(3, DATA),
+        extent(4, ZERO),
+        extent(4, DATA),
+    ];
+    assert_eq!(rt; told.as_slice(), wanted.as_slice());
+    export.perform(terms, request(Kind::Write, 0, 9, 1), &[7])?;
+    export.perform(terms, request(Kind::Trim, 0, 4, 4), &[])?;
+    export.perform(terms, request(Kind::Write, 0, 12, 3), &[1, 2, 3])?;
+    assert_eq!(rt; export.size(), 16);
+    let told = export.statuses(rt.alloc(), 0, 16, 9)?;
+    let wanted = [
+        extent(2, DATA),
+        extent(7, ZERO),
+        extent(1, DATA),
+        extent(2, ZERO),
+        extent(4, DATA),
+    ];
+    assert_eq!(rt; told.as_slice(), wanted.as_slice());
+    export.perform(terms, request(Kind::Zero, 0, 0, 16), &[])?;
+    assert_eq!(rt; export.size(), 16);
+    let told = export.statuses(rt.alloc(), 0, 16, 9)?;
+    assert_eq!(rt; told.as_slice(), [extent(16, ZERO)].as_slice());
+    Ok(())
+}

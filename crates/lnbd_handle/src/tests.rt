@@ -25,10 +25,6 @@ const READ_REQUEST: [u8; 28] =
 
 const DISCONNECT: [u8; 28] = *b"\x25\x60\x95\x13\0\0\0\x02\0\0\0\0\0\0\0\0\0\0\0\0\0\0\0\0\0\0\0\0";
 
-/// Replies to three reads of one byte.
-const REPLIES: [u8; 51] = *b"\x67\x44\x66\x98\0\0\0\0\0\0\0\0\0\0\0\x01\x11\
-\x67\x44\x66\x98\0\0\0\0\0\0\0\0\0\0\0\x02\x22\x67\x44\x66\x98\0\0\0\0\0\0\0\0\0\0\0\x03\x33";
-
 /// The reply that refuses the first command by EIO (5).
 const REFUSED: [u8; 16] = *b"\x67\x44\x66\x98\0\0\0\x05\0\0\0\0\0\0\0\x01";
 
@@ -274,35 +270,6 @@ fn data_comes_in_pieces(rt: HostRuntime) -> Result<(), Fail> {
     assert!(rt; session.came_to(2, 0, b"abcd"));
     assert!(rt; session.came_to(1, 0, b"efgh"));
     assert_eq!(rt; session.close(), (2, 2));
-    Ok(())
-}
-
-#[test]
-fn reads_of_two_lengths_come_in_pieces(rt: HostRuntime) -> Result<(), Fail> {
-    let mut session = Session::reading(&rt, rt.alloc(), 1, &[0xff; 4], KEEP)?;
-    assert_eq!(rt; session.pread(&[0xff; 2], KEEP), 2);
-    assert!(rt; session.goes_out(usize::MAX));
-    assert!(rt; session.feed_by_byte(&head(2)));
-    assert!(rt; session.feed_by_byte(b"ab"));
-    assert!(rt; session.feed_by_byte(&head(1)));
-    assert!(rt; session.feed_by_byte(b"cdef"));
-    assert!(rt; session.came_to(2, 0, b"ab"));
-    assert!(rt; session.came_to(1, 0, b"cdef"));
-    assert_eq!(rt; session.close(), (2, 2));
-    Ok(())
-}
-
-#[test]
-fn a_piece_ends_one_reply_and_brings_others(rt: HostRuntime) -> Result<(), Fail> {
-    let mut session = Session::reading(&rt, rt.alloc(), 3, &[0xff], KEEP)?;
-    // The first piece has a part of the first head, the second ends in the third head.
-    assert!(rt; session.feed(&REPLIES[..5]));
-    assert!(rt; session.feed(&REPLIES[5..40]));
-    assert!(rt; session.feed(&REPLIES[40..]));
-    for (cookie, byte) in [(1, 0x11), (2, 0x22), (3, 0x33)] {
-        assert!(rt; session.came_to(cookie, 0, &[byte]));
-    }
-    assert_eq!(rt; session.close(), (3, 3));
     Ok(())
 }
 

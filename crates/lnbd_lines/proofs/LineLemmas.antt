@@ -1,13 +1,19 @@
 -- A line asks for one thing.
-use Rattle.std.proofs.Common.{◌≡◌, ◌∙◌, ℕ, Bool, true, false, List, Option, Some, None, Result, Ok, Err, IfOk, MatchOption, ap, cond, drop, eqb, sym, inl, inr}
+use Rattle.std.proofs.Common.{◌≡◌, ◌∙◌, ℕ, Bool, true, false, List, [], ◌++◌, Option, Some, None, Result, Ok, Err, IfOk, MatchOption, ap, codes, cond, drop, eqb, refl, subst, sym, inl, inr}
 use Rattle.std.specs.Str.Parse.{digits_value}
+use Rattle.lnbd_model.specs.declared.target.Place.{Place}
+use Rattle.lnbd_model.specs.declared.target.Target.{Target}
 use Rattle.lnbd_model.specs.declared.target.Target.TheVariants.{Tcp, Unix}
+use Rattle.lnbd_uri.specs.Address.{Reading, unknown, secured, tcp as over_tcp, unix as over_unix, IsAddress, Means, ReadsAs}
+use Rattle.lnbd_uri.specs.Parts.{Begins, spelling}
+use Rattle.lnbd_uri.proofs.ReadingLemmas.{place_once}
 use Rattle.lnbd_lines.proofs.CommandLemmas.{at, command_in, command_is}
 use Rattle.lnbd_lines.proofs.CutLemmas.{before, behind, before_is, behind_is}
+use Rattle.lnbd_lines.proofs.PartLemmas.{follows_at}
 use Rattle.lnbd_lines.specs.Grammar.{Asks, IsCommand, IsLine, IsPassedOver, space}
 use Rattle.lnbd_lines.specs.Written.{HasNoIssue, HasNoOption, HasNoSwitch, HasNoWord, IsNotNamed, IsNotPlain}
 use Rattle.lnbd_lines.specs.declared.line.Line.{Line}
-use Rattle.lnbd_lines.specs.declared.line.Line.TheVariants.{Handle, Connect, Settle, Log, Heard, ClearLog, Done, Peek, InFlight, Direction, State, Info, Export, Strict, Context, Switch as Turn, Ask, Answer, Listing, Read, Write, Disconnect, Close, Command as Issue}
+use Rattle.lnbd_lines.specs.declared.line.Line.TheVariants.{Handle, Connect, ConnectUri, Settle, Log, Heard, ClearLog, Done, Peek, InFlight, Direction, State, Info, Export, Strict, Context, Switch as Turn, Ask, Answer, Listing, Read, Write, Disconnect, Close, Command as Issue}
 use Rattle.lnbd_lines.specs.declared.negotiation.Opt.TheVariants as opt
 use Rattle.lnbd_lines.specs.declared.negotiation.Switch.TheVariants as switch
 use Rattle.lnbd_lines.specs.declared.command.Command.{Command}
@@ -17,11 +23,37 @@ use Rattle.lnbd_lines.specs.declared.command.Manner.TheVariants.{Keep, Retire, F
 abbrev failing : List ℕ → List ℕ → Option Line
 failing digits text = Some (Issue (Fail (digits_value 10 digits)) (command_in text))
 
--- what a line asks for, if it asks for anything: told by the bytes at which the lines differ
-abbrev told : List ℕ → Option Line
-told text =
+-- An address.
+
+-- it begins with `n`
+address_front : (text : List ℕ) (r : Reading) (to : Target) (name : List ℕ) → ReadsAs text r → Means r to name → Begins (codes "n") text
+address_front text unknown to name reads means = absurd means
+address_front text secured to name reads means = absurd means
+address_front text (over_tcp p) to name reads means = (codes "bd://" ++ spelling p, reads.spelled)
+address_front text (over_unix p) to name reads means = (codes "bd+unix://" ++ spelling p, reads.spelled)
+
+-- a line that connects by one connects to one place
+addresses_once : (text : List ℕ) (p q : Place) → Asks text (ConnectUri p) → Asks text (ConnectUri q) → p ≡ q
+addresses_once text p q (rest, is, h) k = place_once rest p q h (follows_at (codes "connect ") text rest (λ t. IsAddress t q) is k)
+
+nowhere : Place
+nowhere = record { to = Unix []; name = [] }
+
+-- the place of the address that a line tells
+abbrev place_in : Option Line → Place
+place_in (Some (ConnectUri place)) = place
+place_in other = nowhere
+
+-- where a line tells an address, this is its place
+abbrev IsPlaceOf : Option Line → Place → Type 0
+IsPlaceOf asked place = (p : Place) → asked ≡ Some (ConnectUri p) → p ≡ place
+
+-- What a line asks for, if it asks for anything: told by the bytes at which the lines differ, but for the place of an address.
+abbrev told : Place → List ℕ → Option Line
+told place text =
     cond (eqb (at 0 text) 99) (cond (eqb (at 1 text) 97) (Some (Issue Keep (command_in text))) (cond (eqb (at 1 text) 108) (cond (eqb (at 2 text) 101) (Some ClearLog) (Some Close))
-    (cond (eqb (at 3 text) 116) (Some (Context (drop 8 text))) (cond (eqb (at 8 text) 116) (Some (Connect (Tcp (before space (drop 12 text)) (digits_value 10 (behind space (drop 12 text)))))) (Some (Connect (Unix (drop 13 text))))))))
+    (cond (eqb (at 3 text) 116) (Some (Context (drop 8 text))) (cond (eqb (at 8 text) 116) (Some (Connect (Tcp (before space (drop 12 text)) (digits_value 10 (behind space (drop 12 text))))))
+    (cond (eqb (at 8 text) 117) (Some (Connect (Unix (drop 13 text)))) (Some (ConnectUri place)))))))
     (cond (eqb (at 0 text) 112) (cond (eqb (at 1 text) 101) (Some Peek) (Some (Issue Keep (command_in text))))
     (cond (eqb (at 0 text) 102) (cond (eqb (at 1 text) 97) (failing (before space (drop 5 text)) (behind space (drop 5 text))) (Some (Issue Keep (command_in text))))
     (cond (eqb (at 0 text) 98) (Some (Issue Keep (command_in text)))
@@ -43,77 +75,89 @@ abbrev tcp : List ℕ → List ℕ → Option Line
 tcp host digits = Some (Connect (Tcp host (digits_value 10 digits)))
 
 -- a command is told as one
-told_command : (text : List ℕ) (command : Command) → IsCommand text command → told text ≡ Some (Issue Keep (command_in text))
-told_command text (Pread range) ((rest, is, h), small) = ap told is ∙ ap (λ (t : List ℕ). Some (Issue Keep (command_in t))) (sym is)
-told_command text (PreadStructured range) ((rest, is, h), small) = ap told is ∙ ap (λ (t : List ℕ). Some (Issue Keep (command_in t))) (sym is)
-told_command text (Pwrite payload offset flags) (rest, is, h) = ap told is ∙ ap (λ (t : List ℕ). Some (Issue Keep (command_in t))) (sym is)
-told_command text (Flush flags) (inl (is, none)) = ap told is ∙ ap (λ (t : List ℕ). Some (Issue Keep (command_in t))) (sym is)
-told_command text (Flush flags) (inr (rest, is, h)) = ap told is ∙ ap (λ (t : List ℕ). Some (Issue Keep (command_in t))) (sym is)
-told_command text (Trim range) (rest, is, h) = ap told is ∙ ap (λ (t : List ℕ). Some (Issue Keep (command_in t))) (sym is)
-told_command text (Zero range) (rest, is, h) = ap told is ∙ ap (λ (t : List ℕ). Some (Issue Keep (command_in t))) (sym is)
-told_command text (Cache range) (rest, is, h) = ap told is ∙ ap (λ (t : List ℕ). Some (Issue Keep (command_in t))) (sym is)
-told_command text (BlockStatus range) (rest, is, h) = ap told is ∙ ap (λ (t : List ℕ). Some (Issue Keep (command_in t))) (sym is)
+told_command : (place : Place) (text : List ℕ) (command : Command) → IsCommand text command → told place text ≡ Some (Issue Keep (command_in text))
+told_command place text (Pread range) ((rest, is, h), small) = ap (told place) is ∙ ap (λ (t : List ℕ). Some (Issue Keep (command_in t))) (sym is)
+told_command place text (PreadStructured range) ((rest, is, h), small) = ap (told place) is ∙ ap (λ (t : List ℕ). Some (Issue Keep (command_in t))) (sym is)
+told_command place text (Pwrite payload offset flags) (rest, is, h) = ap (told place) is ∙ ap (λ (t : List ℕ). Some (Issue Keep (command_in t))) (sym is)
+told_command place text (Flush flags) (inl (is, none)) = ap (told place) is ∙ ap (λ (t : List ℕ). Some (Issue Keep (command_in t))) (sym is)
+told_command place text (Flush flags) (inr (rest, is, h)) = ap (told place) is ∙ ap (λ (t : List ℕ). Some (Issue Keep (command_in t))) (sym is)
+told_command place text (Trim range) (rest, is, h) = ap (told place) is ∙ ap (λ (t : List ℕ). Some (Issue Keep (command_in t))) (sym is)
+told_command place text (Zero range) (rest, is, h) = ap (told place) is ∙ ap (λ (t : List ℕ). Some (Issue Keep (command_in t))) (sym is)
+told_command place text (Cache range) (rest, is, h) = ap (told place) is ∙ ap (λ (t : List ℕ). Some (Issue Keep (command_in t))) (sym is)
+told_command place text (BlockStatus range) (rest, is, h) = ap (told place) is ∙ ap (λ (t : List ℕ). Some (Issue Keep (command_in t))) (sym is)
 
-told_line : (text : List ℕ) (line : Line) → Asks text line → told text ≡ Some line
-told_line text (Connect (Tcp host port)) (rest, is, h) =
-    ap told is ∙ ap (λ a. tcp a (behind space rest)) (before_is space rest host h.digits h.cut)
+told_line : (place : Place) (text : List ℕ) (line : Line) → IsPlaceOf (Some line) place → Asks text line → told place text ≡ Some line
+told_line place text (Connect (Tcp host port)) one (rest, is, h) =
+    ap (told place) is ∙ ap (λ a. tcp a (behind space rest)) (before_is space rest host h.digits h.cut)
     ∙ ap (λ b. tcp host b) (behind_is space rest host h.digits h.cut) ∙ ap (λ n. Some (Connect (Tcp host n))) h.number.value_is
-told_line text (Connect (Unix path)) (rest, is, h) = ap told is ∙ ap (λ p. Some (Connect (Unix p))) (sym h.same)
-told_line text (Issue Keep command) h = told_command text command h ∙ ap (λ (c : Command). Some (Issue Keep c)) (command_is text command h)
-told_line text (Issue Retire command) (rest, is, h) = ap told is ∙ ap (λ (c : Command). Some (Issue Retire c)) (command_is rest command h)
-told_line text (Issue (Fail error) command) (rest, is, h) =
-    ap told is ∙ ap (λ a. failing a (behind space rest)) (before_is space rest h.first h.second h.cut)
+told_line place text (Connect (Unix path)) one (rest, is, h) = ap (told place) is ∙ ap (λ p. Some (Connect (Unix p))) (sym h.same)
+told_line place text (ConnectUri p) one (rest, is, h) =
+    let front = address_front rest h.reading p.to p.name h.reads h.means in
+    ap (told place) (is ∙ ap (λ (t : List ℕ). codes "connect " ++ t) front.1) ∙ ap (λ (q : Place). Some (ConnectUri q)) (sym (one p refl))
+told_line place text (Issue Keep command) one h = told_command place text command h ∙ ap (λ (c : Command). Some (Issue Keep c)) (command_is text command h)
+told_line place text (Issue Retire command) one (rest, is, h) = ap (told place) is ∙ ap (λ (c : Command). Some (Issue Retire c)) (command_is rest command h)
+told_line place text (Issue (Fail error) command) one (rest, is, h) =
+    ap (told place) is ∙ ap (λ a. failing a (behind space rest)) (before_is space rest h.first h.second h.cut)
     ∙ ap (λ b. failing h.first b) (behind_is space rest h.first h.second h.cut)
     ∙ ap (λ n. Some (Issue (Fail n) (command_in h.second))) h.error_is.number.value_is
     ∙ ap (λ (c : Command). Some (Issue (Fail error) c)) (command_is h.second command h.command_is)
-told_line text Heard is = ap told is
-told_line text Settle is = ap told is
-told_line text Log is = ap told is
-told_line text ClearLog is = ap told is
-told_line text (Done cookie) (rest, is, h) = ap told is ∙ ap (λ n. Some (Done n)) h.value_is
-told_line text Peek is = ap told is
-told_line text InFlight is = ap told is
-told_line text Direction is = ap told is
-told_line text State is = ap told is
-told_line text Info is = ap told is
-told_line text (Export name) (rest, is, h) = ap told is ∙ ap (λ p. Some (Export p)) (sym h.same)
-told_line text (Strict bits) (rest, is, h) = ap told is ∙ ap (λ n. Some (Strict n)) h.number.value_is
-told_line text (Handle number) (rest, is, h) = ap told is ∙ ap (λ n. Some (Handle n)) h.number.value_is
-told_line text (Context name) (rest, is, h) = ap told is ∙ ap (λ p. Some (Context p)) (sym h.same)
-told_line text (Turn switch.Structured true) is = ap told is
-told_line text (Turn switch.Structured false) is = ap told is
-told_line text (Turn switch.Extended true) is = ap told is
-told_line text (Turn switch.Extended false) is = ap told is
-told_line text (Turn switch.OptMode true) is = ap told is
-told_line text (Turn switch.OptMode false) is = ap told is
-told_line text (Ask opt.List) is = ap told is
-told_line text (Ask opt.Info) is = ap told is
-told_line text (Ask opt.Meta) is = ap told is
-told_line text (Ask opt.Go) is = ap told is
-told_line text (Ask opt.Abort) is = ap told is
-told_line text Answer is = ap told is
-told_line text Listing is = ap told is
-told_line text Read is = ap told is
-told_line text Write is = ap told is
-told_line text Disconnect is = ap told is
-told_line text Close is = ap told is
+told_line place text Heard one is = ap (told place) is
+told_line place text Settle one is = ap (told place) is
+told_line place text Log one is = ap (told place) is
+told_line place text ClearLog one is = ap (told place) is
+told_line place text (Done cookie) one (rest, is, h) = ap (told place) is ∙ ap (λ n. Some (Done n)) h.value_is
+told_line place text Peek one is = ap (told place) is
+told_line place text InFlight one is = ap (told place) is
+told_line place text Direction one is = ap (told place) is
+told_line place text State one is = ap (told place) is
+told_line place text Info one is = ap (told place) is
+told_line place text (Export name) one (rest, is, h) = ap (told place) is ∙ ap (λ p. Some (Export p)) (sym h.same)
+told_line place text (Strict bits) one (rest, is, h) = ap (told place) is ∙ ap (λ n. Some (Strict n)) h.number.value_is
+told_line place text (Handle number) one (rest, is, h) = ap (told place) is ∙ ap (λ n. Some (Handle n)) h.number.value_is
+told_line place text (Context name) one (rest, is, h) = ap (told place) is ∙ ap (λ p. Some (Context p)) (sym h.same)
+told_line place text (Turn switch.Structured true) one is = ap (told place) is
+told_line place text (Turn switch.Structured false) one is = ap (told place) is
+told_line place text (Turn switch.Extended true) one is = ap (told place) is
+told_line place text (Turn switch.Extended false) one is = ap (told place) is
+told_line place text (Turn switch.OptMode true) one is = ap (told place) is
+told_line place text (Turn switch.OptMode false) one is = ap (told place) is
+told_line place text (Ask opt.List) one is = ap (told place) is
+told_line place text (Ask opt.Info) one is = ap (told place) is
+told_line place text (Ask opt.Meta) one is = ap (told place) is
+told_line place text (Ask opt.Go) one is = ap (told place) is
+told_line place text (Ask opt.Abort) one is = ap (told place) is
+told_line place text Answer one is = ap (told place) is
+told_line place text Listing one is = ap (told place) is
+told_line place text Read one is = ap (told place) is
+told_line place text Write one is = ap (told place) is
+told_line place text Disconnect one is = ap (told place) is
+told_line place text Close one is = ap (told place) is
 
-told_none : (text : List ℕ) → IsPassedOver text → told text ≡ None
-told_none text (inl e) = ap told e
-told_none text (inr (rest, e)) = ap told e
+told_none : (place : Place) (text : List ℕ) → IsPassedOver text → told place text ≡ None
+told_none place text (inl e) = ap (told place) e
+told_none place text (inr (rest, e)) = ap (told place) e
 
-told_asked : (text : List ℕ) (asked : Option Line) → IsLine text asked → told text ≡ asked
-told_asked text None h = told_none text h.means
-told_asked text (Some line) h = told_line text line h.means
+told_asked : (place : Place) (text : List ℕ) (asked : Option Line) → IsPlaceOf asked place → IsLine text asked → told place text ≡ asked
+told_asked place text None one h = told_none place text h.means
+told_asked place text (Some line) one h = told_line place text line one h.means
+
+-- a line that tells an address asks for nothing else
+is_address : (text : List ℕ) (asked : Option Line) (p : Place) → IsLine text asked → Asks text (ConnectUri p) → asked ≡ Some (ConnectUri p)
+is_address text asked p h k =
+    sym (told_asked p text asked (λ q e. addresses_once text q p (subst (λ (a : Option Line). IsLine text a) e h).means k) h)
+    ∙ told_line p text (ConnectUri p) (λ q e. sym (ap place_in e)) k
 
 -- a line asks for one thing
 pub line_once : (text : List ℕ) (a b : Option Line) → IsLine text a → IsLine text b → a ≡ b
-line_once text a b h k = sym (told_asked text a h) ∙ told_asked text b k
+line_once text a b h k =
+    sym (told_asked (place_in b) text a (λ p e. sym (ap place_in (is_address text b p k (subst (λ (x : Option Line). IsLine text x) e h).means))) h)
+    ∙ told_asked (place_in b) text b (λ p e. sym (ap place_in e)) k
 
 -- a text that is none of the lines asks for nothing
 pub asks_nothing : (text : List ℕ) → HasNoIssue text → IsNotPlain text → IsNotNamed text → (line : Line) → Asks text line → ⊥
 asks_nothing text command plain named (Connect (Tcp host port)) h = named.tcp host port h
 asks_nothing text command plain named (Connect (Unix path)) h = named.unix path h
+asks_nothing text command plain named (ConnectUri place) h = named.uri place h
 asks_nothing text command plain named (Issue Keep issued) h = command.keep issued h
 asks_nothing text command plain named (Issue Retire issued) h = command.retire issued h
 asks_nothing text command plain named (Issue (Fail error) issued) h = command.fail error issued h

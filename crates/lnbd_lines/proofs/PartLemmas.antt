@@ -4,6 +4,12 @@ use Rattle.std.specs.Str.Pattern.{FindsTextPrefix, StripsPrefix}
 use Rattle.std.proofs.lemmas.List.{append_cancel_left}
 use Rattle.std.proofs.lemmas.List.Elements.{All-from_get_or, All-get_or}
 use Rattle.std.proofs.lemmas.Str.Pattern.{IsSplitOnceResult, split_after, split_parts}
+use Rattle.lnbd_model.specs.declared.target.Place.{Place}
+use Rattle.lnbd_uri.proofs.AnswerLemmas.{address_has_no_fault}
+use Rattle.lnbd_uri.specs.Address.{IsAddress}
+use Rattle.lnbd_uri.specs.Fault.{HasFault}
+use Rattle.lnbd_uri.specs.declared.fault.UriFault.{UriFault}
+use Rattle.lnbd_uri.specs.declared.fault.UriFault.TheVariants.{NoMemory}
 use Rattle.lnbd_lines.proofs.CutLemmas.{cut_once, uncut}
 use Rattle.lnbd_lines.proofs.NumberLemmas.{digits_no_space, number_once}
 use Rattle.lnbd_lines.specs.Grammar.{Follows, IsCommand, IsCut, IsFailing, IsFill, IsFlags, IsHex, IsNumber, IsPayload, IsPlace, IsRange, IsSize, IsTcp, IsWrite, colon, space}
@@ -141,6 +147,10 @@ pub no_port : (text a b : List ℕ) → IsCut space text a b → ((v : ℕ) → 
 no_port text a b cut none host port h =
     let same = cut_once space text a b host h.digits cut h.cut in
     none port (subst (λ d. IsNumber d port) (sym same.1) h.number) h.low h.high
+
+-- a text that has a fault is no address
+pub no_address : (text : List ℕ) (fault : UriFault) → fault ≢ NoMemory → (fault ≢ NoMemory → HasFault text fault) → (place : Place) → IsAddress text place → ⊥
+no_address text fault other has place h = address_has_no_fault text place fault h (has other)
 
 -- what fails no command
 

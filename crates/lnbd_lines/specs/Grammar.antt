@@ -6,8 +6,9 @@ use Rattle.std.specs.Str.{all_ascii_digits}
 use Rattle.std.specs.Str.Parse.{digits_value}
 use Rattle.hex.specs.Hex.{decode_of}
 use Rattle.lnbd_model.specs.declared.target.Target.TheVariants.{Tcp, Unix}
+use Rattle.lnbd_uri.specs.Address.{IsAddress}
 use Rattle.lnbd_lines.specs.declared.line.Line.{Line}
-use Rattle.lnbd_lines.specs.declared.line.Line.TheVariants.{Handle, Connect, Settle, Log, Heard, ClearLog, Done, Peek, InFlight, Direction, State, Info, Export, Strict, Context, Switch as Turn, Ask, Answer, Listing, Read, Write, Disconnect, Close, Command as Issue}
+use Rattle.lnbd_lines.specs.declared.line.Line.TheVariants.{Handle, Connect, ConnectUri, Settle, Log, Heard, ClearLog, Done, Peek, InFlight, Direction, State, Info, Export, Strict, Context, Switch as Turn, Ask, Answer, Listing, Read, Write, Disconnect, Close, Command as Issue}
 use Rattle.lnbd_lines.specs.declared.negotiation.Opt.{Opt}
 use Rattle.lnbd_lines.specs.declared.negotiation.Opt.TheVariants as opt
 use Rattle.lnbd_lines.specs.declared.negotiation.Switch.{Switch}
@@ -181,6 +182,7 @@ abbrev pub Asks : List ℕ → Line → Type 0
 Asks text (Handle number) = Follows (codes "handle ") (λ rest. IsHandle rest number) text
 Asks text (Connect (Tcp host port)) = Follows (codes "connect tcp ") (λ rest. IsTcp rest host port) text
 Asks text (Connect (Unix path)) = Follows (codes "connect unix ") (λ rest. IsPath rest path) text
+Asks text (ConnectUri place) = Follows (codes "connect ") (λ rest. IsAddress rest place) text
 Asks text (Issue manner command) = IsIssue text manner command
 Asks text Settle = text ≡ codes "settle"
 Asks text Log = text ≡ codes "log"

@@ -1,5 +1,6 @@
 -- Words on the code's own steps.
 use Rattle.std.specs.Prelude.{ℕ, ◌≡◌, ◌≢◌, ◌++◌, ⊤, List, [], Option, Some, None, Result, Ok, Err, codes, option_to_list}
+use Rattle.lnbd_model.specs.declared.target.Place.{Place}
 use Rattle.lnbd_model.specs.declared.target.Target.{Target}
 use Rattle.lnbd_model.specs.declared.target.Target.TheVariants.{Tcp, Unix}
 use Rattle.lnbd_lines.specs.Grammar.{Asks, IsCommand, IsLine, IsTcp, IsWrite}
@@ -8,7 +9,7 @@ use Rattle.lnbd_lines.specs.declared.command.Range.{Range}
 use Rattle.lnbd_lines.specs.declared.command.Command.{Command}
 use Rattle.lnbd_lines.specs.declared.command.Command.TheVariants.{Pread, PreadStructured, Pwrite, Trim, Zero, Cache, BlockStatus}
 use Rattle.lnbd_lines.specs.declared.line.Line.{Line}
-use Rattle.lnbd_lines.specs.declared.line.Line.TheVariants.{Connect, Context, Done, Export, Handle, Strict, Command as Issue}
+use Rattle.lnbd_lines.specs.declared.line.Line.TheVariants.{Connect, ConnectUri, Context, Done, Export, Handle, Strict, Command as Issue}
 use Rattle.lnbd_lines.specs.declared.command.Manner.TheVariants.{Keep, Retire, Fail}
 
 -- the text is none of the lines of one word
@@ -55,10 +56,11 @@ pub record IsNotPlain (text : List ℕ) : Type 0 where
   pub strict : (bits : ℕ) → ¬ Asks text (Strict bits)
   pub handle : (number : ℕ) → ¬ Asks text (Handle number)
 
--- the text is none of the lines that tell a name, a host or a path
+-- the text is none of the lines that tell a name, a host, a path or an address
 pub record IsNotNamed (text : List ℕ) : Type 0 where
   pub tcp : (host : List ℕ) (port : ℕ) → ¬ Asks text (Connect (Tcp host port))
   pub unix : (path : List ℕ) → ¬ Asks text (Connect (Unix path))
+  pub uri : (place : Place) → ¬ Asks text (ConnectUri place)
   pub export : (name : List ℕ) → ¬ Asks text (Export name)
   pub context : (name : List ℕ) → ¬ Asks text (Context name)
 

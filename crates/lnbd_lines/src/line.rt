@@ -2,7 +2,7 @@
 
 use crate::command::{Command, Manner};
 use crate::negotiation::{Opt, Switch};
-use lnbd_model::{Target, Text};
+use lnbd_model::{Place, Target, Text};
 
 /// One call on the current handle, a question about it, or another handle made current.
 #[derive(Debug, Drop)]
@@ -12,6 +12,9 @@ pub enum Line {
     /// `connect tcp HOST PORT` or `connect unix PATH`: connect, and start the handshake
     /// (nbd_connect_tcp(3), nbd_connect_unix(3)). The host and the path have 1 to 4,096 bytes.
     Connect(Target),
+    /// `connect URI`: connect to the server of this address, set its export's name, and start the handshake
+    /// (nbd_connect_uri(3)).
+    ConnectUri(Place),
     /// A command: issue it, with callbacks that answer so.
     Command { manner: Manner, command: Command },
     /// `settle`: take turns until nothing is in flight and nothing waits to go out.

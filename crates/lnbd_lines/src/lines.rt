@@ -1,7 +1,9 @@
 //! One line of a script: what it asks for, or that it is outside the grammar.
 
 ghost use Rattle.std.specs.Prelude.{◌≤◌, ◌↔◌, IfOk, IsErrOf, IsTrue, List, MatchOption, ℕ};
+ghost use Rattle.lnbd_model.specs.declared.target.Place.{Place};
 ghost use Rattle.lnbd_model.specs.declared.target.Target.{Target};
+ghost use Rattle.lnbd_uri.specs.Address.{IsAddress};
 ghost use Rattle.lnbd_lines.specs.Grammar.{Asks, IsLawful, IsLine, IsNumber, IsPassedOver, IsTcp};
 ghost use Rattle.lnbd_lines.specs.Written.{HasNoOption, HasNoSwitch, HasNoWord, IsNotNamed, IsNotPlain, IsTcpTarget};
 ghost use Rattle.lnbd_lines.specs.declared.line.Line.{Line};
@@ -13,7 +15,8 @@ use crate::line::Line;
 use crate::negotiation::{Opt, Switch};
 use crate::number::{flags, handle_number, number};
 use crate::word::{cut, short};
-use lnbd_model::{NoMemory, Target};
+use lnbd_model::{NoMemory, Place, Target};
+use lnbd_uri::{UriFault, parse};
 use std::alloc::Global;
 use std::str::from_utf8;
 
@@ -168,6 +171,32 @@ fn connect_unix(alloc: Global, text: &str) -> Result<Option<Line>, NoMemory>
     Ok(Some(Line::Connect(Target::Unix { path })))
 }
 
+/// The place of an address.
+fn address(alloc: Global, text: &str) -> Result<Option<Place>, NoMemory>
+    ensures { IfOk result (λ place. MatchOption place ((place : Place) → ¬ IsAddress text.now place) (λ place. IsAddress text.now place)) }
+{
+    match parse(alloc, text) {
+        Ok(place) => Ok(Some(place)),
+        Err(fault) => match fault {
+            UriFault::NoMemory => Err(NoMemory),
+            _ => Ok(None),
+        },
+    }
+}
+
+/// `connect URI`.
+fn connect_uri(alloc: Global, text: &str) -> Result<Option<Line>, NoMemory>
+    ensures { IfOk result (λ asked. MatchOption asked ((place : Place) → ¬ Asks text.now (Line.ConnectUri place)) (λ line. Asks text.now line)) }
+{
+    let Some(rest) = text.strip_prefix("connect ") else {
+        return Ok(None);
+    };
+    let Some(place) = address(alloc, rest)? else {
+        return Ok(None);
+    };
+    Ok(Some(Line::ConnectUri(place)))
+}
+
 /// `export TEXT`.
 fn export(alloc: Global, text: &str) -> Result<Option<Line>, NoMemory>
     ensures { IfOk result (λ asked. MatchOption asked ((name : List ℕ) → ¬ Asks text.now (Line.Export name)) (λ line. Asks text.now line)) }
@@ -216,7 +245,7 @@ fn plain(text: &str) -> Option<Line>
     handle(text)
 }
 
-/// A line that tells a name, a host or a path.
+/// A line that tells a name, a host, a path or an address.
 fn named(alloc: Global, text: &str) -> Result<Option<Line>, NoMemory>
     ensures { IfOk result (λ asked. MatchOption asked (IsNotNamed text.now) (λ line. Asks text.now line)) }
 {
@@ -224,6 +253,9 @@ fn named(alloc: Global, text: &str) -> Result<Option<Line>, NoMemory>
         return Ok(Some(line));
     }
     if let Some(line) = connect_unix(alloc, text)? {
+        return Ok(Some(line));
+    }
+    if let Some(line) = connect_uri(alloc, text)? {
         return Ok(Some(line));
     }
     if let Some(line) = export(alloc, text)? {

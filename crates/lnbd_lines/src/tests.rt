@@ -1,7 +1,7 @@
 //! Scripts by example. What each line asks for was read off the grammar by hand.
 
 use crate::{Command, Line, Manner, Opt, Payload, Range, Script, ScriptFault, Switch, parse};
-use lnbd_model::Target;
+use lnbd_model::{Place, Target};
 use std::alloc::Global;
 use std::process::Abort;
 use std::test::Fail;
@@ -11,6 +11,10 @@ use std::test::Fail;
 enum Wanted<'a> {
     Tcp(&'a str, u16),
     Unix(&'a str),
+    /// An address over TCP: the host, the port and the name.
+    TcpUri(&'a str, u16, &'a str),
+    /// An address of a Unix socket: its path, and the name.
+    UnixUri(&'a str, &'a str),
     /// A command with a range, by its name in Rust: the length, the offset and the flags.
     Ranged(&'a str, u64, u64, u32),
     /// A write of these bytes, at this offset and with these flags.
@@ -35,7 +39,7 @@ enum Wanted<'a> {
 
 use Wanted::{
     Auto, Context, Done, Export, Failing, Fill, Flush, Handle, Hex, Nothing, Ranged, Refused,
-    Strict, Tcp, Unix, Word,
+    Strict, Tcp, TcpUri, Unix, UnixUri, Word,
 };
 
 /// The name in Rust of an option.
@@ -149,12 +153,25 @@ fn is_issue(manner: Manner, command: &Command, wanted: Wanted) -> bool {
     }
 }
 
+fn is_place(place: &Place, wanted: Wanted) -> bool {
+    match (&place.to, wanted) {
+        (Target::Tcp { host, port }, TcpUri(server, number, name)) => {
+            host.as_str() == server && *port == number && place.name.as_str() == name
+        }
+        (Target::Unix { path }, UnixUri(socket, name)) => {
+            path.as_str() == socket && place.name.as_str() == name
+        }
+        _ => false,
+    }
+}
+
 fn is_wanted(line: &Line, wanted: Wanted) -> bool {
     match (line, wanted) {
         (Line::Connect(Target::Tcp { host, port }), Tcp(name, number)) => {
             host.as_str() == name && *port == number
         }
         (Line::Connect(Target::Unix { path }), Unix(name)) => path.as_str() == name,
+        (Line::ConnectUri(place), wanted) => is_place(place, wanted),
         (Line::Command { manner, command }, wanted) => is_issue(*manner, command, wanted),
         (Line::Strict { bits }, Strict(number)) => *bits == number,
         (Line::Handle { number }, Handle(wanted)) => *number == wanted,
@@ -254,6 +271,12 @@ fn lines_ask_for_what_they_spell(rt: HostRuntime) -> Result<(), Fail> {
             ("connect tcp é 065535", Tcp("é", 65535)),
             ("connect unix /run/a b", Unix("/run/a b")),
             ("connect unix  ", Unix(" ")),
+            ("connect nbd://localhost", TcpUri("localhost", 10809, "")),
+            ("connect nbd://h:10810/a%20b", TcpUri("h", 10810, "a b")),
+            (
+                "connect nbd+unix:///d?socket=/tmp/a b",
+                UnixUri("/tmp/a b", "d"),
+            ),
             ("done 18446744073709551615", Done(u64::MAX)),
             ("handle 0", Handle(0)),
             ("handle 15", Handle(15)),
@@ -323,7 +346,14 @@ fn lines_ask_for_what_they_spell(rt: HostRuntime) -> Result<(), Fail> {
             ("connect tcp localhost 1 ", Refused),
             ("connect tcp localhost", Refused),
             ("connect unix ", Refused),
-            ("connect nbd://localhost", Refused),
+            ("connect", Refused),
+            ("connect ", Refused),
+            ("connect  nbd://localhost", Refused),
+            ("connect nbds://localhost", Refused),
+            ("connect nbd://localhost:0", Refused),
+            ("connect nbd://localhost/%zz", Refused),
+            ("connect nbd+unix:///x", Refused),
+            ("connect http://localhost", Refused),
             ("done", Refused),
             ("done ", Refused),
             ("done 1 ", Refused),

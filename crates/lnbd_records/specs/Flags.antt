@@ -35,6 +35,9 @@ flag_send_fast_zero = 2048
 
 -- Of a command.
 
+abbrev pub no_cmd_flags : ℕ
+no_cmd_flags = 0
+
 abbrev pub cmd_flag_fua : ℕ
 cmd_flag_fua = 1
 

@@ -2,6 +2,7 @@
 -- and with extended headers "Extended request message" and "Extended reply chunk message".
 use Rattle.std.specs.Prelude.{◌≡◌, ◌≢◌, ℕ, ◌^◌, ◌<◌, ◌≤◌, List, [], ◌∷◌, ◌++◌, length, flat_map}
 use Rattle.lnbd_model.specs.declared.export.Extent.{Extent}
+use Rattle.lnbd_records.specs.Flags.{no_cmd_flags}
 use Rattle.lnbd_records.specs.Limits.{max_data, max_descriptors, max_text, max_other_error}
 use Rattle.lnbd_records.specs.Numbers.{Field, number, row, IsRow, IsRowThen}
 
@@ -25,9 +26,13 @@ abbrev pub request : (flags type cookie offset length : ℕ) → List Field
 request flags type cookie offset length =
     number 4 request_magic ∷ number 2 flags ∷ number 2 type ∷ number 8 cookie ∷ number 8 offset ∷ number 4 length ∷ []
 
--- DISC, the request that ends a session: type 2, and all else is 0
+-- the type of DISC
+abbrev pub type_disc : ℕ
+type_disc = 2
+
+-- DISC, the request that ends a session: beside its type all is 0
 abbrev pub disconnect : List Field
-disconnect = request 0 2 0 0 0
+disconnect = request no_cmd_flags type_disc 0 0 0
 
 -- a simple reply up to its data
 abbrev pub simple_reply : (error cookie : ℕ) → List Field

@@ -4,7 +4,11 @@
 #![tactic(auto)]
 
 #[cfg(test)]
+mod copy_tests;
+#[cfg(test)]
 mod info_tests;
+#[cfg(test)]
+mod link_tests;
 #[cfg(test)]
 mod list_tests;
 #[cfg(test)]

@@ -355,7 +355,7 @@ fn chunks_are_heard(rt: HostRuntime) -> Result<(), Fail> {
     play_all(&rt, rt.alloc(), &CHUNKS)
 }
 
-static CALLBACKS: [Session<'static>; 3] = [
+static CALLBACKS: [Session<'static>; 4] = [
     Session {
         shows: "a completion that answers so retires its command",
         reads: &[
@@ -404,6 +404,27 @@ static CALLBACKS: [Session<'static>; 3] = [
         written: &[
             HANDSHAKE,
             "25609513 0000 0000 0000000000000001 0000000000000000 00000200",
+        ],
+        ..SESSION
+    },
+    Session {
+        shows: "so is the number of content at fault",
+        reads: &[
+            HELLO,
+            GO,
+            Told::Bytes("67446698 00000000 0000000000000001 ab*2"),
+        ],
+        talk: &[
+            CONNECT,
+            SETTLE,
+            ("fail 71 pread-structured 2 0", "cookie 1"),
+            SETTLE,
+            ("done 1", "failed 71 2 00*2"),
+        ],
+        last: "opened 2 freed 2",
+        written: &[
+            HANDSHAKE,
+            "25609513 0000 0000 0000000000000001 0000000000000000 00000002",
         ],
         ..SESSION
     },

@@ -27,6 +27,8 @@ pub enum Told<'a> {
 pub struct Session<'a> {
     /// What the session shows.
     pub shows: &'a str,
+    /// Whether it shows this only where each read of the first link comes as it stands there; else it is played with each cut too.
+    pub uncut: bool,
     pub words: &'a [&'a str],
     /// Whether the connect fails.
     pub unreachable: bool,
@@ -58,6 +60,7 @@ pub struct Session<'a> {
 /// An empty script over a link whose peer ends it at once.
 pub const SESSION: Session<'static> = Session {
     shows: "",
+    uncut: false,
     words: &["nbdcalls"],
     unreachable: false,
     reads: &[],
@@ -106,38 +109,77 @@ pub fn all_of(alloc: Global, parts: &[&str]) -> Result<Vec<u8>, Fail> {
     Ok(bytes)
 }
 
-fn push_told(alloc: Global, reads: &mut Vec<ReadAnswer>, told: Told) -> Result<(), Fail> {
+fn push_read(alloc: Global, reads: &mut Vec<ReadAnswer>, bytes: &[u8]) -> Result<(), Fail> {
+    let bytes = Vec::from_slice(alloc, bytes)?;
+    reads.push(ReadAnswer::Bytes(Bytes::from_vec(bytes)))?;
+    Ok(())
+}
+
+/// Appends one read of these bytes, or two where the cut lies between them.
+fn push_cut(
+    alloc: Global,
+    reads: &mut Vec<ReadAnswer>,
+    bytes: &[u8],
+    cut: usize,
+) -> Result<(), Fail> {
+    if cut == 0 || bytes.len() <= cut {
+        return push_read(alloc, reads, bytes);
+    }
+    let (front, back) = bytes.split_at(cut);
+    push_read(alloc, reads, front)?;
+    push_read(alloc, reads, back)
+}
+
+/// Appends an answer, and tells how far behind it the cut lies.
+fn push_told(
+    alloc: Global,
+    reads: &mut Vec<ReadAnswer>,
+    told: Told,
+    cut: usize,
+) -> Result<usize, Fail> {
     match told {
         Told::Bytes(text) => {
             let bytes = bytes_of(alloc, text)?;
-            reads.push(ReadAnswer::Bytes(Bytes::from_vec(bytes)))?;
+            push_cut(alloc, reads, bytes.as_slice(), cut)?;
+            return Ok(cut.saturating_sub(bytes.len()));
         }
         Told::ByteByByte(text) => {
             for byte in bytes_of(alloc, text)? {
-                let bytes = Vec::from_elem(alloc, byte, 1)?;
-                reads.push(ReadAnswer::Bytes(Bytes::from_vec(bytes)))?;
+                push_read(alloc, reads, &[byte])?;
             }
         }
         Told::Nothing => reads.push(ReadAnswer::NotReady)?,
         Told::Failure => reads.push(ReadAnswer::Failed)?,
     }
-    Ok(())
+    Ok(cut)
 }
 
-/// What the reads of a link answer.
-fn answers(alloc: Global, all: &[Told]) -> Result<Vec<ReadAnswer>, Fail> {
+/// What the reads of a link answer. Behind so many of the bytes that come together they are cut; 0 cuts none.
+fn answers(alloc: Global, all: &[Told], cut: usize) -> Result<Vec<ReadAnswer>, Fail> {
     let mut reads = Vec::new(alloc);
+    let mut left = cut;
     for told in all {
-        push_told(alloc, &mut reads, *told)?;
+        left = push_told(alloc, &mut reads, *told, left)?;
     }
     Ok(reads)
 }
 
+/// How many bytes come together in these reads.
+fn count(alloc: Global, all: &[Told]) -> Result<usize, Fail> {
+    let mut count = 0usize;
+    for told in all {
+        if let Told::Bytes(text) = told {
+            count = count.saturating_add(bytes_of(alloc, text)?.len());
+        }
+    }
+    Ok(count)
+}
+
 /// The first link of a session.
-fn first_link(alloc: Global, session: &Session) -> Result<ListLink, Fail> {
+fn first_link(alloc: Global, session: &Session, cut: usize) -> Result<ListLink, Fail> {
     Ok(ListLink {
         fails: session.unreachable,
-        reads: answers(alloc, session.reads)?,
+        reads: answers(alloc, session.reads, cut)?,
         writes: Vec::from_slice(alloc, session.writes)?,
     })
 }
@@ -145,7 +187,7 @@ fn first_link(alloc: Global, session: &Session) -> Result<ListLink, Fail> {
 fn second_link(alloc: Global, session: &Session) -> Result<ListLink, Fail> {
     Ok(ListLink {
         fails: false,
-        reads: answers(alloc, session.second)?,
+        reads: answers(alloc, session.second, 0)?,
         writes: Vec::new(alloc),
     })
 }
@@ -179,12 +221,15 @@ pub fn words_of(alloc: Global, words: &[&str]) -> Result<Vec<String>, Fail> {
     Ok(owned)
 }
 
-/// Plays a session, and compares all that comes of it.
-fn play(rt: &impl Abort, alloc: Global, session: &Session) -> Result<(), Fail> {
+/// Plays a session, the first link's reads cut behind so many bytes, and compares all that comes of it.
+fn play(rt: &impl Abort, alloc: Global, session: &Session, cut: usize) -> Result<(), Fail> {
     let shows = session.shows;
     let words = words_of(alloc, session.words)?;
     let (script, answers) = texts(alloc, session)?;
-    let links = vec![in alloc; first_link(alloc, session)?, second_link(alloc, session)?]?;
+    let links = vec![in alloc;
+        first_link(alloc, session, cut)?,
+        second_link(alloc, session)?,
+    ]?;
     let mut wires = Overheard {
         wires: ListWires::new(alloc, links, 4096, session.pause.max(1))?,
         written: Vec::new(alloc),
@@ -193,19 +238,34 @@ fn play(rt: &impl Abort, alloc: Global, session: &Session) -> Result<(), Fail> {
     let mut out = ListSink::new(alloc, session.output_room, session.output_fails_at)?;
     let mut err = ListSink::new(alloc, 4096, None)?;
     let status = run(alloc, &words, &mut input, &mut wires, &mut out, &mut err);
-    assert_eq!(rt; from_utf8(out.bytes())?, answers.as_str(), "{shows}");
-    assert_eq!(rt; from_utf8(err.bytes())?, session.err, "{shows}");
-    assert_eq!(rt; status, session.status, "{shows}");
-    assert_eq!(rt; wires.idles(), session.waited, "{shows}");
+    assert_eq!(rt; from_utf8(out.bytes())?, answers.as_str(), "{shows} {cut}");
+    assert_eq!(rt; from_utf8(err.bytes())?, session.err, "{shows} {cut}");
+    assert_eq!(rt; status, session.status, "{shows} {cut}");
+    assert_eq!(rt; wires.idles(), session.waited, "{shows} {cut}");
     let written = all_of(alloc, session.written)?;
-    assert_eq!(rt; wires.written.as_slice(), written.as_slice(), "{shows}");
+    assert_eq!(rt;
+        wires.written.as_slice(),
+        written.as_slice(),
+        "{shows} {cut}"
+    );
     Ok(())
 }
 
-/// Plays each session.
+/// Plays a session with each cut.
+fn play_cuts(rt: &impl Abort, alloc: Global, session: &Session) -> Result<(), Fail> {
+    for cut in 1..count(alloc, session.reads)? {
+        play(rt, alloc, session, cut)?;
+    }
+    Ok(())
+}
+
+/// Plays each session whole, and cut at each byte.
 pub fn play_all(rt: &impl Abort, alloc: Global, sessions: &[Session]) -> Result<(), Fail> {
     for session in sessions {
-        play(rt, alloc, session)?;
+        play(rt, alloc, session, 0)?;
+        if !session.uncut {
+            play_cuts(rt, alloc, session)?;
+        }
     }
     Ok(())
 }

@@ -184,6 +184,7 @@ static COMMANDS: [Session<'static>; 5] = [
     },
     Session {
         shows: "a fill goes out as its bytes, behind the head of its write",
+        uncut: true,
         reads: &[HELLO, GO, Told::Bytes("67446698 00000000 0000000000000001")],
         talk: &[
             CONNECT,
@@ -383,6 +384,7 @@ static HANDSHAKES: [Session<'static>; 4] = [
     },
     Session {
         shows: "where GO is not known the export is asked by its name",
+        uncut: true,
         reads: &[
             Told::Bytes("4e42444d41474943 49484156454f5054 0001"),
             // UNSUP, then the size, the flags and 124 zero bytes in two reads.
@@ -414,6 +416,7 @@ static HANDSHAKES: [Session<'static>; 4] = [
     },
     Session {
         shows: "a server that wants TLS ends the handshake",
+        uncut: true,
         reads: &[
             Told::Bytes("4e42444d41474943 49484156454f5054 0001"),
             Told::Bytes("0003e889045565a9 00000007 80000005 00000000"),
@@ -561,6 +564,7 @@ static FIRST_EVENTS: [Session<'static>; 3] = [
     },
     Session {
         shows: "of an error and a breach in one read the breach decides",
+        uncut: true,
         reads: &[
             HELLO,
             GO,
@@ -714,104 +718,4 @@ static SCRIPTS: [Session<'static>; 3] = [
 #[test]
 fn scripts_and_words_are_judged_first(rt: HostRuntime) -> Result<(), Fail> {
     play_all(&rt, rt.alloc(), &SCRIPTS)
-}
-
-static SEVERAL: [Session<'static>; 3] = [
-    Session {
-        shows: "each handle has its own link's bytes, and a breach on one leaves the other ready",
-        reads: &[
-            HELLO,
-            GO,
-            // Two turns in which the other handle negotiates, and one in which it is answered first.
-            Told::Nothing,
-            Told::Nothing,
-            Told::Nothing,
-            Told::Bytes("67446698 00000000 0000000000000001 11"),
-            Told::Bytes("00000000"),
-        ],
-        second: &[
-            HELLO,
-            GO,
-            Told::Bytes("67446698 00000000 0000000000000001 22"),
-            Told::Nothing,
-        ],
-        talk: &[
-            CONNECT,
-            SETTLE,
-            ("handle 1", "ok"),
-            ("state", "created"),
-            CONNECT,
-            SETTLE,
-            ("pread 1 0", "cookie 1"),
-            ("handle 0", "ok"),
-            ("pread 1 0", "cookie 1"),
-            SETTLE,
-            ("done 1", "done 1 11*1"),
-            ("read", "moved 4"),
-            ("state", "dead broke BadReplyMagic"),
-            ("handle 1", "ok"),
-            ("done 1", "done 1 22*1"),
-            ("state", "ready"),
-        ],
-        last: "opened 2 freed 2",
-        err: "lnbd: peer broke BadReplyMagic\n",
-        status: 4,
-        written: &[
-            HANDSHAKE,
-            HANDSHAKE,
-            "25609513 0000 0000 0000000000000001 0000000000000000 00000001",
-            "25609513 0000 0000 0000000000000001 0000000000000000 00000001",
-        ],
-        ..SESSION
-    },
-    Session {
-        shows: "a handle that is closed is gone, and another is not",
-        talk: &[
-            ("close", "closed 0 0"),
-            ("state", "gone"),
-            ("settle", "gone"),
-            ("close", "gone"),
-            ("handle 15", "ok"),
-            ("state", "created"),
-            SETTLE,
-            ("handle 0", "ok"),
-            ("log", "gone"),
-        ],
-        last: "opened 0 freed 0",
-        ..SESSION
-    },
-    Session {
-        shows: "the waiting of two settles counts together",
-        reads: &[
-            Told::Nothing,
-            HELLO,
-            GO,
-            // One for the turn that writes, two for those in which nothing moves.
-            Told::Nothing,
-            Told::Nothing,
-            Told::Nothing,
-            Told::Bytes("67446698 00000000 0000000000000001 11"),
-        ],
-        pause: 400_000_000,
-        talk: &[
-            CONNECT,
-            SETTLE,
-            ("pread 1 0", "cookie 1"),
-            ("settle", ""),
-            ("done 1", ""),
-        ],
-        err: "lnbd: peer silent\n",
-        status: 7,
-        waited: 1_200_000_000,
-        written: &[
-            HANDSHAKE,
-            "25609513 0000 0000 0000000000000001 0000000000000000 00000001",
-        ],
-        ..SESSION
-    },
-];
-
-#[test]
-fn several_handles_have_their_own_links(rt: HostRuntime) -> Result<(), Fail> {
-    play_all(&rt, rt.alloc(), &SEVERAL)
 }

@@ -11,3 +11,4 @@ pub mod RoundLemmas
 pub mod RoundSpendLemmas
 pub mod PlayLemmas
 pub mod FreedLemmas
+pub mod OriginLemmas

@@ -5,6 +5,7 @@ use Rattle.std.proofs.lemmas.List.{length-take-le}
 use Rattle.lnbd_model.specs.declared.refusal.Why.{Why}
 use Rattle.lnbd_model.specs.declared.state.State.{State}
 use Rattle.lnbd_model.specs.declared.state.State.TheVariants as state
+use Rattle.lnbd_model.specs.declared.target.Place.{Place}
 use Rattle.lnbd_model.specs.declared.target.Target.{Target}
 use Rattle.lnbd_history.specs.declared.kinds.Completed.{Completed}
 use Rattle.lnbd_history.specs.declared.kinds.Completed.TheVariants as completed
@@ -55,7 +56,7 @@ use Rattle.lnbd_script.specs.Kept.{Heeds, lines_of, or_first, tally_of}
 use Rattle.lnbd_script.specs.KeptLaws.{heeds_none}
 use Rattle.lnbd_script.specs.Seen.{Seen, IsAt, Went, Goes, Follows, adding, callbacks_of}
 use Rattle.lnbd_script.specs.Turns.{is_reading, is_waiting}
-use Rattle.lnbd_script.specs.Lines.{Adds, AddsContext, AsksFor, Hears, TellsHeard, hearing, Connects, Disconnects, Does as Line_does, LineEnd, ReadsOn, Sets, SetsStrict, WritesOn, asking, connected, has_all_contexts, is_created, is_opt_mode, is_structured, lacks_structured, setting_of, taking, told_link}
+use Rattle.lnbd_script.specs.Lines.{Adds, AddsContext, AsksFor, Hears, TellsHeard, hearing, Connects, ConnectsTo, Disconnects, Does as Line_does, LineEnd, ReadsOn, Sets, SetsStrict, WritesOn, asking, connected, has_all_contexts, is_created, is_opt_mode, is_structured, lacks_structured, named_if, setting_of, taking, told_link}
 use Rattle.lnbd_script.specs.Steps.{Becomes, ReadsOnce, ReadsOnceShort, Takes_option, WritesOnce, halted, option_told}
 use Rattle.lnbd_script.proofs.SeenLemmas.{add, follow, is_plain, met_by}
 use Rattle.lnbd_script.proofs.TurnLemmas.{answers_at, waits_false, waits_true}
@@ -423,6 +424,67 @@ connect_answered seen old new to before after link at created grown reached =
       leads = subst (λ (b : Bool). Connects b to seen (Connect to link ∷ []) reached.0 (Ok (told_link link))) (sym yes) (link, refl, reached.1, refl);
       at = reached.2;
     }
+
+-- Connects by an address.
+
+pub is_named : (old new : Machine Keeper) (name : List ℕ) (answer : Result (Unit {0}) SetFault) → state_now old.known ≡ state.Created → OnOk answer (new ≡ step old (Set (Name name)))
+    → IfErr answer (λ fault. (may_name (state_now old.known) ≡ false) × (fault ≡ set.State (state_now old.known))) → new ≡ step old (Set (Name name))
+is_named old new name (Ok done) created ok refused = ok
+is_named old new name (Err fault) created ok refused = absurd (false≢true (sym refused.0 ∙ ap may_name created))
+
+pub still_created : (old new : Machine Keeper) (name : List ℕ) → state_now old.known ≡ state.Created → new ≡ step old (Set (Name name)) → is_created (state_now new.known) ≡ true
+still_created old new name created is = ap (λ (m : Machine Keeper). is_created (state_now m.known)) is ∙ stage_is_created (step old (Set (Name name))) (is_stage_created old created)
+
+pub named_before : (seen : Seen) (old : Session) (handle : Machine Keeper) (name : List ℕ) → IsAt seen old → state_now old.handle.known ≡ state.Created → handle ≡ step old.handle (Set (Name name))
+    → (x : Seen) × (x ≡ adding (Set (Name name)) seen) × IsAt x (record { handle = handle; link = old.link; heeded = old.heeded; first = old.first })
+named_before seen old handle name at created is = (
+  adding (Set (Name name)) seen,
+  refl,
+  add seen old _ handle old.heeded (Set (Name name)) at (ap may_name created) refl (quiet old.handle handle old.heeded (Set (Name name)) is refl) refl,
+)
+
+pub uri_refused : (seen : Seen) (old : Session) (place : Place) (calls : Option (List Call)) (s : State) → IsAt seen old → s ≡ state_now old.handle.known → is_created s ≡ false
+    → Went calls calls old (λ own after. Line_does (line.ConnectUri place) seen own after (Ok (told.RefusedState s)))
+uri_refused seen old place calls s at is off =
+    let not_created : is_created (state_now old.handle.known) ≡ false = ap is_created (sym is) ∙ off in
+    let right = answers_at seen old at in
+    let no : is_created (state_after seen.history) ≡ false = ap is_created (sym right.state) ∙ not_created in
+    record {
+      calls = [];
+      after = seen;
+      grown = grows_none calls;
+      leads = inl (subst (λ (b : Bool). ConnectsTo b place seen [] seen (Ok (told.RefusedState s))) (sym no) (refl, refl, ap (λ (t : State). Ok (told.RefusedState t)) (is ∙ right.state)));
+      at = at;
+    }
+
+pub uri_answered : (seen : Seen) (old new : Session) (place : Place) (name : List ℕ) (before after : Option (List Call)) (link : Option ℕ) → IsAt seen old → state_now old.handle.known ≡ state.Created → name ≡ place.name
+    → Grows_by before after (Connect place.to link) → ((x : Seen) × (x ≡ connected link (named_if link name seen)) × IsAt x new)
+    → Went before after new (λ own later. ConnectsTo (is_created (state_after seen.history)) place seen own later (Ok (told_link link)))
+uri_answered seen old new place name before after link at created same grown reached =
+    let yes : is_created (state_after seen.history) ≡ true = ap is_created (sym (answers_at seen old at).state ∙ created) in
+    let after_is = reached.1 ∙ ap (λ (n : List ℕ). connected link (named_if link n seen)) same in
+    record {
+      calls = Connect place.to link ∷ [];
+      after = reached.0;
+      grown = grown;
+      leads = subst (λ (b : Bool). ConnectsTo b place seen (Connect place.to link ∷ []) reached.0 (Ok (told_link link))) (sym yes) (link, refl, after_is, refl);
+      at = reached.2;
+    }
+
+pub uri_told : (place : Place) (seen : Seen) (a b : Option (List Call)) (session : Session) (tells given : Told) → tells ≡ given
+    → Went a b session (λ calls after. ConnectsTo (is_created (state_after seen.history)) place seen calls after (Ok given))
+    → Went a b session (λ calls after. Line_does (line.ConnectUri place) seen calls after (Ok tells))
+uri_told place seen a b session tells given is went = record {
+  calls = went.calls;
+  after = went.after;
+  grown = went.grown;
+  leads = inl (subst (λ (t : Told). ConnectsTo (is_created (state_after seen.history)) place seen went.calls went.after (Ok t)) (sym is) went.leads);
+  at = went.at;
+}
+
+pub uri_lacks : (place : Place) (seen : Seen) (old : Session) (calls : Option (List Call)) → IsAt seen old
+    → Went calls calls old (λ own after. Line_does (line.ConnectUri place) seen own after (Err halt.NoMemory))
+uri_lacks place seen old calls at = record { calls = []; after = seen; grown = grows_none calls; leads = inr (refl, refl, refl); at = at }
 
 -- Reads and writes.
 

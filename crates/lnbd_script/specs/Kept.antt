@@ -1,6 +1,10 @@
 -- What the callbacks of a script's commands answer, and what they were told.
-use Rattle.std.specs.Prelude.{◌≡◌, ◌+◌, ◌-◌, ◌^◌, ◌==◌, ◌||◌, ◌&&◌, not, min, ℕ, Bool, true, false, List, [], ◌∷◌, ◌++◌, All, Option, Some, None, if◌then◌else◌, codes, flat_map, get_or, set, string_bytes}
+use Rattle.std.specs.Prelude.{◌≡◌, ◌+◌, ◌-◌, ◌^◌, ◌==◌, ◌||◌, min, ℕ, Bool, true, false, List, [], ◌∷◌, ◌++◌, All, Option, Some, None, if◌then◌else◌, codes, flat_map, get_or, set, string_bytes}
 use Rattle.lnbd_model.specs.declared.errors.TheConstants.{EPROTO, ENOTCONN}
+use Rattle.lnbd_model.specs.declared.failure.Failure.{Failure}
+use Rattle.lnbd_model.specs.declared.failure.Origin.{Origin}
+use Rattle.lnbd_model.specs.declared.failure.Origin.TheVariants as from
+use Rattle.lnbd_outcome.specs.Outcome.{failing}
 use Rattle.lnbd_callbacks.specs.Calls.{Call, Chunk, Extents, Complete, Free, counted}
 use Rattle.lnbd_callbacks.specs.declared.caller.Heard.{Heard}
 use Rattle.lnbd_callbacks.specs.declared.caller.Heard.TheVariants.{Going, Fail}
@@ -71,18 +75,45 @@ is_own command failed = get_or failed command false
 abbrev pub joined : Tally → Tally
 joined tally = record { error = tally.error; faulty = tally.faulty; failed = tally.failed ++ false ∷ [] }
 
--- A completed command's error is that of its own callback; else EPROTO is that of faulty content, ENOTCONN that of a lost
--- connection, and no peer tells these, since an unknown number of a peer counts as EINVAL; each other one was told by the peer.
-abbrev pub told_number : Bool → ℕ → Option ℕ
-told_number own error = if own || ((error == 0) || ((error == EPROTO) || (error == ENOTCONN))) then None else Some error
+-- Where the error of a completed command came from: its own callback answered it first; else EPROTO is that of content at fault, ENOTCONN
+-- that of a lost connection, and no peer tells these, since an unknown number of a peer counts as EINVAL; each other one the peer told.
+abbrev pub origin_of : (own : Bool) → ℕ → Origin
+origin_of own error =
+    if own then from.Callback
+    else if error == EPROTO then from.Content
+    else if error == ENOTCONN then from.Lost
+    else from.Told
 
-abbrev pub is_faulty : Bool → ℕ → Bool
-is_faulty own error = not own && (error == EPROTO)
+-- how a completed command failed, if it did
+abbrev pub failure_of : (own : Bool) → ℕ → Option Failure
+failure_of own error = failing (origin_of own error) error
+
+abbrev pub told_from : Origin → ℕ → Option ℕ
+told_from from.Told error = Some error
+told_from from.Content error = None
+told_from from.Callback error = None
+told_from from.Lost error = None
+
+-- the error that the peer told
+abbrev pub told_by : Option Failure → Option ℕ
+told_by None = None
+told_by (Some failure) = told_from failure.origin failure.error
+
+abbrev pub is_content : Origin → Bool
+is_content from.Told = false
+is_content from.Content = true
+is_content from.Callback = false
+is_content from.Lost = false
+
+-- it failed by content at fault
+abbrev pub is_faulty : Option Failure → Bool
+is_faulty None = false
+is_faulty (Some failure) = is_content failure.origin
 
 abbrev pub settling : ℕ → ℕ → Tally → Tally
 settling command error tally = record {
-  error = or_first tally.error (told_number (is_own command tally.failed) error);
-  faulty = tally.faulty || is_faulty (is_own command tally.failed) error;
+  error = or_first tally.error (told_by (failure_of (is_own command tally.failed) error));
+  faulty = tally.faulty || is_faulty (failure_of (is_own command tally.failed) error);
   failed = tally.failed;
 }
 

@@ -1,5 +1,6 @@
 pub mod Kept
 pub mod KeptLaws
+pub mod Origins
 pub mod Seen
 pub mod Turns
 pub mod Lines

@@ -3,6 +3,7 @@ use Rattle.std.specs.Prelude.{◌≡◌, ◌⊎◌, ◌+◌, ℕ, zero, suc, Boo
 use Rattle.lnbd_model.specs.declared.refusal.Why.{Why}
 use Rattle.lnbd_model.specs.declared.state.State.{State}
 use Rattle.lnbd_model.specs.declared.state.State.TheVariants as state
+use Rattle.lnbd_model.specs.declared.target.Place.{Place}
 use Rattle.lnbd_model.specs.declared.target.Target.{Target}
 use Rattle.lnbd_records.specs.Options.{opt_list, opt_info, opt_set_meta_context, opt_go}
 use Rattle.lnbd_history.specs.declared.kinds.Completed.{Completed}
@@ -79,6 +80,17 @@ told_link None = told.NotConnected
 abbrev pub Connects : Bool → Target → Seen → List Call → Seen → LineEnd → Type 0
 Connects true to before calls after end = (link : Option ℕ) × (calls ≡ Connect to link ∷ []) × (after ≡ connected link before) × (end ≡ Ok (told_link link))
 Connects false to before calls after end = Stays before calls after end (told.RefusedState (state_after before.history))
+
+-- where a connect gave a link, the export's name is set
+abbrev pub named_if : Option ℕ → List ℕ → Seen → Seen
+named_if (Some link) name before = adding (Set (Name name)) before
+named_if None name before = before
+
+-- The same by an address: its export's name is set before the start.
+abbrev pub ConnectsTo : Bool → Place → Seen → List Call → Seen → LineEnd → Type 0
+ConnectsTo true place before calls after end =
+    (link : Option ℕ) × (calls ≡ Connect place.to link ∷ []) × (after ≡ connected link (named_if link place.name before)) × (end ≡ Ok (told_link link))
+ConnectsTo false place before calls after end = Stays before calls after end (told.RefusedState (state_after before.history))
 
 -- the bytes that a write sends
 abbrev pub payload_of : Payload → List ℕ
@@ -223,6 +235,7 @@ closing before = record { history = Close ∷ before.history; shown = before.sho
 -- What a line does on a handle that is not closed. Two lines act on more than the current handle, and do nothing here.
 abbrev pub Does : Line → Seen → List Call → Seen → LineEnd → Type 0
 Does (line.Connect to) before calls after end = Connects (is_created (state_after before.history)) to before calls after end
+Does (line.ConnectUri place) before calls after end = ConnectsTo (is_created (state_after before.history)) place before calls after end ⊎ Lacks before calls after end
 Does (line.Command manner asking) before calls after end =
     Issues (refusal_after max_unretired before.history (issue_of manner asking before.history)) (issue_of manner asking before.history) before calls after end ⊎ Lacks before calls after end
 Does line.Settle before calls after end = ⊥

@@ -182,6 +182,7 @@ is_close other = false
 
 abbrev pub is_alone : Line → Bool
 is_alone (line.Connect to) = false
+is_alone (line.ConnectUri place) = false
 is_alone line.Settle = false
 is_alone line.Read = false
 is_alone line.Write = false

@@ -10,10 +10,11 @@ ghost use Rattle.lnbd_history.specs.Laws.{may_name};
 ghost use Rattle.lnbd_history.specs.Refusals.{by_state};
 ghost use Rattle.lnbd_history.specs.Strict.{unknown_bits};
 ghost use Rattle.lnbd_script.specs.Acts.{reach_of};
-ghost use Rattle.lnbd_script.specs.Lines.{Adds, AddsContext, Connects, Disconnects, AsksFor, Does, Hears, ReadsOn, Sets, SetsStrict, WritesOn, connected, has_all_contexts, is_created, is_opt_mode, is_structured, lacks_structured, setting_of, taking};
+ghost use Rattle.lnbd_script.specs.Lines.{Adds, AddsContext, Connects, ConnectsTo, Disconnects, AsksFor, Does, Hears, ReadsOn, Sets, SetsStrict, WritesOn, connected, has_all_contexts, is_created, is_opt_mode, is_structured, lacks_structured, setting_of, taking};
 ghost use Rattle.lnbd_script.specs.Seen.{Counts, Goes, adding};
 ghost use Rattle.lnbd_script.specs.Steps.{Becomes, Takes_option, halted, is_alone, is_close, linked_told, moved_end, option_told};
 ghost use Rattle.lnbd_script.specs.Turns.{is_reading, is_waiting};
+ghost use Rattle.lnbd_lines.specs.declared.line.Line.TheVariants.{ConnectUri};
 ghost use Rattle.lnbd_script.specs.declared.reach.Reach.TheVariants as reach;
 ghost use Rattle.lnbd_script.specs.declared.told.Halt.TheVariants as halt;
 ghost use Rattle.lnbd_script.specs.declared.told.Told.TheVariants as told;
@@ -26,7 +27,7 @@ use lnbd_handle::strict::ALL;
 use lnbd_handle::{Handle, OptFault, SetFault};
 use lnbd_lines::{Line, Opt, Switch};
 use lnbd_link::Wires;
-use lnbd_model::{NoMemory, State, Target, Text};
+use lnbd_model::{NoMemory, Place, State, Target, Text};
 use std::alloc::Global;
 use std::mem::replace;
 
@@ -66,6 +67,26 @@ impl Session {
     {
         self.link = Some(link);
         let _ = self.handle.start();
+    }
+
+    /// Sets the export's name, before the start.
+    fn take_name(&mut self, name: Text)
+        requires created { is_created (state_now self.old.handle.known) ≡ true }
+        ensures named { Becomes self.old self.new (λ before after. after ≡ adding (Set (Name name)) before) }
+        ensures created { is_created (state_now self.new.handle.known) ≡ true }
+        ensures first { self.new.first ≡ self.old.first }
+    {
+        let _ = self.handle.set_export_name(name);
+    }
+
+    /// Sets the export's name, and starts the handle on its new link.
+    fn start_as(&mut self, link: u32, name: Text)
+        requires created { is_created (state_now self.old.handle.known) ≡ true }
+        ensures started { Becomes self.old self.new (λ before after. after ≡ connected (Some link) (adding (Set (Name name)) before)) }
+        ensures first { self.new.first ≡ self.old.first }
+    {
+        self.take_name(name);
+        self.start(link);
     }
 
     /// Notes that a connect failed.
@@ -233,6 +254,46 @@ fn connect<W: Wires>(session: &mut Session, wires: &mut W, to: &Target) -> Linke
     dial(session, wires, to)
 }
 
+/// Connects by an address whose export has this name, and starts the handle on the link that it is given.
+fn dial_to<W: Wires>(session: &mut Session, wires: &mut W, place: &Place, name: Text) -> Linked
+    requires created { is_created (state_now session.old.handle.known) ≡ true }
+    requires named { name ≡ place.now.name }
+    ensures told { Goes (W.told wires.old) (W.told wires.new) session.old session.new (λ before calls after. ConnectsTo (is_created (state_after before.history)) place.now before calls after (Ok (linked_told result))) }
+    ensures counts { Counts session.old.first session.new.first (W.faults wires.old) (W.faults wires.new) (W.idles wires.old) (W.idles wires.new) }
+{
+    match wires.connect(&place.to) {
+        Ok(link) => {
+            session.start_as(link, name);
+            Linked::Connected
+        }
+        Err(_) => {
+            session.blame();
+            Linked::NotConnected
+        }
+    }
+}
+
+/// Connects by an address, where the handle was not started yet.
+fn connect_to<W: Wires>(
+    alloc: Global,
+    session: &mut Session,
+    wires: &mut W,
+    place: &Place,
+) -> Result<Told, Halt>
+    ensures told { Goes (W.told wires.old) (W.told wires.new) session.old session.new (λ before calls after. Does (ConnectUri place.now) before calls after result) }
+    ensures spoken { ¬ (result ≡ Err halt.Silent) }
+    ensures counts { Counts session.old.first session.new.first (W.faults wires.old) (W.faults wires.new) (W.idles wires.old) (W.idles wires.new) }
+{
+    let state = session.handle.state();
+    if !is_created(state) {
+        return Ok(Told::RefusedState(state));
+    }
+    match place.name.try_clone(alloc) {
+        Ok(name) => Ok(Told::of_connect(dial_to(session, wires, place, name))),
+        Err(_) => Err(Halt::NoMemory),
+    }
+}
+
 /// Reads once, where the handle reads.
 fn read_linked<W: Wires>(session: &mut Session, wires: &mut W, link: u32) -> Result<Moved, Halt>
     requires linked { session.old.link ≡ Some link }
@@ -343,6 +404,7 @@ pub(crate) fn act<W: Wires>(
 {
     match line {
         Line::Connect(to) => Ok(Told::of_connect(connect(session, wires, to))),
+        Line::ConnectUri(place) => connect_to(alloc, session, wires, place),
         Line::Read => Told::of_read(read_once(session, wires)),
         Line::Write => Ok(Told::Moved(write_once(session, wires))),
         _ => act_alone(alloc, session, line),

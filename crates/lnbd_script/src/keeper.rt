@@ -2,13 +2,13 @@
 
 ghost use Rattle.std.specs.Prelude.{◌≡◌, ◌<◌, ◌||◌, ◌++◌, ◌∷◌, [], Bool, List, OnOk, codes, false, get_or, set, string_bytes, true, vec_capacity, vec_len};
 ghost use Rattle.lnbd_texts.specs.Heard.{chunk_text, complete_text, extents_text};
-ghost use Rattle.lnbd_script.specs.Kept.{Heeds, Notes, Tally, fails_first, heard_of, is_faulty, is_own, joined, keeper_of, marking, no_tally, or_first, settling, tally_of, told_number, verdict_of};
+ghost use Rattle.lnbd_script.specs.Kept.{Heeds, Notes, Tally, failure_of, fails_first, heard_of, is_faulty, is_own, joined, keeper_of, marking, no_tally, or_first, origin_of, settling, tally_of, told_by, verdict_of};
 ghost use Rattle.lnbd_script.specs.KeptLaws.{heeds_none, heeds_on};
 ghost use Rattle.lnbd_script.specs.Steps.{IsWorld};
 
 use lnbd_callbacks::{Caller, Heard, Verdict};
 use lnbd_lines::Manner;
-use lnbd_model::{Bytes, ENOTCONN, EPROTO, Extent};
+use lnbd_model::{Bytes, ENOTCONN, EPROTO, Extent, Failure, Origin};
 use lnbd_texts::{push_chunk, push_complete, push_extents};
 use std::alloc::{AllocError, Global};
 use std::str::from_utf8;
@@ -40,23 +40,58 @@ fn or_first(first: Option<u32>, later: Option<u32>) -> Option<u32>
     }
 }
 
-/// The error that the peer told, where this number of a completed command is one that it told and not that of the command's
-/// own callback.
-fn told_number(own: bool, error: u32) -> Option<u32>
-    ensures { result ≡ told_number own error }
+/// Where the error of a completed command came from, if `own` says whether its own callback answered it first.
+fn origin_of(own: bool, error: u32) -> Origin
+    ensures { result ≡ origin_of own error }
 {
-    if own || error == 0 || error == EPROTO || error == ENOTCONN {
-        None
+    if own {
+        Origin::Callback
+    } else if error == EPROTO {
+        Origin::Content
+    } else if error == ENOTCONN {
+        Origin::Lost
     } else {
-        Some(error)
+        Origin::Told
     }
 }
 
-/// Whether a completed command failed by faulty content.
-fn is_faulty(own: bool, error: u32) -> bool
-    ensures { result ≡ is_faulty own error }
+/// How a completed command failed, if it did.
+fn failure_of(own: bool, error: u32) -> Option<Failure>
+    ensures { result ≡ failure_of own error }
 {
-    !own && error == EPROTO
+    if error == 0 {
+        return None;
+    }
+    Some(Failure {
+        origin: origin_of(own, error),
+        error,
+    })
+}
+
+/// The error that the peer told.
+fn told_by(failure: Option<Failure>) -> Option<u32>
+    ensures { result ≡ told_by failure }
+{
+    match failure {
+        None => None,
+        Some(Failure { origin, error }) => match origin {
+            Origin::Told => Some(error),
+            Origin::Content | Origin::Callback | Origin::Lost => None,
+        },
+    }
+}
+
+/// Whether a command failed by content at fault.
+fn is_faulty(failure: Option<Failure>) -> bool
+    ensures { result ≡ is_faulty failure }
+{
+    match failure {
+        None => false,
+        Some(Failure { origin, error: _ }) => match origin {
+            Origin::Content => true,
+            Origin::Told | Origin::Callback | Origin::Lost => false,
+        },
+    }
 }
 
 fn either(a: bool, b: bool) -> bool
@@ -229,8 +264,9 @@ impl Heeded {
         ensures { Notes self.old self.new (λ tally. settling command error tally) [] }
     {
         let own = is_own(&self.failed, command);
-        self.error = or_first(self.error, told_number(own, error));
-        self.faulty = either(self.faulty, is_faulty(own, error));
+        let failure = failure_of(own, error);
+        self.error = or_first(self.error, told_by(failure));
+        self.faulty = either(self.faulty, is_faulty(failure));
     }
 }
 

@@ -6,6 +6,7 @@ mod answer;
 mod event;
 mod issuing;
 mod keeper;
+mod laws;
 mod place;
 mod playing;
 mod reach;
@@ -18,6 +19,7 @@ mod told;
 mod turns;
 
 pub use event::{Event, PlayFault};
+pub use laws::origins_are_told;
 pub use lnbd_lines::{Line, Script, ScriptFault, parse};
 pub use lnbd_model::Broken;
 pub use playing::play;

@@ -12,3 +12,6 @@ mod serving;
 pub use fault::ServeFault;
 pub use listening::serve;
 pub use serving::serve_on;
+
+#[cfg(test)]
+mod tests;

@@ -60,8 +60,31 @@ impl Outbox {
         ensures ok { OnOk result (self.new ≡ self.old ++ (first.now ++ (second.now ++ third.now))) }
         ensures err { OnErr result (self.new ≡ self.old) }
     {
+        self.tidy();
         append_all(&mut self.bytes, first, second, third)
     }
+
+    /// Keeps no more bytes that have gone than wait: those of a client that always asks for more than it has read would
+    /// else all be kept.
+    fn tidy(&mut self)
+        ensures { self.new ≡ self.old }
+    {
+        let waiting = self.bytes.len() - self.gone;
+        if self.gone > waiting {
+            forget(&mut self.bytes, self.gone);
+            self.gone = 0;
+        }
+    }
+}
+
+/// Drops the first bytes.
+fn forget(bytes: &mut Vec<u8>, count: usize)
+    requires { count ≤ length bytes.old.items }
+    ensures { bytes.new.items ≡ drop count bytes.old.items }
+{
+    let rest = bytes.len() - count;
+    bytes.copy_within(count.., 0);
+    bytes.truncate(rest);
 }
 
 fn append_all(to: &mut Vec<u8>, first: &[u8], second: &[u8], third: &[u8]) -> Result<(), NoMemory>

@@ -2,6 +2,7 @@
 //! their counts alone: what the system does is trusted to be what the traits say. Nothing is decided here.
 #![tactic(auto)]
 
+mod held;
 mod socket;
 mod streams;
 mod wires;

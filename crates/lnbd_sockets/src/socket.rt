@@ -105,7 +105,8 @@ impl Socket {
         }
     }
 
-    /// Hands over bytes for the peer.
+    /// Hands over bytes for the peer. Those for a peer that reads no more are taken and dropped, as the system does with what it
+    /// took before the peer left: reading then tells the end.
     pub fn write(&mut self, from: &[u8]) -> Took
         requires { 0 < length from.now }
         ensures { IfSent result (λ n. (0 < n) × (n ≤ length from.now)) }
@@ -120,6 +121,7 @@ impl Socket {
             Ok(n) => Took::Bytes(n),
             Err(error) => match error.kind() {
                 ErrorKind::WouldBlock | ErrorKind::Interrupted => Took::NotReady,
+                ErrorKind::BrokenPipe | ErrorKind::ConnectionReset => Took::Bytes(from.len()),
                 _ => Took::Failed,
             },
         }

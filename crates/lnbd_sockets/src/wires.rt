@@ -1,27 +1,19 @@
 //! Links and listeners over the system's sockets. None of their calls waits for a peer but `connect` and
 //! `pause`. They tell their counts alone.
 
-ghost use Rattle.std.specs.Prelude.{◌≡◌, ◌≤◌, ◌<◌, None, length, vec_len};
-ghost use Rattle.lnbd_link.specs.Answers.{IfSent};
+ghost use Rattle.std.specs.Prelude.{None};
 ghost use Rattle.lnbd_link.specs.Count.{Rises};
 
+use crate::held::Held;
 use crate::socket::Socket;
 use lnbd_link::{Accepted, Got, Took, Want, WireFailed, Wires, raised};
 use lnbd_model::Target;
-use mio::unix::SourceFd;
-use mio::{Events, Interest, Poll, Token};
+use mio::{Events, Poll};
 use std::alloc::Global;
 use std::fs::Files;
 use std::io;
 use std::io::ErrorKind;
 use std::net::{Net, TcpListener, TcpStream};
-
-/// A socket, and whether its last write found that it takes no byte yet.
-#[derive(Drop)]
-struct Held {
-    socket: Socket,
-    full: bool,
-}
 
 /// Links over TCP and Unix sockets. A link's number is that of its place, and no place is used twice.
 #[derive(Drop)]
@@ -60,7 +52,7 @@ impl<'a, R: Net<Listener = TcpListener, Stream = TcpStream> + Files> Wires for S
 
     fn connect(&mut self, to: &Target) -> Result<u32, WireFailed> {
         let opened = Socket::connect(self.net, to);
-        match added(&mut self.sockets, opened) {
+        match added(&self.poll, &mut self.sockets, opened) {
             Some(link) => Ok(link),
             None => {
                 self.faults = raised(self.faults, 1);
@@ -71,7 +63,7 @@ impl<'a, R: Net<Listener = TcpListener, Stream = TcpStream> + Files> Wires for S
 
     fn listen(&mut self, at: &Target) -> Result<u32, WireFailed> {
         let opened = Socket::listen(self.net, at);
-        match added(&mut self.sockets, opened) {
+        match added(&self.poll, &mut self.sockets, opened) {
             Some(listener) => Ok(listener),
             None => {
                 self.faults = raised(self.faults, 1);
@@ -81,7 +73,7 @@ impl<'a, R: Net<Listener = TcpListener, Stream = TcpStream> + Files> Wires for S
     }
 
     fn accept(&mut self, listener: u32) -> Accepted {
-        let accepted = accepted(&mut self.sockets, listener);
+        let accepted = accepted(&self.poll, &mut self.sockets, listener);
         if let Accepted::Failed = accepted {
             self.faults = raised(self.faults, 1);
         }
@@ -90,7 +82,7 @@ impl<'a, R: Net<Listener = TcpListener, Stream = TcpStream> + Files> Wires for S
 
     fn read(&mut self, link: u32, into: &mut [u8]) -> Got {
         let got = match self.sockets.get_mut(link as usize) {
-            Some(held) => held.socket.read(into),
+            Some(held) => held.read(into),
             None => Got::Failed,
         };
         if let Got::Failed = got {
@@ -110,28 +102,18 @@ impl<'a, R: Net<Listener = TcpListener, Stream = TcpStream> + Files> Wires for S
         took
     }
 
-    // Waits where at least one of the wanted can become ready. A wait that fails counts as one that ended.
-    // A link that is wanted for both waits to be written only where its last write found it full: a server
-    // wants each of its links for both, and would never wait at all.
+    // Waits where none of the wanted may be ready already and one can become so. A wait that fails counts as one
+    // that ended.
     fn pause(&mut self, wants: &[Want]) {
-        let mut armed = false;
-        for want in wants {
-            if arm(&self.poll, &self.sockets, want) {
-                armed = true;
-            }
-        }
-        if armed {
-            let _ = self.poll.poll(&mut self.events, None);
-        }
-        for want in wants {
-            disarm(&self.poll, &self.sockets, want);
+        if is_waited(&self.poll, &mut self.sockets, wants) {
+            wait(&mut self.poll, &mut self.events, &mut self.sockets);
         }
         self.idles = raised(self.idles, 1);
     }
 
     fn shut(&mut self, link: u32) {
         if let Some(held) = self.sockets.get_mut(link as usize) {
-            held.socket = Socket::Shut;
+            held.shut();
         }
     }
 
@@ -144,47 +126,50 @@ impl<'a, R: Net<Listener = TcpListener, Stream = TcpStream> + Files> Wires for S
     }
 }
 
-impl Held {
-    fn write(&mut self, from: &[u8]) -> Took
-        requires { 0 < length from.now }
-        ensures { IfSent result (λ n. (0 < n) × (n ≤ length from.now)) }
-    {
-        let took = self.socket.write(from);
-        self.full = matches!(took, Took::NotReady);
-        took
+// Has the poll tell of what is wanted. Whether it is to be waited for: none of it may be ready already, and one can
+// become so.
+fn is_waited(poll: &Poll, sockets: &mut Vec<Held>, wants: &[Want]) -> bool {
+    let mut due = false;
+    let mut listens = false;
+    for want in wants {
+        let number = want.link as usize;
+        if let Some(held) = sockets.get_mut(number) {
+            due = due || held.is_due(want.direction);
+            listens = held.listens(poll, number, want.direction) || listens;
+        }
     }
+    listens && !due
+}
 
-    // What a want waits for: 1 is reading, 2 writing, and 3 both.
-    fn interest(&self, direction: u32) -> Option<Interest> {
-        match direction {
-            1 => Some(Interest::READABLE),
-            2 => Some(Interest::WRITABLE),
-            3 if self.full => Some(Interest::READABLE | Interest::WRITABLE),
-            3 => Some(Interest::READABLE),
-            _ => None,
+// Waits for an event, and tells each socket of its own.
+fn wait(poll: &mut Poll, events: &mut Events, sockets: &mut Vec<Held>) {
+    if poll.poll(events, None).is_err() {
+        return;
+    }
+    for event in events.iter() {
+        if let Some(held) = sockets.get_mut(event.token().0) {
+            held.hear(event);
         }
     }
 }
 
 // Gives the socket a place, if it was opened and there is one.
-fn added(sockets: &mut Vec<Held>, opened: io::Result<Socket>) -> Option<u32> {
-    let at = sockets.len();
+fn added(poll: &Poll, sockets: &mut Vec<Held>, opened: io::Result<Socket>) -> Option<u32> {
+    let number = sockets.len();
     if let Ok(socket) = opened
-        && at <= 0xffff_ffff
-        && let Ok(()) = sockets.push(Held {
-            socket,
-            full: false,
-        })
+        && number <= 0xffff_ffff
+        && let Ok(held) = Held::new(poll, socket, number)
+        && let Ok(()) = sockets.push(held)
     {
-        return Some(at as u32);
+        return Some(number as u32);
     }
     None
 }
 
 // A link from a peer of this listener, with a place.
-fn accepted(sockets: &mut Vec<Held>, listener: u32) -> Accepted {
-    let accepted = match sockets.get(listener as usize) {
-        Some(held) => held.socket.accept(),
+fn accepted(poll: &Poll, sockets: &mut Vec<Held>, listener: u32) -> Accepted {
+    let accepted = match sockets.get_mut(listener as usize) {
+        Some(held) => held.accept(),
         None => return Accepted::Failed,
     };
     if let Err(error) = &accepted
@@ -192,7 +177,7 @@ fn accepted(sockets: &mut Vec<Held>, listener: u32) -> Accepted {
     {
         return Accepted::NotReady;
     }
-    match added(sockets, accepted) {
+    match added(poll, sockets, accepted) {
         Some(link) => Accepted::Link(link),
         None => Accepted::Failed,
     }
@@ -205,35 +190,4 @@ fn is_early(error: &io::Error) -> bool {
         error.kind(),
         ErrorKind::WouldBlock | ErrorKind::Interrupted | ErrorKind::ConnectionAborted
     )
-}
-
-// Lets the next wait end when the wanted is ready. A link that is wanted twice waits for both directions.
-fn arm(poll: &Poll, sockets: &Vec<Held>, want: &Want) -> bool {
-    let at = want.link as usize;
-    let Some(held) = sockets.get(at) else {
-        return false;
-    };
-    let (Some(fd), Some(interest)) = (held.socket.fd(), held.interest(want.direction)) else {
-        return false;
-    };
-    let registry = poll.registry();
-    if registry
-        .register(&mut SourceFd(&fd), Token(at), interest)
-        .is_ok()
-    {
-        return true;
-    }
-    let both = Interest::READABLE | Interest::WRITABLE;
-    registry
-        .reregister(&mut SourceFd(&fd), Token(at), both)
-        .is_ok()
-}
-
-// The waits after it don't end by what this one wanted.
-fn disarm(poll: &Poll, sockets: &Vec<Held>, want: &Want) {
-    if let Some(held) = sockets.get(want.link as usize)
-        && let Some(fd) = held.socket.fd()
-    {
-        let _ = poll.registry().deregister(&mut SourceFd(&fd));
-    }
 }

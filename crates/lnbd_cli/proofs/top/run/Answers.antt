@@ -4,6 +4,7 @@ use Rattle.lnbd_cli.specs.declared.fault.Fault.TheVariants as fault
 use Rattle.lnbd_cli.specs.Runs.{Prints}
 use Rattle.lnbd_cli.proofs.RunLemmas.{bad, bad_end, cut, known, line_of, memory_line, only_input, only_output, only_silent, played, short, waited}
 use Rattle.lnbd_cli.proofs.ServeLemmas.{not_both}
+use Rattle.lnbd_cli.proofs.CopyLemmas.{no_info_copies, no_serve_copies}
 use Rattle.lnbd_cli.proofs.top.run.Goals as goal
 
 pub returns-clause-played : goal.returns-clause-played
@@ -76,40 +77,40 @@ pub returns-then-names_info-clause-complete : goal.returns-then-names_info-claus
 returns-then-names_info-clause-complete g c other = absurd (other (inl (c.names_info.ensures.yes c.if-names_info.true)))
 
 pub returns-then-names_serve-clause-played : goal.returns-then-names_serve-clause-played
-returns-then-names_serve-clause-played g c other = absurd (other (inr (c.names_serve.ensures.yes c.if-names_serve.true)))
+returns-then-names_serve-clause-played g c other = absurd (other (inr (inl (c.names_serve.ensures.yes c.if-names_serve.true))))
 
 pub returns-then-names_serve-clause-waited : goal.returns-then-names_serve-clause-waited
-returns-then-names_serve-clause-waited g c other = absurd (other (inr (c.names_serve.ensures.yes c.if-names_serve.true)))
+returns-then-names_serve-clause-waited g c other = absurd (other (inr (inl (c.names_serve.ensures.yes c.if-names_serve.true))))
 
 pub returns-then-names_serve-clause-cut : goal.returns-then-names_serve-clause-cut
-returns-then-names_serve-clause-cut g c other = absurd (other (inr (c.names_serve.ensures.yes c.if-names_serve.true)))
+returns-then-names_serve-clause-cut g c other = absurd (other (inr (inl (c.names_serve.ensures.yes c.if-names_serve.true))))
 
 pub returns-then-names_serve-clause-short : goal.returns-then-names_serve-clause-short
-returns-then-names_serve-clause-short g c other = absurd (other (inr (c.names_serve.ensures.yes c.if-names_serve.true)))
+returns-then-names_serve-clause-short g c other = absurd (other (inr (inl (c.names_serve.ensures.yes c.if-names_serve.true))))
 
 pub returns-then-names_serve-clause-bad : goal.returns-then-names_serve-clause-bad
-returns-then-names_serve-clause-bad g c other = absurd (other (inr (c.names_serve.ensures.yes c.if-names_serve.true)))
+returns-then-names_serve-clause-bad g c other = absurd (other (inr (inl (c.names_serve.ensures.yes c.if-names_serve.true))))
 
 pub returns-then-names_serve-clause-bad_alone : goal.returns-then-names_serve-clause-bad_alone
-returns-then-names_serve-clause-bad_alone g c other = absurd (other (inr (c.names_serve.ensures.yes c.if-names_serve.true)))
+returns-then-names_serve-clause-bad_alone g c other = absurd (other (inr (inl (c.names_serve.ensures.yes c.if-names_serve.true))))
 
 pub returns-then-names_serve-clause-bad_script : goal.returns-then-names_serve-clause-bad_script
-returns-then-names_serve-clause-bad_script g c other = absurd (other (inr (c.names_serve.ensures.yes c.if-names_serve.true)))
+returns-then-names_serve-clause-bad_script g c other = absurd (other (inr (inl (c.names_serve.ensures.yes c.if-names_serve.true))))
 
 pub returns-then-names_serve-clause-silent_line : goal.returns-then-names_serve-clause-silent_line
-returns-then-names_serve-clause-silent_line g c other = absurd (other (inr (c.names_serve.ensures.yes c.if-names_serve.true)))
+returns-then-names_serve-clause-silent_line g c other = absurd (other (inr (inl (c.names_serve.ensures.yes c.if-names_serve.true))))
 
 pub returns-then-names_serve-clause-output_line : goal.returns-then-names_serve-clause-output_line
-returns-then-names_serve-clause-output_line g c other = absurd (other (inr (c.names_serve.ensures.yes c.if-names_serve.true)))
+returns-then-names_serve-clause-output_line g c other = absurd (other (inr (inl (c.names_serve.ensures.yes c.if-names_serve.true))))
 
 pub returns-then-names_serve-clause-memory_line : goal.returns-then-names_serve-clause-memory_line
-returns-then-names_serve-clause-memory_line g c other = absurd (other (inr (c.names_serve.ensures.yes c.if-names_serve.true)))
+returns-then-names_serve-clause-memory_line g c other = absurd (other (inr (inl (c.names_serve.ensures.yes c.if-names_serve.true))))
 
 pub returns-then-names_serve-clause-known : goal.returns-then-names_serve-clause-known
-returns-then-names_serve-clause-known g c other = absurd (other (inr (c.names_serve.ensures.yes c.if-names_serve.true)))
+returns-then-names_serve-clause-known g c other = absurd (other (inr (inl (c.names_serve.ensures.yes c.if-names_serve.true))))
 
 pub returns-then-names_serve-clause-complete : goal.returns-then-names_serve-clause-complete
-returns-then-names_serve-clause-complete g c other = absurd (other (inr (c.names_serve.ensures.yes c.if-names_serve.true)))
+returns-then-names_serve-clause-complete g c other = absurd (other (inr (inl (c.names_serve.ensures.yes c.if-names_serve.true))))
 
 pub returns-then-names_info-clause-serve : goal.returns-then-names_info-clause-serve
 returns-then-names_info-clause-serve g c serves = absurd (not_both c.args.words.now (c.names_info.ensures.yes c.if-names_info.true) serves)
@@ -122,3 +123,66 @@ returns-then-names_info-clause-serve_complete g c serves = absurd (not_both c.ar
 
 pub run_serve-requires : goal.run_serve-requires
 run_serve-requires g c = c.names_serve.ensures.yes c.if-names_serve.true
+
+pub returns-then-names_copy-clause-played : goal.returns-then-names_copy-clause-played
+returns-then-names_copy-clause-played g c other = absurd (other (inr (inr (c.names_copy.ensures.yes c.if-names_copy.true))))
+
+pub returns-then-names_copy-clause-waited : goal.returns-then-names_copy-clause-waited
+returns-then-names_copy-clause-waited g c other = absurd (other (inr (inr (c.names_copy.ensures.yes c.if-names_copy.true))))
+
+pub returns-then-names_copy-clause-cut : goal.returns-then-names_copy-clause-cut
+returns-then-names_copy-clause-cut g c other = absurd (other (inr (inr (c.names_copy.ensures.yes c.if-names_copy.true))))
+
+pub returns-then-names_copy-clause-short : goal.returns-then-names_copy-clause-short
+returns-then-names_copy-clause-short g c other = absurd (other (inr (inr (c.names_copy.ensures.yes c.if-names_copy.true))))
+
+pub returns-then-names_copy-clause-bad : goal.returns-then-names_copy-clause-bad
+returns-then-names_copy-clause-bad g c other = absurd (other (inr (inr (c.names_copy.ensures.yes c.if-names_copy.true))))
+
+pub returns-then-names_copy-clause-bad_alone : goal.returns-then-names_copy-clause-bad_alone
+returns-then-names_copy-clause-bad_alone g c other = absurd (other (inr (inr (c.names_copy.ensures.yes c.if-names_copy.true))))
+
+pub returns-then-names_copy-clause-bad_script : goal.returns-then-names_copy-clause-bad_script
+returns-then-names_copy-clause-bad_script g c other = absurd (other (inr (inr (c.names_copy.ensures.yes c.if-names_copy.true))))
+
+pub returns-then-names_copy-clause-silent_line : goal.returns-then-names_copy-clause-silent_line
+returns-then-names_copy-clause-silent_line g c other = absurd (other (inr (inr (c.names_copy.ensures.yes c.if-names_copy.true))))
+
+pub returns-then-names_copy-clause-output_line : goal.returns-then-names_copy-clause-output_line
+returns-then-names_copy-clause-output_line g c other = absurd (other (inr (inr (c.names_copy.ensures.yes c.if-names_copy.true))))
+
+pub returns-then-names_copy-clause-memory_line : goal.returns-then-names_copy-clause-memory_line
+returns-then-names_copy-clause-memory_line g c other = absurd (other (inr (inr (c.names_copy.ensures.yes c.if-names_copy.true))))
+
+pub returns-then-names_copy-clause-known : goal.returns-then-names_copy-clause-known
+returns-then-names_copy-clause-known g c other = absurd (other (inr (inr (c.names_copy.ensures.yes c.if-names_copy.true))))
+
+pub returns-then-names_copy-clause-complete : goal.returns-then-names_copy-clause-complete
+returns-then-names_copy-clause-complete g c other = absurd (other (inr (inr (c.names_copy.ensures.yes c.if-names_copy.true))))
+
+pub returns-then-names_info-clause-copy : goal.returns-then-names_info-clause-copy
+returns-then-names_info-clause-copy g c copies = absurd (no_info_copies c.args.words.now (c.names_info.ensures.yes c.if-names_info.true) copies)
+
+pub returns-then-names_info-clause-copy_known : goal.returns-then-names_info-clause-copy_known
+returns-then-names_info-clause-copy_known g c copies = absurd (no_info_copies c.args.words.now (c.names_info.ensures.yes c.if-names_info.true) copies)
+
+pub returns-then-names_info-clause-copy_out : goal.returns-then-names_info-clause-copy_out
+returns-then-names_info-clause-copy_out g c copies = absurd (no_info_copies c.args.words.now (c.names_info.ensures.yes c.if-names_info.true) copies)
+
+pub returns-then-names_info-clause-copy_complete : goal.returns-then-names_info-clause-copy_complete
+returns-then-names_info-clause-copy_complete g c copies = absurd (no_info_copies c.args.words.now (c.names_info.ensures.yes c.if-names_info.true) copies)
+
+pub returns-then-names_serve-clause-copy : goal.returns-then-names_serve-clause-copy
+returns-then-names_serve-clause-copy g c copies = absurd (no_serve_copies c.args.words.now (c.names_serve.ensures.yes c.if-names_serve.true) copies)
+
+pub returns-then-names_serve-clause-copy_known : goal.returns-then-names_serve-clause-copy_known
+returns-then-names_serve-clause-copy_known g c copies = absurd (no_serve_copies c.args.words.now (c.names_serve.ensures.yes c.if-names_serve.true) copies)
+
+pub returns-then-names_serve-clause-copy_out : goal.returns-then-names_serve-clause-copy_out
+returns-then-names_serve-clause-copy_out g c copies = absurd (no_serve_copies c.args.words.now (c.names_serve.ensures.yes c.if-names_serve.true) copies)
+
+pub returns-then-names_serve-clause-copy_complete : goal.returns-then-names_serve-clause-copy_complete
+returns-then-names_serve-clause-copy_complete g c copies = absurd (no_serve_copies c.args.words.now (c.names_serve.ensures.yes c.if-names_serve.true) copies)
+
+pub run_copy-requires : goal.run_copy-requires
+run_copy-requires g c = c.names_copy.ensures.yes c.if-names_copy.true

@@ -1,5 +1,5 @@
 use Rattle.std.proofs.Common.{arith}
-use Rattle.lnbd_extents.specs.Positions.{holds}
+use Rattle.lnbd_export.specs.Zeros.{told}
 use Rattle.lnbd_export.proofs.StatusLaws.{walked}
 use Rattle.lnbd_export.proofs.statuses.statuses.Goals as goal
 
@@ -10,6 +10,6 @@ loop-at-preserved c =
     record {
       within = h;
       few = omega arith;
-      so_far = walked (holds c.args.zeros.now) c.loop-at.at c.args.end c.run_at-run.result c.loop-at.extents.items c.push.new.self.items _ c.status_of.result
+      so_far = walked (told c.args.zeros.now) c.loop-at.at c.args.end c.run_at-run.result c.loop-at.extents.items c.push.new.self.items _ c.status_of.result
           c.loop-at-test.true c.run_at-run.ensures c.status_of.ensures c.in_ok-push.ensures.items c.loop-at.invariant.so_far;
     }

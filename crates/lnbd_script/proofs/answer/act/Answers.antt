@@ -9,6 +9,9 @@ use Rattle.lnbd_script.proofs.answer.act.Goals as goal
 pub returns-in-Connect-clause-told : goal.returns-in-Connect-clause-told
 returns-in-Connect-clause-told g c seen at = act_as c.args.line.now _ _ _ seen _ _ _ c.in-Connect.is (ap (λ (t : Told). Ok t) c.of_connect.ensures) (c.connect.ensures.told seen at)
 
+pub returns-in-ConnectUri-clause-told : goal.returns-in-ConnectUri-clause-told
+returns-in-ConnectUri-clause-told g c seen at = act_as c.args.line.now _ _ _ seen _ _ _ c.in-ConnectUri.is refl (c.connect_to.ensures.told seen at)
+
 pub returns-in-Read-clause-told : goal.returns-in-Read-clause-told
 returns-in-Read-clause-told g c seen at = act_as c.args.line.now _ _ _ seen _ _ _ c.in-Read.is c.of_read.ensures (c.read_once.ensures.told seen at)
 

@@ -1,0 +1,12 @@
+pub mod Lists
+pub mod Spelling
+pub mod Inside
+pub mod Copied
+pub mod Once
+pub mod Steps
+pub mod Moves
+pub mod Kept
+pub mod Going
+pub mod Turning
+pub mod Cutting
+pub mod Least

@@ -1,0 +1,9 @@
+pub mod Requests
+pub mod Pieces
+pub mod Rows
+pub mod Asks
+pub mod Files
+pub mod Board
+pub mod Holds
+pub mod Turns
+pub mod Bound

@@ -1,0 +1,5 @@
+use Rattle.lnbd_copy.specs.Causes.{GoesOn}
+use Rattle.lnbd_copy.proofs.dialing.settle.Given as goal
+
+abbrev pub invariant-turns : goal.invariant-turns
+invariant-turns g l = GoesOn (g.W.Wires.faults l.fn.wires) (g.W.Wires.faults l.wires) (g.W.Wires.idles l.fn.wires) (g.W.Wires.idles l.wires) (g.W.Wires.contents l.fn.wires) (g.W.Wires.contents l.wires)

@@ -1,0 +1,5 @@
+use Rattle.std.proofs.Common.{arith}
+use Rattle.lnbd_copy.proofs.dialing.wait.Goals as goal
+
+pub returns-clause-counts : goal.returns-clause-counts
+returns-clause-counts g c = record { faults = c.pause.ensures.faults; idles = omega (arith, c.pause.ensures.idles, c.in_ok-check_idles.ensures.open_); contents = c.pause.ensures.contents }

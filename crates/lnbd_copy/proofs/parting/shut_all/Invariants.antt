@@ -1,0 +1,9 @@
+use Rattle.std.proofs.Common.{length}
+use Rattle.lnbd_copy.specs.Causes.{GoesOn}
+use Rattle.lnbd_copy.proofs.parting.shut_all.Given as goal
+
+abbrev pub invariant-handles : goal.invariant-handles
+invariant-handles g l = GoesOn (g.W.Wires.faults l.fn.wires) (g.W.Wires.faults l.wires) (g.W.Wires.idles l.fn.wires) (g.W.Wires.idles l.wires) (g.W.Wires.contents l.fn.wires) (g.W.Wires.contents l.wires)
+
+abbrev pub decreases-handles : goal.decreases-handles
+decreases-handles g l = length l.handles

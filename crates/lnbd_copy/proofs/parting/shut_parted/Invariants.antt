@@ -1,0 +1,10 @@
+use Rattle.std.proofs.Common.{◌≡◌, ◌+◌, ◌≤◌, length}
+use Rattle.lnbd_copy.specs.Causes.{GoesOn}
+use Rattle.lnbd_copy.proofs.parting.shut_parted.Given as goal
+
+abbrev pub invariant-handles : goal.invariant-handles
+invariant-handles g l = record {
+  left : length l.handles + l.shut ≡ l.count;
+  few : l.shut ≤ l.passed;
+  counts : GoesOn (g.W.Wires.faults l.fn.wires) (g.W.Wires.faults l.wires) (g.W.Wires.idles l.fn.wires) (g.W.Wires.idles l.wires) (g.W.Wires.contents l.fn.wires) (g.W.Wires.contents l.wires);
+}

@@ -1,0 +1,95 @@
+//! What the connections of a copy tell of their exports, and whether a copy can be made of it.
+
+ghost use Rattle.std.specs.Prelude.{◌≡◌, ◌<◌, ◌≤◌, ◌^◌, true, IfErr, IfOk};
+ghost use Rattle.lnbd_copy.specs.Causes.{tells_no_count};
+
+use crate::sides::{FIRST_DESTINATION, FIRST_SOURCE};
+use crate::terms::{Terms, broken_rule, settled};
+use lnbd_board::{Board, Ticket};
+use lnbd_model::{Breach, Broken, EPROTO, ExportInfo};
+use lnbd_plan::{CopyFault, CopyOptions};
+use lnbd_poll::Handles;
+
+/// The first size that no export has (libnbd: sizes are below 2^63).
+const SIZE_END: u64 = 1 << 63;
+
+/// What a connection tells of its export.
+fn info_of(handles: &Handles<Ticket>, index: usize) -> Result<&ExportInfo, CopyFault>
+    ensures size { IfOk result (λ info. info.now.size < 2 ^ 63) }
+    ensures free { IfErr result (λ told. tells_no_count told ≡ true) }
+{
+    if index >= handles.len() {
+        return Err(CopyFault::NoMemory);
+    }
+    match handles.get(index).info() {
+        Some(info) => {
+            if info.size < SIZE_END {
+                return Ok(info);
+            }
+            Err(CopyFault::Broke(Broken::Breach(Breach::SizeTooBig)))
+        }
+        None => Err(CopyFault::Broke(Broken::Breach(Breach::NoExportInfo))),
+    }
+}
+
+/// What both sides settle, once the first connection of each has negotiated.
+pub(crate) fn agree(handles: &Handles<Ticket>, options: CopyOptions) -> Result<Terms, CopyFault>
+    ensures cells { IfOk result (λ terms. (0 < terms.cell) × (0 < terms.zero_cell) × (0 < terms.grain)) }
+    ensures size { IfOk result (λ terms. terms.size ≤ 2 ^ 63) }
+    ensures free { IfErr result (λ told. tells_no_count told ≡ true) }
+{
+    let source = info_of(handles, FIRST_SOURCE)?;
+    let destination = info_of(handles, FIRST_DESTINATION)?;
+    match broken_rule(source, destination) {
+        Some(rule) => Err(CopyFault::Rule(rule)),
+        None => Ok(settled(options, source, destination)),
+    }
+}
+
+/// Whether the source's extents can be asked for.
+pub(crate) fn tells_extents(handles: &Handles<Ticket>) -> bool {
+    if FIRST_SOURCE >= handles.len() {
+        return false;
+    }
+    match handles.get(FIRST_SOURCE).info() {
+        Some(info) => info.contexts.len() != 0,
+        None => false,
+    }
+}
+
+/// Whether two connections of a side tell the same export.
+fn is_same(one: &ExportInfo, other: &ExportInfo) -> bool {
+    one.size == other.size && one.flags == other.flags && one.blocks == other.blocks
+}
+
+/// A further connection tells another export than the first of its side, if so.
+pub(crate) fn check_same(handles: &Handles<Ticket>, terms: Terms) -> Result<(), CopyFault>
+    ensures free { IfErr result (λ told. tells_no_count told ≡ true) }
+{
+    'further: for index in 2..handles.len() {
+        let first = if terms.sides.is_source(index) {
+            FIRST_SOURCE
+        } else {
+            FIRST_DESTINATION
+        };
+        if !is_same(info_of(handles, first)?, info_of(handles, index)?) {
+            return Err(CopyFault::Broke(Broken::Differs));
+        }
+    }
+    Ok(())
+}
+
+/// Why the copy ends by what its commands came to, if so. A command that was lost with its connection is told by that
+/// connection's state before.
+pub(crate) fn check_answers(board: &Board) -> Result<(), CopyFault>
+    ensures free { IfErr result (λ told. tells_no_count told ≡ true) }
+{
+    if board.is_short() {
+        return Err(CopyFault::NoMemory);
+    }
+    match board.error() {
+        None => Ok(()),
+        Some(EPROTO) => Err(CopyFault::Broke(Broken::Content)),
+        Some(code) => Err(CopyFault::Peer { option: None, code }),
+    }
+}

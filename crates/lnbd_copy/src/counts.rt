@@ -1,0 +1,91 @@
+//! What the wires count, and the faults that it makes. Which calls of theirs were made is no matter here.
+
+ghost use Rattle.std.specs.Prelude.{◌≡◌, ◌≤◌, ◌<◌, true, false, IfErr, OnOk};
+ghost use Rattle.lnbd_link.specs.Count.{Rises};
+ghost use Rattle.lnbd_copy.specs.Causes.{HasCause, patience, tells_no_count};
+
+use lnbd_link::Wires;
+use lnbd_model::{Broken, Cause};
+use lnbd_plan::CopyFault;
+
+/// How many pauses are borne in which nothing came.
+const PATIENCE: u64 = 1_000_000_000;
+
+/// What the wires had counted when a copy began.
+#[derive(Clone, Copy, Debug, PartialEq, Eq)]
+pub(crate) struct Counts {
+    /// How often a call failed.
+    pub(crate) faults: u64,
+    /// How long they waited.
+    pub(crate) idles: u64,
+}
+
+impl Counts {
+    pub(crate) fn of<W: Wires>(wires: &W) -> Counts
+        ensures { result ≡ record { faults = W.faults wires.now; idles = W.idles wires.now } }
+    {
+        Counts {
+            faults: wires.faults(),
+            idles: wires.idles(),
+        }
+    }
+}
+
+/// Whether a count that stands still at its end rose.
+fn rose(before: u64, after: u64) -> bool
+    requires { before ≤ after }
+    ensures { result ≡ true → Rises 1 before after }
+{
+    before < after || after == u64::MAX
+}
+
+/// A call of the wires failed, if so.
+pub(crate) fn check_faults<W: Wires>(wires: &W, start: Counts) -> Result<(), CopyFault>
+    requires counted { start.faults ≤ W.faults wires.now }
+    ensures causes { IfErr result (λ told. HasCause start (W.faults wires.now) (W.idles wires.now) told) }
+{
+    let after = wires.faults();
+    if rose(start.faults, after) {
+        return Err(CopyFault::Link {
+            before: start.faults,
+            after,
+        });
+    }
+    Ok(())
+}
+
+/// Whether the waiting rose by as much as is borne.
+fn is_long(start: u64, now: u64) -> bool
+    requires { start ≤ now }
+    ensures long { result ≡ true → Rises patience start now }
+    ensures open_ { result ≡ false → now < 18446744073709551615 }
+{
+    now - start >= PATIENCE || now == u64::MAX
+}
+
+/// The wires waited for as long as is borne, if so. Else their count of waiting does not stand at its end.
+pub(crate) fn check_idles<W: Wires>(wires: &W, start: Counts) -> Result<(), CopyFault>
+    requires counted { start.idles ≤ W.idles wires.now }
+    ensures open_ { OnOk result (W.idles wires.now < 18446744073709551615) }
+    ensures causes { IfErr result (λ told. HasCause start (W.faults wires.now) (W.idles wires.now) told) }
+{
+    let idles = wires.idles();
+    if is_long(start.idles, idles) {
+        return Err(CopyFault::Silent { idles });
+    }
+    Ok(())
+}
+
+/// Why a copy ends where this connection is dead. A failed link is told by the wires' count before.
+pub(crate) fn of_death(death: Cause) -> CopyFault
+    ensures free { tells_no_count result ≡ true }
+{
+    match death {
+        Cause::Broke(breach) => CopyFault::Broke(Broken::Breach(breach)),
+        Cause::Refused { option, code } => CopyFault::Peer {
+            option: Some(option),
+            code,
+        },
+        Cause::Ended | Cause::LinkFailed => CopyFault::Broke(Broken::Ended),
+    }
+}

@@ -1,0 +1,149 @@
+//! The connections of a copy: they are made one after another, and negotiate side by side.
+
+ghost use Rattle.std.specs.Prelude.{◌≡◌, ◌≤◌, true, IfErr};
+ghost use Rattle.lnbd_copy.specs.Causes.{GoesOn, HasCause, tells_no_count};
+
+use crate::counts::{Counts, check_faults, check_idles, of_death};
+use crate::opening::open;
+use lnbd_board::{Board, Ticket};
+use lnbd_handle::Handle;
+use lnbd_link::Wires;
+use lnbd_model::{NoMemory, Place, State};
+use lnbd_plan::CopyFault;
+use lnbd_poll::{Handles, Turn};
+use std::alloc::Global;
+
+/// The most connections of both sides together.
+const MAX_CONNECTIONS: usize = 64;
+
+/// After so many turns a copy is given up, as for want of memory. None comes near.
+pub(crate) const MAX_TURNS: u64 = u64::MAX;
+
+/// Holds a handle with its link, behind the others.
+fn hold<W: Wires>(
+    handles: &mut Handles<Ticket>,
+    board: &mut Board,
+    wires: &mut W,
+    link: u32,
+    handle: Handle<Ticket>,
+) -> Result<(), NoMemory>
+    ensures counts { GoesOn (W.faults wires.old) (W.faults wires.new) (W.idles wires.old) (W.idles wires.new) (W.contents wires.old) (W.contents wires.new) }
+{
+    if handles.len() >= MAX_CONNECTIONS {
+        let _ = handle.close(board);
+        wires.shut(link);
+        return Err(NoMemory);
+    }
+    match handles.add(link, handle) {
+        Ok(_) => Ok(()),
+        Err(handle) => {
+            let _ = handle.close(board);
+            wires.shut(link);
+            Err(NoMemory)
+        }
+    }
+}
+
+/// Connects to this place, and has one handle more ask there.
+pub(crate) fn dial<W: Wires>(
+    alloc: Global,
+    handles: &mut Handles<Ticket>,
+    board: &mut Board,
+    wires: &mut W,
+    place: &Place,
+    extents: bool,
+    start: Counts,
+) -> Result<(), CopyFault>
+    requires counted { start.faults ≤ W.faults wires.old }
+    ensures causes { IfErr result (λ told. HasCause start (W.faults wires.new) (W.idles wires.new) told) }
+    ensures counts { GoesOn (W.faults wires.old) (W.faults wires.new) (W.idles wires.old) (W.idles wires.new) (W.contents wires.old) (W.contents wires.new) }
+{
+    let handle = open(alloc, &place.name, extents, board)?;
+    match wires.connect(&place.to) {
+        Ok(link) => Ok(hold(handles, board, wires, link, handle)?),
+        Err(_) => {
+            let _ = handle.close(board);
+            Err(CopyFault::Link {
+                before: start.faults,
+                after: wires.faults(),
+            })
+        }
+    }
+}
+
+/// Whether a handle negotiates.
+fn is_negotiating(handles: &Handles<Ticket>) -> bool {
+    'handles: for index in 0..handles.len() {
+        if let State::Negotiating = handles.get(index).state() {
+            return true;
+        }
+    }
+    false
+}
+
+/// Why the copy ends where one of its connections is dead, if so: the first of them.
+fn check_states(handles: &Handles<Ticket>) -> Result<(), CopyFault>
+    ensures free { IfErr result (λ told. tells_no_count told ≡ true) }
+{
+    'handles: for index in 0..handles.len() {
+        if let State::Dead(death) = handles.get(index).state() {
+            return Err(of_death(death));
+        }
+    }
+    Ok(())
+}
+
+/// Why the copy ends by its links and connections, if so.
+#[tactic(auto, using(crate::proofs::CauseLemmas::cause_free))]
+pub(crate) fn check<W: Wires>(
+    handles: &Handles<Ticket>,
+    wires: &W,
+    start: Counts,
+) -> Result<(), CopyFault>
+    requires counted { start.faults ≤ W.faults wires.now }
+    ensures causes { IfErr result (λ told. HasCause start (W.faults wires.now) (W.idles wires.now) told) }
+{
+    check_faults(wires, start)?;
+    check_states(handles)
+}
+
+/// Waits, unless that was borne for as long as it is.
+pub(crate) fn wait<W: Wires>(
+    handles: &mut Handles<Ticket>,
+    wires: &mut W,
+    start: Counts,
+) -> Result<(), CopyFault>
+    requires counted { start.idles ≤ W.idles wires.old }
+    ensures causes { IfErr result (λ told. HasCause start (W.faults wires.new) (W.idles wires.new) told) }
+    ensures counts { GoesOn (W.faults wires.old) (W.faults wires.new) (W.idles wires.old) (W.idles wires.new) (W.contents wires.old) (W.contents wires.new) }
+{
+    check_idles(wires, start)?;
+    handles.pause(wires);
+    Ok(())
+}
+
+/// Takes turns until no handle negotiates any more, with a pause after each in which nothing happened.
+#[tactic(auto, using(crate::proofs::CauseLemmas::goes_same, crate::proofs::CauseLemmas::goes_then, crate::proofs::CauseLemmas::cause_later, crate::proofs::CauseLemmas::cause_free))]
+pub(crate) fn settle<W: Wires>(
+    handles: &mut Handles<Ticket>,
+    board: &mut Board,
+    wires: &mut W,
+    start: Counts,
+) -> Result<(), CopyFault>
+    requires faults { start.faults ≤ W.faults wires.old }
+    requires idles { start.idles ≤ W.idles wires.old }
+    ensures causes { IfErr result (λ told. HasCause start (W.faults wires.new) (W.idles wires.new) told) }
+    ensures counts { GoesOn (W.faults wires.old) (W.faults wires.new) (W.idles wires.old) (W.idles wires.new) (W.contents wires.old) (W.contents wires.new) }
+{
+    'turns: for _ in 0..MAX_TURNS {
+        if !is_negotiating(handles) {
+            return Ok(());
+        }
+        let told = handles.turn(wires, board)?;
+        check(handles, wires, start)?;
+        if let Turn::Still = told {
+            wait(handles, wires, start)?;
+        }
+    }
+    Err(CopyFault::NoMemory)
+}

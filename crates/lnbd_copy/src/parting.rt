@@ -1,0 +1,72 @@
+//! The end of a copy's connections: each is asked to end, and its link is shut once that is written or it has ended.
+
+ghost use Rattle.std.specs.Prelude.{◌≡◌, ◌<◌, ◌+◌, [], length};
+ghost use Rattle.lnbd_copy.specs.Causes.{GoesOn};
+
+use lnbd_board::{Board, Ticket};
+use lnbd_link::Wires;
+use lnbd_model::State;
+use lnbd_poll::Handles;
+
+/// Asks every connection to end.
+pub(crate) fn part(handles: &mut Handles<Ticket>) {
+    'handles: for index in 0..handles.len() {
+        let _ = handles.get_mut(index).aio_disconnect();
+    }
+}
+
+/// Whether a connection has written that it ends, or has ended.
+fn has_parted(handles: &Handles<Ticket>, index: usize) -> bool
+    requires { index < length handles.now }
+{
+    let handle = handles.get(index);
+    match handle.state() {
+        State::Closing => handle.direction() != 3,
+        State::Closed => true,
+        _ => false,
+    }
+}
+
+/// Closes a handle and shuts its link.
+fn hang_up<W: Wires>(handles: &mut Handles<Ticket>, board: &mut Board, wires: &mut W, index: usize)
+    requires { index < length handles.old }
+    ensures counts { GoesOn (W.faults wires.old) (W.faults wires.new) (W.idles wires.old) (W.idles wires.new) (W.contents wires.old) (W.contents wires.new) }
+    ensures fewer { length handles.new + 1 ≡ length handles.old }
+{
+    let (link, handle) = handles.take(index);
+    let _ = handle.close(board);
+    wires.shut(link);
+}
+
+/// Hangs up where a connection has parted. How many did.
+#[tactic(auto, using(crate::proofs::CauseLemmas::goes_same, crate::proofs::CauseLemmas::goes_then, crate::proofs::CauseLemmas::cause_later, crate::proofs::CauseLemmas::cause_free))]
+pub(crate) fn shut_parted<W: Wires>(
+    handles: &mut Handles<Ticket>,
+    board: &mut Board,
+    wires: &mut W,
+) -> usize
+    ensures counts { GoesOn (W.faults wires.old) (W.faults wires.new) (W.idles wires.old) (W.idles wires.new) (W.contents wires.old) (W.contents wires.new) }
+{
+    let count = handles.len();
+    let mut shut: usize = 0;
+    // From the last on: those behind one that is handed out move down.
+    'handles: for passed in 0..count {
+        let index = count - 1 - passed;
+        if has_parted(handles, index) {
+            hang_up(handles, board, wires, index);
+            shut += 1;
+        }
+    }
+    shut
+}
+
+/// Hangs up on every connection.
+#[tactic(auto, using(crate::proofs::CauseLemmas::goes_same, crate::proofs::CauseLemmas::goes_then, crate::proofs::CauseLemmas::cause_later, crate::proofs::CauseLemmas::cause_free))]
+pub(crate) fn shut_all<W: Wires>(handles: &mut Handles<Ticket>, board: &mut Board, wires: &mut W)
+    ensures counts { GoesOn (W.faults wires.old) (W.faults wires.new) (W.idles wires.old) (W.idles wires.new) (W.contents wires.old) (W.contents wires.new) }
+    ensures none { handles.new ≡ [] }
+{
+    'handles: while !handles.is_empty() {
+        hang_up(handles, board, wires, 0);
+    }
+}

@@ -1,0 +1,176 @@
+//! What both sides of a copy and its options settle before a slice begins: the rules between the sides, and the sizes by
+//! which slices are cut.
+
+ghost use Rattle.std.specs.Prelude.{◌≡◌, ◌<◌, ◌≤◌, ◌^◌, true, false, Some, None, IfOk, IfErr, max, min};
+ghost use Rattle.lnbd_records.specs.Numbers.{has_bit};
+ghost use Rattle.lnbd_copy.specs.Terms.{broken_rule, grain, least_block, limit, most_bytes};
+
+use crate::sides::Sides;
+use lnbd_board::How;
+use lnbd_model::{Blocks, ExportInfo};
+use lnbd_plan::{CopyOptions, Rule};
+
+/// Flags of an export (NBD protocol, "Transmission flags").
+const READ_ONLY: u16 = 2;
+
+const SEND_FLUSH: u16 = 4;
+
+const SEND_WRITE_ZEROES: u16 = 64;
+
+const CAN_MULTI_CONN: u16 = 256;
+
+/// The largest least block (NBD protocol, "Block size constraints").
+const MAX_MINIMUM_BLOCK: u32 = 65_536;
+
+/// The most bytes of a read or a write.
+const MAX_DATA: u32 = 33_554_432;
+
+/// The most bytes of a request that zeroes.
+pub(crate) const MAX_ZEROES: u64 = 134_217_728;
+
+/// The most bytes of data slices that are begun and not over.
+const MAX_UNDER_WAY: u64 = 1_073_741_824;
+
+/// What is settled.
+#[derive(Clone, Copy, Debug)]
+pub(crate) struct Terms {
+    /// The source's size in bytes.
+    pub(crate) size: u64,
+    /// All slices start and end at multiples of it.
+    pub(crate) grain: u32,
+    /// Data slices are cut at its multiples, and zero slices at those of `zero_cell`.
+    pub(crate) cell: u32,
+    pub(crate) zero_cell: u64,
+    pub(crate) how: How,
+    pub(crate) sides: Sides,
+    /// The most slices that are begun and not over.
+    pub(crate) limit: u64,
+    /// Whether the destination is to be flushed in the end.
+    pub(crate) flush: bool,
+}
+
+/// Whether a flag is told.
+fn has(info: &ExportInfo, flag: u16) -> bool {
+    info.flags & flag != 0
+}
+
+/// The block of which all offsets and lengths are multiples.
+fn least_block(told: Option<Blocks>) -> u32
+    ensures value { result ≡ least_block told }
+    ensures some { 0 < result }
+{
+    match told {
+        Some(blocks) => {
+            if 0 < blocks.minimum && blocks.minimum <= MAX_MINIMUM_BLOCK {
+                blocks.minimum
+            } else {
+                1
+            }
+        }
+        None => 1,
+    }
+}
+
+/// The most bytes of a read or a write.
+fn most_bytes(told: Option<Blocks>) -> u32
+    ensures { result ≡ most_bytes told }
+{
+    match told {
+        Some(blocks) => blocks.maximum.min(MAX_DATA),
+        None => MAX_DATA,
+    }
+}
+
+/// The first rule between the sides that does not hold, if one doesn't.
+pub(crate) fn broken_rule(source: &ExportInfo, destination: &ExportInfo) -> Option<Rule>
+    ensures { result ≡ broken_rule source.now destination.now }
+{
+    let minimum = least_block(source.blocks).max(least_block(destination.blocks));
+    let maximum = most_bytes(source.blocks).min(most_bytes(destination.blocks));
+    if destination.flags & READ_ONLY != 0 {
+        return Some(Rule::ReadOnly);
+    }
+    if destination.size < source.size {
+        return Some(Rule::Smaller {
+            source: source.size,
+            destination: destination.size,
+        });
+    }
+    if source.size % minimum as u64 != 0 {
+        return Some(Rule::Uneven {
+            length: source.size,
+            block: minimum,
+        });
+    }
+    if maximum < minimum {
+        return Some(Rule::Unfit { minimum, maximum });
+    }
+    None
+}
+
+/// The greatest of a power of two and its halves that is no larger than this.
+fn halved(power: u32, most: u32) -> u32 {
+    let mut cell = power;
+    'halves: for _ in 0..32 {
+        if most < cell {
+            cell /= 2;
+        }
+    }
+    cell
+}
+
+/// How many connections a side has.
+fn connections(info: &ExportInfo, options: CopyOptions) -> usize {
+    if has(info, CAN_MULTI_CONN) {
+        return options.connections as usize;
+    }
+    1
+}
+
+/// How many slices may be begun and not over.
+fn most_begun(options: CopyOptions, sides: Sides, cell: u32) -> u64
+    requires { 0 < cell }
+{
+    let fewer = sides.source.min(sides.destination) as u64;
+    let requests = (options.requests as u64).saturating_mul(fewer);
+    requests.min(MAX_UNDER_WAY / cell as u64)
+}
+
+/// The size of blocks that are looked at for zeros, in bytes; 0 where none are.
+fn sparse_block(options: CopyOptions, destination: &ExportInfo, cell: u32) -> u32 {
+    let block = options.sparse.max(least_block(destination.blocks));
+    if options.sparse == 0 || cell < block {
+        return 0;
+    }
+    block
+}
+
+/// What is settled, where the rules hold.
+pub(crate) fn settled(options: CopyOptions, source: &ExportInfo, destination: &ExportInfo) -> Terms
+    ensures cells { (0 < result.cell) × (0 < result.zero_cell) × (0 < result.grain) }
+    ensures size { result.size ≡ source.now.size }
+{
+    let grain = least_block(source.blocks).max(least_block(destination.blocks));
+    let most = most_bytes(source.blocks).min(most_bytes(destination.blocks));
+    let cell = halved(options.request_size, most).max(grain);
+    let sides = Sides {
+        source: connections(source, options),
+        destination: connections(destination, options),
+    };
+    let zeroes = has(destination, SEND_WRITE_ZEROES);
+    Terms {
+        size: source.size,
+        grain,
+        cell,
+        zero_cell: if zeroes { MAX_ZEROES } else { cell as u64 },
+        how: How {
+            block: sparse_block(options, destination, cell),
+            skip: options.destination_is_zero,
+            zeroes,
+            allocated: options.allocated,
+        },
+        sides,
+        limit: most_begun(options, sides, cell),
+        flush: options.flush && has(destination, SEND_FLUSH),
+    }
+}

@@ -1,0 +1,208 @@
+//! The windows of a copy: how far the source's extents were asked for and told, and the slices that are planned of it.
+//! One window after another is asked for; which connection is asked, and when, is not known here.
+
+ghost use Rattle.std.specs.Prelude.{◌≡◌, ◌<◌, ◌≤◌, ◌+◌, ◌-◌, ◌^◌, IfSome, IfOk, OnOk, OnErr};
+
+use crate::terms::Terms;
+use lnbd_extents::{Ranges, push_joined};
+use lnbd_model::{Extent, NoMemory};
+use lnbd_plan::{Plan, Slice};
+use std::alloc::Global;
+use std::marker::Model;
+
+/// The bytes of a window, and the most of which extents are asked for at once.
+const WINDOW: u64 = 134_217_728;
+
+/// The flag of base:allocation that says that bytes read as zeroes (NBD protocol, "base:allocation metadata context").
+const ZERO: u64 = 2;
+
+/// A range of the source whose extents are to be asked for.
+#[derive(Clone, Copy, Debug, PartialEq, Eq)]
+pub(crate) struct Wanted {
+    pub(crate) offset: u64,
+    pub(crate) length: u64,
+}
+
+/// The slices that are planned, and how far they are.
+#[derive(Drop)]
+pub(crate) struct Windows {
+    alloc: Global,
+    plan: Plan,
+    size: u64,
+    grain: u64,
+    // Where the window begins that is asked for; how far its extents are told, and which of its blocks as zero.
+    start: u64,
+    at: u64,
+    zero: Ranges,
+}
+
+impl Model for Windows {
+    ghost use Rattle.std.specs.Prelude.{◌≡◌, ◌<◌, ◌≤◌, ◌^◌};
+
+    ghost Value = { Unit {0} };
+
+    ghost view = { λ w. tt };
+
+    ghost invariant = { λ w. (w.plan.end ≡ w.start) × (w.start ≤ w.at) × (w.at ≤ w.size) × (w.size ≤ 2 ^ 63) × (0 < w.grain) };
+}
+
+impl Windows {
+    /// No window yet.
+    pub(crate) fn new(alloc: Global, terms: Terms) -> Windows
+        requires cells { (0 < terms.cell) × (0 < terms.zero_cell) × (0 < terms.grain) }
+        requires size { terms.size ≤ 2 ^ 63 }
+    {
+        Windows {
+            alloc,
+            plan: Plan::new(alloc, terms.cell, terms.zero_cell, !terms.how.skip),
+            size: terms.size,
+            grain: terms.grain as u64,
+            start: 0,
+            at: 0,
+            zero: Ranges::new(alloc),
+        }
+    }
+
+    /// Plans all that is left as bytes of which nothing is told.
+    pub(crate) fn plan_rest(&mut self) -> Result<(), NoMemory> {
+        self.plan
+            .window(self.start, self.size - self.start, &self.zero)?;
+        self.start = self.size;
+        self.at = self.size;
+        Ok(())
+    }
+
+    /// The range whose extents are to be asked for next, if windows are left.
+    pub(crate) fn wanted(&self) -> Option<Wanted> {
+        let end = end_of(self.start, self.size);
+        if self.at < end {
+            return Some(Wanted {
+                offset: self.at,
+                length: end - self.at,
+            });
+        }
+        None
+    }
+
+    /// Takes the extents that were told of the range that was wanted. A window that is told whole is planned.
+    pub(crate) fn hear(&mut self, told: &[Extent]) -> Result<(), NoMemory> {
+        let end = end_of(self.start, self.size);
+        if end <= self.at {
+            return Ok(());
+        }
+        let most = end - self.at;
+        let joined = joined(self.alloc, told, most)?;
+        let reached = hold_zeroes(&mut self.zero, &joined, self.at, most, self.grain)?;
+        self.at += passed(reached, self.grain, most);
+        if self.at < end {
+            return Ok(());
+        }
+        self.plan
+            .window(self.start, self.at - self.start, &self.zero)?;
+        self.start = self.at;
+        self.zero = Ranges::new(self.alloc);
+        Ok(())
+    }
+
+    /// Whether a part of a window was told, and not all of it.
+    pub(crate) fn is_under_way(&self) -> bool {
+        self.start < self.at
+    }
+
+    /// Whether all windows are planned.
+    pub(crate) fn are_planned(&self) -> bool {
+        self.start == self.size
+    }
+
+    /// The next slice, if one is planned.
+    pub(crate) fn next(&mut self) -> Option<Slice> {
+        self.plan.next()
+    }
+
+    /// How many slices are planned and still to come.
+    pub(crate) fn left(&self) -> u64 {
+        self.plan.left()
+    }
+}
+
+/// Where the window ends that begins here.
+fn end_of(start: u64, size: u64) -> u64
+    requires { start ≤ size }
+    ensures { (start ≤ result) × (result ≤ size) }
+{
+    start + WINDOW.min(size - start)
+}
+
+/// What was told, with ZERO as the one flag, equal neighbours joined, up to so many bytes.
+fn joined(alloc: Global, told: &[Extent], most: u64) -> Result<Vec<Extent>, NoMemory>
+    requires { most ≤ 2 ^ 63 }
+{
+    let mut list = Vec::new(alloc);
+    let mut left = most;
+    'extents: for extent in told {
+        let length = extent.length.min(left);
+        push_joined(
+            &mut list,
+            Extent {
+                length,
+                flags: extent.flags & ZERO,
+            },
+        )?;
+        left -= length;
+    }
+    Ok(list)
+}
+
+/// Holds the whole blocks that are told as zero, and answers how many bytes were told.
+fn hold_zeroes(
+    zero: &mut Ranges,
+    told: &[Extent],
+    from: u64,
+    most: u64,
+    grain: u64,
+) -> Result<u64, NoMemory>
+    requires room { from + most ≤ 2 ^ 63 }
+    requires grain { 0 < grain }
+    ensures { IfOk result (λ reached. reached ≤ most) }
+{
+    let mut reached: u64 = 0;
+    'extents: for extent in told {
+        let length = extent.length.min(most - reached);
+        if extent.flags != 0 {
+            hold_blocks(zero, from + reached, length, grain)?;
+        }
+        reached += length;
+    }
+    Ok(reached)
+}
+
+/// Holds the whole blocks of a range.
+fn hold_blocks(zero: &mut Ranges, start: u64, length: u64, grain: u64) -> Result<(), NoMemory>
+    requires room { start + length ≤ 2 ^ 63 }
+    requires grain { 0 < grain }
+{
+    let end = start + length;
+    let last = end - end % grain;
+    let over = start % grain;
+    let first = if over == 0 {
+        start
+    } else {
+        start - over + grain
+    };
+    if first < last {
+        zero.hold(first, last - first)?;
+    }
+    Ok(())
+}
+
+/// How far asking goes on where so many bytes were told: to the last multiple of the grain, but by a block at least.
+fn passed(reached: u64, grain: u64, most: u64) -> u64
+    requires { 0 < grain }
+    ensures { result ≤ most }
+{
+    let whole = reached - reached % grain;
+    if whole == 0 {
+        return grain.min(most);
+    }
+    whole.min(most)
+}

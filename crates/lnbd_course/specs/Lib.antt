@@ -1,0 +1,5 @@
+pub mod Copied
+pub mod Course
+pub mod Taken
+pub mod Laws
+pub mod Orders

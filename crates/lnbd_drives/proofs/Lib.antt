@@ -1,0 +1,9 @@
+pub mod Passing
+pub mod Keeping
+pub mod Modes
+pub mod Taking
+pub mod Turning
+pub mod Calling
+pub mod Waiting
+pub mod Framing
+pub mod Saying

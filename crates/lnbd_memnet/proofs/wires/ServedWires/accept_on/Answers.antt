@@ -1,0 +1,9 @@
+use Rattle.std.proofs.Common.{refl}
+use Rattle.lnbd_link.specs.declared.wires.Accepted.TheVariants as accepted
+use Rattle.lnbd_link.specs.Call.{Accept}
+use Rattle.lnbd_memnet.proofs.Telling.{held_then}
+use Rattle.lnbd_memnet.proofs.wires.ServedWires.accept_on.Goals as goal
+
+pub invariant_of-self : goal.invariant_of-self
+invariant_of-self c = held_then c.self.inside.shorts c.self.inside.faults c.raised-self-inside.result c.self.inside.log c.accept.new.self c.self.inside.network c.self.inside.network
+    (Accept c.args.listener accepted.Failed) c.self.invariant c.raised-self-inside.ensures.never_falls c.in-Ok.ensures.ok (refl, refl)

@@ -1,0 +1,6 @@
+pub mod Schedule
+pub mod Network
+pub mod Plays
+pub mod Log
+pub mod Wires
+pub mod Laws

@@ -1,0 +1,18 @@
+//! Wires that serve: real sessions of a server behind links in memory, cut and picked by a schedule.
+//! They tell their calls and what their exports hold. How a session answers stands in `lnbd_server`.
+#![tactic(auto)]
+
+mod hosted;
+mod laws;
+mod link;
+mod log;
+mod network;
+mod schedule;
+#[cfg(test)]
+mod tests;
+mod wires;
+
+pub use hosted::Served;
+pub use laws::links_are_sessions;
+pub use schedule::{Schedule, Step};
+pub use wires::ServedWires;

@@ -1,0 +1,256 @@
+//! Sessions of nbdcopy: the source is the first link and the destination the second.
+
+use crate::session::{SESSION, Session, Told, play_all};
+use std::test::Fail;
+
+/// NBDMAGIC, IHAVEOPT and the flags FIXED_NEWSTYLE and NO_ZEROES.
+const HELLO: Told<'static> = Told::Bytes("4e42444d41474943 49484156454f5054 0003");
+
+/// EXTENDED_HEADERS isn't known, STRUCTURED_REPLY is acknowledged, and base:allocation agreed under the number 1.
+const SOURCE_AGREED: Told<'static> = Told::Bytes(
+    "0003e889045565a9 0000000b 80000001 00000000 \
+     0003e889045565a9 00000008 00000001 00000000 \
+     0003e889045565a9 0000000a 00000004 00000013 00000001 626173653a616c6c6f636174696f6e \
+     0003e889045565a9 0000000a 00000001 00000000",
+);
+
+/// The same of a destination, which is asked for no context.
+const DESTINATION_AGREED: Told<'static> = Told::Bytes(
+    "0003e889045565a9 0000000b 80000001 00000000 \
+     0003e889045565a9 00000008 00000001 00000000",
+);
+
+/// GO's reply for an export of 768 bytes with the flags 1, and its ACK.
+const SOURCE: Told<'static> = Told::Bytes(
+    "0003e889045565a9 00000007 00000003 0000000c 0000 0000000000000300 0001 \
+     0003e889045565a9 00000007 00000001 00000000",
+);
+
+/// The same with the flags 0x41, of which one tells WRITE_ZEROES.
+const DESTINATION: Told<'static> = Told::Bytes(
+    "0003e889045565a9 00000007 00000003 0000000c 0000 0000000000000300 0041 \
+     0003e889045565a9 00000007 00000001 00000000",
+);
+
+/// One of 512 bytes.
+const SMALLER: Told<'static> = Told::Bytes(
+    "0003e889045565a9 00000007 00000003 0000000c 0000 0000000000000200 0041 \
+     0003e889045565a9 00000007 00000001 00000000",
+);
+
+/// 512 bytes are data, and 256 a hole that reads as zeroes.
+const EXTENTS: Told<'static> = Told::Bytes(
+    "668e33ef 0001 0005 0000000000000001 00000014 00000001 00000200 00000000 00000100 00000003",
+);
+
+/// The bytes of the second command, from 0 on.
+const DATA: Told<'static> = Told::Bytes(
+    "668e33ef 0001 0001 0000000000000002 00000208 0000000000000000 ab*512",
+);
+
+/// EIO for the second command.
+const FAILED: Told<'static> = Told::Bytes(
+    "668e33ef 0001 8001 0000000000000002 00000006 00000005 0000",
+);
+
+/// The destination's first and second command are done.
+const ZEROED: Told<'static> = Told::Bytes("67446698 00000000 0000000000000001");
+
+const WRITTEN: Told<'static> = Told::Bytes("67446698 00000000 0000000000000002");
+
+/// The client's flags, and the options before GO.
+const SOURCE_OPTIONS: &str = "00000003 49484156454f5054 0000000b 00000000 \
+     49484156454f5054 00000008 00000000 \
+     49484156454f5054 0000000a 0000001b 00000000 00000001 0000000f 626173653a616c6c6f636174696f6e";
+
+const DESTINATION_OPTIONS: &str = "00000003 49484156454f5054 0000000b 00000000 \
+     49484156454f5054 00000008 00000000";
+
+/// GO for the empty name with NAME, DESCRIPTION and BLOCK_SIZE.
+const GO: &str = "49484156454f5054 00000007 0000000c 00000000 0003 0001 0002 0003";
+
+/// BLOCK_STATUS of all, READ of the data, WRITE_ZEROES of the hole, and WRITE of what was read.
+const ASK_EXTENTS: &str = "25609513 0000 0007 0000000000000001 0000000000000000 00000300";
+
+const READ: &str = "25609513 0000 0000 0000000000000002 0000000000000000 00000200";
+
+const ZERO: &str = "25609513 0000 0006 0000000000000001 0000000000000200 00000100";
+
+const WRITE: &str = "25609513 0000 0001 0000000000000002 0000000000000000 00000200 ab*512";
+
+/// The same as the destination's first command.
+const WRITE_FIRST: &str = "25609513 0000 0001 0000000000000001 0000000000000000 00000200 ab*512";
+
+/// DISC.
+const DISC: &str = "25609513 0000 0002 0000000000000000 0000000000000000 00000000";
+
+/// A copy from one server to another.
+const COPY: Session<'static> = Session {
+    words: &["nbdcopy", "nbd://h/", "nbd://g/"],
+    uncut: true,
+    ..SESSION
+};
+
+static COPIED: [Session<'static>; 2] = [
+    Session {
+        shows: "data is read and written, and a hole zeroed",
+        reads: &[
+            HELLO,
+            SOURCE_AGREED,
+            SOURCE,
+            Told::Nothing,
+            Told::Nothing,
+            Told::Nothing,
+            Told::Nothing,
+            EXTENTS,
+            DATA,
+            Told::Nothing,
+        ],
+        second: &[
+            HELLO,
+            DESTINATION_AGREED,
+            DESTINATION,
+            Told::Nothing,
+            Told::Nothing,
+            ZEROED,
+            WRITTEN,
+        ],
+        written: &[
+            SOURCE_OPTIONS,
+            GO,
+            DESTINATION_OPTIONS,
+            GO,
+            ASK_EXTENTS,
+            READ,
+            ZERO,
+            WRITE,
+            DISC,
+            DISC,
+        ],
+        ..COPY
+    },
+    Session {
+        shows: "a hole is passed over where the destination is zero",
+        words: &["nbdcopy", "--destination-is-zero", "nbd://h/", "nbd://g/"],
+        reads: &[
+            HELLO,
+            SOURCE_AGREED,
+            SOURCE,
+            Told::Nothing,
+            Told::Nothing,
+            Told::Nothing,
+            Told::Nothing,
+            EXTENTS,
+            DATA,
+            Told::Nothing,
+        ],
+        second: &[
+            HELLO,
+            DESTINATION_AGREED,
+            DESTINATION,
+            Told::Nothing,
+            Told::Nothing,
+            Told::Nothing,
+            ZEROED,
+        ],
+        written: &[
+            SOURCE_OPTIONS,
+            GO,
+            DESTINATION_OPTIONS,
+            GO,
+            ASK_EXTENTS,
+            READ,
+            WRITE_FIRST,
+            DISC,
+            DISC,
+        ],
+        ..COPY
+    },
+];
+
+#[test]
+fn nbdcopy_copies(rt: HostRuntime) -> Result<(), Fail> {
+    play_all(&rt, rt.alloc(), &COPIED)
+}
+
+static NOT_COPIED: [Session<'static>; 4] = [
+    Session {
+        shows: "a destination that is smaller",
+        reads: &[
+            HELLO,
+            SOURCE_AGREED,
+            SOURCE,
+            Told::Nothing,
+            Told::Nothing,
+            Told::Nothing,
+        ],
+        second: &[HELLO, DESTINATION_AGREED, SMALLER],
+        written: &[SOURCE_OPTIONS, GO, DESTINATION_OPTIONS, GO],
+        err: "lnbd: rule smaller 768 512\n",
+        status: 6,
+        ..COPY
+    },
+    Session {
+        shows: "a read that is answered by an error",
+        reads: &[
+            HELLO,
+            SOURCE_AGREED,
+            SOURCE,
+            Told::Nothing,
+            Told::Nothing,
+            Told::Nothing,
+            Told::Nothing,
+            EXTENTS,
+            FAILED,
+        ],
+        second: &[
+            HELLO,
+            DESTINATION_AGREED,
+            DESTINATION,
+            Told::Nothing,
+            Told::Nothing,
+            ZEROED,
+        ],
+        written: &[
+            SOURCE_OPTIONS,
+            GO,
+            DESTINATION_OPTIONS,
+            GO,
+            ASK_EXTENTS,
+            READ,
+            ZERO,
+        ],
+        err: "lnbd: peer error command 5\n",
+        status: 3,
+        ..COPY
+    },
+    Session {
+        shows: "a destination that ends its connection",
+        reads: &[
+            HELLO,
+            SOURCE_AGREED,
+            SOURCE,
+            Told::Nothing,
+            Told::Nothing,
+            Told::Nothing,
+            Told::Nothing,
+        ],
+        second: &[HELLO, DESTINATION_AGREED, DESTINATION],
+        written: &[SOURCE_OPTIONS, GO, DESTINATION_OPTIONS, GO],
+        err: "lnbd: peer broke Ended\n",
+        status: 4,
+        ..COPY
+    },
+    Session {
+        shows: "a source that can't be had",
+        unreachable: true,
+        err: "lnbd: link fault\n",
+        status: 5,
+        ..COPY
+    },
+];
+
+#[test]
+fn nbdcopy_tells_why_it_did_not_copy(rt: HostRuntime) -> Result<(), Fail> {
+    play_all(&rt, rt.alloc(), &NOT_COPIED)
+}

@@ -1,0 +1,119 @@
+//! A socket, and whether its next call may find something. The system tells only of changes, so a socket is
+//! waited for where its last call found nothing and no event came since.
+
+ghost use Rattle.std.specs.Prelude.{◌<◌, ◌≤◌, length};
+ghost use Rattle.lnbd_link.specs.Answers.{IfMoved, IfSent};
+
+use crate::socket::Socket;
+use lnbd_link::{Got, Took};
+use mio::event::Event;
+use mio::unix::SourceFd;
+use mio::{Interest, Poll, Token};
+use std::io;
+use std::io::ErrorKind;
+
+/// A link or a listener that a poll tells of.
+#[derive(Drop)]
+pub struct Held {
+    socket: Socket,
+    // That there may be bytes, a peer or an end to be had, and that bytes may be taken.
+    may_read: bool,
+    may_write: bool,
+    // Whether the poll tells of writing too, beside reading.
+    tells_writing: bool,
+}
+
+impl Held {
+    /// Has the poll tell of this socket by its number. None of its calls has been made yet.
+    pub fn new(poll: &Poll, socket: Socket, number: usize) -> io::Result<Held> {
+        let fd = socket.fd().ok_or(ErrorKind::NotConnected)?;
+        poll.registry()
+            .register(&mut SourceFd(&fd), Token(number), Interest::READABLE)?;
+        Ok(Held {
+            socket,
+            may_read: true,
+            may_write: true,
+            tells_writing: false,
+        })
+    }
+
+    pub fn read(&mut self, into: &mut [u8]) -> Got
+        requires { 0 < length into.old }
+        ensures { IfMoved result (λ n. (0 < n) × (n ≤ length into.old)) }
+    {
+        let got = self.socket.read(into);
+        self.may_read = !matches!(got, Got::NotReady);
+        got
+    }
+
+    pub fn write(&mut self, from: &[u8]) -> Took
+        requires { 0 < length from.now }
+        ensures { IfSent result (λ n. (0 < n) × (n ≤ length from.now)) }
+    {
+        let took = self.socket.write(from);
+        self.may_write = !matches!(took, Took::NotReady);
+        took
+    }
+
+    /// A link from a peer that waits. The error's kind is `WouldBlock` where none does.
+    pub fn accept(&mut self) -> io::Result<Socket> {
+        let accepted = self.socket.accept();
+        if let Err(error) = &accepted {
+            self.may_read = !matches!(error.kind(), ErrorKind::WouldBlock);
+        }
+        accepted
+    }
+
+    /// Closes the socket, of which the poll then tells no more.
+    pub fn shut(&mut self) {
+        self.socket = Socket::Shut;
+    }
+
+    /// What the system tells of it.
+    pub fn hear(&mut self, event: &Event) {
+        let failed = event.is_error();
+        if failed || event.is_readable() || event.is_read_closed() {
+            self.may_read = true;
+        }
+        if failed || event.is_writable() || event.is_write_closed() {
+            self.may_write = true;
+        }
+    }
+
+    /// Whether nothing is to be waited for in this direction: 1 is reading, 2 writing, and 3 both. A link that is
+    /// wanted for both waits to be written only where its last write found it full, and then to be read only where
+    /// its last read found no byte: a server wants each of its links for both, reads no further where a client takes
+    /// no reply, and would else never wait at all.
+    pub fn is_due(&self, direction: u32) -> bool {
+        match direction {
+            1 => self.may_read,
+            2 => self.may_write,
+            3 => self.may_write && self.may_read,
+            _ => false,
+        }
+    }
+
+    /// Has the poll tell of writing where that is waited for, and no more where it isn't: each byte that a peer takes
+    /// would else end a wait. Whether a wait can end by this socket.
+    pub fn listens(&mut self, poll: &Poll, number: usize, direction: u32) -> bool {
+        let Some(fd) = self.socket.fd() else {
+            return false;
+        };
+        let wants_writing = !self.may_write && matches!(direction, 2 | 3);
+        if wants_writing != self.tells_writing && (wants_writing || self.may_write) {
+            let interest = if wants_writing {
+                Interest::READABLE | Interest::WRITABLE
+            } else {
+                Interest::READABLE
+            };
+            let told = poll
+                .registry()
+                .reregister(&mut SourceFd(&fd), Token(number), interest);
+            if told.is_err() {
+                return false;
+            }
+            self.tells_writing = wants_writing;
+        }
+        matches!(direction, 1..=3)
+    }
+}

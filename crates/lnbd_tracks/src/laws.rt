@@ -1,0 +1,54 @@
+//! Laws of what the handles of a copy were asked. Each is the contract of a function that does nothing.
+
+ghost use Rattle.lnbd_tracks.specs.Laws.{NothingTracks, OpeningTracks, OneHappens, IssueTracks, OthersTrack, BytesComeBack, SourceKeeps, DestinationKeeps, FinishedAreDone, FinishedTracks};
+ghost use Rattle.lnbd_tracks.specs.Dealing.{DoneIsWritten, TrackedAreDealt};
+
+/// Before any handle was asked anything, nothing was asked; and a handle that begins changes nothing.
+pub fn nothing_tracks()
+    ensures nothing { NothingTracks }
+    ensures opening { OpeningTracks }
+{}
+
+/// Of handles with links of their own, what happens on one happens on its link and on no other.
+pub fn one_happens()
+    ensures { OneHappens }
+{}
+
+/// A command that is asked is one request more, under the next cookie, which waits.
+pub fn asking_tracks()
+    ensures { IssueTracks }
+{}
+
+/// What brings neither a command nor bytes nor an end changes no request.
+pub fn others_track()
+    ensures { OthersTrack }
+{}
+
+/// A command without an error has its bytes back: a read as many as were asked for, and any other those
+/// that it was asked with.
+pub fn bytes_come_back<K>()
+    ensures { BytesComeBack K }
+{}
+
+/// Whatever happens on a handle of a copy, but that it is asked, keeps the invariant of the copy, if no
+/// error is told.
+pub fn what_happens_keeps()
+    ensures source { SourceKeeps }
+    ensures destination { DestinationKeeps }
+{}
+
+/// Where the board of a copy is empty, each request that reads or changes is done.
+pub fn finished_tracks()
+    ensures lists { FinishedAreDone }
+    ensures handles { FinishedTracks }
+{}
+
+/// A command that is done was wholly written.
+pub fn done_is_written<K>()
+    ensures { DoneIsWritten K }
+{}
+
+/// What the handles of an export's links were asked is what was dealt with the export.
+pub fn tracked_are_dealt()
+    ensures { TrackedAreDealt }
+{}
