@@ -26,6 +26,7 @@ use Rattle.lnbd_asked.specs.InStep.{is_reading}
 use Rattle.lnbd_asked.specs.Link.{Link, kind_of}
 use Rattle.lnbd_asked.specs.Parts.{parts_of, count, requests_in}
 use Rattle.lnbd_asked.proofs.Alive.{IsNextOf, Owed, Meets, Haggles, Transmits, Alive, Stands, is_done}
+use Rattle.lnbd_asked.proofs.Asks.{wishes_of}
 use Rattle.lnbd_asked.proofs.Doing.{unheard_stands, state_of, unrefused, order_more, issue_stands}
 use Rattle.lnbd_asked.proofs.Orders.{the_disconnect, disconnect_parts, disconnect_fits}
 use Rattle.lnbd_asked.proofs.Phases.{AreShort}
@@ -38,7 +39,7 @@ not_dead_open why e = cc
 not_created_open : Created ≢ Open
 not_created_open e = cc
 
-not_open_created : Open ≢ Created
+pub not_open_created : Open ≢ Created
 not_open_created e = cc
 
 not_ready_opt : Ready ≢ OptMode
@@ -79,7 +80,7 @@ named_in OptMode e = refl
 named_in Ready e = absurd (false≢true e)
 named_in (Refused code) e = absurd (false≢true e)
 
-named_at : (stage : Stage) (p : Phase) → may_name (state_at stage p) ≡ true → (stage ≡ Created) ⊎ ((stage ≡ Open) × (p ≡ OptMode))
+pub named_at : (stage : Stage) (p : Phase) → may_name (state_at stage p) ≡ true → (stage ≡ Created) ⊎ ((stage ≡ Open) × (p ≡ OptMode))
 named_at Created p e = inl refl
 named_at Open p e = inr (refl, named_in p e)
 named_at Disconnecting p e = absurd (false≢true e)
@@ -155,7 +156,7 @@ module _ {K : Type 0} where
   set_short before (Extended on) turns is can fits s = record { name = s.name; few = s.few; short = s.short }
   set_short before (event.OptMode on) turns is can fits s = record { name = s.name; few = s.few; short = s.short }
 
-  set_named : (before : History K) (one : Setting) → CanSet before one → may_name (state_after before) ≡ true
+  pub set_named : (before : History K) (one : Setting) → CanSet before one → may_name (state_after before) ≡ true
   set_named before (Name name) can = can
   set_named before (Context name) can = can.0
   set_named before (Structured on) can = ap may_name can
@@ -163,7 +164,7 @@ module _ {K : Type 0} where
   set_named before (event.OptMode on) can = ap may_name can
 
   -- a handle that is named now was not started
-  not_begun : (before : History K) (held : Held (Known K)) (h : Held Link) (written : List ℕ) → Stands before held h written → may_name (state_at held.known.stage (phase held.known.turns)) ≡ true →
+  pub not_begun : (before : History K) (held : Held (Known K)) (h : Held Link) (written : List ℕ) → Stands before held h written → may_name (state_at held.known.stage (phase held.known.turns)) ≡ true →
       (a : Alive before held h written) × Haggles before held.known a.v.known a.front a.orders × (held.known.stage ≡ Created)
   not_begun before held h written (inr o) e = absurd (by_stage (named_at held.known.stage (phase held.known.turns) e))
     where
@@ -181,8 +182,8 @@ module _ {K : Type 0} where
 
   -- The same is to be said, and a handle haggles on.
   haggle_on : (before after : History K) (held : Held (Known K)) (later : Known K) (h : Held Link) (written : List ℕ) (a : Alive before held h written) → Haggles before held.known a.v.known a.front a.orders →
-      (asked after).wrote ≡ (asked before).wrote → later.parts ≡ held.known.parts → Haggles after later a.v.known a.front a.orders → Alive after (record { known = later; pending = held.pending }) h written
-  haggle_on before after held later h written a g wrote parts stands = record {
+      (asked after).wrote ≡ (asked before).wrote → later.parts ≡ held.known.parts → wishes_of later.turns ≡ wishes_of held.known.turns → Haggles after later a.v.known a.front a.orders → Alive after (record { known = later; pending = held.pending }) h written
+  haggle_on before after held later h written a g wrote parts options stands = record {
     front = a.front;
     asks = a.asks;
     orders = a.orders;
@@ -196,6 +197,7 @@ module _ {K : Type 0} where
     are = a.are;
     greets = a.greets;
     pend = a.pend;
+    options = a.options ∙ sym options;
     stands = inl stands;
   }
 
@@ -204,7 +206,7 @@ module _ {K : Type 0} where
   start_stands before held h written created plain s =
       let n = not_begun before held h written s (ap may_name created) in
       let g = n.1 in
-      inl (haggle_on before (Start ∷ before) held (record held.known { stage = Open }) h written n.0 g refl refl (record {
+      inl (haggle_on before (Start ∷ before) held (record held.known { stage = Open }) h written n.0 g refl refl refl (record {
         stage = inr refl;
         stage' = g.stage';
         started = λ c. absurd (not_open_created c);
@@ -229,7 +231,7 @@ module _ {K : Type 0} where
       let g = n.1 in
       let greets = g.started n.2 in
       let meets = subst (λ p. Meets p n.0.v.known) greets g.meets in
-      inl (haggle_on before (event.Set one ∷ before) (reading before) (turned (turn.Set one) (reading before).known) h written n.0 g refl (append-nil (reading before).known.parts) (record {
+      inl (haggle_on before (event.Set one ∷ before) (reading before) (turned (turn.Set one) (reading before).known) h written n.0 g refl (append-nil (reading before).known.parts) refl (record {
         stage = inl n.2;
         stage' = g.stage';
         started = λ c. greets;

@@ -1,5 +1,5 @@
 -- How a handle stands with its link: what of its parts was said, what is still to be said, and that the link told of that is in step with it.
-use Rattle.std.proofs.Common.{◌≡◌, ◌≢◌, ℕ, ◌+◌, Bool, true, false, List, [], ◌∷◌, ◌++◌, length, Option, Some, None, nat_le, ◌⊎◌}
+use Rattle.std.proofs.Common.{◌≡◌, ◌≢◌, ℕ, ◌+◌, ◌≤◌, Bool, true, false, List, [], ◌∷◌, ◌++◌, length, Option, Some, None, nat_le, ◌⊎◌}
 use Rattle.std.specs.Option.{option_map}
 use Rattle.lnbd_model.specs.declared.kind.Kind.{Kind}
 use Rattle.lnbd_model.specs.declared.state.Cause.{Cause}
@@ -21,6 +21,7 @@ use Rattle.lnbd_asked.specs.Laws.{is_waiting}
 use Rattle.lnbd_asked.specs.InStep.{InStep, is_reading, silent_pieces}
 use Rattle.lnbd_asked.specs.Parts.{requests_in, count}
 use Rattle.lnbd_asked.specs.Transcript.{bare, size_at, size_told}
+use Rattle.lnbd_asked.proofs.Asks.{wishes_of, IsTail}
 use Rattle.lnbd_asked.proofs.Chain.{Reaches}
 use Rattle.lnbd_asked.proofs.Phases.{AreShort}
 use Rattle.lnbd_asked.proofs.Sending.{Sends}
@@ -121,6 +122,7 @@ module _ {K : Type 0} where
     pub are : AreAsks h.known.greeted asks
     pub greets : greeted_after h.known.greeted asks ≡ v.known.greeted
     pub pend : held.pending ≡ v.pending
+    pub options : v.known.wishes ≡ wishes_of held.known.turns
     pub stands : Haggles history held.known v.known front orders ⊎ Transmits history held.known v.known front asks orders
 
   -- Nothing counts on the link any more.
@@ -128,10 +130,11 @@ module _ {K : Type 0} where
     pub done_ : is_done held.known.stage ≡ true
     pub none' : (asked h.known.requests).issued ≡ 0
     pub untold : size_told h.known ≡ None
+    pub options : IsTail h.known.wishes (wishes_of held.known.turns)
     pub stuck : (is_waiting h.known ≡ true) ⊎ ((cause : Cause) × (h.known.heard.stage ≡ Dead cause))
     pub settled : server.shows h.known h.pending ≡ None
     pub unwritten : whole held.known.parts (asked history).wrote ≡ 0
-    pub unsized : (asked history).wrote ≡ total held.known.parts → size_at (phase held.known.turns) (export (steps held.known.turns)) ≡ None
+    pub unsized : total held.known.parts ≤ (asked history).wrote → size_at (phase held.known.turns) (export (steps held.known.turns)) ≡ None
 
   abbrev pub Stands : History K → Held (Known K) → Held Link → List ℕ → Type 0
   Stands history held h written = Alive history held h written ⊎ Over history held h

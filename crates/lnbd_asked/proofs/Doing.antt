@@ -28,6 +28,7 @@ use Rattle.lnbd_asked.specs.Link.{Nobody, Link, kind_of}
 use Rattle.lnbd_asked.specs.Parts.{parts_of, count, requests_in}
 use Rattle.lnbd_asked.specs.Transcript.{bare, size_at}
 use Rattle.lnbd_asked.proofs.Alive.{is_done, IsNextOf, Owed, Meets, Haggles, Transmits, Alive, Stands}
+use Rattle.lnbd_asked.proofs.Asks.{wishes_of, IsTail}
 use Rattle.lnbd_asked.proofs.Orders.{order_for, order_parts, order_fits, flags_back, kind_back}
 use Rattle.lnbd_asked.proofs.Phases.{AreShort}
 use Rattle.lnbd_asked.proofs.Sending.{Sends, sends_more, sends_whole, order_some}
@@ -178,6 +179,7 @@ module _ {K : Type 0} where
     are = a.are;
     greets = a.greets;
     pend = a.pend;
+    options = a.options ∙ ap wishes_of (sym u.turns);
     stands = go a.stands;
   })
     where
@@ -188,10 +190,11 @@ module _ {K : Type 0} where
     done_ = ap is_done u.stage ∙ o.done_;
     none' = o.none';
     untold = o.untold;
+    options = subst (λ ts. IsTail h.known.wishes (wishes_of ts)) (sym u.turns) o.options;
     stuck = o.stuck;
     settled = o.settled;
     unwritten = ap (λ ps. whole ps (asked after).wrote) u.parts ∙ ap (whole known.parts) u.wrote ∙ o.unwritten;
-    unsized = λ w. ap (λ ts. size_at (phase ts) (export (steps ts))) u.turns ∙ o.unsized (sym u.wrote ∙ w ∙ ap total u.parts);
+    unsized = λ w. ap (λ ts. size_at (phase ts) (export (steps ts))) u.turns ∙ o.unsized (let n = u.wrote in let m = ap total u.parts in omega (arith, n, m, w));
   })
 
   -- A command is issued.
@@ -253,6 +256,7 @@ module _ {K : Type 0} where
     are = a.are;
     greets = a.greets;
     pend = a.pend;
+    options = a.options ∙ ap wishes_of (sym turns);
     stands = inr t;
   }
 

@@ -18,7 +18,7 @@ use Rattle.lnbd_asked.specs.Driven.{Drives, Begins, Does, Passes, Writes, Writes
 use Rattle.lnbd_asked.specs.InStep.{InStep}
 use Rattle.lnbd_asked.specs.Link.{Link, Both, nothing, after_write, after_read, after_end, after_fault}
 use Rattle.lnbd_asked.specs.Parts.{count}
-use Rattle.lnbd_asked.specs.Transcript.{bare, outcome_of, size_at, size_told, untold, after_call, after_calls, after_read_told, after_write_told}
+use Rattle.lnbd_asked.specs.Transcript.{bare, outcome_of, size_at, size_told, zero_told, untold, after_call, after_calls, after_read_told, after_write_told}
 use Rattle.lnbd_asked.proofs.Acting.{does_stands}
 use Rattle.lnbd_asked.proofs.Alive.{Haggles, Transmits, Stands}
 use Rattle.lnbd_asked.proofs.Calls.{calls_follow, others_pass, reads_join}
@@ -35,12 +35,12 @@ use Rattle.lnbd_asked.proofs.Sides.{server_steady}
 use Rattle.lnbd_asked.proofs.Writing.{write_stands}
 
 -- the link, and the bytes that were read and show nothing yet
-abbrev held_of : Both → Held Link
+abbrev pub held_of : Both → Held Link
 held_of both = record { known = both.link; pending = both.read }
 
 -- A call more.
 
-one_call : (link : ℕ) (calls after : List Call) (call : Call) → after ≡ calls ++ call ∷ [] → after_calls link untold after ≡ after_call link (after_calls link untold calls) call
+pub one_call : (link : ℕ) (calls after : List Call) (call : Call) → after ≡ calls ++ call ∷ [] → after_calls link untold after ≡ after_call link (after_calls link untold calls) call
 one_call link calls after call e = ap (after_calls link untold) e ∙ calls_follow link untold calls (call ∷ [])
 
 read_call : (link room : ℕ) (calls after : List Call) (answer : ReadTold) → after ≡ calls ++ Read link room answer ∷ [] → after_calls link untold after ≡ after_read_told answer (after_calls link untold calls)
@@ -53,10 +53,10 @@ write_call link offered calls after answer e =
 
 module _ {K : Type 0} where
   -- The link is as it is once the bytes that haven't arrived were read, and without them it is in step.
-  record At (link : ℕ) (calls : List Call) (history : History K) (left : List ℕ) : Type 0 where
-    before : Both
-    there : after_calls link untold calls ≡ after_read left before
-    stands : Stands history (reading history) (held_of before) before.written
+  pub record At (link : ℕ) (calls : List Call) (history : History K) (left : List ℕ) : Type 0 where
+    pub before : Both
+    pub there : after_calls link untold calls ≡ after_read left before
+    pub stands : Stands history (reading history) (held_of before) before.written
 
   begins : (link : ℕ) → At link [] [] []
   begins link = record {
@@ -75,6 +75,7 @@ module _ {K : Type 0} where
       are = tt;
       greets = refl;
       pend = refl;
+      options = refl;
       stands = inl (record {
         stage = inl refl;
         stage' = refl;
@@ -101,7 +102,7 @@ module _ {K : Type 0} where
   living_started : (history : History K) → is_living (reading history).known.stage ≡ true → (reading history).known.stage ≢ Created
   living_started history l c = false≢true (sym (ap is_living c) ∙ l)
 
-  drives_at : (limit link : ℕ) (calls : List Call) (history : History K) (left : List ℕ) → Drives link calls history left → Lawful limit history → AllSpell history → is_closed history ≡ false → IsPlain history → At link calls history left
+  pub drives_at : (limit link : ℕ) (calls : List Call) (history : History K) (left : List ℕ) → Drives link calls history left → Lawful limit history → AllSpell history → is_closed history ≡ false → IsPlain history → At link calls history left
   drives_at limit link _ _ _ Begins lawful fits live plain = begins link
   drives_at limit link calls _ left (Does _ before _ event d inward) lawful fits live plain =
       let at = drives_at limit link calls before left d lawful.0 fits.1 lawful.1 (plain_before limit before event lawful.2 live plain) in
@@ -183,6 +184,8 @@ module _ {K : Type 0} where
     outcomes = λ c low.
         ap (λ a. outcome_of a (own c link.heard.entries)) (none_asked history link none' c) ∙ sym (ap (λ a. outcome_of a (own c (reading history).known.entries)) (first_none c low));
     size = size;
+    zero = λ c p low.
+        ap (λ a. zero_told a (own c link.heard.entries) p) (none_asked history link none' c) ∙ sym (ap (λ a. zero_told a (own c (reading history).known.entries) p) (first_none c low));
   }
     where
       first_none : (c : ℕ) → nat_le c (written history) ≡ true → request history c ≡ None
@@ -196,7 +199,7 @@ module _ {K : Type 0} where
       asked_none c false low = ap (λ (b : Bool). if b then option_map bare (request history c) else None) low
 
   says : (history : History K) (h : Held Link) (now : List ℕ) → Stands history (reading history) h now → DrivenSays history h.known
-  says history h now (inr o) = says_nothing history h.known o.unwritten o.none' (λ w. o.untold ∙ sym (o.unsized w))
+  says history h now (inr o) = says_nothing history h.known o.unwritten o.none' (λ w. o.untold ∙ sym (o.unsized (omega (arith, w))))
   says history h now (inl a) = go a.stands
     where
       whole_is : written history ≡ count a.front
@@ -209,11 +212,12 @@ module _ {K : Type 0} where
             requests = λ c. so.requests c ∙ ap (λ n. if nat_le c n then option_map bare (request history c) else None) (sym whole_is);
             outcomes = λ c low. so.outcomes c (subst (λ n. nat_le c n ≡ true) whole_is low);
             size = λ w. so.size;
+            zero = λ c p low. so.zero c p (subst (λ n. nat_le c n ≡ true) whole_is low);
           }
 
       still_left : (one : Said) (more : List Said) → a.asks ≡ one ∷ more → (asked history).wrote ≡ total (reading history).known.parts → ⊥
       still_left one more e w = sends_left (extended (steps (reading history).known.turns)) (reading history).known.parts (asked history).wrote a.front (more ++ a.orders) one now
-          (subst (λ xs. Sends (extended (steps (reading history).known.turns)) (reading history).known.parts (asked history).wrote a.front (xs ++ a.orders) now) e (a.sends (extended (steps (reading history).known.turns)) (λ r. refl))) w
+          (subst (λ xs. Sends (extended (steps (reading history).known.turns)) (reading history).known.parts (asked history).wrote a.front (xs ++ a.orders) now) e (a.sends (extended (steps (reading history).known.turns)) (λ r. refl))) (omega (arith, w))
 
       haggling : (g : Haggles history (reading history).known a.v.known a.front a.orders) (asks : List Said) → a.asks ≡ asks → Reaches h asks a.v → DrivenSays history h.known
       haggling g [] e r = says_nothing history h.known (whole_is ∙ g.counted) (ap (λ k. (asked k.known.requests).issued) r ∙ ap (λ rs. (asked rs).issued) g.none')

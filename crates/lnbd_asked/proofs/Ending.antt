@@ -18,11 +18,12 @@ use Rattle.lnbd_asked.specs.Link.{Link}
 use Rattle.lnbd_asked.specs.Parts.{count}
 use Rattle.lnbd_asked.specs.Transcript.{size_at, size_told}
 use Rattle.lnbd_asked.proofs.Alive.{Owed, Haggles, Transmits, Alive, Over, Stands, is_done, IsOpened}
+use Rattle.lnbd_asked.proofs.Asks.{wishes_of, IsTail}
 use Rattle.lnbd_asked.proofs.Chain.{Reaches}
 use Rattle.lnbd_asked.proofs.Doing.{unheard_stands}
 use Rattle.lnbd_asked.proofs.Feeding.{all_none}
 use Rattle.lnbd_asked.proofs.Haggling.{waiting_untold, unsized_by, untold_by}
-use Rattle.lnbd_asked.proofs.Keeping.{reaches_requests}
+use Rattle.lnbd_asked.proofs.Keeping.{reaches_requests, reaches_options}
 use Rattle.lnbd_asked.proofs.Match.{all_still, file_append, both_fly}
 use Rattle.lnbd_asked.proofs.Sending.{Sends, sends_whole, sends_left}
 use Rattle.lnbd_asked.proofs.Sides.{server_steady}
@@ -85,11 +86,14 @@ opened_cases Closed o = absurd o
 
 module _ {K : Type 0} (before : History K) where
   -- the handle is done, and so is its link
-  done_over : (held : Held (Known K)) (h after : Held Link) (written : List ℕ) (why : Cause) (later : Known K) → (a : Alive before held h written) → Dies why h after → is_done later.stage ≡ true → later.parts ≡ held.known.parts →
-      count a.front ≡ 0 → (asked h.known.requests).issued ≡ 0 → size_told h.known ≡ None → ((asked before).wrote ≡ total later.parts → size_at (phase later.turns) (export (steps later.turns)) ≡ None) →
+  done_over : (held : Held (Known K)) (h after : Held Link) (written : List ℕ) (why : Cause) (later : Known K) → (a : Alive before held h written) → Dies why h after → is_done later.stage ≡ true → later.parts ≡ held.known.parts → wishes_of later.turns ≡ wishes_of held.known.turns →
+      count a.front ≡ 0 → (asked h.known.requests).issued ≡ 0 → size_told h.known ≡ None → (total later.parts ≤ (asked before).wrote → size_at (phase later.turns) (export (steps later.turns)) ≡ None) →
       Over before (record { known = later; pending = [] }) after
-  done_over held h after written why later a dies done_ parts counted none untold unsized = go (opened_cases h.known.heard.stage a.opened)
+  done_over held h after written why later a dies done_ parts options counted none untold unsized = go (opened_cases h.known.heard.stage a.opened)
     where
+      tail : IsTail h.known.wishes (wishes_of later.turns)
+      tail = subst (IsTail h.known.wishes) (a.options ∙ sym options) (reaches_options h a.asks a.v a.are a.reach)
+
       unwritten : whole later.parts (asked before).wrote ≡ 0
       unwritten = ap (λ ps. whole ps (asked before).wrote) parts ∙ sends_whole (extended (steps held.known.turns)) held.known.parts (asked before).wrote a.front (a.asks ++ a.orders) written (a.sends (extended (steps held.known.turns)) (λ r. refl)) ∙ counted
 
@@ -100,6 +104,7 @@ module _ {K : Type 0} (before : History K) where
             done_ = done_;
             none' = none;
             untold = ap (λ ts. size_at (phase ts) (export (steps ts))) still.turns ∙ untold;
+            options = tail;
             stuck = inr (why, still.stage);
             settled = server_steady.none (dead_link why h).known;
             unwritten = unwritten;
@@ -109,6 +114,7 @@ module _ {K : Type 0} (before : History K) where
         done_ = done_;
         none' = none;
         untold = untold;
+        options = tail;
         stuck = inr dead;
         settled = a.settled;
         unwritten = unwritten;
@@ -148,6 +154,7 @@ module _ {K : Type 0} (before : History K) where
         are = tt;
         greets = refl;
         pend = refl;
+        options = ap (λ k. k.known.wishes) (subst (λ xs. Reaches h xs a.v) none a.reach) ∙ a.options ∙ ap wishes_of (sym turns);
         stands = inr (record {
           step = step;
           begun = not_created later.stage done_;
@@ -209,7 +216,7 @@ module _ {K : Type 0} (before : History K) where
       Over before (record { known = die before why held.known; pending = [] }) after
   haggles_end held h after written why a g dies =
       let still = all_still before Lost (cookies (asked before).issued) (record held.known { stage = Dead why }) in
-      done_over held h after written why (die before why held.known) a dies (ap is_done still.stage) still.parts g.counted
+      done_over held h after written why (die before why held.known) a dies (ap is_done still.stage) still.parts (ap wishes_of still.turns) g.counted
       (ap (λ rs. (asked rs).issued) (sym (reaches_requests h a.asks a.v a.are a.reach) ∙ g.none')) (untold a.asks a.reach)
       (λ w. ap (λ ts. size_at (phase ts) (export (steps ts))) still.turns ∙ unsized_by before (phase held.known.turns) a.v.known held.known g.meets)
     where
@@ -234,10 +241,10 @@ module _ {K : Type 0} (before : History K) where
           inl (done_alive held h after written why later a e dies reads done_ parts turns mine (step h mine.step))
       go (one ∷ more) e r =
           let quiet = quiet_now one more e t.quiet in
-          inr (done_over held h after written why later a dies done_ parts quiet
+          inr (done_over held h after written why later a dies done_ parts (ap wishes_of turns) quiet
           (ap (λ rs. (asked rs).issued) (sym (reaches_requests h a.asks a.v a.are a.reach)) ∙ t.step.requests.all ∙ quiet) (waiting_untold h.known r.0)
           (λ w. absurd (sends_left (extended (steps held.known.turns)) held.known.parts (asked before).wrote a.front (more ++ a.orders) one written
-          (subst (λ xs. Sends (extended (steps held.known.turns)) held.known.parts (asked before).wrote a.front (xs ++ a.orders) written) e (a.sends (extended (steps held.known.turns)) (λ x. refl))) (w ∙ ap total parts))))
+          (subst (λ xs. Sends (extended (steps held.known.turns)) held.known.parts (asked before).wrote a.front (xs ++ a.orders) written) e (a.sends (extended (steps held.known.turns)) (λ x. refl))) (let m = ap total parts in omega (arith, m, w)))))
 
   -- Both die.
   both_die : (held : Held (Known K)) (h after : Held Link) (written : List ℕ) (why : Cause) → Dies why h after → is_reading held.known.stage ≡ true → Stands before held h written → is_done held.known.stage ≡ false →

@@ -1,5 +1,5 @@
 -- Bytes that arrive, however far a handle and its link have come.
-use Rattle.std.proofs.Common.{◌≡◌, ◌≢◌, ℕ, Bool, true, false, ◌&&◌, List, [], ◌∷◌, ◌++◌, Option, Some, None, is_some, refl, ap, sym, subst, ◌∙◌, ◌==◌, nat_le, arith, ◌⊎◌, inl, inr, if◌then◌else◌}
+use Rattle.std.proofs.Common.{◌≡◌, ◌≢◌, ℕ, ◌≤◌, Bool, true, false, ◌&&◌, List, [], ◌∷◌, ◌++◌, Option, Some, None, is_some, refl, ap, sym, subst, ◌∙◌, ◌==◌, nat_le, arith, ◌⊎◌, inl, inr, if◌then◌else◌}
 use Rattle.std.proofs.lemmas.Bool.{false≢true, leb-false}
 use Rattle.std.proofs.lemmas.Bool.Decides.{nat_tests}
 use Rattle.lnbd_model.specs.declared.state.Cause.{Cause}
@@ -26,6 +26,7 @@ use Rattle.lnbd_asked.specs.InStep.{InStep, is_reading, silent_pieces}
 use Rattle.lnbd_asked.specs.Parts.{count}
 use Rattle.lnbd_asked.specs.Transcript.{size_at, size_told}
 use Rattle.lnbd_asked.proofs.Alive.{AreAsks, greeted_after, is_done, Owed, Haggles, Transmits, Alive, Over, Stands}
+use Rattle.lnbd_asked.proofs.Asks.{wishes_of, IsTail}
 use Rattle.lnbd_asked.proofs.Chain.{waiting_feeds, reaches_feed}
 use Rattle.lnbd_asked.proofs.Haggling.{haggle_byte}
 use Rattle.lnbd_asked.proofs.Keeping.{client_stays, settled_feed, opened_feed}
@@ -185,6 +186,7 @@ module _ {K : Type 0} (history : History K) where
         are = subst (λ b. AreAsks b a.asks) (sym (client_stays h bytes).greeted) a.are;
         greets = ap (λ b. greeted_after b a.asks) (client_stays h bytes).greeted ∙ a.greets ∙ sym (client_stays a.v bytes).greeted;
         pend = f.1;
+        options = (client_stays a.v bytes).wishes ∙ a.options ∙ ap wishes_of (sym f.0.turns_);
         stands = inr (record {
           step = f.0.step;
           begun = feed_lasts (rules history) (λ known. known.stage ≢ Created) started_lasts held bytes t.begun;
@@ -242,10 +244,11 @@ module _ {K : Type 0} (history : History K) where
         done_ = ap (λ k. is_done k.stage) known ∙ o.done_;
         none' = ap (λ l. (asked l.requests).issued) link ∙ o.none';
         untold = ap size_told link ∙ o.untold;
+        options = subst (λ (k : Known K). IsTail (feed server h bytes).known.wishes (wishes_of k.turns)) (sym known) (subst (λ l. IsTail l.wishes (wishes_of held.known.turns)) (sym link) o.options);
         stuck = subst (λ l. (is_waiting l ≡ true) ⊎ ((why : Cause) × (l.heard.stage ≡ Dead why))) (sym link) o.stuck;
         settled = settled_feed h bytes o.settled;
         unwritten = ap (λ k. whole k.parts (asked history).wrote) known ∙ o.unwritten;
-        unsized = subst (λ (k : Known K). (asked history).wrote ≡ total k.parts → size_at (phase k.turns) (export (steps k.turns)) ≡ None) (sym known) o.unsized;
+        unsized = subst (λ (k : Known K). total k.parts ≤ (asked history).wrote → size_at (phase k.turns) (export (steps k.turns)) ≡ None) (sym known) o.unsized;
       }
 
   -- Whatever arrives at a handle that was started.

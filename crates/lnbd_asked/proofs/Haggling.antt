@@ -33,8 +33,9 @@ use Rattle.lnbd_asked.specs.Parts.{count}
 use Rattle.lnbd_asked.specs.Transcript.{bare, size_at, size_told}
 use Rattle.std.specs.Option.{option_map}
 use Rattle.lnbd_asked.proofs.Alive.{AreAsks, greeted_after, is_done, Owed, Meets, Haggles, Transmits, Alive, Over, Stands}
+use Rattle.lnbd_asked.proofs.Asks.{wishes_at, if_over, wishes_of, IsTail}
 use Rattle.lnbd_asked.proofs.Chain.{tell, Reaches, waiting_feeds, reaches_feed, reaches_more}
-use Rattle.lnbd_asked.proofs.Keeping.{client_stays, settled_feed, opened_feed, reaches_requests, are_more_flags, are_more_wish}
+use Rattle.lnbd_asked.proofs.Keeping.{client_stays, settled_feed, opened_feed, reaches_requests, are_more_flags, are_more_wish, tail_then, tail_same, reaches_options}
 use Rattle.lnbd_asked.proofs.Match.{all_still}
 use Rattle.lnbd_asked.proofs.Phases.{Leads, Asks, Names, Readies, Refuses, answer_leads, hello_asks, AreShort, wish_for, wish_fits}
 use Rattle.lnbd_asked.proofs.Sending.{Sends, sends_more, sends_whole, flags_some, wish_some}
@@ -135,10 +136,10 @@ module _ {K : Type 0} (history : History K) where
     whole_now known parts = sends_whole false known.parts (asked history).wrote a.front (a.asks ++ a.orders) written (sends_now known parts false) ∙ g.counted
 
     -- where as much is asked as before
-    keeps : (known : Known K) (v : Held Link) → feed server a.v (byte ∷ []) ≡ v → known.parts ≡ held.known.parts → v.known.greeted ≡ a.v.known.greeted
+    keeps : (known : Known K) (v : Held Link) → feed server a.v (byte ∷ []) ≡ v → known.parts ≡ held.known.parts → wishes_of known.turns ≡ wishes_of held.known.turns → v.known.greeted ≡ a.v.known.greeted
         → Haggles history known v.known a.front a.orders ⊎ Transmits history known v.known a.front a.asks a.orders → Alive history (record { known = known; pending = v.pending }) late written
     unfolding late
-    keeps known v is parts greeted stands = record {
+    keeps known v is parts options greeted stands = record {
       front = a.front;
       asks = a.asks;
       orders = a.orders;
@@ -151,15 +152,17 @@ module _ {K : Type 0} (history : History K) where
       are = subst (λ b. AreAsks b a.asks) (sym (client_stays h (byte ∷ [])).greeted) a.are;
       greets = ap (λ b. greeted_after b a.asks) (client_stays h (byte ∷ [])).greeted ∙ a.greets ∙ sym greeted;
       pend = refl;
+      options = ap (λ k. k.known.wishes) (sym is) ∙ (client_stays a.v (byte ∷ [])).wishes ∙ a.options ∙ sym options;
       stands = stands;
     }
 
     -- where an option more is asked
     asks_more : (known : Known K) (link : Link) (wish : Wish) → feed server a.v (byte ∷ []) ≡ fresh link → is_waiting link ≡ true → known.parts ≡ held.known.parts ++ plain (spell false (Wishes wish)) ∷ [] →
+        wish ∷ link.wishes ≡ wishes_of known.turns →
         a.v.known.greeted ≡ true → (tell (Wishes wish) (fresh link)).known.greeted ≡ true → AllFit (option_head wish.option (length wish.body)) →
         Haggles history known (tell (Wishes wish) (fresh link)).known a.front a.orders → Alive history (record { known = known; pending = [] }) late written
     unfolding late
-    asks_more known link wish is waits parts greeted later fits stands = record {
+    asks_more known link wish is waits parts options greeted later fits stands = record {
       front = a.front;
       asks = a.asks ++ Wishes wish ∷ [];
       orders = a.orders;
@@ -174,6 +177,7 @@ module _ {K : Type 0} (history : History K) where
       are = subst (λ b. AreAsks b (a.asks ++ Wishes wish ∷ [])) (sym (client_stays h (byte ∷ [])).greeted) (are_more_wish h.known.greeted a.asks (Wishes wish) (a.greets ∙ greeted) a.are (fits, tt));
       greets = after_more late.known.greeted a.asks ∙ sym later;
       pend = refl;
+      options = options;
       stands = inl stands;
     }
       where
@@ -185,14 +189,15 @@ module _ {K : Type 0} (history : History K) where
         after_more b (one ∷ more) = refl
 
     -- where the handle dies
-    dies : (known : Known K) (pending : List ℕ) (why : Cause) → known.stage ≡ Dead why → known.parts ≡ held.known.parts → ((asked history).wrote ≡ total known.parts → size_at (phase known.turns) (export (steps known.turns)) ≡ None) →
+    dies : (known : Known K) (pending : List ℕ) (why : Cause) → known.stage ≡ Dead why → known.parts ≡ held.known.parts → wishes_of known.turns ≡ wishes_of held.known.turns → (total known.parts ≤ (asked history).wrote → size_at (phase known.turns) (export (steps known.turns)) ≡ None) →
         size_told (feed server a.v (byte ∷ [])).known ≡ None → (is_waiting (feed server a.v (byte ∷ [])).known ≡ true) ⊎ ((other : Cause) × ((feed server a.v (byte ∷ [])).known.heard.stage ≡ Dead other)) →
         Over history (record { known = known; pending = pending }) late
     unfolding late
-    dies known pending why dead parts unsized untold stuck = record {
+    dies known pending why dead parts options unsized untold stuck = record {
       done_ = ap is_done dead;
       none' = ap (λ rs. (asked rs).issued) ((client_stays h (byte ∷ [])).requests ∙ sym (reaches_requests h a.asks a.v a.are a.reach) ∙ g.none');
       untold = (by_asks a.asks a.reach).0;
+      options = tail_then (subst (λ ws. IsTail late.known.wishes ws) (client_stays h (byte ∷ [])).wishes (tail_same refl)) (subst (IsTail h.known.wishes) (a.options ∙ sym options) (reaches_options h a.asks a.v a.are a.reach));
       stuck = (by_asks a.asks a.reach).1;
       settled = settled_feed h (byte ∷ []) a.settled;
       unwritten = whole_now known parts;
@@ -220,7 +225,7 @@ module _ {K : Type 0} (history : History K) where
 
     nothing_yet : server.shows a.v.known now ≡ None → Stands history (take_byte (rules history) held byte) late written
     nothing_yet e = subst (λ k. Stands history k late written) (sym (handle_now None e))
-        (inl (keeps held.known (record { known = a.v.known; pending = now }) (link_now None e) refl refl (inl g)))
+        (inl (keeps held.known (record { known = a.v.known; pending = now }) (link_now None e) refl refl refl (inl g)))
 
     broken : (breach : Breach) → The (Broken breach)
     unfolding The
@@ -229,7 +234,7 @@ module _ {K : Type 0} (history : History K) where
         let link = link_now (Some (Broken breach)) e in
         let there = all_still a.v.known.requests Lost (cookies (asked a.v.known.requests).issued) (record a.v.known.heard { stage = Dead (cause.Broke breach) }) in
         subst (λ k. Stands history k late written) (sym (handle_now (Some (Broken breach)) e))
-        (inr (dies (die history (cause.Broke breach) held.known) [] (cause.Broke breach) still.stage still.parts
+        (inr (dies (die history (cause.Broke breach) held.known) [] (cause.Broke breach) still.stage still.parts (ap wishes_of still.turns)
         (λ w. ap (λ ts. size_at (phase ts) (export (steps ts))) still.turns ∙ unsized_by (phase held.known.turns) a.v.known held.known g.meets)
         (ap (λ k. size_told k.known) link ∙ ap (λ ts. size_at (phase ts) (export (steps ts))) there.turns ∙ untold_by (phase held.known.turns) a.v.known g.meets)
         (inr (cause.Broke breach, ap (λ k. k.known.heard.stage) link ∙ there.stage))))
@@ -321,7 +326,7 @@ module _ {K : Type 0} (history : History K) where
           let h_is = handle_now (Some (OptionReply told)) e ∙ ap (λ ph. record { known = if_refused ph history known; pending = [] }) hp in
           let l_is = link_now (Some (OptionReply told)) e ∙ ap (λ ph. fresh (record a.v.known { heard = if_refused ph a.v.known.requests (turned (Replied told) a.v.known.heard) })) lp in
           subst (λ k. Stands history k late written) (sym h_is)
-          (inl (keeps known (fresh link) l_is parts refl
+          (inl (keeps known (fresh link) l_is parts (ap (λ x. if_over (is_some x) (wishes_at (phase (Replied told ∷ held.known.turns)) (Replied told ∷ held.known.turns)) ++ wishes_of held.known.turns) none) refl
           (inl (haggles_with known link refl refl refl refl refl refl g.flags g.passed same (subst (λ ph. Meets ph link) (sym hp) (lp, unnamed, greeted)) short))))
 
       -- the last reply
@@ -351,11 +356,16 @@ module _ {K : Type 0} (history : History K) where
               ap (λ x. held.known.parts ++ map plain (if_ended (is_some x) (next_request (Replied told ∷ held.known.turns)))) is
               ∙ ap (λ x. held.known.parts ++ map plain (request_at x (name_now held.known.turns) (contexts_now held.known.turns))) hp
 
+          options_are : (ph : Phase) → phase (Replied told ∷ held.known.turns) ≡ ph → wishes_of (Replied told ∷ held.known.turns) ≡ wishes_at ph (Replied told ∷ held.known.turns) ++ wishes_of held.known.turns
+          options_are ph hp =
+              ap (λ x. if_over (is_some x) (wishes_at (phase (Replied told ∷ held.known.turns)) (Replied told ∷ held.known.turns)) ++ wishes_of held.known.turns) is
+              ∙ ap (λ x. wishes_at x (Replied told ∷ held.known.turns) ++ wishes_of held.known.turns) hp
+
           asks : (which : ℕ) → (which == opt_export_name) ≡ false → which < 256 ^ 4 → phase (Replied told ∷ held.known.turns) ≡ Asked which → phase (Replied told ∷ a.v.known.heard.turns) ≡ OptMode → Stands history (take_byte (rules history) held byte) late written
           asks which other small hp lp =
               let turns_are : turns_with which (Replied told ∷ a.v.known.heard.turns) ≡ Opted which ∷ Replied told ∷ a.v.known.heard.turns = ap (λ (b : Bool). if b then Replied told ∷ a.v.known.heard.turns else Opted which ∷ Replied told ∷ a.v.known.heard.turns) other in
               subst (λ k. Stands history k late written) (sym (h_is (Asked which) hp))
-              (inl (asks_more known link (wish_for which (Replied told ∷ held.known.turns)) (l_is OptMode lp) (waiting_is link lp unnamed) (parts_are (Asked which) hp) greeted greeted (wish_fits which (Replied told ∷ held.known.turns) short small)
+              (inl (asks_more known link (wish_for which (Replied told ∷ held.known.turns)) (l_is OptMode lp) (waiting_is link lp unnamed) (parts_are (Asked which) hp) (ap (λ ws. wish_for which (Replied told ∷ held.known.turns) ∷ ws) a.options ∙ sym (options_are (Asked which) hp)) greeted greeted (wish_fits which (Replied told ∷ held.known.turns) short small)
               (subst (λ T. Haggles history known (record link { wishes = wish_for which (Replied told ∷ held.known.turns) ∷ link.wishes; heard = record link.heard { turns = T } }) a.front a.orders) (sym turns_are)
               (haggles_with known (record link { wishes = wish_for which (Replied told ∷ held.known.turns) ∷ link.wishes; heard = record link.heard { turns = Opted which ∷ Replied told ∷ a.v.known.heard.turns } })
               refl refl refl refl refl refl g.flags g.passed (same_opted which (Replied told ∷ held.known.turns) (Replied told ∷ a.v.known.heard.turns) same)
@@ -365,18 +375,18 @@ module _ {K : Type 0} (history : History K) where
           go _ _ (Asks which other small) hp lp = asks which other small hp lp
           go _ _ Names hp lp =
               subst (λ k. Stands history k late written) (sym (h_is AskedByName hp))
-              (inl (asks_more known link (wish_for opt_export_name (Replied told ∷ held.known.turns)) (l_is OptMode lp) (waiting_is link lp unnamed) (parts_are AskedByName hp) greeted greeted (wish_fits opt_export_name (Replied told ∷ held.known.turns) short (omega arith))
+              (inl (asks_more known link (wish_for opt_export_name (Replied told ∷ held.known.turns)) (l_is OptMode lp) (waiting_is link lp unnamed) (parts_are AskedByName hp) (ap (λ ws. wish_for opt_export_name (Replied told ∷ held.known.turns) ∷ ws) a.options ∙ sym (options_are AskedByName hp)) greeted greeted (wish_fits opt_export_name (Replied told ∷ held.known.turns) short (omega arith))
               (haggles_with known (record link { wishes = wish_for opt_export_name (Replied told ∷ held.known.turns) ∷ link.wishes }) refl refl refl refl refl refl g.flags g.passed same
               (subst (λ ph. Meets ph (record link { wishes = wish_for opt_export_name (Replied told ∷ held.known.turns) ∷ link.wishes })) (sym hp) (lp, refl, greeted)) short)))
           go _ _ Readies hp lp =
               let parts : known.parts ≡ held.known.parts = parts_are Ready hp ∙ append-nil held.known.parts in
               subst (λ k. Stands history k late written) (sym (h_is Ready hp))
-              (inl (keeps known (fresh link) (l_is Ready lp) parts refl (inr (ready_now known link live g.stage' hp lp same parts refl refl refl greeted))))
+              (inl (keeps known (fresh link) (l_is Ready lp) parts (options_are Ready hp) refl (inr (ready_now known link live g.stage' hp lp same parts refl refl refl greeted))))
           go _ _ (Refuses code) hp lp =
               let parts : known.parts ≡ held.known.parts = parts_are (Refused code) hp ∙ append-nil held.known.parts in
               let still = all_still history Lost (cookies (asked history).issued) (record known { stage = Dead (cause.Refused opt_go code) }) in
               subst (λ k. Stands history k late written) (sym (h_is (Refused code) hp))
-              (inr (dies (die history (cause.Refused opt_go code) known) [] (cause.Refused opt_go code) still.stage (still.parts ∙ parts)
+              (inr (dies (die history (cause.Refused opt_go code) known) [] (cause.Refused opt_go code) still.stage (still.parts ∙ parts) (ap wishes_of still.turns ∙ options_are (Refused code) hp)
               (λ w. ap (λ ts. size_at (phase ts) (export (steps ts))) still.turns ∙ ap (λ ph. size_at ph (export (steps (Replied told ∷ held.known.turns)))) hp)
               (ap (λ k. size_told k.known) (l_is OptMode lp) ∙ ap (λ ph. size_at ph (export (steps (Replied told ∷ a.v.known.heard.turns)))) lp)
               (inl (ap (λ k. is_waiting k.known) (l_is OptMode lp) ∙ waiting_is link lp unnamed))))
@@ -396,7 +406,7 @@ module _ {K : Type 0} (history : History K) where
         let link = record a.v.known { heard = turned (ByName size flags) a.v.known.heard } in
         let parts : (turned (ByName size flags) held.known).parts ≡ held.known.parts = append-nil held.known.parts in
         subst (λ k. Stands history k late written) (sym (handle_now (Some (ExportReply size flags)) e))
-        (inl (keeps (turned (ByName size flags) held.known) (fresh (record a.v.known { heard = turned (ByName size flags) a.v.known.heard })) (link_now (Some (ExportReply size flags)) e) parts refl
+        (inl (keeps (turned (ByName size flags) held.known) (fresh (record a.v.known { heard = turned (ByName size flags) a.v.known.heard })) (link_now (Some (ExportReply size flags)) e) parts refl refl
         (inr (ready_now (turned (ByName size flags) held.known) (record a.v.known { heard = turned (ByName size flags) a.v.known.heard }) live g.stage' refl refl
         (same_by_name size flags held.known.turns a.v.known.heard.turns g.same) parts refl refl refl m.2))))
 
@@ -460,6 +470,7 @@ module _ {K : Type 0} (history : History K) where
                 (are_more_flags h.known.greeted a.asks said_flags (a.greets ∙ m.2) ((omega (arith, small_flags), tt), tt)) (wish_fits which (Hello ∷ held.known.turns) hello_short small, tt));
             greets = hello_after (feed server h (byte ∷ [])).known.greeted (a.asks ++ Flags said_flags ∷ []) (Wishes (wish_for which (Hello ∷ held.known.turns)));
             pend = refl;
+            options = ap (λ ws. wish_for which (Hello ∷ held.known.turns) ∷ ws) a.options ∙ sym (ap (λ x. wishes_at x (Hello ∷ held.known.turns) ++ wishes_of held.known.turns) hp);
             stands = inl (subst (λ T. Haggles history hello_known (record greeting { wishes = wish_for which (Hello ∷ held.known.turns) ∷ greeting.wishes; heard = record greeting.heard { turns = T } }) a.front a.orders) (sym turns_are)
                 (haggles_with hello_known (record greeting { wishes = wish_for which (Hello ∷ held.known.turns) ∷ greeting.wishes; heard = record greeting.heard { turns = Opted which ∷ Hello ∷ a.v.known.heard.turns } })
                 refl refl refl refl refl refl refl g.passed (same_opted which (Hello ∷ held.known.turns) (Hello ∷ a.v.known.heard.turns) (same_hello held.known.turns a.v.known.heard.turns g.same))

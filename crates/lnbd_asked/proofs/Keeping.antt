@@ -1,10 +1,10 @@
 -- What stays of a link while the server speaks, and while the client says options.
-use Rattle.std.proofs.Common.{◌≡◌, ℕ, Bool, true, false, List, [], ◌∷◌, ◌++◌, Option, Some, None, ◌==◌, if◌then◌else◌, refl, ap, sym, subst, ◌∙◌}
+use Rattle.std.proofs.Common.{◌≡◌, ℕ, Bool, true, false, List, [], ◌∷◌, ◌++◌, Option, Some, None, ◌==◌, if◌then◌else◌, refl, ap, sym, subst, ◌∙◌, append_assoc}
 use Rattle.std.proofs.lemmas.Bool.{false≢true}
 use Rattle.lnbd_stream.specs.Stream.{Held, fresh, feed}
 use Rattle.lnbd_stream.specs.Laws.{Lasts}
 use Rattle.lnbd_stream.proofs.Stream.{feed_lasts, feed_partial, feed_none}
-use Rattle.lnbd_asked.specs.Client.{Said, Flags, Wishes, Orders, Stray}
+use Rattle.lnbd_asked.specs.Client.{Said, Flags, Wishes, Orders, Stray, Wish}
 use Rattle.lnbd_model.specs.declared.kind.Kind.{Kind}
 use Rattle.lnbd_model.specs.declared.state.Cause.TheVariants as cause
 use Rattle.lnbd_records.specs.Options.{opt_go}
@@ -19,6 +19,7 @@ use Rattle.lnbd_history.specs.History.{Known, asked, request, turned, if_refused
 use Rattle.lnbd_asked.proofs.Match.{file_still, all_still}
 use Rattle.lnbd_asked.specs.Link.{Nobody, Link, server, said, kind_of, next, issued, ordered}
 use Rattle.lnbd_asked.proofs.Alive.{AreAsks, greeted_after, IsOpened}
+use Rattle.lnbd_asked.proofs.Asks.{IsTail}
 use Rattle.lnbd_asked.proofs.Chain.{tell, Reaches}
 use Rattle.lnbd_asked.proofs.Sides.{server_steady}
 
@@ -154,3 +155,31 @@ are_more_wish true (Orders order ∷ more) one e all are = absurd all
 are_more_wish false (Orders order ∷ more) one e all are = absurd all
 are_more_wish true (Stray ∷ more) one e all are = absurd all
 are_more_wish false (Stray ∷ more) one e all are = absurd all
+
+-- Options that were asked stay, and are those of the link before the ones that are still to be said.
+
+pub tail_then : {some more all : List Wish} → IsTail some more → IsTail more all → IsTail some all
+tail_then {some} {more} {all} one two = record { later = two.later ++ one.later; is = two.is ∙ ap (λ ws. two.later ++ ws) one.is ∙ sym (append_assoc two.later one.later some) }
+
+pub tail_same : {some all : List Wish} → all ≡ some → IsTail some all
+tail_same e = record { later = []; is = e }
+
+told_options : (one : Said) (h : Held Link) → AreAsks h.known.greeted (one ∷ []) → IsTail h.known.wishes (tell one h).known.wishes
+told_options (Flags flags) h are = tail_same (client_stays (fresh (said (Flags flags) h.known)) h.pending).wishes
+told_options (Wishes wish) h are = record { later = wish ∷ []; is = (client_stays (fresh (said (Wishes wish) h.known)) h.pending).wishes }
+told_options (Orders order) h are = absurd (none h.known.greeted are)
+  where
+    none : (b : Bool) → AreAsks b (Orders order ∷ []) → ⊥
+    none true a = a
+    none false a = a
+told_options Stray h are = absurd (none h.known.greeted are)
+  where
+    none : (b : Bool) → AreAsks b (Stray ∷ []) → ⊥
+    none true a = a
+    none false a = a
+
+pub reaches_options : (h : Held Link) (all : List Said) (v : Held Link) → AreAsks h.known.greeted all → Reaches h all v → IsTail h.known.wishes v.known.wishes
+reaches_options h [] v are r = tail_same (sym (ap (λ k. k.known.wishes) r))
+reaches_options h (one ∷ more) v are r =
+    let first = are_first h.known.greeted one more are in
+    tail_then (told_options one h first.0) (reaches_options (tell one h) more v (subst (λ b. AreAsks b more) (sym (told_requests one h first.0).1) first.1) r.1)

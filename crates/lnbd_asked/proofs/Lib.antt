@@ -13,6 +13,7 @@ pub mod Counting
 pub mod Chain
 pub mod Turns
 pub mod Phases
+pub mod Asks
 pub mod Sending
 pub mod Alive
 pub mod ShownBy
@@ -27,3 +28,6 @@ pub mod Acting
 pub mod Ending
 pub mod Plain
 pub mod Driving
+pub mod Staying
+pub mod Wished
+pub mod Naming

@@ -70,13 +70,13 @@ created_stage (Dead why) p e = absurd (no e)
 dead_started : (why : Cause) → Dead why ≢ Created
 dead_started why e = cc
 
-disconnecting_started : Disconnecting ≢ Created
+pub disconnecting_started : Disconnecting ≢ Created
 disconnecting_started e = cc
 
-aborting_started : Aborting ≢ Created
+pub aborting_started : Aborting ≢ Created
 aborting_started e = cc
 
-closed_started : Closed ≢ Created
+pub closed_started : Closed ≢ Created
 closed_started e = cc
 
 module _ {K : Type 0} where
@@ -102,9 +102,9 @@ module _ {K : Type 0} where
   mode_lasts before mode known bytes Ignored m e = m
 
   -- what an end leaves: the same mode, and a handle that was started stays so
-  record Leaves (known later : Known K) : Type 0 where
-    mode : opt_mode later.turns ≡ opt_mode known.turns
-    started : known.stage ≢ Created → later.stage ≢ Created
+  pub record Leaves (known later : Known K) : Type 0 where
+    pub mode : opt_mode later.turns ≡ opt_mode known.turns
+    pub started : known.stage ≢ Created → later.stage ≢ Created
 
   dies_so : (before : History K) (why : Cause) (known : Known K) → Leaves known (die before why known)
   dies_so before why known =
@@ -115,7 +115,7 @@ module _ {K : Type 0} where
   closing_so before zero known = record { mode = refl; started = λ n c. closed_started c }
   closing_so before (suc n) known = dies_so before cause.Ended known
 
-  ended_so : (before : History K) (stage : Stage) (held : Held (Known K)) → Leaves held.known (ended_at stage before held).known
+  pub ended_so : (before : History K) (stage : Stage) (held : Held (Known K)) → Leaves held.known (ended_at stage before held).known
   ended_so before Created held = record { mode = refl; started = λ n. n }
   ended_so before Open held = dies_so before cause.Ended held.known
   ended_so before Disconnecting held = closing_so before (flying before held.known.entries (asked before).issued) held.known
@@ -123,7 +123,7 @@ module _ {K : Type 0} where
   ended_so before Closed held = record { mode = refl; started = λ n. n }
   ended_so before (Dead why) held = record { mode = refl; started = λ n. n }
 
-  failed_so : (before : History K) (stage : Stage) (held : Held (Known K)) → Leaves held.known (failed_at stage before held).known
+  pub failed_so : (before : History K) (stage : Stage) (held : Held (Known K)) → Leaves held.known (failed_at stage before held).known
   failed_so before Created held = record { mode = refl; started = λ n. n }
   failed_so before Open held = dies_so before cause.LinkFailed held.known
   failed_so before Disconnecting held = dies_so before cause.LinkFailed held.known

@@ -263,7 +263,7 @@ total_bytes [] = refl
 total_bytes (part ∷ parts) = ap (λ n. length part.bytes + n) (total_bytes parts) ∙ sym (length-append part.bytes (bytes_of parts))
 
 -- Where something is still to be said not all is written.
-pub sends_left : (extended : Bool) (parts : List Part) (wrote : ℕ) (front more : List Said) (one : Said) (written : List ℕ) → Sends extended parts wrote front (one ∷ more) written → wrote ≡ total parts → ⊥
+pub sends_left : (extended : Bool) (parts : List Part) (wrote : ℕ) (front more : List Said) (one : Said) (written : List ℕ) → Sends extended parts wrote front (one ∷ more) written → total parts ≤ wrote → ⊥
 sends_left extended parts wrote front more one written s e =
     let all = ap total s.parts_ ∙ total_bytes (flat_map (parts_of extended) (front ++ one ∷ more)) ∙ ap length (spelled_all extended (front ++ one ∷ more) ∙ flat_append (spell extended) front (one ∷ more)) in
     let size = length-append (flat_map (spell extended) front) (flat_map (spell extended) (one ∷ more)) in

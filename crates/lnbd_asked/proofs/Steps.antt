@@ -72,7 +72,7 @@ IsFrame Passed = ⊥
 IsFrame Ignored = Unit {0}
 
 -- what is shown, if a thing is, is one of these
-abbrev AreFrames : Option Shown → Type 0
+abbrev pub AreFrames : Option Shown → Type 0
 AreFrames None = Unit {0}
 AreFrames (Some found) = IsFrame found
 
@@ -115,7 +115,7 @@ chunk_frames extended None cookie head payload = tt
 chunk_frames extended (Some command) cookie head payload =
     frames_wants _ _ _ (frames_wants _ _ _ (frames_wants _ _ _ (payload_frames (λ content. reply cookie content (is_done head)) (form_of extended head.type) command head.length payload (λ content. tt))))
 
-frame_shown : (structured extended : Bool) (w : ℕ → Option Waiting) (bytes : List ℕ) → AreFrames (shows_frame structured extended w bytes)
+pub frame_shown : (structured extended : Bool) (w : ℕ → Option Waiting) (bytes : List ℕ) → AreFrames (shows_frame structured extended w bytes)
 unfolding shows_frame shows_reply shows_compact shows_extended
 frame_shown structured extended w bytes = frames_once _ bytes _ (frames_if extended _ _
     (frames_wants _ _ _ (frames_wants _ _ _ (frames_once _ bytes _ (chunk_frames true (w (number_at 8 8 bytes)) (number_at 8 8 bytes) (extended_head_in bytes) (drop 32 bytes)))))

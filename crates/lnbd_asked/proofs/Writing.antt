@@ -25,6 +25,7 @@ use Rattle.lnbd_asked.specs.Transcript.{bare}
 use Rattle.lnbd_asked.proofs.Fading.{frame_fades, request_grows}
 use Rattle.lnbd_asked.proofs.Steps.{shows_ready}
 use Rattle.lnbd_asked.proofs.Alive.{AreAsks, greeted_after, is_done, IsNextOf, Owed, IsRight, Haggles, Transmits, Alive, Over, Stands}
+use Rattle.lnbd_asked.proofs.Asks.{wishes_of}
 use Rattle.lnbd_asked.proofs.Chain.{Reaches}
 use Rattle.lnbd_asked.proofs.Keeping.{again_same, settled_tell, opened_tell, told_requests, are_first}
 use Rattle.lnbd_asked.proofs.Sending.{Sends, sends_whole, sends_said, sends_part, none_offered, is_written, flags_some, wish_some, order_some}
@@ -229,6 +230,7 @@ module _ {K : Type 0} where
           are = a.are;
           greets = a.greets;
           pend = a.pend;
+          options = a.options;
           stands = go a.stands;
         })))
       where
@@ -261,6 +263,7 @@ module _ {K : Type 0} where
           are = subst (λ b. AreAsks b more) (sym told.1) first.1;
           greets = ap (λ b. greeted_after b more) told.1 ∙ greeted_true more ∙ greets;
           pend = a.pend;
+          options = a.options;
           stands = go counted stands;
         }))
       where
@@ -333,11 +336,11 @@ module _ {K : Type 0} where
         go true e = frame_fades (structured (steps link.heard.turns)) (extended (steps link.heard.turns)) (waited link) (waited (record link { requests = Issue command ∷ link.requests })) pending (request_grows link command) e
         go false e = e
 
-    order_said : (a : Alive history held h written) (order : Order) (more : List Said) → Transmits history held.known h.known a.front [] (Orders order ∷ more) → held.pending ≡ h.pending → is_reading held.known.stage ≡ true →
+    order_said : (a : Alive history held h written) (order : Order) (more : List Said) → Transmits history held.known h.known a.front [] (Orders order ∷ more) → held.pending ≡ h.pending → h.known.wishes ≡ wishes_of held.known.turns → is_reading held.known.stage ≡ true →
         spell (extended (steps held.known.turns)) (Orders order) ≡ written ++ bytes → length written < length (spell (extended (steps held.known.turns)) (Orders order)) →
         Sending (a.front ++ Orders order ∷ []) more (length bytes) [] → After
     unfolding Sending
-    order_said a order more t pend reads whole_ less s = by_kind (kind_of order.type) refl t.owed.1 t.owed.2
+    order_said a order more t pend options reads whole_ less s = by_kind (kind_of order.type) refl t.owed.1 t.owed.2
       where
         e : Bool
         e = extended (steps held.known.turns)
@@ -376,6 +379,7 @@ module _ {K : Type 0} where
               are = tt;
               greets = refl;
               pend = pend;
+              options = options;
               stands = inr (transmits_wrote history (length bytes) held.known h.known a.front (a.front ++ Orders order ∷ []) [] [] more (whole_then (a.front ++ Orders order ∷ []) more (length bytes) [] s) same (inl refl)
                   (record { step = t.step; begun = t.begun; greeted = t.greeted; owed = subst (λ n. Owed (extended (steps held.known.turns)) history n more) (ap (λ q. count a.front + one_if (is_some q)) k ∙ plus_zero (count a.front)) rest; quiet = inl refl; unfiled = t.unfiled; unfiled' = t.unfiled' }));
             })))
@@ -404,6 +408,7 @@ module _ {K : Type 0} where
               are = tt;
               greets = refl;
               pend = pend;
+              options = options;
               stands = inr (record {
                 step = subst (λ m. InStep (Wrote (length bytes) ∷ history) m held.known (issued kind order h.known)) (sym same) step;
                 begun = t.begun;
@@ -441,10 +446,11 @@ module _ {K : Type 0} where
               done_ = o.done_;
               none' = o.none';
               untold = o.untold;
+              options = o.options;
               stuck = o.stuck;
               settled = o.settled;
               unwritten = ap (whole held.known.parts) zero_ ∙ o.unwritten;
-              unsized = λ w. o.unsized (sym zero_ ∙ w);
+              unsized = λ w. o.unsized (let n = zero_ in omega (arith, n, w));
             })))
     write_stands e (inl a) = go a.asks a.orders refl refl
       where
@@ -522,6 +528,9 @@ module _ {K : Type 0} where
                     pend : held.pending ≡ h.pending
                     pend = a.pend ∙ ap (λ k. k.pending) (sym (subst (λ said_first. Reaches h said_first a.v) ea a.reach))
 
+                    options : h.known.wishes ≡ wishes_of held.known.turns
+                    options = ap (λ k. k.known.wishes) (subst (λ said_first. Reaches h said_first a.v) ea a.reach) ∙ a.options
+
                     cookie_of : (kind : Option Kind) → IsNextOf (extended (steps held.known.turns)) history (count a.front) order kind → is_some kind ≡ true → order.cookie ≡ next h.known
                     cookie_of None is some = absurd (false≢true some)
                     cookie_of (Some kind) is some = is.0 ∙ ap (λ n. n + 1) (sym t.step.requests.all)
@@ -544,7 +553,7 @@ module _ {K : Type 0} where
                     by_after : (after : List ℕ) → spell (extended (steps held.known.turns)) (Orders order) ≡ (written ++ bytes) ++ after → length written < length (spell (extended (steps held.known.turns)) (Orders order)) → After
                     by_after [] spelled less =
                         let whole_ : spell (extended (steps held.known.turns)) (Orders order) ≡ written ++ bytes = spelled ∙ append-nil (written ++ bytes) in
-                        order_said a order more t pend (reads (λ none. let n = ap length (whole_ ∙ ap (λ bs. written ++ bs) none ∙ append-nil written) in absurd (omega (arith, n, less)))) whole_ less
+                        order_said a order more t pend options (reads (λ none. let n = ap length (whole_ ∙ ap (λ bs. written ++ bs) none ∙ append-nil written) in absurd (omega (arith, n, less)))) whole_ less
                         (λ x r. subst (λ y. Sends y held.known.parts ((asked history).wrote + length bytes) (a.front ++ Orders order ∷ []) more []) (sym (same_mode x r))
                         (sends_said (extended (steps held.known.turns)) held.known.parts (asked history).wrote a.front more (Orders order) written bytes
                         (λ other. orders_some (extended (steps held.known.turns)) (extended (steps held.known.turns)) history (count a.front + requests_in (Orders order)) more t.owed.2)

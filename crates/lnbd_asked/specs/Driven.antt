@@ -17,7 +17,7 @@ use Rattle.lnbd_history.specs.Laws.{Lawful, is_closed}
 use Rattle.lnbd_history.specs.Outgoing.{whole, total}
 use Rattle.lnbd_asked.specs.Client.{length_size}
 use Rattle.lnbd_asked.specs.Link.{Link}
-use Rattle.lnbd_asked.specs.Transcript.{on_link, bare, asked_on, answered, outcome_of, size_at, size_told}
+use Rattle.lnbd_asked.specs.Transcript.{on_link, bare, asked_on, answered, outcome_of, size_at, size_told, told_zero, zero_told}
 use Rattle.lnbd_asked.specs.Laws.{is_on}
 
 module _ {K : Type 0} where
@@ -66,15 +66,21 @@ module _ {K : Type 0} where
   abbrev pub outcome_after : History K → ℕ → Outcome
   outcome_after history cookie = outcome_of (request history cookie) (own cookie (reading history).known.entries)
 
+  -- whether a position was told as zero in what came for a command
+  abbrev pub zero_after : History K → (cookie p : ℕ) → Bool
+  zero_after history cookie p = zero_told (request history cookie) (own cookie (reading history).known.entries) p
+
   -- how many commands were wholly written
   abbrev pub written : History K → ℕ
   written history = whole (reading history).known.parts (asked history).wrote
 
-  -- A link says what the history says that drives it: the requests wholly written, what each of them comes to, and the size that was told, once nothing waits.
+  -- A link says what the history says that drives it: the requests wholly written, what each of them comes to, which positions it
+  -- told as zero, and the size that was told, once nothing waits.
   pub record DrivenSays (history : History K) (link : Link) : Type 0 where
     pub requests : (cookie : ℕ) → asked_on link cookie ≡ (if nat_le cookie (written history) then option_map bare (request history cookie) else None)
     pub outcomes : (cookie : ℕ) → nat_le cookie (written history) ≡ true → answered link cookie ≡ outcome_after history cookie
     pub size : (asked history).wrote ≡ total (reading history).known.parts → size_told link ≡ size_at (phase (reading history).known.turns) (export (steps (reading history).known.turns))
+    pub zero : (cookie p : ℕ) → nat_le cookie (written history) ≡ true → told_zero link cookie p ≡ zero_after history cookie p
 
   -- The numbers of a command fit the request that it makes under this cookie: its length has 32 bits, with extended headers 64; PAYLOAD_LEN is the handle's own
   -- flag; only a write has data, and a flush has no range.

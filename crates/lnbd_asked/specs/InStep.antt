@@ -12,7 +12,7 @@ use Rattle.lnbd_history.specs.Events.{History}
 use Rattle.lnbd_history.specs.History.{Known, asked, request, rules}
 use Rattle.lnbd_history.specs.Outgoing.{whole}
 use Rattle.lnbd_asked.specs.Link.{Nobody, Link, server}
-use Rattle.lnbd_asked.specs.Transcript.{bare, silent, asked_on, answered, outcome_of, size_at, size_told}
+use Rattle.lnbd_asked.specs.Transcript.{bare, silent, asked_on, answered, outcome_of, size_at, size_told, told_zero, zero_told}
 
 -- replies are read
 abbrev pub is_reading : Stage → Bool
@@ -57,11 +57,12 @@ module _ {K : Type 0} where
     pub requests : SameRequests history link.requests n
     pub filed : (cookie : ℕ) → nat_le cookie n ≡ true → silent_pieces (own cookie known.entries) ≡ silent_pieces (own cookie link.heard.entries)
 
-  -- The link then says what the handle's history says: the requests wholly written, what each came to, and the size.
+  -- The link then says what the handle's history says: the requests wholly written, what each came to, which positions each told as zero, and the size.
   pub record SaysSo (history : History K) (n : ℕ) (known : Known K) (link : Link) : Type 0 where
     pub requests : (cookie : ℕ) → asked_on link cookie ≡ (if nat_le cookie n then option_map bare (request history cookie) else None)
     pub outcomes : (cookie : ℕ) → nat_le cookie n ≡ true → answered link cookie ≡ outcome_of (request history cookie) (own cookie known.entries)
     pub size : size_told link ≡ size_at (phase known.turns) (export (steps known.turns))
+    pub zero : (cookie p : ℕ) → nat_le cookie n ≡ true → told_zero link cookie p ≡ zero_told (request history cookie) (own cookie known.entries) p
 
 abbrev pub InStepSaysSo : Type 0 → Type 0
 InStepSaysSo K = (history : History K) (n : ℕ) (known : Known K) (link : Link) → InStep history n known link → SaysSo history n known link

@@ -6,3 +6,4 @@ pub mod Laws
 pub mod InStep
 pub mod Parts
 pub mod Driven
+pub mod Exports

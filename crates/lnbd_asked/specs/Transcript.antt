@@ -21,7 +21,7 @@ use Rattle.lnbd_history.specs.declared.kinds.Phase.{Phase}
 use Rattle.lnbd_history.specs.declared.kinds.Phase.TheVariants as phase
 use Rattle.lnbd_history.specs.Agreement.{Export, phase, steps, export}
 use Rattle.lnbd_history.specs.Commands.{Command, Request}
-use Rattle.lnbd_history.specs.Entries.{Filing, own, outcome_in}
+use Rattle.lnbd_history.specs.Entries.{Piece, Filing, own, pieces, outcome_in}
 use Rattle.lnbd_history.specs.History.{request}
 use Rattle.lnbd_asked.specs.Client.{Wish}
 use Rattle.lnbd_asked.specs.Link.{Nobody, Link, Both, nothing, after_write, after_read, after_end, after_fault}
@@ -151,13 +151,14 @@ is_zero (Some flags) = has_bit state_zero flags
 abbrev pub zero_in : ℕ → List Extent → ℕ → Bool
 zero_in start extents p = nat_le start p && is_zero (flags_at extents (p - start))
 
-abbrev pub zero_by : ℕ → List (Filing Nobody) → ℕ → Bool
+abbrev pub zero_by : ℕ → List Piece → ℕ → Bool
 zero_by start [] p = false
-zero_by start (filing ∷ earlier) p = zero_in start (extents_in filing.contexts (content_of filing.item)) p || zero_by start earlier p
+zero_by start (piece ∷ earlier) p = zero_in start (extents_in piece.contexts (content_of piece.item)) p || zero_by start earlier p
 
-abbrev pub zero_told : Option (Request Nobody) → List (Filing Nobody) → ℕ → Bool
+-- by what came for a request alone
+abbrev pub zero_told : {K : Type 0} → Option (Request K) → List (Filing K) → ℕ → Bool
 zero_told None own p = false
-zero_told (Some asks) own p = zero_by asks.offset own p
+zero_told (Some asks) own p = zero_by asks.offset (pieces own) p
 
 -- an extent of base:allocation in this request's answer told the position as zero
 abbrev pub told_zero : Link → ℕ → ℕ → Bool

@@ -5,6 +5,7 @@ ghost use Rattle.lnbd_asked.specs.Laws.{CallsFollow, OthersPass, ReadsJoin, Side
 ghost use Rattle.lnbd_asked.specs.Parts.{WholeAreRequests, ReadAreCounted};
 ghost use Rattle.lnbd_asked.specs.InStep.{StaysInStep, InStepSaysSo};
 ghost use Rattle.lnbd_asked.specs.Driven.{DrivenSaySo};
+ghost use Rattle.lnbd_asked.specs.Exports.{DrivenAreOf, ToldStays, NamesStay};
 
 /// One call is read after another.
 pub fn calls_follow()
@@ -55,6 +56,18 @@ pub fn in_step_says_so<K>()
 /// the server sends and however early.
 pub fn driven_say_so<K>()
     ensures { DrivenSaySo K }
+{}
+
+/// A link is of the export of the name that was set on the handle that drives it, and tells the size that
+/// the handle was told.
+pub fn driven_are_of<K>()
+    ensures { DrivenAreOf K }
+{}
+
+/// What was set and told stays: the size once requests may be made, and the name until another is set.
+pub fn told_stays<K>()
+    ensures size { ToldStays K }
+    ensures name { NamesStay K }
 {}
 
 /// The commands that a handle has wholly written are the requests among the things wholly written.

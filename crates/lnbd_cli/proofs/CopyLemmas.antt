@@ -6,9 +6,14 @@ use Rattle.lnbd_args.specs.declared.asked.Asked.{Asked}
 use Rattle.lnbd_args.specs.declared.asked.Asked.TheVariants as asked
 use Rattle.lnbd_args.specs.Tools.{Asks}
 use Rattle.lnbd_args.specs.Words.{Word}
+use Rattle.lnbd_model.specs.declared.target.Place.{Place}
+use Rattle.lnbd_link.specs.Call.{Call}
 use Rattle.lnbd_link.specs.Count.{Rises}
+use Rattle.lnbd_plan.specs.declared.options.CopyOptions.{CopyOptions}
 use Rattle.lnbd_plan.specs.declared.fault.CopyFault.{CopyFault}
 use Rattle.lnbd_plan.specs.declared.fault.CopyFault.TheVariants as copying
+use Rattle.lnbd_course.specs.Copied.{Copies}
+use Rattle.lnbd_copy.specs.Copier as copier
 use Rattle.lnbd_cli.specs.declared.copying.Uncopied.{Uncopied}
 use Rattle.lnbd_cli.specs.declared.copying.Uncopied.TheVariants as why
 use Rattle.lnbd_cli.specs.Informs.{IsInfo, spelled}
@@ -115,3 +120,11 @@ copy_known status end P Q (inr told) = ap is_copy_status told.0
 pub copy_done : (status : ℕ) (end : End) (P Q : Type 0) → status_of_copy end ≢ 1 → (status_of_copy end ≡ 5 → ⊥) → (status_of_copy end ≡ 7 → ⊥) → ((status ≡ status_of_copy end) × P) ⊎ ((status ≡ 9) × Q) → IsCopyDone status
 copy_done status end P Q usage link silent (inl told) = subst IsCopyDone (sym told.0) ((known_end end).done usage link silent)
 copy_done status end P Q usage link silent (inr told) = inr (inr (inr (inr told.0)))
+
+-- What a copy from one place to another did.
+pub copied_by : (seen : copier.Seen) (from to : Place) (options : CopyOptions) (a b : Option (List Call)) → (seen.options ≡ options) × (seen.from ≡ from) × (seen.to ≡ to) →
+    (seen.from ≢ seen.to → Copies seen.from seen.to seen.options.destination_is_zero a b) → from ≢ to → Copies from to options.destination_is_zero a b
+copied_by seen from to options a b what run two =
+    subst (λ (o : CopyOptions). Copies from to o.destination_is_zero a b) what.0
+    (subst (λ (p : Place). Copies from p seen.options.destination_is_zero a b) what.2
+    (subst (λ (p : Place). Copies p seen.to seen.options.destination_is_zero a b) what.1 (run (λ e. two (sym what.1 ∙ e ∙ what.2)))))

@@ -1,7 +1,8 @@
 -- What a run of nbdcopy is: what the words ask to be copied, and how the run ended.
-use Rattle.std.specs.Prelude.{◌≡◌, ◌⊎◌, ◌==◌, ◌||◌, ◌∷◌, ◌++◌, ℕ, Bool, true, false, List, [], Option, Some, None, Result, Ok, Err, String, codes, decimal, string_bytes}
+use Rattle.std.specs.Prelude.{◌≡◌, ◌≢◌, ◌⊎◌, ◌==◌, ◌||◌, ◌∷◌, ◌++◌, ℕ, Bool, true, false, List, [], Option, Some, None, Result, Ok, Err, String, codes, decimal, string_bytes}
 use Rattle.std.specs.declared.alloc.Global.{Global}
 use Rattle.lnbd_uri.specs.Fault.{name_of}
+use Rattle.lnbd_link.specs.Call.{Call}
 use Rattle.lnbd_plan.specs.declared.fault.Rule.{Rule}
 use Rattle.lnbd_plan.specs.declared.fault.Rule.TheVariants as rule
 use Rattle.lnbd_plan.specs.declared.fault.CopyFault.{CopyFault}
@@ -9,6 +10,7 @@ use Rattle.lnbd_plan.specs.declared.fault.CopyFault.TheVariants as copying
 use Rattle.lnbd_args.specs.declared.asked.Asked.{Asked}
 use Rattle.lnbd_args.specs.declared.asked.Asked.TheVariants as asked
 use Rattle.lnbd_args.specs.Tools.{Asks, IsMisplaced, Reads, Wanted}
+use Rattle.lnbd_course.specs.Copied.{Copies}
 use Rattle.lnbd_cli.specs.declared.copying.Transfer.{Transfer}
 use Rattle.lnbd_cli.specs.declared.copying.Uncopied.{Uncopied}
 use Rattle.lnbd_cli.specs.declared.copying.Uncopied.TheVariants as why
@@ -85,18 +87,23 @@ pub record IsTransfer (words : List (String Global)) : Type 0 where
   pub asks : Asks (spelled words) wish
   pub is : transfer_of wish ≡ Some transfer
 
--- What the end of a run tells of the words; the last says that nothing was called.
-abbrev pub CopyEnds : Result (Unit {0}) Uncopied → List (String Global) → (Uncalled : Type 0) → Type 0
-CopyEnds (Err why.Usage) words Uncalled = ((wanted : Wanted) → ¬ Reads (spelled words) wanted) × Uncalled
-CopyEnds (Err (why.Uri fault)) words Uncalled = IsMisplaced (spelled words) fault × Uncalled
-CopyEnds (Err why.NoMemory) words Uncalled = Uncalled
-CopyEnds (Err (why.Copied fault)) words Uncalled = IsTransfer words
-CopyEnds (Ok done) words Uncalled = IsTransfer words
+-- What the words ask to be copied, from one place to another, was copied by the calls that this transcript grew by.
+pub record HasCopied (words : List (String Global)) (told told' : Option (List Call)) : Type 0 where
+  pub asked : IsTransfer words
+  pub copied : asked.transfer.from ≢ asked.transfer.to → Copies asked.transfer.from asked.transfer.to asked.transfer.options.destination_is_zero told told'
+
+-- What the end of a run tells of the words and of the calls; the last says that nothing was called.
+abbrev pub CopyEnds : Result (Unit {0}) Uncopied → List (String Global) → (told told' : Option (List Call)) → (Uncalled : Type 0) → Type 0
+CopyEnds (Err why.Usage) words told told' Uncalled = ((wanted : Wanted) → ¬ Reads (spelled words) wanted) × Uncalled
+CopyEnds (Err (why.Uri fault)) words told told' Uncalled = IsMisplaced (spelled words) fault × Uncalled
+CopyEnds (Err why.NoMemory) words told told' Uncalled = Uncalled
+CopyEnds (Err (why.Copied fault)) words told told' Uncalled = IsTransfer words
+CopyEnds (Ok done) words told told' Uncalled = HasCopied words told told'
 
 -- A run of nbdcopy ended so, and its line was printed, unless that found no memory.
-pub record CopyRan (words : List (String Global)) (Uncalled : Type 0) (Printed : List ℕ → Type 0) (status : ℕ) : Type 0 where
+pub record CopyRan (words : List (String Global)) (told told' : Option (List Call)) (Uncalled : Type 0) (Printed : List ℕ → Type 0) (status : ℕ) : Type 0 where
   pub end : Result (Unit {0}) Uncopied
-  pub ends : CopyEnds end words Uncalled
+  pub ends : CopyEnds end words told told' Uncalled
   pub tells : ((status ≡ status_of_copy end) × Printed (copy_line end)) ⊎ ((status ≡ 9) × Printed (copy_line (Err why.NoMemory)))
 
 -- the statuses of nbdcopy, and those of a run in which no count rose

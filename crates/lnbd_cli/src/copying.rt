@@ -3,6 +3,7 @@
 ghost use Rattle.std.specs.Prelude.{◌≡◌, ◌≢◌, ◌⊎◌, ◌++◌, ℕ, OnOk, Ok, Err, true, false, string_bytes};
 ghost use Rattle.lnbd_link.specs.Count.{Rises};
 ghost use Rattle.lnbd_script.specs.Seen.{patience};
+ghost use Rattle.lnbd_course.specs.Copied.{Copies};
 ghost use Rattle.lnbd_cli.specs.Runs.{Prints};
 ghost use Rattle.lnbd_cli.specs.declared.copying.Uncopied.TheVariants as why;
 ghost use Rattle.lnbd_cli.specs.Copies.{CopyEnds, CopyRan, IsCopy, IsCopyDone, IsTransfer, copied_text, copy_line, is_copy_status, rule_text, status_of_copied, status_of_copy, transfer_of, uncopied_text};
@@ -64,6 +65,7 @@ fn transfer_in(wish: Asked) -> Option<Transfer>
 
 /// Copies.
 fn copy<W: Wires>(alloc: Global, what: Transfer, wires: &mut W) -> Result<(), CopyFault>
+    ensures copies { what.from ≢ what.to → OnOk result (Copies what.from what.to what.options.destination_is_zero (W.told wires.old) (W.told wires.new)) }
     ensures link { (before after : ℕ) → result ≡ Err (CopyFault.Link before after) → Rises 1 (W.faults wires.old) (W.faults wires.new) }
     ensures silent { (idles : ℕ) → result ≡ Err (CopyFault.Silent idles) → Rises patience (W.idles wires.old) (W.idles wires.new) }
 {
@@ -77,7 +79,7 @@ fn copy<W: Wires>(alloc: Global, what: Transfer, wires: &mut W) -> Result<(), Co
 /// A run of nbdcopy, but for its line.
 fn copy_asked<W: Wires>(alloc: Global, words: &[String], wires: &mut W) -> Result<(), Uncopied>
     requires { IsCopy words.now }
-    ensures ends { CopyEnds result words.now (wires.new ≡ wires.old) }
+    ensures ends { CopyEnds result words.now (W.told wires.old) (W.told wires.new) (wires.new ≡ wires.old) }
     ensures accepts { IsTransfer words.now → status_of_copy result ≢ 1 }
     ensures link { status_of_copy result ≡ 5 → Rises 1 (W.faults wires.old) (W.faults wires.new) }
     ensures silent { status_of_copy result ≡ 7 → Rises patience (W.idles wires.old) (W.idles wires.new) }
@@ -196,7 +198,7 @@ pub(crate) fn run_copy<W: Wires, E: Sink>(
     err: &mut E,
 ) -> u8
     requires { IsCopy words.now }
-    ensures ran { CopyRan words.now (wires.new ≡ wires.old) (Prints (E.taken err.old) (E.taken err.new) (E.faults err.old) (E.faults err.new)) result }
+    ensures ran { CopyRan words.now (W.told wires.old) (W.told wires.new) (wires.new ≡ wires.old) (Prints (E.taken err.old) (E.taken err.new) (E.faults err.old) (E.faults err.new)) result }
     ensures known { is_copy_status result ≡ true }
     ensures link_cause { result ≡ 5 → Rises 1 (W.faults wires.old) (W.faults wires.new) }
     ensures silent_cause { result ≡ 7 → Rises patience (W.idles wires.old) (W.idles wires.new) }

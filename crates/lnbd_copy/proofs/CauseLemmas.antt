@@ -1,6 +1,6 @@
 -- The counts go on from call to call, and a cause that they showed they show later too.
-use Rattle.std.proofs.Common.{◌≡◌, ℕ, ◌≤◌, true, List, Option, arith}
-use Rattle.lnbd_link.specs.Contents.{Stored}
+use Rattle.std.proofs.Common.{◌≡◌, ℕ, ◌≤◌, true, List, Option, sym, subst, arith}
+use Rattle.lnbd_link.specs.Contents.{Keeps, Stored}
 use Rattle.lnbd_link.proofs.Parts.{keeps_none, keeps_on}
 use Rattle.lnbd_plan.specs.declared.fault.CopyFault.{CopyFault}
 use Rattle.lnbd_plan.specs.declared.fault.CopyFault.TheVariants as fault
@@ -12,6 +12,13 @@ goes_same failed waited stored = record { faults = omega arith; idles = omega ar
 
 pub goes_then : (f g h i j k : ℕ) (a b c : Option (List Stored)) → GoesOn f g i j a b → GoesOn g h j k b c → GoesOn f h i k a c
 goes_then f g h i j k a b c first second = record { faults = omega (arith, first.faults, second.faults); idles = omega (arith, first.idles, second.idles); contents = keeps_on a b c first.contents second.contents }
+
+pub goes_as : (f g g' i j j' : ℕ) (a b b' : Option (List Stored)) → g' ≡ g → j' ≡ j → b' ≡ b → GoesOn f g i j a b → GoesOn f g' i j' a b'
+goes_as f g g' i j j' a b b' same_faults same_idles same_contents on = record {
+  faults = omega (arith, on.faults, same_faults);
+  idles = omega (arith, on.idles, same_idles);
+  contents = subst (λ (stored : Option (List Stored)). Keeps a stored) (sym same_contents) on.contents;
+}
 
 shown_later : (start : Counts) (f g i j : ℕ) (told : CopyFault) → f ≤ g → i ≤ j → ShowsCause start f i told → ShowsCause start g j told
 shown_later start f g i j fault.NoMemory faults idles shown = tt

@@ -1,2 +1,16 @@
 pub mod CauseLemmas
 pub mod HandleLemmas
+pub mod AskedLemmas
+pub mod WindowLemmas
+pub mod FiledLemmas
+pub mod TurnLemmas
+pub mod DialLemmas
+pub mod PartLemmas
+pub mod SideLemmas
+pub mod WayLemmas
+pub mod DealingLemmas
+pub mod JobLemmas
+pub mod StepLemmas
+pub mod CopierLemmas
+pub mod EndLemmas
+pub mod AgreeLemmas

@@ -1,2 +1,11 @@
 pub mod Causes
 pub mod Terms
+pub mod Asked
+pub mod Way
+pub mod Dealing
+pub mod Windows
+pub mod Job
+pub mod Opening
+pub mod Leaving
+pub mod Agreed
+pub mod Copier

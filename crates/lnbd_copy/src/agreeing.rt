@@ -1,27 +1,38 @@
 //! What the connections of a copy tell of their exports, and whether a copy can be made of it.
 
-ghost use Rattle.std.specs.Prelude.{◌≡◌, ◌<◌, ◌≤◌, ◌^◌, true, IfErr, IfOk};
+ghost use Rattle.std.specs.Prelude.{◌≡◌, ◌<◌, ◌≤◌, ◌^◌, true, None, IfErr, IfOk, OnOk};
+ghost use Rattle.lnbd_handle.specs.Histories.{ForEach};
+ghost use Rattle.lnbd_history.specs.Answers.{direction_after, state_after};
+ghost use Rattle.lnbd_model.specs.declared.state.State.TheVariants as state;
+ghost use Rattle.lnbd_copy.specs.Agreed.{AreAgreed, Tells};
 ghost use Rattle.lnbd_copy.specs.Causes.{tells_no_count};
 
 use crate::sides::{FIRST_DESTINATION, FIRST_SOURCE};
 use crate::terms::{Terms, broken_rule, settled};
 use lnbd_board::{Board, Ticket};
-use lnbd_model::{Breach, Broken, EPROTO, ExportInfo};
+use lnbd_handle::Handle;
+use lnbd_model::{Breach, Broken, EPROTO, ExportInfo, State};
 use lnbd_plan::{CopyFault, CopyOptions};
 use lnbd_poll::Handles;
 
 /// The first size that no export has (libnbd: sizes are below 2^63).
 const SIZE_END: u64 = 1 << 63;
 
-/// What a connection tells of its export.
+/// What a connection tells of its export. One that has bytes to write, or may make no requests, counts as one for which memory
+/// ran out: once a connection has negotiated, neither is so.
 fn info_of(handles: &Handles<Ticket>, index: usize) -> Result<&ExportInfo, CopyFault>
     ensures size { IfOk result (λ info. info.now.size < 2 ^ 63) }
+    ensures tells { IfOk result (λ info. Tells index info.now.size handles.now) }
     ensures free { IfErr result (λ told. tells_no_count told ≡ true) }
 {
     if index >= handles.len() {
         return Err(CopyFault::NoMemory);
     }
-    match handles.get(index).info() {
+    let handle = handles.get(index);
+    if !is_quiet(handle) {
+        return Err(CopyFault::NoMemory);
+    }
+    match handle.info() {
         Some(info) => {
             if info.size < SIZE_END {
                 return Ok(info);
@@ -32,10 +43,19 @@ fn info_of(handles: &Handles<Ticket>, index: usize) -> Result<&ExportInfo, CopyF
     }
 }
 
+/// Whether a connection may make requests, and has nothing to write.
+fn is_quiet(handle: &Handle<Ticket>) -> bool
+    ensures ready { result ≡ true → ForEach handle.now (λ history. state_after history ≡ state.Ready) }
+    ensures quiet { result ≡ true → ForEach handle.now (λ history. direction_after history ≡ 1) }
+{
+    matches!(handle.state(), State::Ready) && handle.direction() == 1
+}
+
 /// What both sides settle, once the first connection of each has negotiated.
 pub(crate) fn agree(handles: &Handles<Ticket>, options: CopyOptions) -> Result<Terms, CopyFault>
     ensures cells { IfOk result (λ terms. (0 < terms.cell) × (0 < terms.zero_cell) × (0 < terms.grain)) }
     ensures size { IfOk result (λ terms. terms.size ≤ 2 ^ 63) }
+    ensures agrees { IfOk result (λ terms. AreAgreed options terms handles.now) }
     ensures free { IfErr result (λ told. tells_no_count told ≡ true) }
 {
     let source = info_of(handles, FIRST_SOURCE)?;
@@ -82,6 +102,7 @@ pub(crate) fn check_same(handles: &Handles<Ticket>, terms: Terms) -> Result<(), 
 /// Why the copy ends by what its commands came to, if so. A command that was lost with its connection is told by that
 /// connection's state before.
 pub(crate) fn check_answers(board: &Board) -> Result<(), CopyFault>
+    ensures well { OnOk result (board.now.error ≡ None) }
     ensures free { IfErr result (λ told. tells_no_count told ≡ true) }
 {
     if board.is_short() {

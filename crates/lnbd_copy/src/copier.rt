@@ -1,13 +1,19 @@
 //! A copy from its first connection to its last byte.
 
-ghost use Rattle.std.specs.Prelude.{◌≡◌, ◌<◌, ◌≤◌, ◌^◌, IfErr, IfOk};
+ghost use Rattle.std.specs.Prelude.{◌≡◌, ◌≢◌, ◌<◌, ◌≤◌, ◌+◌, ◌^◌, [], length, List, Option, None, true, IfErr, IfOk, OnOk};
+ghost use Rattle.lnbd_link.specs.Call.{Call};
+ghost use Rattle.lnbd_course.specs.Copied.{Copies};
 ghost use Rattle.lnbd_copy.specs.Causes.{GoesOn, HasCause};
+ghost use Rattle.lnbd_copy.specs.Copier.{GoesFurther, HasMet, HasNotBegun, HasTurned, IsDone, IsOnItsWay, IsParting, Seen};
+ghost use Rattle.lnbd_copy.specs.Opening.{Dials};
+ghost use Rattle.lnbd_copy.specs.Way.{Goes, Stand};
 
 use crate::agreeing::{agree, check_answers, check_same, tells_extents};
 use crate::counts::Counts;
 use crate::dialing::{MAX_TURNS, check, dial, settle, wait};
 use crate::job::Job;
 use crate::parting::{shut_all, shut_parted};
+use crate::sides::Sides;
 use crate::terms::Terms;
 use lnbd_board::{Board, How, Ticket};
 use lnbd_link::Wires;
@@ -29,7 +35,8 @@ pub enum Progress {
     Finished(Summary),
 }
 
-/// A copy under way. It must be spent, by `run` or by `end`. Contracts see what the wires had counted when it began.
+/// A copy under way. It must be spent, by `run` or by `end`. Contracts see what it is a copy of, what the wires had counted when it
+/// began, its connections, its board, and what is under way.
 pub struct Copier {
     alloc: Global,
     options: CopyOptions,
@@ -42,11 +49,11 @@ pub struct Copier {
 }
 
 impl Model for Copier {
-    ghost use Rattle.lnbd_copy.specs.declared.counts.Counts.{Counts as Began};
+    ghost use Rattle.lnbd_copy.specs.Copier.{Seen};
 
-    ghost Value = { Began };
+    ghost Value = { Seen };
 
-    ghost view = { λ c. c.start };
+    ghost view = { λ c. record { options = c.options; from = c.from; to = c.to; start = c.start; held = c.handles; board = c.board; job = c.job } };
 }
 
 /// How a copy writes while nothing is known of the destination.
@@ -59,7 +66,10 @@ const UNKNOWN: How = How {
 
 impl Copier {
     /// A copy that has not begun. It takes no memory.
-    pub fn new(alloc: Global, options: CopyOptions, from: Place, to: Place) -> Copier {
+    pub fn new(alloc: Global, options: CopyOptions, from: Place, to: Place) -> Copier
+        ensures begun { HasNotBegun result }
+        ensures what { (result.options ≡ options) × (result.from ≡ from) × (result.to ≡ to) }
+    {
         Copier {
             alloc,
             options,
@@ -85,10 +95,14 @@ impl Copier {
     #[tactic(auto, using(crate::proofs::CauseLemmas::goes_same, crate::proofs::CauseLemmas::goes_then, crate::proofs::CauseLemmas::cause_later, crate::proofs::CauseLemmas::cause_free))]
     pub fn begin<W: Wires>(&mut self, wires: &mut W) -> Result<(), CopyFault>
         // What the wires had counted is kept.
-        ensures began { self.new ≡ record { faults = W.faults wires.old; idles = W.idles wires.old } }
+        ensures began { self.new.start ≡ record { faults = W.faults wires.old; idles = W.idles wires.old } }
+        ensures kept { self.new ≡ record self.old { start = self.new.start; held = self.new.held; board = self.new.board; job = self.new.job } }
+
+        // All connections stand, and nothing is copied yet.
+        ensures begins { HasNotBegun self.old → OnOk result (IsOnItsWay (W.told wires.old) (W.told wires.new) self.new) }
 
         // The counts, and what they show of a fault.
-        ensures causes { IfErr result (λ told. HasCause self.new (W.faults wires.new) (W.idles wires.new) told) }
+        ensures causes { IfErr result (λ told. HasCause self.new.start (W.faults wires.new) (W.idles wires.new) told) }
         ensures counts { GoesOn (W.faults wires.old) (W.faults wires.new) (W.idles wires.old) (W.idles wires.new) (W.contents wires.old) (W.contents wires.new) }
     {
         self.start = Counts::of(wires);
@@ -102,27 +116,32 @@ impl Copier {
     /// Makes all connections, the source's first and then the destination's, and behind them all further ones.
     #[tactic(auto, using(crate::proofs::CauseLemmas::goes_same, crate::proofs::CauseLemmas::goes_then, crate::proofs::CauseLemmas::cause_later, crate::proofs::CauseLemmas::cause_free))]
     fn connect<W: Wires>(&mut self, wires: &mut W) -> Result<(), CopyFault>
-        requires faults { self.old.faults ≤ W.faults wires.old }
-        requires idles { self.old.idles ≤ W.idles wires.old }
-        ensures kept { self.new ≡ self.old }
-        ensures causes { IfErr result (λ told. HasCause self.old (W.faults wires.new) (W.idles wires.new) told) }
+        requires faults { self.old.start.faults ≤ W.faults wires.old }
+        requires idles { self.old.start.idles ≤ W.idles wires.old }
+        ensures kept { self.new ≡ record self.old { held = self.new.held; board = self.new.board; job = self.new.job } }
+        ensures begins { HasNotBegun self.old → OnOk result (IsOnItsWay (W.told wires.old) (W.told wires.new) self.new) }
+        ensures causes { IfErr result (λ told. HasCause self.old.start (W.faults wires.new) (W.idles wires.new) told) }
         ensures counts { GoesOn (W.faults wires.old) (W.faults wires.new) (W.idles wires.old) (W.idles wires.new) (W.contents wires.old) (W.contents wires.new) }
     {
         let terms = self.meet(wires)?;
-        self.dial_further(wires, terms)?;
+        self.dial_further(wires, terms.sides)?;
         check_same(&self.handles, terms)?;
+        check_answers(&self.board)?;
         Ok(self.set_up(terms)?)
     }
 
     /// Makes the first connection of each side, the source's first, and settles how the copy is made.
     #[tactic(auto, using(crate::proofs::CauseLemmas::goes_same, crate::proofs::CauseLemmas::goes_then, crate::proofs::CauseLemmas::cause_later, crate::proofs::CauseLemmas::cause_free))]
     fn meet<W: Wires>(&mut self, wires: &mut W) -> Result<Terms, CopyFault>
-        requires faults { self.old.faults ≤ W.faults wires.old }
-        requires idles { self.old.idles ≤ W.idles wires.old }
-        ensures kept { self.new ≡ self.old }
+        requires faults { self.old.start.faults ≤ W.faults wires.old }
+        requires idles { self.old.start.idles ≤ W.idles wires.old }
+        ensures kept { self.new ≡ record self.old { held = self.new.held; board = self.new.board } }
+        ensures met { HasNotBegun self.old → IfOk result (λ terms. HasMet self.new (W.told wires.old) (W.told wires.new) terms) }
+        ensures two { HasNotBegun self.old → OnOk result (length self.new.held ≡ 2) }
+        ensures many { IfOk result (λ terms. 0 < terms.sides.source) }
         ensures cells { IfOk result (λ terms. (0 < terms.cell) × (0 < terms.zero_cell) × (0 < terms.grain)) }
         ensures size { IfOk result (λ terms. terms.size ≤ 2 ^ 63) }
-        ensures causes { IfErr result (λ told. HasCause self.old (W.faults wires.new) (W.idles wires.new) told) }
+        ensures causes { IfErr result (λ told. HasCause self.old.start (W.faults wires.new) (W.idles wires.new) told) }
         ensures counts { GoesOn (W.faults wires.old) (W.faults wires.new) (W.idles wires.old) (W.idles wires.new) (W.contents wires.old) (W.contents wires.new) }
     {
         let extents = self.options.extents;
@@ -137,7 +156,9 @@ impl Copier {
     fn set_up(&mut self, terms: Terms) -> Result<(), NoMemory>
         requires cells { (0 < terms.cell) × (0 < terms.zero_cell) × (0 < terms.grain) }
         requires size { terms.size ≤ 2 ^ 63 }
-        ensures kept { self.new ≡ self.old }
+        requires well { self.old.board.error ≡ None }
+        ensures kept { self.new ≡ record self.old { held = self.new.held; board = self.new.board; job = self.new.job } }
+        ensures begins { (start told : Option (List Call)) → HasMet self.old start told terms → OnOk result (IsOnItsWay start told self.new) }
     {
         let extents = tells_extents(&self.handles);
         mem::replace(&mut self.board, Board::new(self.alloc, terms.how)).end();
@@ -147,9 +168,11 @@ impl Copier {
 
     /// One connection more to the source.
     fn dial_source<W: Wires>(&mut self, wires: &mut W, extents: bool) -> Result<(), CopyFault>
-        requires faults { self.old.faults ≤ W.faults wires.old }
-        ensures kept { self.new ≡ self.old }
-        ensures causes { IfErr result (λ told. HasCause self.old (W.faults wires.new) (W.idles wires.new) told) }
+        requires faults { self.old.start.faults ≤ W.faults wires.old }
+        ensures kept { self.new ≡ record self.old { held = self.new.held; board = self.new.board } }
+        ensures dials { OnOk result (Dials self.old.from self.old.board self.old.held (W.told wires.old) self.new.held (W.told wires.new)) }
+        ensures board { OnOk result (self.new.board ≡ self.old.board) }
+        ensures causes { IfErr result (λ told. HasCause self.old.start (W.faults wires.new) (W.idles wires.new) told) }
         ensures counts { GoesOn (W.faults wires.old) (W.faults wires.new) (W.idles wires.old) (W.idles wires.new) (W.contents wires.old) (W.contents wires.new) }
     {
         dial(
@@ -165,9 +188,11 @@ impl Copier {
 
     /// One connection more to the destination.
     fn dial_destination<W: Wires>(&mut self, wires: &mut W) -> Result<(), CopyFault>
-        requires faults { self.old.faults ≤ W.faults wires.old }
-        ensures kept { self.new ≡ self.old }
-        ensures causes { IfErr result (λ told. HasCause self.old (W.faults wires.new) (W.idles wires.new) told) }
+        requires faults { self.old.start.faults ≤ W.faults wires.old }
+        ensures kept { self.new ≡ record self.old { held = self.new.held; board = self.new.board } }
+        ensures dials { OnOk result (Dials self.old.to self.old.board self.old.held (W.told wires.old) self.new.held (W.told wires.new)) }
+        ensures board { OnOk result (self.new.board ≡ self.old.board) }
+        ensures causes { IfErr result (λ told. HasCause self.old.start (W.faults wires.new) (W.idles wires.new) told) }
         ensures counts { GoesOn (W.faults wires.old) (W.faults wires.new) (W.idles wires.old) (W.idles wires.new) (W.contents wires.old) (W.contents wires.new) }
     {
         dial(
@@ -183,10 +208,11 @@ impl Copier {
 
     /// Waits until all have negotiated.
     fn settle<W: Wires>(&mut self, wires: &mut W) -> Result<(), CopyFault>
-        requires faults { self.old.faults ≤ W.faults wires.old }
-        requires idles { self.old.idles ≤ W.idles wires.old }
-        ensures kept { self.new ≡ self.old }
-        ensures causes { IfErr result (λ told. HasCause self.old (W.faults wires.new) (W.idles wires.new) told) }
+        requires faults { self.old.start.faults ≤ W.faults wires.old }
+        requires idles { self.old.start.idles ≤ W.idles wires.old }
+        ensures kept { self.new ≡ record self.old { held = self.new.held; board = self.new.board } }
+        ensures goes { OnOk result (Goes self.old.board self.old.held (W.told wires.old) self.new.board self.new.held (W.told wires.new)) }
+        ensures causes { IfErr result (λ told. HasCause self.old.start (W.faults wires.new) (W.idles wires.new) told) }
         ensures counts { GoesOn (W.faults wires.old) (W.faults wires.new) (W.idles wires.old) (W.idles wires.new) (W.contents wires.old) (W.contents wires.new) }
     {
         settle(&mut self.handles, &mut self.board, wires, self.start)
@@ -194,39 +220,45 @@ impl Copier {
 
     /// Makes the further connections, the source's first.
     #[tactic(auto, using(crate::proofs::CauseLemmas::goes_same, crate::proofs::CauseLemmas::goes_then, crate::proofs::CauseLemmas::cause_later, crate::proofs::CauseLemmas::cause_free))]
-    fn dial_further<W: Wires>(&mut self, wires: &mut W, terms: Terms) -> Result<(), CopyFault>
-        requires faults { self.old.faults ≤ W.faults wires.old }
-        requires idles { self.old.idles ≤ W.idles wires.old }
-        ensures kept { self.new ≡ self.old }
-        ensures causes { IfErr result (λ told. HasCause self.old (W.faults wires.new) (W.idles wires.new) told) }
+    fn dial_further<W: Wires>(&mut self, wires: &mut W, sides: Sides) -> Result<(), CopyFault>
+        requires faults { self.old.start.faults ≤ W.faults wires.old }
+        requires idles { self.old.start.idles ≤ W.idles wires.old }
+        requires some { 0 < sides.source }
+        ensures kept { self.new ≡ record self.old { held = self.new.held; board = self.new.board } }
+        ensures further { OnOk result (GoesFurther self.old sides 2 self.old.board self.old.held (W.told wires.old) self.new.board self.new.held (W.told wires.new)) }
+        ensures causes { IfErr result (λ told. HasCause self.old.start (W.faults wires.new) (W.idles wires.new) told) }
         ensures counts { GoesOn (W.faults wires.old) (W.faults wires.new) (W.idles wires.old) (W.idles wires.new) (W.contents wires.old) (W.contents wires.new) }
     {
-        self.dial_sources(wires, terms.sides.source)?;
-        self.dial_destinations(wires, terms.sides.destination)?;
+        self.dial_sources(wires, sides)?;
+        self.dial_destinations(wires, sides)?;
         self.settle(wires)
     }
 
     #[tactic(auto, using(crate::proofs::CauseLemmas::goes_same, crate::proofs::CauseLemmas::goes_then, crate::proofs::CauseLemmas::cause_later, crate::proofs::CauseLemmas::cause_free))]
-    fn dial_sources<W: Wires>(&mut self, wires: &mut W, count: usize) -> Result<(), CopyFault>
-        requires faults { self.old.faults ≤ W.faults wires.old }
-        ensures kept { self.new ≡ self.old }
-        ensures causes { IfErr result (λ told. HasCause self.old (W.faults wires.new) (W.idles wires.new) told) }
+    fn dial_sources<W: Wires>(&mut self, wires: &mut W, sides: Sides) -> Result<(), CopyFault>
+        requires faults { self.old.start.faults ≤ W.faults wires.old }
+        requires some { 0 < sides.source }
+        ensures kept { self.new ≡ record self.old { held = self.new.held; board = self.new.board } }
+        ensures further { OnOk result (GoesFurther self.old sides 2 self.old.board self.old.held (W.told wires.old) self.new.board self.new.held (W.told wires.new)) }
+        ensures many { OnOk result (length self.old.held ≡ 2 → length self.new.held ≡ sides.source + 1) }
+        ensures causes { IfErr result (λ told. HasCause self.old.start (W.faults wires.new) (W.idles wires.new) told) }
         ensures counts { GoesOn (W.faults wires.old) (W.faults wires.new) (W.idles wires.old) (W.idles wires.new) (W.contents wires.old) (W.contents wires.new) }
     {
-        'further: for _ in 1..count {
+        'further: for connection in 1..sides.source {
             self.dial_source(wires, false)?;
         }
         Ok(())
     }
 
     #[tactic(auto, using(crate::proofs::CauseLemmas::goes_same, crate::proofs::CauseLemmas::goes_then, crate::proofs::CauseLemmas::cause_later, crate::proofs::CauseLemmas::cause_free))]
-    fn dial_destinations<W: Wires>(&mut self, wires: &mut W, count: usize) -> Result<(), CopyFault>
-        requires faults { self.old.faults ≤ W.faults wires.old }
-        ensures kept { self.new ≡ self.old }
-        ensures causes { IfErr result (λ told. HasCause self.old (W.faults wires.new) (W.idles wires.new) told) }
+    fn dial_destinations<W: Wires>(&mut self, wires: &mut W, sides: Sides) -> Result<(), CopyFault>
+        requires faults { self.old.start.faults ≤ W.faults wires.old }
+        ensures kept { self.new ≡ record self.old { held = self.new.held; board = self.new.board } }
+        ensures further { OnOk result (GoesFurther self.old sides (sides.source + 1) self.old.board self.old.held (W.told wires.old) self.new.board self.new.held (W.told wires.new)) }
+        ensures causes { IfErr result (λ told. HasCause self.old.start (W.faults wires.new) (W.idles wires.new) told) }
         ensures counts { GoesOn (W.faults wires.old) (W.faults wires.new) (W.idles wires.old) (W.idles wires.new) (W.contents wires.old) (W.contents wires.new) }
     {
-        'further: for _ in 1..count {
+        'further: for _ in 1..sides.destination {
             self.dial_destination(wires)?;
         }
         Ok(())
@@ -240,12 +272,15 @@ impl Copier {
     /// error. All links are then shut.
     #[tactic(auto, using(crate::proofs::CauseLemmas::goes_same, crate::proofs::CauseLemmas::goes_then, crate::proofs::CauseLemmas::cause_later, crate::proofs::CauseLemmas::cause_free))]
     pub fn turn<W: Wires>(&mut self, wires: &mut W) -> Result<Progress, CopyFault>
-        requires faults { self.old.faults ≤ W.faults wires.old }
-        requires idles { self.old.idles ≤ W.idles wires.old }
-        ensures kept { self.new ≡ self.old }
+        requires faults { self.old.start.faults ≤ W.faults wires.old }
+        requires idles { self.old.start.idles ≤ W.idles wires.old }
+        ensures kept { self.new ≡ record self.old { held = self.new.held; board = self.new.board; job = self.new.job } }
+
+        // It goes on, or it is finished and has copied.
+        ensures turns { IfOk result (λ told. (start : Option (List Call)) → IsOnItsWay start (W.told wires.old) self.old → HasTurned start (W.told wires.new) self.new told) }
 
         // The counts, and what they show of a fault.
-        ensures causes { IfErr result (λ told. HasCause self.old (W.faults wires.new) (W.idles wires.new) told) }
+        ensures causes { IfErr result (λ told. HasCause self.old.start (W.faults wires.new) (W.idles wires.new) told) }
         ensures counts { GoesOn (W.faults wires.old) (W.faults wires.new) (W.idles wires.old) (W.idles wires.new) (W.contents wires.old) (W.contents wires.new) }
     {
         let told = self.go_on(wires);
@@ -258,27 +293,86 @@ impl Copier {
     /// One turn, after which nothing is shut.
     #[tactic(auto, using(crate::proofs::CauseLemmas::goes_same, crate::proofs::CauseLemmas::goes_then, crate::proofs::CauseLemmas::cause_later, crate::proofs::CauseLemmas::cause_free))]
     fn go_on<W: Wires>(&mut self, wires: &mut W) -> Result<Progress, CopyFault>
-        requires faults { self.old.faults ≤ W.faults wires.old }
-        requires idles { self.old.idles ≤ W.idles wires.old }
-        ensures kept { self.new ≡ self.old }
-        ensures causes { IfErr result (λ told. HasCause self.old (W.faults wires.new) (W.idles wires.new) told) }
+        requires faults { self.old.start.faults ≤ W.faults wires.old }
+        requires idles { self.old.start.idles ≤ W.idles wires.old }
+        ensures kept { self.new ≡ record self.old { held = self.new.held; board = self.new.board; job = self.new.job } }
+        ensures turns { IfOk result (λ told. (start : Option (List Call)) → IsOnItsWay start (W.told wires.old) self.old → HasTurned start (W.told wires.new) self.new told) }
+        ensures causes { IfErr result (λ told. HasCause self.old.start (W.faults wires.new) (W.idles wires.new) told) }
+        ensures counts { GoesOn (W.faults wires.old) (W.faults wires.new) (W.idles wires.old) (W.idles wires.new) (W.contents wires.old) (W.contents wires.new) }
+    {
+        let moved = self.take_turn(wires)?;
+        let acted = self.act()?;
+        let parted = self.part(wires);
+        if self.is_finished() {
+            check_answers(&self.board)?;
+            return Ok(Progress::Finished(self.summary()));
+        }
+        Ok(progress_of(moved, acted || parted != 0))
+    }
+
+    /// One turn of the connections.
+    #[tactic(auto, using(crate::proofs::CauseLemmas::goes_same, crate::proofs::CauseLemmas::goes_then, crate::proofs::CauseLemmas::cause_later, crate::proofs::CauseLemmas::cause_free))]
+    fn take_turn<W: Wires>(&mut self, wires: &mut W) -> Result<Turn, CopyFault>
+        requires faults { self.old.start.faults ≤ W.faults wires.old }
+        ensures kept { self.new ≡ record self.old { held = self.new.held; board = self.new.board } }
+        ensures on { OnOk result ((start : Option (List Call)) → IsOnItsWay start (W.told wires.old) self.old → IsOnItsWay start (W.told wires.new) self.new) }
+        ensures causes { IfErr result (λ told. HasCause self.old.start (W.faults wires.new) (W.idles wires.new) told) }
         ensures counts { GoesOn (W.faults wires.old) (W.faults wires.new) (W.idles wires.old) (W.idles wires.new) (W.contents wires.old) (W.contents wires.new) }
     {
         let moved = self.handles.turn(wires, &mut self.board)?;
         check(&self.handles, wires, self.start)?;
         check_answers(&self.board)?;
-        let Some(job) = &mut self.job else {
-            return Err(CopyFault::NoMemory);
-        };
-        let acted = job.act(self.alloc, &mut self.handles, &mut self.board)?;
-        let mut parted = 0;
-        if job.is_parting() {
-            parted = shut_parted(&mut self.handles, &mut self.board, wires);
-            if self.handles.is_empty() {
-                return Ok(Progress::Finished(self.board.summary(job.size())));
-            }
+        Ok(moved)
+    }
+
+    /// Asks for whatever can be asked for now. Whether anything was, or the copy went on in another way.
+    fn act(&mut self) -> Result<bool, NoMemory>
+        ensures kept { self.new ≡ record self.old { held = self.new.held; board = self.new.board; job = self.new.job } }
+        ensures on { OnOk result ((start told : Option (List Call)) → IsOnItsWay start told self.old → IsOnItsWay start told self.new) }
+    {
+        match &mut self.job {
+            Some(job) => job.act(self.alloc, &mut self.handles, &mut self.board),
+            None => Err(NoMemory),
         }
-        Ok(progress_of(moved, acted || parted != 0))
+    }
+
+    /// Whether the connections part.
+    fn is_parting(&self) -> bool
+        ensures { result ≡ true → IsParting self.now }
+    {
+        match &self.job {
+            Some(job) => job.is_parting(),
+            None => false,
+        }
+    }
+
+    /// Hangs up where a connection has parted. How many did.
+    fn part<W: Wires>(&mut self, wires: &mut W) -> usize
+        ensures kept { self.new ≡ record self.old { held = self.new.held; board = self.new.board } }
+        ensures on { (start : Option (List Call)) → IsOnItsWay start (W.told wires.old) self.old → IsOnItsWay start (W.told wires.new) self.new }
+        ensures counts { GoesOn (W.faults wires.old) (W.faults wires.new) (W.idles wires.old) (W.idles wires.new) (W.contents wires.old) (W.contents wires.new) }
+    {
+        if !self.is_parting() {
+            return 0;
+        }
+        shut_parted(&mut self.handles, &mut self.board, wires)
+    }
+
+    /// Whether each connection has parted.
+    fn is_finished(&self) -> bool
+        ensures parting { result ≡ true → IsParting self.now }
+        ensures parted { result ≡ true → self.now.held ≡ [] }
+    {
+        self.is_parting() && self.handles.is_empty()
+    }
+
+    /// What the copy did.
+    fn summary(&self) -> Summary {
+        let size = match &self.job {
+            Some(job) => job.size(),
+            None => 0,
+        };
+        self.board.summary(size)
     }
 
     /// Copies, from the first connection to the end.
@@ -288,6 +382,9 @@ impl Copier {
     /// Those of `begin` and `turn`.
     #[tactic(auto, using(crate::proofs::CauseLemmas::goes_same, crate::proofs::CauseLemmas::goes_then, crate::proofs::CauseLemmas::cause_later, crate::proofs::CauseLemmas::cause_free))]
     pub fn run<W: Wires>(self, wires: &mut W) -> Result<Summary, CopyFault>
+        // Over honest exports the destination then holds the source's bytes.
+        ensures copies { HasNotBegun self → self.from ≢ self.to → OnOk result (Copies self.from self.to self.options.destination_is_zero (W.told wires.old) (W.told wires.new)) }
+
         // The counts, and what they show of a fault.
         ensures causes { IfErr result (λ told. HasCause (record { faults = W.faults wires.old; idles = W.idles wires.old }) (W.faults wires.new) (W.idles wires.new) told) }
         ensures counts { GoesOn (W.faults wires.old) (W.faults wires.new) (W.idles wires.old) (W.idles wires.new) (W.contents wires.old) (W.contents wires.new) }
@@ -301,6 +398,8 @@ impl Copier {
     /// Begins, and takes turns until the copy is finished, with a pause after each in which nothing happened.
     #[tactic(auto, using(crate::proofs::CauseLemmas::goes_same, crate::proofs::CauseLemmas::goes_then, crate::proofs::CauseLemmas::cause_later, crate::proofs::CauseLemmas::cause_free))]
     fn copy<W: Wires>(&mut self, wires: &mut W) -> Result<Summary, CopyFault>
+        ensures kept { self.new ≡ record self.old { start = self.new.start; held = self.new.held; board = self.new.board; job = self.new.job } }
+        ensures done { HasNotBegun self.old → OnOk result (IsDone (W.told wires.old) (W.told wires.new) self.new) }
         ensures causes { IfErr result (λ told. HasCause (record { faults = W.faults wires.old; idles = W.idles wires.old }) (W.faults wires.new) (W.idles wires.new) told) }
         ensures counts { GoesOn (W.faults wires.old) (W.faults wires.new) (W.idles wires.old) (W.idles wires.new) (W.contents wires.old) (W.contents wires.new) }
     {
@@ -308,15 +407,27 @@ impl Copier {
         'turns: for _ in 0..MAX_TURNS {
             match self.turn(wires)? {
                 Progress::Moved(_) => {}
-                Progress::Still => wait(&mut self.handles, wires, self.start)?,
+                Progress::Still => self.rest(wires)?,
                 Progress::Finished(summary) => return Ok(summary),
             }
         }
         Err(CopyFault::NoMemory)
     }
 
+    /// Waits, unless that was borne for as long as it is.
+    fn rest<W: Wires>(&mut self, wires: &mut W) -> Result<(), CopyFault>
+        requires idles { self.old.start.idles ≤ W.idles wires.old }
+        ensures kept { self.new ≡ record self.old { held = self.new.held } }
+        ensures on { OnOk result ((start : Option (List Call)) → IsOnItsWay start (W.told wires.old) self.old → IsOnItsWay start (W.told wires.new) self.new) }
+        ensures causes { IfErr result (λ told. HasCause self.old.start (W.faults wires.new) (W.idles wires.new) told) }
+        ensures counts { GoesOn (W.faults wires.old) (W.faults wires.new) (W.idles wires.old) (W.idles wires.new) (W.contents wires.old) (W.contents wires.new) }
+    {
+        wait(&mut self.handles, wires, self.start)
+    }
+
     /// Ends a copy, finished or not: frees all callbacks and shuts all links.
     pub fn end<W: Wires>(self, wires: &mut W)
+        ensures parted { self.held ≡ [] → wires.new ≡ wires.old }
         ensures counts { GoesOn (W.faults wires.old) (W.faults wires.new) (W.idles wires.old) (W.idles wires.new) (W.contents wires.old) (W.contents wires.new) }
     {
         let Copier {
@@ -338,7 +449,9 @@ impl Copier {
 }
 
 /// What a turn did, where so much moved and it went on or not in another way.
-fn progress_of(moved: Turn, acted: bool) -> Progress {
+fn progress_of(moved: Turn, acted: bool) -> Progress
+    ensures { (start told : Option (List Call)) (copy : Seen) → IsOnItsWay start told copy → HasTurned start told copy result }
+{
     match moved {
         Turn::Moved(count) => Progress::Moved(count),
         Turn::Still => {

@@ -1,12 +1,18 @@
 //! The requests of a copy: which connection is asked for what, as the board and the plan say. When a copy turns, and when it
 //! ends, is not known here.
 
-ghost use Rattle.std.specs.Prelude.{◌≡◌, ◌+◌, ◌≤◌, ◌^◌, true, false};
+ghost use Rattle.std.specs.Prelude.{◌≡◌, ◌+◌, ◌≤◌, ◌<◌, ◌^◌, true, false, not, [], ◌∷◌, IfOk, OnOk};
+ghost use Rattle.lnbd_handle.specs.Issues.{read_of, write_of, zero_of, flush_of, block_status_of};
+ghost use Rattle.lnbd_board.specs.declared.ticket.Ticket.TheVariants as ticket;
+ghost use Rattle.lnbd_course.specs.Orders.{command_of};
+ghost use Rattle.lnbd_copy.specs.Asked.{IsAsked};
+ghost use Rattle.lnbd_copy.specs.Dealing.{Begins, HasBegun, HasGoneOn, IsAskedFirst, IsAskedOf};
+ghost use Rattle.lnbd_copy.specs.Way.{Keeps, is_source};
 
 use crate::sides::{FIRST_DESTINATION, FIRST_SOURCE, Sides};
 use crate::terms::Terms;
-use crate::windows::{Wanted, Windows};
-use lnbd_board::{Ask, Board, Bound, Change, How, Next, Ticket};
+use crate::windows::Windows;
+use lnbd_board::{Ask, Board, Bound, Change, Next, Ticket};
 use lnbd_handle::IssueFault;
 use lnbd_model::NoMemory;
 use lnbd_plan::Slice;
@@ -14,10 +20,7 @@ use lnbd_poll::Handles;
 use std::alloc::Global;
 use std::marker::Model;
 
-/// The first size that no export has.
-const SIZE_END: u64 = 1 << 63;
-
-/// The slices that are bound to the connections of both sides.
+/// The slices that are bound to the connections of both sides. Contracts see how many connections there are.
 #[derive(Drop)]
 pub(crate) struct Bindings {
     sides: Sides,
@@ -26,29 +29,34 @@ pub(crate) struct Bindings {
 }
 
 impl Model for Bindings {
-    ghost use Rattle.std.specs.Prelude.{◌≡◌, length};
+    ghost use Rattle.std.specs.Prelude.{◌≡◌, ◌<◌, length};
+    ghost use Rattle.lnbd_copy.specs.declared.sides.Sides.{Sides as Both};
 
-    ghost Value = { Unit {0} };
+    ghost Value = { Both };
 
-    ghost view = { λ b. tt };
+    ghost view = { λ b. b.sides };
 
-    ghost invariant = { λ b. (length b.source ≡ b.sides.source) × (length b.destination ≡ b.sides.destination) };
+    ghost invariant = { λ b. (length b.source ≡ b.sides.source) × (length b.destination ≡ b.sides.destination) × (0 < b.sides.source) × (0 < b.sides.destination) };
 }
 
 /// A command that is refused counts as one for which memory ran out: none is made that breaks the rules, but no clause says
 /// that none is refused.
-fn issued(answer: Result<u64, IssueFault<Ticket>>) -> Result<(), NoMemory> {
-    match answer {
-        Ok(_) => Ok(()),
-        Err(IssueFault::Refused { why: _, buf: _ }) => Err(NoMemory),
-        Err(
-            IssueFault::NoMemory {
-                buf: _,
-                first: _,
-                done: _,
-            },
-        ) => Err(NoMemory),
+fn refused(fault: IssueFault<Ticket>) -> NoMemory {
+    match fault {
+        IssueFault::Refused { why: _, buf: _ } => NoMemory,
+        IssueFault::NoMemory {
+            buf: _,
+            first: _,
+            done: _,
+        } => NoMemory,
     }
+}
+
+/// The cookie of a command that was taken is of no use here.
+fn told(cookie: u64)
+    ensures small { cookie < 2 ^ 64 }
+{
+    let _cookie = cookie;
 }
 
 /// Asks a connection for a change, with the ticket of its slice.
@@ -58,22 +66,69 @@ fn ask_change(
     index: usize,
     number: u64,
     change: Change,
-) -> Result<(), NoMemory> {
-    if index >= handles.len() {
-        return Err(NoMemory);
-    }
-    let ticket = Ticket::Slice(number);
-    let handle = handles.get_mut(index);
-    issued(match change {
+) -> Result<(), NoMemory>
+    ensures asked { OnOk result (IsAsked index (command_of number change) handles.old handles.new) }
+    ensures board { OnOk result (board.new ≡ board.old) }
+{
+    match change {
         Change::Write { offset, bytes } => {
-            handle.aio_pwrite(bytes.into_vec(), offset, ticket, 0, board)
+            ask_write(handles, board, index, number, offset, bytes.into_vec())
         }
         Change::Zero {
             offset,
             length,
             flags,
-        } => handle.aio_zero(length, offset, ticket, flags, board),
-    })
+        } => ask_zero(handles, board, index, number, offset, length, flags),
+    }
+}
+
+/// Asks a connection to write bytes of a slice.
+fn ask_write(
+    handles: &mut Handles<Ticket>,
+    board: &mut Board,
+    index: usize,
+    number: u64,
+    offset: u64,
+    buf: Vec<u8>,
+) -> Result<(), NoMemory>
+    ensures asked { OnOk result (IsAsked index (write_of buf.items offset (ticket.Slice number) 0) handles.old handles.new) }
+    ensures board { OnOk result (board.new ≡ board.old) }
+{
+    if index >= handles.len() {
+        return Err(NoMemory);
+    }
+    let answer = handles
+        .get_mut(index)
+        .aio_pwrite(buf, offset, Ticket::Slice(number), 0, board);
+    match answer {
+        Ok(cookie) => Ok(told(cookie)),
+        Err(fault) => Err(refused(fault)),
+    }
+}
+
+/// Asks a connection to zero bytes of a slice.
+fn ask_zero(
+    handles: &mut Handles<Ticket>,
+    board: &mut Board,
+    index: usize,
+    number: u64,
+    offset: u64,
+    length: u64,
+    flags: u32,
+) -> Result<(), NoMemory>
+    ensures asked { OnOk result (IsAsked index (zero_of length offset (ticket.Slice number) flags) handles.old handles.new) }
+    ensures board { OnOk result (board.new ≡ board.old) }
+{
+    if index >= handles.len() {
+        return Err(NoMemory);
+    }
+    let answer = handles
+        .get_mut(index)
+        .aio_zero(length, offset, Ticket::Slice(number), flags, board);
+    match answer {
+        Ok(cookie) => Ok(told(cookie)),
+        Err(fault) => Err(refused(fault)),
+    }
 }
 
 /// Asks a connection for the bytes of a slice.
@@ -84,59 +139,116 @@ fn ask_read(
     number: u64,
     offset: u64,
     buf: Vec<u8>,
-) -> Result<(), NoMemory> {
+) -> Result<(), NoMemory>
+    ensures asked { OnOk result (IsAsked index (read_of buf.items offset (ticket.Slice number) 0) handles.old handles.new) }
+    ensures board { OnOk result (board.new ≡ board.old) }
+{
     if index >= handles.len() {
         return Err(NoMemory);
     }
-    let ticket = Ticket::Slice(number);
-    issued(
-        handles
-            .get_mut(index)
-            .aio_pread(buf, offset, ticket, 0, board),
-    )
+    let answer = handles
+        .get_mut(index)
+        .aio_pread(buf, offset, Ticket::Slice(number), 0, board);
+    match answer {
+        Ok(cookie) => Ok(told(cookie)),
+        Err(fault) => Err(refused(fault)),
+    }
 }
 
 /// Asks the source's first connection for the extents of a range.
 pub(crate) fn ask_extents(
     handles: &mut Handles<Ticket>,
     board: &mut Board,
-    wanted: Wanted,
-) -> Result<(), NoMemory> {
+    offset: u64,
+    length: u64,
+) -> Result<(), NoMemory>
+    ensures asked { OnOk result (IsAsked 0 (block_status_of length offset ticket.Extents ticket.Extents 0) handles.old handles.new) }
+    ensures board { OnOk result (board.new ≡ record board.old { told = []; mapped = false }) }
+{
     if FIRST_SOURCE >= handles.len() {
         return Err(NoMemory);
     }
     board.forget_map();
-    issued(
-        handles.get_mut(FIRST_SOURCE).aio_block_status(
-            wanted.length,
-            wanted.offset,
-            Ticket::Extents,
-            Ticket::Extents,
-            0,
-            board,
-        ),
-    )
+    let answer = handles
+        .get_mut(FIRST_SOURCE)
+        .aio_block_status(length, offset, Ticket::Extents, Ticket::Extents, 0, board);
+    match answer {
+        Ok(cookie) => Ok(told(cookie)),
+        Err(fault) => Err(refused(fault)),
+    }
 }
 
 /// Asks the destination's first connection to flush.
-pub(crate) fn ask_flush(handles: &mut Handles<Ticket>, board: &mut Board) -> Result<(), NoMemory> {
+pub(crate) fn ask_flush(handles: &mut Handles<Ticket>, board: &mut Board) -> Result<(), NoMemory>
+    ensures asked { OnOk result (IsAsked 1 (flush_of ticket.Flush 0) handles.old handles.new) }
+    ensures board { OnOk result (board.new ≡ board.old) }
+{
     if FIRST_DESTINATION >= handles.len() {
         return Err(NoMemory);
     }
-    issued(
-        handles
-            .get_mut(FIRST_DESTINATION)
-            .aio_flush(Ticket::Flush, 0, board),
-    )
+    let answer = handles
+        .get_mut(FIRST_DESTINATION)
+        .aio_flush(Ticket::Flush, 0, board);
+    match answer {
+        Ok(cookie) => Ok(told(cookie)),
+        Err(fault) => Err(refused(fault)),
+    }
+}
+
+/// Asks a connection of the destination for a change of a slice.
+fn change_destination(
+    handles: &mut Handles<Ticket>,
+    board: &mut Board,
+    sides: Sides,
+    connection: usize,
+    number: u64,
+    change: Change,
+) -> Result<(), NoMemory>
+    ensures asked { OnOk result (IsAskedOf sides false (command_of number change) handles.old handles.new) }
+    ensures board { OnOk result (board.new ≡ board.old) }
+{
+    let index = sides.destination(connection);
+    ask_change(handles, board, index, number, change)
+}
+
+/// Asks for what comes first of a slice that is bound to these connections.
+fn ask_first(
+    handles: &mut Handles<Ticket>,
+    board: &mut Board,
+    sides: Sides,
+    source: usize,
+    destination: usize,
+    number: u64,
+    first: Ask,
+) -> Result<(), NoMemory>
+    requires held { source < sides.source }
+    ensures asked { OnOk result (IsAskedFirst sides number first handles.old handles.new) }
+    ensures board { OnOk result (board.new ≡ board.old) }
+{
+    match first {
+        Ask::Read { offset, buf } => {
+            let index = sides.source(source);
+            ask_read(handles, board, index, number, offset, buf.into_vec())
+        }
+        Ask::Change(change) => {
+            change_destination(handles, board, sides, destination, number, change)
+        }
+    }
 }
 
 impl Bindings {
-    /// No slice is bound to any of these connections.
-    pub(crate) fn new(alloc: Global, terms: Terms) -> Result<Bindings, NoMemory> {
+    /// No slice is bound to any of these connections. A side that has none counts as one for which memory ran out.
+    pub(crate) fn new(alloc: Global, terms: Terms) -> Result<Bindings, NoMemory>
+        ensures { IfOk result (λ bindings. bindings ≡ terms.sides) }
+    {
+        let sides = terms.sides;
+        if sides.source == 0 || sides.destination == 0 {
+            return Err(NoMemory);
+        }
         Ok(Bindings {
-            sides: terms.sides,
-            source: Bound::new(alloc, terms.sides.source)?,
-            destination: Bound::new(alloc, terms.sides.destination)?,
+            sides,
+            source: Bound::new(alloc, sides.source as usize)?,
+            destination: Bound::new(alloc, sides.destination as usize)?,
         })
     }
 
@@ -146,34 +258,84 @@ impl Bindings {
         alloc: Global,
         handles: &mut Handles<Ticket>,
         board: &mut Board,
-        terms: Terms,
-    ) -> Result<usize, NoMemory> {
+    ) -> Result<usize, NoMemory>
+        ensures sides { self.new ≡ self.old }
+        ensures others { OnOk result (HasGoneOn board.old board.new) }
+        ensures keeps { OnOk result (Keeps board.old.how self.old [] board.old board.new handles.old handles.new) }
+    {
         let mut done: usize = 0;
         'slices: for _ in 0..u64::MAX {
-            match board.next(alloc)? {
-                Next::Nothing => return Ok(done),
-                Next::Over {
-                    slice: _,
-                    source,
-                    destination,
-                } => self.release(source, destination),
-                Next::Asks {
-                    slice,
-                    destination,
-                    change,
-                } => {
-                    let index = terms.sides.destination(destination);
-                    ask_change(handles, board, index, slice, change)?;
-                }
+            if !self.go_on_once(alloc, handles, board)? {
+                return Ok(done);
             }
             done = done.saturating_add(1);
         }
         Ok(done)
     }
 
-    /// A slice is over that was bound to these connections.
-    fn release(&mut self, source: usize, destination: usize) {
-        if source < self.sides.source && destination < self.sides.destination {
+    /// Asks what comes next of the slice that something came for first. Whether there was one.
+    fn go_on_once(
+        &mut self,
+        alloc: Global,
+        handles: &mut Handles<Ticket>,
+        board: &mut Board,
+    ) -> Result<bool, NoMemory>
+        ensures sides { self.new ≡ self.old }
+        ensures others { OnOk result (HasGoneOn board.old board.new) }
+        ensures keeps { OnOk result (Keeps board.old.how self.old [] board.old board.new handles.old handles.new) }
+    {
+        let next = board.next(alloc)?;
+        match next {
+            Next::Nothing => Ok(false),
+            Next::Over {
+                slice: _,
+                source,
+                destination,
+            } => {
+                self.release(source, destination);
+                Ok(true)
+            }
+            Next::Asks {
+                slice,
+                destination,
+                change,
+            } => {
+                change_destination(handles, board, self.sides(), destination, slice, change)?;
+                Ok(true)
+            }
+        }
+    }
+
+    /// How many connections each side has.
+    fn sides(&self) -> Sides
+        ensures { result ≡ self.now }
+    {
+        self.sides
+    }
+
+    /// The connection of each side to which the fewest slices are bound.
+    fn fewest(&self) -> (usize, usize)
+        ensures source { result.0 < self.now.source }
+        ensures destination { result.1 < self.now.destination }
+    {
+        (self.source.fewest(), self.destination.fewest())
+    }
+
+    /// A slice is bound to these connections.
+    fn bind(&mut self, source: usize, destination: usize)
+        requires source { source < self.old.source }
+        requires destination { destination < self.old.destination }
+        ensures { self.new ≡ self.old }
+    {
+        self.source.bind(source);
+        self.destination.bind(destination);
+    }
+
+    /// A slice is over that was bound to these connections. They are looked at, since a board does not know how many there are.
+    fn release(&mut self, source: usize, destination: usize)
+        ensures { self.new ≡ self.old }
+    {
+        if source < self.sides.source as usize && destination < self.sides.destination as usize {
             self.source.release(source);
             self.destination.release(destination);
         }
@@ -187,17 +349,43 @@ impl Bindings {
         handles: &mut Handles<Ticket>,
         board: &mut Board,
         windows: &mut Windows,
-        terms: Terms,
-    ) -> Result<usize, NoMemory> {
+        limit: u64,
+    ) -> Result<usize, NoMemory>
+        requires zeros { windows.old.plan.cells.zeros ≡ not board.old.how.skip }
+        ensures sides { self.new ≡ self.old }
+        ensures windows { windows.new ≡ record windows.old { plan = record windows.old.plan { slices = windows.new.plan.slices } } }
+        ensures begins { OnOk result (Begins board.old.how self.old windows.old windows.new board.old board.new handles.old handles.new) }
+    {
         let mut done: usize = 0;
-        'slices: for _ in board.count() as u64..terms.limit {
-            let Some(slice) = windows.next() else {
+        'slices: for _ in board.count() as u64..limit {
+            if !self.begin_next(alloc, handles, board, windows)? {
                 return Ok(done);
-            };
-            self.begin_one(alloc, handles, board, slice, terms)?;
+            }
             done = done.saturating_add(1);
         }
         Ok(done)
+    }
+
+    /// Begins the next slice that is planned, if there is one. Whether there was.
+    fn begin_next(
+        &mut self,
+        alloc: Global,
+        handles: &mut Handles<Ticket>,
+        board: &mut Board,
+        windows: &mut Windows,
+    ) -> Result<bool, NoMemory>
+        requires zeros { windows.old.plan.cells.zeros ≡ not board.old.how.skip }
+        ensures sides { self.new ≡ self.old }
+        ensures windows { windows.new ≡ record windows.old { plan = record windows.old.plan { slices = windows.new.plan.slices } } }
+        ensures begins { OnOk result (Begins board.old.how self.old windows.old windows.new board.old board.new handles.old handles.new) }
+    {
+        match windows.next() {
+            None => Ok(false),
+            Some(slice) => {
+                self.begin_one(alloc, handles, board, slice)?;
+                Ok(true)
+            }
+        }
     }
 
     /// Begins a slice, and asks for what comes first of it.
@@ -207,35 +395,25 @@ impl Bindings {
         handles: &mut Handles<Ticket>,
         board: &mut Board,
         slice: Slice,
-        terms: Terms,
-    ) -> Result<(), NoMemory> {
-        if !is_fit(slice, board.how()) || self.sides.source == 0 || self.sides.destination == 0 {
-            return Err(NoMemory);
-        }
+    ) -> Result<(), NoMemory>
+        requires room { slice.start + slice.length ≤ 2 ^ 63 }
+        requires copied { slice.zero ≡ true → board.old.how.skip ≡ false }
+        ensures sides { self.new ≡ self.old }
+        ensures others { OnOk result (HasBegun board.old board.new) }
+        ensures keeps { OnOk result (Keeps board.old.how self.old (slice ∷ []) board.old board.new handles.old handles.new) }
+    {
         let number = board.begun();
-        let source = self.source.fewest();
-        let destination = self.destination.fewest();
+        let (source, destination) = self.fewest();
         let first = board.begin(alloc, slice, source, destination)?;
-        self.source.bind(source);
-        self.destination.bind(destination);
-        match first {
-            Ask::Read { offset, buf } => {
-                let index = terms.sides.source(source);
-                ask_read(handles, board, index, number, offset, buf.into_vec())
-            }
-            Ask::Change(change) => {
-                let index = terms.sides.destination(destination);
-                ask_change(handles, board, index, number, change)
-            }
-        }
+        self.bind(source, destination);
+        ask_first(
+            handles,
+            board,
+            self.sides(),
+            source,
+            destination,
+            number,
+            first,
+        )
     }
-}
-
-/// Whether a slice may be begun: it lies where an export's bytes can be, and it is no zero slice where the destination is
-/// zero. A plan gives no other, but no clause of it says so.
-fn is_fit(slice: Slice, how: How) -> bool
-    ensures room { result ≡ true → slice.start + slice.length ≤ 2 ^ 63 }
-    ensures copied { result ≡ true → slice.zero ≡ true → how.skip ≡ false }
-{
-    slice.start <= SIZE_END && slice.length <= SIZE_END - slice.start && !(slice.zero && how.skip)
 }

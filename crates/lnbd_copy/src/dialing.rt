@@ -1,7 +1,10 @@
 //! The connections of a copy: they are made one after another, and negotiate side by side.
 
-ghost use Rattle.std.specs.Prelude.{◌≡◌, ◌≤◌, true, IfErr};
+ghost use Rattle.std.specs.Prelude.{◌≡◌, ◌≤◌, ◌++◌, ◌∷◌, [], true, IfErr, OnOk};
+ghost use Rattle.lnbd_board.specs.Files.{Seen};
 ghost use Rattle.lnbd_copy.specs.Causes.{GoesOn, HasCause, tells_no_count};
+ghost use Rattle.lnbd_copy.specs.Opening.{Dials};
+ghost use Rattle.lnbd_copy.specs.Way.{Goes};
 
 use crate::counts::{Counts, check_faults, check_idles, of_death};
 use crate::opening::open;
@@ -27,6 +30,9 @@ fn hold<W: Wires>(
     link: u32,
     handle: Handle<Ticket>,
 ) -> Result<(), NoMemory>
+    ensures held { OnOk result (handles.new ≡ handles.old ++ record { link = link; handle = handle; inbox = [] } ∷ []) }
+    ensures board { OnOk result (board.new ≡ board.old) }
+    ensures told { OnOk result (W.told wires.new ≡ W.told wires.old) }
     ensures counts { GoesOn (W.faults wires.old) (W.faults wires.new) (W.idles wires.old) (W.idles wires.new) (W.contents wires.old) (W.contents wires.new) }
 {
     if handles.len() >= MAX_CONNECTIONS {
@@ -45,6 +51,7 @@ fn hold<W: Wires>(
 }
 
 /// Connects to this place, and has one handle more ask there.
+#[tactic(auto, using(crate::proofs::DialLemmas::dials))]
 pub(crate) fn dial<W: Wires>(
     alloc: Global,
     handles: &mut Handles<Ticket>,
@@ -55,6 +62,8 @@ pub(crate) fn dial<W: Wires>(
     start: Counts,
 ) -> Result<(), CopyFault>
     requires counted { start.faults ≤ W.faults wires.old }
+    ensures dials { OnOk result (Dials place.now board.old handles.old (W.told wires.old) handles.new (W.told wires.new)) }
+    ensures board { OnOk result (board.new ≡ board.old) }
     ensures causes { IfErr result (λ told. HasCause start (W.faults wires.new) (W.idles wires.new) told) }
     ensures counts { GoesOn (W.faults wires.old) (W.faults wires.new) (W.idles wires.old) (W.idles wires.new) (W.contents wires.old) (W.contents wires.new) }
 {
@@ -71,10 +80,11 @@ pub(crate) fn dial<W: Wires>(
     }
 }
 
-/// Whether a handle negotiates.
+/// Whether a handle negotiates, or has not written all that it did.
 fn is_negotiating(handles: &Handles<Ticket>) -> bool {
     'handles: for index in 0..handles.len() {
-        if let State::Negotiating = handles.get(index).state() {
+        let handle = handles.get(index);
+        if matches!(handle.state(), State::Negotiating) || handle.direction() == 3 {
             return true;
         }
     }
@@ -114,6 +124,7 @@ pub(crate) fn wait<W: Wires>(
     start: Counts,
 ) -> Result<(), CopyFault>
     requires counted { start.idles ≤ W.idles wires.old }
+    ensures goes { OnOk result ((now : Seen) → Goes now handles.old (W.told wires.old) now handles.new (W.told wires.new)) }
     ensures causes { IfErr result (λ told. HasCause start (W.faults wires.new) (W.idles wires.new) told) }
     ensures counts { GoesOn (W.faults wires.old) (W.faults wires.new) (W.idles wires.old) (W.idles wires.new) (W.contents wires.old) (W.contents wires.new) }
 {
@@ -122,8 +133,27 @@ pub(crate) fn wait<W: Wires>(
     Ok(())
 }
 
+/// Waits where nothing happened in a turn.
+#[tactic(auto, using(crate::proofs::CauseLemmas::goes_same, crate::proofs::TurnLemmas::goes_none))]
+fn rest<W: Wires>(
+    handles: &mut Handles<Ticket>,
+    wires: &mut W,
+    start: Counts,
+    told: Turn,
+) -> Result<(), CopyFault>
+    requires counted { start.idles ≤ W.idles wires.old }
+    ensures goes { OnOk result ((now : Seen) → Goes now handles.old (W.told wires.old) now handles.new (W.told wires.new)) }
+    ensures causes { IfErr result (λ told. HasCause start (W.faults wires.new) (W.idles wires.new) told) }
+    ensures counts { GoesOn (W.faults wires.old) (W.faults wires.new) (W.idles wires.old) (W.idles wires.new) (W.contents wires.old) (W.contents wires.new) }
+{
+    match told {
+        Turn::Still => wait(handles, wires, start),
+        Turn::Moved(_) => Ok(()),
+    }
+}
+
 /// Takes turns until no handle negotiates any more, with a pause after each in which nothing happened.
-#[tactic(auto, using(crate::proofs::CauseLemmas::goes_same, crate::proofs::CauseLemmas::goes_then, crate::proofs::CauseLemmas::cause_later, crate::proofs::CauseLemmas::cause_free))]
+#[tactic(auto, using(crate::proofs::CauseLemmas::goes_same, crate::proofs::CauseLemmas::goes_then, crate::proofs::CauseLemmas::cause_later, crate::proofs::CauseLemmas::cause_free, crate::proofs::TurnLemmas::goes_none))]
 pub(crate) fn settle<W: Wires>(
     handles: &mut Handles<Ticket>,
     board: &mut Board,
@@ -132,6 +162,7 @@ pub(crate) fn settle<W: Wires>(
 ) -> Result<(), CopyFault>
     requires faults { start.faults ≤ W.faults wires.old }
     requires idles { start.idles ≤ W.idles wires.old }
+    ensures goes { OnOk result (Goes board.old handles.old (W.told wires.old) board.new handles.new (W.told wires.new)) }
     ensures causes { IfErr result (λ told. HasCause start (W.faults wires.new) (W.idles wires.new) told) }
     ensures counts { GoesOn (W.faults wires.old) (W.faults wires.new) (W.idles wires.old) (W.idles wires.new) (W.contents wires.old) (W.contents wires.new) }
 {
@@ -141,9 +172,7 @@ pub(crate) fn settle<W: Wires>(
         }
         let told = handles.turn(wires, board)?;
         check(handles, wires, start)?;
-        if let Turn::Still = told {
-            wait(handles, wires, start)?;
-        }
+        rest(handles, wires, start, told)?;
     }
     Err(CopyFault::NoMemory)
 }

@@ -1,16 +1,22 @@
 //! What a copy does once both sides are known: slices are begun and go on, extents are asked for, and in the end the
 //! destination is flushed and all connections part. How bytes move is not known here.
 
-ghost use Rattle.std.specs.Prelude.{◌≡◌, ◌<◌, ◌≤◌, ◌^◌};
+ghost use Rattle.std.specs.Prelude.{◌≡◌, ◌≢◌, ◌<◌, ◌≤◌, ◌^◌, ℕ, true, false, not, List, [], Bool, Some, None, IfOk, OnOk};
+ghost use Rattle.lnbd_poll.specs.declared.held.Held.{Held};
+ghost use Rattle.lnbd_board.specs.declared.ticket.Ticket.{Ticket as Tag};
+ghost use Rattle.lnbd_board.specs.Files.{Seen as Kept};
+ghost use Rattle.lnbd_copy.specs.Way.{Keeps, Way};
+ghost use Rattle.lnbd_copy.specs.Windows.{IsPlanned};
 
 use crate::dealing::{Bindings, ask_extents, ask_flush};
 use crate::parting::part;
 use crate::terms::Terms;
 use crate::windows::Windows;
-use lnbd_board::{Board, Ticket};
+use lnbd_board::{Board, How, Ticket};
 use lnbd_model::NoMemory;
 use lnbd_poll::Handles;
 use std::alloc::Global;
+use std::marker::Model;
 
 /// What a copy is at.
 #[derive(Clone, Copy, Debug, PartialEq, Eq)]
@@ -34,17 +40,31 @@ pub(crate) struct Job {
     phase: Phase,
 }
 
+impl Model for Job {
+    ghost use Rattle.lnbd_copy.specs.Job.{Seen, IsSettled};
+
+    ghost Value = { Seen };
+
+    ghost view = { λ j. record { terms = j.terms; windows = j.windows; asked = j.asked; phase = j.phase } };
+
+    ghost invariant = { λ j. IsSettled j.terms j.windows j.bindings };
+}
+
 impl Job {
+    ghost use Rattle.lnbd_copy.specs.declared.job.Phase.TheVariants as phase;
+    ghost use Rattle.lnbd_copy.specs.Job.{Acts, IsJob, IsOver};
+
     /// No slice is begun yet. Where the source's extents can't be asked for, all of it is planned as bytes.
+    #[tactic(auto, using(crate::proofs::JobLemmas::job_begins))]
     pub(crate) fn new(alloc: Global, terms: Terms, extents: bool) -> Result<Job, NoMemory>
         requires cells { (0 < terms.cell) × (0 < terms.zero_cell) × (0 < terms.grain) }
         requires size { terms.size ≤ 2 ^ 63 }
+        ensures terms { IfOk result (λ job. job.terms ≡ terms) }
+        ensures begins { IfOk result (λ job. job.phase ≡ phase.Copying) }
+        ensures job { IfOk result (λ job. (way : Way) (now : Kept) → way.size ≡ Some terms.size → way.how ≡ terms.how → way.sides ≡ terms.sides → way.slices ≡ [] → way.asked ≡ None → IsJob job way now) }
     {
         let bindings = Bindings::new(alloc, terms)?;
-        let mut windows = Windows::new(alloc, terms);
-        if !extents {
-            windows.plan_rest()?;
-        }
+        let windows = first_windows(alloc, terms, extents)?;
         Ok(Job {
             terms,
             windows,
@@ -55,22 +75,35 @@ impl Job {
     }
 
     /// The source's size in bytes.
-    pub(crate) fn size(&self) -> u64 {
+    pub(crate) fn size(&self) -> u64
+        ensures { result ≡ self.now.terms.size }
+    {
         self.terms.size
     }
 
     /// Whether the connections part.
-    pub(crate) fn is_parting(&self) -> bool {
+    pub(crate) fn is_parting(&self) -> bool
+        ensures parting { result ≡ true → self.now.phase ≡ phase.Parting }
+        ensures other { result ≡ false → self.now.phase ≢ phase.Parting }
+    {
         matches!(self.phase, Phase::Parting)
     }
 
     /// Asks for whatever can be asked for now. Whether anything was, or the copy went on in another way.
+    ///
+    /// On `NoMemory` some requests may have been made, and the copy is to end.
+    #[tactic(auto, using(crate::proofs::JobLemmas::acts_none))]
     pub(crate) fn act(
         &mut self,
         alloc: Global,
         handles: &mut Handles<Ticket>,
         board: &mut Board,
-    ) -> Result<bool, NoMemory> {
+    ) -> Result<bool, NoMemory>
+        ensures acts { OnOk result (Acts self.old self.new board.old board.new handles.old handles.new) }
+        ensures terms { self.new.terms ≡ self.old.terms }
+        ensures onward { self.old.phase ≢ phase.Copying → self.new.phase ≢ phase.Copying }
+        ensures parting { self.old.phase ≡ phase.Parting → (self.new ≡ self.old) × (board.new ≡ board.old) × (handles.new ≡ handles.old) }
+    {
         match self.phase {
             Phase::Copying => self.copy(alloc, handles, board),
             Phase::Flushing => Ok(self.flushed(handles, board)),
@@ -78,19 +111,25 @@ impl Job {
         }
     }
 
-    /// Slices go on, extents are heard and asked for, and slices are begun.
+    /// Slices go on, extents are heard and asked for, and slices are begun. A board that doesn't write as was settled counts as
+    /// one for which memory ran out: there is none, but no clause of a turn says so.
     fn copy(
         &mut self,
         alloc: Global,
         handles: &mut Handles<Ticket>,
         board: &mut Board,
-    ) -> Result<bool, NoMemory> {
-        let went = self.bindings.go_on(alloc, handles, board, self.terms)?;
+    ) -> Result<bool, NoMemory>
+        requires { self.old.phase ≡ phase.Copying }
+        ensures acts { OnOk result (Acts self.old self.new board.old board.new handles.old handles.new) }
+        ensures terms { self.new.terms ≡ self.old.terms }
+    {
+        if !is_same(board.how(), self.terms.how) {
+            return Err(NoMemory);
+        }
+        let went = self.go_on(alloc, handles, board)?;
         let heard = self.hear(board)?;
         let asked = self.ask(handles, board)?;
-        let begun = self
-            .bindings
-            .begin(alloc, handles, board, &mut self.windows, self.terms)?;
+        let begun = self.begin(alloc, handles, board)?;
         if self.is_copied(board) {
             self.conclude(handles, board)?;
             return Ok(true);
@@ -98,9 +137,32 @@ impl Job {
         Ok(went != 0 || begun != 0 || heard || asked)
     }
 
+    /// Slices go on that something came for. How many requests were made, and slices came to their end.
+    fn go_on(
+        &mut self,
+        alloc: Global,
+        handles: &mut Handles<Ticket>,
+        board: &mut Board,
+    ) -> Result<usize, NoMemory>
+        requires how { board.old.how ≡ self.old.terms.how }
+        requires copying { self.old.phase ≡ phase.Copying }
+        ensures acts { OnOk result (Acts self.old self.new board.old board.new handles.old handles.new) }
+        ensures how { OnOk result (board.new.how ≡ board.old.how) }
+        ensures job { self.new ≡ self.old }
+    {
+        let went = self.bindings.go_on(alloc, handles, board)?;
+        Ok(went)
+    }
+
     /// Takes extents that were told.
-    fn hear(&mut self, board: &Board) -> Result<bool, NoMemory> {
-        if !self.asked || !board.is_mapped() {
+    #[tactic(auto, using(crate::proofs::JobLemmas::acts_none))]
+    fn hear(&mut self, board: &Board) -> Result<bool, NoMemory>
+        requires { self.old.phase ≡ phase.Copying }
+        ensures acts { OnOk result ((held : List (Held Tag)) → Acts self.old self.new board.now board.now held held) }
+        ensures terms { self.new.terms ≡ self.old.terms }
+        ensures phase { self.new.phase ≡ self.old.phase }
+    {
+        if !self.has_come(board) {
             return Ok(false);
         }
         self.asked = false;
@@ -108,33 +170,76 @@ impl Job {
         Ok(true)
     }
 
-    /// Asks for extents, where a window is under way, or fewer planned slices are not over than may be under way.
-    fn ask(&mut self, handles: &mut Handles<Ticket>, board: &mut Board) -> Result<bool, NoMemory> {
-        let planned = self.windows.left().saturating_add(board.count() as u64);
-        if self.asked || !self.windows.is_under_way() && planned >= self.terms.limit {
+    /// Whether extents were told that were asked for.
+    fn has_come(&self, board: &Board) -> bool
+        ensures asked { result ≡ true → self.now.asked ≡ true }
+        ensures mapped { result ≡ true → board.now.mapped ≡ true }
+    {
+        self.asked && board.is_mapped()
+    }
+
+    /// Asks for extents, if they may be asked for and windows are left.
+    #[tactic(auto, using(crate::proofs::JobLemmas::acts_none))]
+    fn ask(&mut self, handles: &mut Handles<Ticket>, board: &mut Board) -> Result<bool, NoMemory>
+        requires { self.old.phase ≡ phase.Copying }
+        ensures acts { OnOk result (Acts self.old self.new board.old board.new handles.old handles.new) }
+        ensures how { OnOk result (board.new.how ≡ board.old.how) }
+        ensures terms { self.new.terms ≡ self.old.terms }
+        ensures phase { self.new.phase ≡ self.old.phase }
+    {
+        if !self.may_ask(board) {
             return Ok(false);
         }
         match self.windows.wanted() {
             None => Ok(false),
             Some(wanted) => {
-                ask_extents(handles, board, wanted)?;
+                ask_extents(handles, board, wanted.offset, wanted.length)?;
                 self.asked = true;
                 Ok(true)
             }
         }
     }
 
-    /// Whether all slices of all windows are over.
-    fn is_copied(&self, board: &Board) -> bool {
-        self.windows.are_planned() && self.windows.left() == 0 && board.count() == 0
+    /// Whether extents may be asked for: none are, and a window is under way, or fewer planned slices are not over than may be
+    /// under way.
+    fn may_ask(&self, board: &Board) -> bool
+        ensures { result ≡ true → self.now.asked ≡ false }
+    {
+        let planned = self.windows.left().saturating_add(board.count() as u64);
+        !self.asked && (self.windows.is_under_way() || planned < self.terms.limit)
+    }
+
+    /// Planned slices are begun. How many were.
+    fn begin(
+        &mut self,
+        alloc: Global,
+        handles: &mut Handles<Ticket>,
+        board: &mut Board,
+    ) -> Result<usize, NoMemory>
+        requires how { board.old.how ≡ self.old.terms.how }
+        requires copying { self.old.phase ≡ phase.Copying }
+        ensures acts { OnOk result (Acts self.old self.new board.old board.new handles.old handles.new) }
+        ensures terms { self.new.terms ≡ self.old.terms }
+    {
+        let begun = self
+            .bindings
+            .begin(alloc, handles, board, &mut self.windows, self.terms.limit)?;
+        Ok(begun)
+    }
+
+    /// Whether all extents were heard, and all slices of all windows are over.
+    fn is_copied(&self, board: &Board) -> bool
+        ensures { result ≡ true → IsOver self.now board.now }
+    {
+        !self.asked && self.windows.are_planned() && self.windows.left() == 0 && board.count() == 0
     }
 
     /// Asks for the flush, where it is wanted, or else for the end.
-    fn conclude(
-        &mut self,
-        handles: &mut Handles<Ticket>,
-        board: &mut Board,
-    ) -> Result<(), NoMemory> {
+    fn conclude(&mut self, handles: &mut Handles<Ticket>, board: &mut Board) -> Result<(), NoMemory>
+        requires { IsOver self.old board.old }
+        ensures acts { OnOk result (Acts self.old self.new board.old board.new handles.old handles.new) }
+        ensures terms { self.new.terms ≡ self.old.terms }
+    {
         if self.terms.flush {
             ask_flush(handles, board)?;
             self.phase = Phase::Flushing;
@@ -145,7 +250,13 @@ impl Job {
     }
 
     /// Asks for the end, where the flush was answered.
-    fn flushed(&mut self, handles: &mut Handles<Ticket>, board: &Board) -> bool {
+    #[tactic(auto, using(crate::proofs::JobLemmas::acts_none))]
+    fn flushed(&mut self, handles: &mut Handles<Ticket>, board: &Board) -> bool
+        requires { self.old.phase ≡ phase.Flushing }
+        ensures acts { Acts self.old self.new board.now board.now handles.old handles.new }
+        ensures terms { self.new.terms ≡ self.old.terms }
+        ensures phase { self.new.phase ≢ phase.Copying }
+    {
         if board.is_flushed() {
             self.leave(handles);
             return true;
@@ -153,8 +264,39 @@ impl Job {
         false
     }
 
-    fn leave(&mut self, handles: &mut Handles<Ticket>) {
+    /// Asks for the end.
+    fn leave(&mut self, handles: &mut Handles<Ticket>)
+        ensures keeps { (now : Kept) → Keeps self.old.terms.how self.old.terms.sides [] now now handles.old handles.new }
+        ensures others { self.new ≡ record self.old { phase = phase.Parting } }
+    {
         part(handles);
         self.phase = Phase::Parting;
     }
+}
+
+/// The windows before any extent was told. Where none can be asked for, all of the source is planned as bytes.
+fn first_windows(alloc: Global, terms: Terms, extents: bool) -> Result<Windows, NoMemory>
+    requires cells { (0 < terms.cell) × (0 < terms.zero_cell) × (0 < terms.grain) }
+    requires size { terms.size ≤ 2 ^ 63 }
+    ensures planned { IfOk result (λ windows. (zero : ℕ → Bool) → IsPlanned windows zero []) }
+    ensures size { IfOk result (λ windows. windows.size ≡ terms.size) }
+    ensures zeros { IfOk result (λ windows. windows.plan.cells.zeros ≡ not terms.how.skip) }
+{
+    let mut windows = Windows::new(alloc, terms);
+    if extents {
+        return Ok(windows);
+    }
+    windows.plan_rest()?;
+    Ok(windows)
+}
+
+/// Whether two copies write alike.
+#[tactic(auto, using(crate::proofs::JobLemmas::same_how))]
+fn is_same(one: How, other: How) -> bool
+    ensures { result ≡ true → one ≡ other }
+{
+    one.block == other.block
+        && one.skip == other.skip
+        && one.zeroes == other.zeroes
+        && one.allocated == other.allocated
 }

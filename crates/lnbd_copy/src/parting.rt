@@ -1,7 +1,12 @@
 //! The end of a copy's connections: each is asked to end, and its link is shut once that is written or it has ended.
 
 ghost use Rattle.std.specs.Prelude.{◌≡◌, ◌<◌, ◌+◌, [], length};
+ghost use Rattle.lnbd_board.specs.declared.how.How.{How};
+ghost use Rattle.lnbd_board.specs.Files.{Seen};
+ghost use Rattle.lnbd_copy.specs.declared.sides.Sides.{Sides};
 ghost use Rattle.lnbd_copy.specs.Causes.{GoesOn};
+ghost use Rattle.lnbd_copy.specs.Leaving.{Leaves};
+ghost use Rattle.lnbd_copy.specs.Way.{Keeps};
 
 use lnbd_board::{Board, Ticket};
 use lnbd_link::Wires;
@@ -9,7 +14,10 @@ use lnbd_model::State;
 use lnbd_poll::Handles;
 
 /// Asks every connection to end.
-pub(crate) fn part(handles: &mut Handles<Ticket>) {
+#[tactic(auto, using(crate::proofs::PartLemmas::keeps_none))]
+pub(crate) fn part(handles: &mut Handles<Ticket>)
+    ensures keeps { (how : How) (sides : Sides) (now : Seen) → Keeps how sides [] now now handles.old handles.new }
+{
     'handles: for index in 0..handles.len() {
         let _ = handles.get_mut(index).aio_disconnect();
     }
@@ -28,8 +36,10 @@ fn has_parted(handles: &Handles<Ticket>, index: usize) -> bool
 }
 
 /// Closes a handle and shuts its link.
+#[tactic(auto, using(crate::proofs::FiledLemmas::calls_filed, crate::proofs::PartLemmas::leaves_one))]
 fn hang_up<W: Wires>(handles: &mut Handles<Ticket>, board: &mut Board, wires: &mut W, index: usize)
     requires { index < length handles.old }
+    ensures leaves { Leaves board.old handles.old (W.told wires.old) board.new handles.new (W.told wires.new) }
     ensures counts { GoesOn (W.faults wires.old) (W.faults wires.new) (W.idles wires.old) (W.idles wires.new) (W.contents wires.old) (W.contents wires.new) }
     ensures fewer { length handles.new + 1 ≡ length handles.old }
 {
@@ -39,12 +49,13 @@ fn hang_up<W: Wires>(handles: &mut Handles<Ticket>, board: &mut Board, wires: &m
 }
 
 /// Hangs up where a connection has parted. How many did.
-#[tactic(auto, using(crate::proofs::CauseLemmas::goes_same, crate::proofs::CauseLemmas::goes_then, crate::proofs::CauseLemmas::cause_later, crate::proofs::CauseLemmas::cause_free))]
+#[tactic(auto, using(crate::proofs::CauseLemmas::goes_same, crate::proofs::CauseLemmas::goes_then, crate::proofs::CauseLemmas::cause_later, crate::proofs::CauseLemmas::cause_free, crate::proofs::PartLemmas::leaves_none, crate::proofs::PartLemmas::leaves_then))]
 pub(crate) fn shut_parted<W: Wires>(
     handles: &mut Handles<Ticket>,
     board: &mut Board,
     wires: &mut W,
 ) -> usize
+    ensures leaves { Leaves board.old handles.old (W.told wires.old) board.new handles.new (W.told wires.new) }
     ensures counts { GoesOn (W.faults wires.old) (W.faults wires.new) (W.idles wires.old) (W.idles wires.new) (W.contents wires.old) (W.contents wires.new) }
 {
     let count = handles.len();
@@ -65,6 +76,7 @@ pub(crate) fn shut_parted<W: Wires>(
 pub(crate) fn shut_all<W: Wires>(handles: &mut Handles<Ticket>, board: &mut Board, wires: &mut W)
     ensures counts { GoesOn (W.faults wires.old) (W.faults wires.new) (W.idles wires.old) (W.idles wires.new) (W.contents wires.old) (W.contents wires.new) }
     ensures none { handles.new ≡ [] }
+    ensures parted { handles.old ≡ [] → wires.new ≡ wires.old }
 {
     'handles: while !handles.is_empty() {
         hang_up(handles, board, wires, 0);

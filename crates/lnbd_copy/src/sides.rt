@@ -1,11 +1,14 @@
 //! Which handle of a copy is which connection.
 
+ghost use Rattle.std.specs.Prelude.{◌≡◌, ◌<◌, true, false};
+ghost use Rattle.lnbd_copy.specs.Way.{is_source};
+
 /// How many connections each side has. The first handle that is held is the source's first connection and the second the
 /// destination's; behind them stand the others of the source, and then those of the destination.
 #[derive(Clone, Copy, Debug, PartialEq, Eq)]
 pub(crate) struct Sides {
-    pub(crate) source: usize,
-    pub(crate) destination: usize,
+    pub(crate) source: u32,
+    pub(crate) destination: u32,
 }
 
 /// The handle of the source's first connection, and of the destination's.
@@ -15,23 +18,30 @@ pub(crate) const FIRST_DESTINATION: usize = 1;
 
 impl Sides {
     /// The handle of a connection of the source.
-    pub(crate) fn source(self, connection: usize) -> usize {
+    pub(crate) fn source(self, connection: usize) -> usize
+        requires { connection < self.source }
+        ensures { is_source self result ≡ true }
+    {
         if connection == 0 {
             return FIRST_SOURCE;
         }
-        connection.saturating_add(1)
+        connection + 1
     }
 
     /// The handle of a connection of the destination.
-    pub(crate) fn destination(self, connection: usize) -> usize {
+    pub(crate) fn destination(self, connection: usize) -> usize
+        ensures { is_source self result ≡ false }
+    {
         if connection == 0 {
             return FIRST_DESTINATION;
         }
-        connection.saturating_add(self.source)
+        connection.saturating_add(self.source as usize)
     }
 
     /// Whether this handle is a connection of the source.
-    pub(crate) fn is_source(self, index: usize) -> bool {
-        index == FIRST_SOURCE || FIRST_DESTINATION < index && index <= self.source
+    pub(crate) fn is_source(self, index: usize) -> bool
+        ensures { result ≡ is_source self index }
+    {
+        index == FIRST_SOURCE || FIRST_DESTINATION < index && index <= self.source as usize
     }
 }

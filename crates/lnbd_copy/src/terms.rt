@@ -120,9 +120,11 @@ fn halved(power: u32, most: u32) -> u32 {
 }
 
 /// How many connections a side has.
-fn connections(info: &ExportInfo, options: CopyOptions) -> usize {
+fn connections(info: &ExportInfo, options: CopyOptions) -> u32
+    ensures { 0 < result }
+{
     if has(info, CAN_MULTI_CONN) {
-        return options.connections as usize;
+        return options.connections.max(1);
     }
     1
 }
@@ -149,6 +151,8 @@ fn sparse_block(options: CopyOptions, destination: &ExportInfo, cell: u32) -> u3
 pub(crate) fn settled(options: CopyOptions, source: &ExportInfo, destination: &ExportInfo) -> Terms
     ensures cells { (0 < result.cell) × (0 < result.zero_cell) × (0 < result.grain) }
     ensures size { result.size ≡ source.now.size }
+    ensures skip { result.how.skip ≡ options.destination_is_zero }
+    ensures some { 0 < result.sides.source }
 {
     let grain = least_block(source.blocks).max(least_block(destination.blocks));
     let most = most_bytes(source.blocks).min(most_bytes(destination.blocks));

@@ -1,7 +1,12 @@
 //! The windows of a copy: how far the source's extents were asked for and told, and the slices that are planned of it.
 //! One window after another is asked for; which connection is asked, and when, is not known here.
 
-ghost use Rattle.std.specs.Prelude.{◌≡◌, ◌<◌, ◌≤◌, ◌+◌, ◌-◌, ◌^◌, IfSome, IfOk, OnOk, OnErr};
+ghost use Rattle.std.specs.Prelude.{◌≡◌, ◌<◌, ◌≤◌, ◌+◌, ◌-◌, ◌^◌, ℕ, Bool, true, not, ◌&&◌, ◌||◌, ◌==◌, nat_lt, min, length, List, [], ◌++◌, IfSome, IfOk, OnOk, OnErr, None, option_to_list};
+ghost use Rattle.std.specs.Option.{option_map};
+ghost use Rattle.lnbd_extents.specs.Positions.{within, holds};
+ghost use Rattle.lnbd_extents.specs.Lists.{flags_at};
+ghost use Rattle.lnbd_asked.specs.Transcript.{is_zero};
+ghost use Rattle.lnbd_copy.specs.Windows.{zero_within};
 
 use crate::terms::Terms;
 use lnbd_extents::{Ranges, push_joined};
@@ -37,20 +42,25 @@ pub(crate) struct Windows {
 }
 
 impl Model for Windows {
-    ghost use Rattle.std.specs.Prelude.{◌≡◌, ◌<◌, ◌≤◌, ◌^◌};
+    ghost use Rattle.lnbd_copy.specs.Windows.{Seen, AreKept};
 
-    ghost Value = { Unit {0} };
+    ghost Value = { Seen };
 
-    ghost view = { λ w. tt };
+    ghost view = { λ w. record { plan = w.plan; size = w.size; at = w.at; zero = w.zero } };
 
-    ghost invariant = { λ w. (w.plan.end ≡ w.start) × (w.start ≤ w.at) × (w.at ≤ w.size) × (w.size ≤ 2 ^ 63) × (0 < w.grain) };
+    ghost invariant = { λ w. AreKept w.plan w.start w.at w.size w.grain };
 }
 
 impl Windows {
+    ghost use Rattle.lnbd_plan.specs.declared.grid.Slice.{Slice};
+    ghost use Rattle.lnbd_copy.specs.Windows.{wanted, zero_heard, IsPlanned};
+
     /// No window yet.
     pub(crate) fn new(alloc: Global, terms: Terms) -> Windows
         requires cells { (0 < terms.cell) × (0 < terms.zero_cell) × (0 < terms.grain) }
         requires size { terms.size ≤ 2 ^ 63 }
+        ensures value { result ≡ record { plan = record { end = 0; slices = []; cells = record { cell = terms.cell; zero_cell = terms.zero_cell; zeros = not terms.how.skip } }; size = terms.size; at = 0; zero = [] } }
+        ensures planned { (zero : ℕ → Bool) → IsPlanned result zero [] }
     {
         Windows {
             alloc,
@@ -63,8 +73,13 @@ impl Windows {
         }
     }
 
-    /// Plans all that is left as bytes of which nothing is told.
-    pub(crate) fn plan_rest(&mut self) -> Result<(), NoMemory> {
+    /// Plans all that is left as bytes of which nothing more is told.
+    pub(crate) fn plan_rest(&mut self) -> Result<(), NoMemory>
+        ensures planned { OnOk result ((zero : ℕ → Bool) (slices : List Slice) → IsPlanned self.old zero slices → IsPlanned self.new zero slices) }
+        ensures whole { OnOk result (self.new.plan.end ≡ self.old.size) }
+        ensures cells { self.new.plan.cells ≡ self.old.plan.cells }
+        ensures size { self.new.size ≡ self.old.size }
+    {
         self.plan
             .window(self.start, self.size - self.start, &self.zero)?;
         self.start = self.size;
@@ -73,7 +88,9 @@ impl Windows {
     }
 
     /// The range whose extents are to be asked for next, if windows are left.
-    pub(crate) fn wanted(&self) -> Option<Wanted> {
+    pub(crate) fn wanted(&self) -> Option<Wanted>
+        ensures { option_map (λ range. (range.offset, range.length)) result ≡ wanted self.now }
+    {
         let end = end_of(self.start, self.size);
         if self.at < end {
             return Some(Wanted {
@@ -85,7 +102,13 @@ impl Windows {
     }
 
     /// Takes the extents that were told of the range that was wanted. A window that is told whole is planned.
-    pub(crate) fn hear(&mut self, told: &[Extent]) -> Result<(), NoMemory> {
+    pub(crate) fn hear(&mut self, told: &[Extent]) -> Result<(), NoMemory>
+        ensures planned { OnOk result ((zero : ℕ → Bool) (slices : List Slice) → IsPlanned self.old zero slices
+            → IsPlanned self.new (λ p. zero p || zero_heard (wanted self.old) told.now p) slices) }
+        ensures cells { self.new.plan.cells ≡ self.old.plan.cells }
+        ensures size { self.new.size ≡ self.old.size }
+        ensures unwanted { wanted self.old ≡ None → self.new ≡ self.old }
+    {
         let end = end_of(self.start, self.size);
         if end <= self.at {
             return Ok(());
@@ -105,22 +128,33 @@ impl Windows {
     }
 
     /// Whether a part of a window was told, and not all of it.
-    pub(crate) fn is_under_way(&self) -> bool {
+    pub(crate) fn is_under_way(&self) -> bool
+        ensures { result ≡ nat_lt self.now.plan.end self.now.at }
+    {
         self.start < self.at
     }
 
     /// Whether all windows are planned.
-    pub(crate) fn are_planned(&self) -> bool {
+    pub(crate) fn are_planned(&self) -> bool
+        ensures { result ≡ (self.now.plan.end == self.now.size) }
+    {
         self.start == self.size
     }
 
     /// The next slice, if one is planned.
-    pub(crate) fn next(&mut self) -> Option<Slice> {
+    pub(crate) fn next(&mut self) -> Option<Slice>
+        ensures slices { self.old.plan.slices ≡ option_to_list result ++ self.new.plan.slices }
+        ensures others { self.new ≡ record self.old { plan = record self.old.plan { slices = self.new.plan.slices } } }
+        ensures room { IfSome result (λ slice. slice.start + slice.length ≤ 2 ^ 63) }
+        ensures copied { IfSome result (λ slice. slice.zero ≡ true → self.old.plan.cells.zeros ≡ true) }
+    {
         self.plan.next()
     }
 
     /// How many slices are planned and still to come.
-    pub(crate) fn left(&self) -> u64 {
+    pub(crate) fn left(&self) -> u64
+        ensures { result ≡ length self.now.plan.slices }
+    {
         self.plan.left()
     }
 }
@@ -128,7 +162,8 @@ impl Windows {
 /// Where the window ends that begins here.
 fn end_of(start: u64, size: u64) -> u64
     requires { start ≤ size }
-    ensures { (start ≤ result) × (result ≤ size) }
+    ensures end { result ≡ min (start + 134217728) size }
+    ensures order { (start ≤ result) × (result ≤ size) }
 {
     start + WINDOW.min(size - start)
 }
@@ -136,6 +171,7 @@ fn end_of(start: u64, size: u64) -> u64
 /// What was told, with ZERO as the one flag, equal neighbours joined, up to so many bytes.
 fn joined(alloc: Global, told: &[Extent], most: u64) -> Result<Vec<Extent>, NoMemory>
     requires { most ≤ 2 ^ 63 }
+    ensures { IfOk result (λ list. (p : ℕ) → is_zero (flags_at list.items p) ≡ true → is_zero (flags_at told.now p) ≡ true) }
 {
     let mut list = Vec::new(alloc);
     let mut left = most;
@@ -163,12 +199,13 @@ fn hold_zeroes(
 ) -> Result<u64, NoMemory>
     requires room { from + most ≤ 2 ^ 63 }
     requires grain { 0 < grain }
-    ensures { IfOk result (λ reached. reached ≤ most) }
+    ensures reached { IfOk result (λ reached. reached ≤ most) }
+    ensures held { OnOk result ((p : ℕ) → holds zero.new p ≡ true → holds zero.old p || zero_within (from, most) told.now p ≡ true) }
 {
     let mut reached: u64 = 0;
     'extents: for extent in told {
         let length = extent.length.min(most - reached);
-        if extent.flags != 0 {
+        if extent.flags & ZERO != 0 {
             hold_blocks(zero, from + reached, length, grain)?;
         }
         reached += length;
@@ -180,6 +217,7 @@ fn hold_zeroes(
 fn hold_blocks(zero: &mut Ranges, start: u64, length: u64, grain: u64) -> Result<(), NoMemory>
     requires room { start + length ≤ 2 ^ 63 }
     requires grain { 0 < grain }
+    ensures { OnOk result ((p : ℕ) → holds zero.new p ≡ true → within (start, length) p || holds zero.old p ≡ true) }
 {
     let end = start + length;
     let last = end - end % grain;

@@ -25,18 +25,18 @@ some_same one other e = cc
 
 -- Links stay.
 
-event_apart : (link index : ℕ) (event : Event Ticket) (seens : List (Seen Ticket)) → AreApart link seens → AreApart link (with_event index event seens)
+pub event_apart : (link index : ℕ) (event : Event Ticket) (seens : List (Seen Ticket)) → AreApart link seens → AreApart link (with_event index event seens)
 event_apart link index event [] apart = tt
 event_apart link zero event (seen ∷ others) apart = apart
 event_apart link (suc index) event (seen ∷ others) apart = (apart.0, event_apart link index event others apart.1)
 
-was_apart : (link index : ℕ) (event : Event Ticket) (seens : List (Seen Ticket)) → AreApart link (with_event index event seens) → AreApart link seens
+pub was_apart : (link index : ℕ) (event : Event Ticket) (seens : List (Seen Ticket)) → AreApart link (with_event index event seens) → AreApart link seens
 was_apart link index event [] apart = tt
 was_apart link zero event (seen ∷ others) apart = apart
 was_apart link (suc index) event (seen ∷ others) apart = (apart.0, was_apart link index event others apart.1)
 
 -- a link that is apart isn't that of one of them
-not_one : (link index : ℕ) (seen : Seen Ticket) (seens : List (Seen Ticket)) → slice_get seens index ≡ Some seen → AreApart link seens → link ≢ seen.link
+pub not_one : (link index : ℕ) (seen : Seen Ticket) (seens : List (Seen Ticket)) → slice_get seens index ≡ Some seen → AreApart link seens → link ≢ seen.link
 not_one link index seen [] there apart = absurd (none_some seen there)
 not_one link zero seen (first ∷ others) there apart = λ e. apart.0 (ap (λ (s : Seen Ticket). s.link) (some_same first seen there) ∙ sym e)
 not_one link (suc index) seen (first ∷ others) there apart = not_one link index seen others there apart.1
@@ -44,14 +44,14 @@ not_one link (suc index) seen (first ∷ others) there apart = not_one link inde
 -- Histories.
 
 module _ (event : Event Ticket) (histories : Histories) where
-  abbrev then : ℕ → Histories
+  abbrev pub then : ℕ → Histories
   then link = with_history link (event ∷ histories link) histories
 
-  others_have : (link : ℕ) (seens : List (Seen Ticket)) → AreApart link seens → AllHave histories seens → AllHave (then link) seens
+  pub others_have : (link : ℕ) (seens : List (Seen Ticket)) → AreApart link seens → AllHave histories seens → AllHave (then link) seens
   others_have link [] apart have = tt
   others_have link (seen ∷ others) apart have = (with_others link (event ∷ histories link) histories seen.link apart.0 ∙ have.0, others_have link others apart.1 have.1)
 
-  then_have : (index : ℕ) (seen : Seen Ticket) (seens : List (Seen Ticket)) → slice_get seens index ≡ Some seen → HaveOwnLinks seens → AllHave histories seens → AllHave (then seen.link) (with_event index event seens)
+  pub then_have : (index : ℕ) (seen : Seen Ticket) (seens : List (Seen Ticket)) → slice_get seens index ≡ Some seen → HaveOwnLinks seens → AllHave histories seens → AllHave (then seen.link) (with_event index event seens)
   then_have index seen [] there own have = tt
   then_have zero seen (first ∷ others) there own have =
       subst (λ (s : Seen Ticket). AllHave (then s.link) (with_event zero event (first ∷ others))) (some_same first seen there)
@@ -60,7 +60,7 @@ module _ (event : Event Ticket) (histories : Histories) where
       (with_others seen.link (event ∷ histories seen.link) histories first.link (λ e. not_one first.link index seen others there own.0 e) ∙ have.0, then_have index seen others there own.1 have.1)
 
 -- What stands on, with what stands of both sides after the event.
-goes_on : (how : How) (has : ℕ → Bool) (slices slices' : List Slice) (now now' : board.Seen) (calls : List wire.Call) (seens : List (Seen Ticket)) (index : ℕ) (seen : Seen Ticket) (event : Event Ticket) →
+unfoldable pub goes_on : (how : How) (has : ℕ → Bool) (slices slices' : List Slice) (now now' : board.Seen) (calls : List wire.Call) (seens : List (Seen Ticket)) (index : ℕ) (seen : Seen Ticket) (event : Event Ticket) →
     (c : Course how has slices now calls seens) → slice_get seens index ≡ Some seen → is_inward event ≡ true → Spells seen.history event → sets_opt_mode event ≡ false →
     Stood how has slices' now' (then event c.histories seen.link) → Course how has slices' now' calls (with_event index event seens)
 goes_on how has slices slices' now now' calls seens index seen event c there inward spells off stood = record {
@@ -80,22 +80,22 @@ goes_on how has slices slices' now now' calls seens index seen event c there inw
   stood = stood;
 }
 
-pub source_asks_keep : SourceAsksKeep
+unfoldable pub source_asks_keep : SourceAsksKeep
 source_asks_keep how has slices slices' now now' calls seens index seen command c there is spells asks =
     goes_on how has slices slices' now now' calls seens index seen (Issue command) c there refl spells refl
     (source_asked how has slices slices' seen.link command c.histories (then (Issue command) c.histories seen.link) (with_happens seen.link (Issue command) c.histories) now now' is asks c.stood)
 
-pub destination_asks_keep : DestinationAsksKeep
+unfoldable pub destination_asks_keep : DestinationAsksKeep
 destination_asks_keep how has slices slices' now now' calls seens index seen command c there is spells asks =
     goes_on how has slices slices' now now' calls seens index seen (Issue command) c there refl spells refl
     (destination_asked how has slices slices' seen.link command c.histories (then (Issue command) c.histories seen.link) (with_happens seen.link (Issue command) c.histories) now now' is asks c.stood)
 
-pub others_keep : OthersKeep
+unfoldable pub others_keep : OthersKeep
 others_keep how has slices now calls seens index seen event c there inward other none spells off =
     goes_on how has slices slices now now calls seens index seen event c there inward spells off
     (quiet_stood how has slices seen.link event c.histories (then event c.histories seen.link) (with_happens seen.link event c.histories) now c.stood other none)
 
-pub board_moves_keep : BoardMovesKeep
+unfoldable pub board_moves_keep : BoardMovesKeep
 board_moves_keep how has slices now now' calls seens c earlier keeps = record {
   histories = c.histories;
   held = c.held;

@@ -189,10 +189,10 @@ module _ (how : How) (slices : List Slice) (sources destinations : Histories) (s
 
 module _ (place : Place) (calls : List Call) (histories : Histories) (requests : List Request) (all : AllTrack histories requests)
     (says : (link : ℕ) → is_of place calls link ≡ true → DrivenSays (histories link) (on_link link calls))
-    (of : (link cookie : ℕ) (q : commands.Request Ticket) → history_of.request (histories link) cookie ≡ Some q → is_of place calls link ≡ true) where
+    (of : (link cookie : ℕ) (q : commands.Request Ticket) → history_of.request (histories link) cookie ≡ Some q → nat_le cookie (written (histories link)) ≡ true → is_of place calls link ≡ true) where
   asked_so : (link cookie : ℕ) (q : commands.Request Ticket) → history_of.request (histories link) cookie ≡ Some q → nat_le cookie (written (histories link)) ≡ true → (dealt_with place calls).asked link cookie ≡ Some (bare q)
   asked_so link cookie q is out =
-      let here = of link cookie q is in
+      let here = of link cookie q is out in
       ap (λ (b : Bool). only_if b (asked_on (on_link link calls) cookie)) here
       ∙ (says link here).requests cookie
       ∙ ap (λ (b : Bool). if b then option_map bare (history_of.request (histories link) cookie) else None) out
@@ -200,7 +200,7 @@ module _ (place : Place) (calls : List Call) (histories : Histories) (requests :
 
   came_so : (link cookie : ℕ) (q : commands.Request Ticket) → history_of.request (histories link) cookie ≡ Some q → nat_le cookie (written (histories link)) ≡ true → (dealt_with place calls).outcome link cookie ≡ outcome_after (histories link) cookie
   came_so link cookie q is out =
-      let here = of link cookie q is in
+      let here = of link cookie q is out in
       ap (λ (b : Bool). if b then answered (on_link link calls) cookie else Unfinished) here ∙ (says link here).outcomes cookie out
 
   shown : (r : Request) → IsIn r (gone_out histories requests) → ((dealt_with place calls).asked r.link r.cookie ≡ Some r.said.command) × ((dealt_with place calls).outcome r.link r.cookie ≡ r.said.outcome)
@@ -259,15 +259,17 @@ module _ (from to : Place) (how : How) (calls : List Call) (f : IsFinished from 
   side_says : (side : ℕ → Bool) (place : Place) → ((link : ℕ) → is_of place calls link ≡ true → side link ≡ true) → (link : ℕ) → is_of place calls link ≡ true → DrivenSays (on_side side histories link) (on_link link calls)
   side_says side place its link here = subst (λ h. DrivenSays h (on_link link calls)) (sym (on_here side histories link (its link here))) (f.course.parted link tt)
 
-  source_of : (link cookie : ℕ) (q : commands.Request Ticket) → history_of.request (on_side f.has histories link) cookie ≡ Some q → is_of from calls link ≡ true
-  source_of link cookie q e =
+  source_of : (link cookie : ℕ) (q : commands.Request Ticket) → history_of.request (on_side f.has histories link) cookie ≡ Some q → nat_le cookie (written (on_side f.has histories link)) ≡ true → is_of from calls link ≡ true
+  source_of link cookie q e out =
       let is = no_request histories f.has link cookie q e in
-      subst (λ (b : Bool). is_of (if b then from else to) calls link ≡ true) is (f.sides.asked link cookie q (ap (λ h. history_of.request h cookie) (sym (on_here f.has histories link is)) ∙ e))
+      let same = on_here f.has histories link is in
+      subst (λ (b : Bool). is_of (if b then from else to) calls link ≡ true) is (f.sides.asked link cookie q (ap (λ h. history_of.request h cookie) (sym same) ∙ e) (ap (λ h. nat_le cookie (written h)) (sym same) ∙ out))
 
-  destination_of : (link cookie : ℕ) (q : commands.Request Ticket) → history_of.request (on_side (beside f.has) histories link) cookie ≡ Some q → is_of to calls link ≡ true
-  destination_of link cookie q e =
+  destination_of : (link cookie : ℕ) (q : commands.Request Ticket) → history_of.request (on_side (beside f.has) histories link) cookie ≡ Some q → nat_le cookie (written (on_side (beside f.has) histories link)) ≡ true → is_of to calls link ≡ true
+  destination_of link cookie q e out =
       let is = no_request histories (beside f.has) link cookie q e in
-      subst (λ (b : Bool). is_of (if b then from else to) calls link ≡ true) (not_beside (f.has link) is) (f.sides.asked link cookie q (ap (λ h. history_of.request h cookie) (sym (on_here (beside f.has) histories link is)) ∙ e))
+      let same = on_here (beside f.has) histories link is in
+      subst (λ (b : Bool). is_of (if b then from else to) calls link ≡ true) (not_beside (f.has link) is) (f.sides.asked link cookie q (ap (λ h. history_of.request h cookie) (sym same) ∙ e) (ap (λ h. nat_le cookie (written h)) (sym same) ∙ out))
 
   stands_over : Stands how f.slices [] f.course.stood.source f.course.stood.destination
   stands_over = subst (λ (rows : List (ℕ × Row)). Stands how f.slices rows f.course.stood.source f.course.stood.destination) f.over (f.course.stood.stands f.well)

@@ -14,7 +14,7 @@ use Rattle.lnbd_asked.specs.Link.{Nobody}
 use Rattle.lnbd_asked.specs.Transcript.{on_link}
 use Rattle.lnbd_poll.specs.Alone.{AreApart}
 use Rattle.lnbd_poll.specs.Seen.{Seen}
-use Rattle.lnbd_poll.specs.Turns.{Whole}
+use Rattle.lnbd_poll.specs.Turns.{Turns, Whole}
 use Rattle.lnbd_drives.specs.Driving.{DriveOwnLinks, new_on}
 use Rattle.lnbd_drives.proofs.Calling.{taken_drive, new_drive}
 use Rattle.lnbd_drives.proofs.Passing.{both_off, said_stays}
@@ -32,33 +32,31 @@ use Rattle.lnbd_board.proofs.Lists.{Each-map}
 use Rattle.lnbd_board.proofs.Turning.{nothing_stands}
 use Rattle.lnbd_tracks.specs.Tracks.{Histories}
 use Rattle.lnbd_tracks.proofs.Sides.{nothing_tracks}
-use Rattle.lnbd_course.specs.Course.{Course, AllHave, on_side, beside, with_link}
+use Rattle.lnbd_course.specs.Course.{Course, Stood, AllHave, on_side, beside, with_link}
 use Rattle.lnbd_course.specs.Laws.{NothingIsOnCourse, OpensOnCourse, SettlingKeeps, TurnsKeep, CallsKeep, TakingKeeps}
-use Rattle.lnbd_course.proofs.Standing.{Same, same_track}
-use Rattle.lnbd_course.proofs.Turning.{steps, turns_all}
+use Rattle.lnbd_course.proofs.Standing.{Same, same_track, event_stood, quiet_stood}
+use Rattle.lnbd_course.proofs.Turning.{steps, Turned, turns_all}
 
 -- The beginning.
 
-no_history : Histories
+abbrev pub no_history : Histories
 no_history link = []
 
-none_on : (has : ℕ → Bool) → Same (on_side has no_history) (λ link. [])
-unfolding no_history
+pub none_on : (has : ℕ → Bool) → Same (on_side has no_history) (λ link. [])
 none_on has link = go (has link)
   where
     go : (b : Bool) → (let none : History Ticket = [] in if b then none else none) ≡ []
     go true = refl
     go false = refl
 
-says_nothing : DrivenSays {K = Ticket} [] (on_link 0 [])
-says_nothing = record { requests = λ c. nothing_asked (nat_le c (written {K = Ticket} [])); outcomes = λ c low. refl; size = λ e. refl }
+pub says_nothing : DrivenSays {K = Ticket} [] (on_link 0 [])
+says_nothing = record { requests = λ c. nothing_asked (nat_le c (written {K = Ticket} [])); outcomes = λ c low. refl; size = λ e. refl; zero = λ c p low. refl }
   where
     nothing_asked : (b : Bool) → None ≡ (let none : Option (Command Nobody) = None in if b then none else None)
     nothing_asked true = refl
     nothing_asked false = refl
 
-pub nothing_is_on_course : NothingIsOnCourse
-unfolding no_history
+unfoldable pub nothing_is_on_course : NothingIsOnCourse
 nothing_is_on_course how has now none = record {
   histories = no_history;
   held = tt;
@@ -79,12 +77,12 @@ first_not : (a b : Bool) → (a || b) ≡ false → a ≡ false
 first_not true b e = e
 first_not false b e = refl
 
-not_before : (link : ℕ) (calls more : List wire.Call) → is_given link (calls ++ more) ≡ false → is_given link calls ≡ false
+pub not_before : (link : ℕ) (calls more : List wire.Call) → is_given link (calls ++ more) ≡ false → is_given link calls ≡ false
 not_before link calls more e = first_not (is_given link calls) (is_given link more) (sym (is_given-append link calls more) ∙ e)
 
 -- Calls that read and write no link.
 
-pub calls_keep : CallsKeep
+unfoldable pub calls_keep : CallsKeep
 calls_keep how has slices now calls more seens c none = record {
   histories = c.histories;
   held = c.held;
@@ -98,31 +96,37 @@ calls_keep how has slices now calls more seens c none = record {
 
 -- A turn.
 
-pub turns_keep : TurnsKeep
+-- after a turn in which the others had their histories
+unfoldable pub turned_keeps : (how : How) (has : ℕ → Bool) (slices : List Slice) (now now' : board.Seen) (calls part : List wire.Call) (before after : List (Seen Ticket)) (moved : Option ℕ) (c : Course how has slices now calls before) → Turns steps before now part after now' (Whole moved) →
+    (S : board.Seen → Histories → Type 0) → Turned S before after now' c.histories → ((histories : Histories) → S now' histories → Stood how has slices now' histories) → Course how has slices now' (calls ++ part) after
+turned_keeps how has slices now now' calls part before after moved c turns S t stood = record {
+  histories = t.histories;
+  held = t.held;
+  drive = turns_drive steps calls part before after now now' moved c.drive turns;
+  parted = λ link apart.
+      let was = t.was_apart link apart in
+      let none = turns_pass_others steps link part before after now now' (Whole moved) was turns in
+      subst (λ h. DrivenSays h (on_link link (calls ++ part))) (sym (t.others link was)) (subst (DrivenSays (c.histories link)) (sym (said_stays link calls part none)) (c.parted link was));
+  unused = λ link new.
+      let u = c.unused link (not_before link calls part new) in
+      record {
+        apart = t.apart link u.apart;
+        quiet = both_off link calls part u.quiet (turns_pass_others steps link part before after now now' (Whole moved) u.apart turns);
+        blank = t.others link u.apart ∙ u.blank;
+      };
+  stood = stood t.histories t.stood;
+}
+
+unfoldable pub turns_keep : TurnsKeep
 turns_keep how has slices now now' calls part before after moved c turns =
-    let t = turns_all how has slices before now part after now' (Whole moved) c.histories turns c.drive.own c.held c.stood in
-    record {
-      histories = t.histories;
-      held = t.held;
-      drive = turns_drive steps calls part before after now now' moved c.drive turns;
-      parted = λ link apart.
-          let was = t.was_apart link apart in
-          let none = turns_pass_others steps link part before after now now' (Whole moved) was turns in
-          subst (λ h. DrivenSays h (on_link link (calls ++ part))) (sym (t.others link was)) (subst (DrivenSays (c.histories link)) (sym (said_stays link calls part none)) (c.parted link was));
-      unused = λ link new.
-          let u = c.unused link (not_before link calls part new) in
-          record {
-            apart = t.apart link u.apart;
-            quiet = both_off link calls part u.quiet (turns_pass_others steps link part before after now now' (Whole moved) u.apart turns);
-            blank = t.others link u.apart ∙ u.blank;
-          };
-      stood = t.stood;
-    }
+    let S : board.Seen → Histories → Type 0 = Stood how has slices in
+    turned_keeps how has slices now now' calls part before after moved c turns S
+    (turns_all S (event_stood how has slices) (quiet_stood how has slices) before now part after now' (Whole moved) c.histories turns c.drive.own c.held c.stood) (λ histories s. s)
 
 -- A handle is taken out.
 
 -- without the element of this index
-abbrev removed : {A : Type 0} → ℕ → List A → List A
+abbrev pub removed : {A : Type 0} → ℕ → List A → List A
 removed index [] = []
 removed zero (x ∷ xs) = xs
 removed (suc index) (x ∷ xs) = x ∷ removed index xs
@@ -138,13 +142,13 @@ all_kept (x ∷ xs) = refl
 one_more : (n : ℕ) → suc (n + 1) ≡ suc n + 1
 one_more n = omega arith
 
-take_drop : {A : Type 0} (index : ℕ) (xs : List A) → removed index xs ≡ take index xs ++ drop (index + 1) xs
+pub take_drop : {A : Type 0} (index : ℕ) (xs : List A) → removed index xs ≡ take index xs ++ drop (index + 1) xs
 take_drop zero [] = refl
 take_drop (suc index) [] = sym (none_dropped (suc index + 1))
 take_drop zero (x ∷ xs) = sym (all_kept xs)
 take_drop (suc index) (x ∷ xs) = ap (λ ys. x ∷ ys) (take_drop index xs) ∙ ap (λ n. x ∷ (take index xs ++ drop n (x ∷ xs))) (one_more index)
 
-removed_have : (index : ℕ) (histories : Histories) (seens : List (Seen Ticket)) → AllHave histories seens → AllHave histories (removed index seens)
+pub removed_have : (index : ℕ) (histories : Histories) (seens : List (Seen Ticket)) → AllHave histories seens → AllHave histories (removed index seens)
 removed_have index histories [] have = tt
 removed_have zero histories (seen ∷ others) have = have.1
 removed_have (suc index) histories (seen ∷ others) have = (have.0, removed_have index histories others have.1)
@@ -162,38 +166,42 @@ one_has zero seen histories (first ∷ others) there have = subst (λ (s : Seen 
 one_has (suc index) seen histories (first ∷ others) there have = one_has index seen histories others there have.1
 
 -- A link that is apart from the others is apart from all, or it is the one that was taken.
-abbrev IsTakenOr : ℕ → Seen Ticket → List (Seen Ticket) → Type 0
+abbrev pub IsTakenOr : ℕ → Seen Ticket → List (Seen Ticket) → Type 0
 IsTakenOr link seen seens = (link ≢ seen.link) → AreApart link seens
 
-apart_or : (link index : ℕ) (seen : Seen Ticket) (seens : List (Seen Ticket)) → slice_get seens index ≡ Some seen → AreApart link (removed index seens) → IsTakenOr link seen seens
+pub apart_or : (link index : ℕ) (seen : Seen Ticket) (seens : List (Seen Ticket)) → slice_get seens index ≡ Some seen → AreApart link (removed index seens) → IsTakenOr link seen seens
 apart_or link index seen [] there apart differ = tt
 apart_or link zero seen (first ∷ others) there apart differ = ((λ e. differ (sym e ∙ ap (λ (s : Seen Ticket). s.link) (some_same first seen there))), apart)
 apart_or link (suc index) seen (first ∷ others) there apart differ = (apart.0, apart_or link index seen others there apart.1 differ)
 
-removed_apart : (link index : ℕ) (seens : List (Seen Ticket)) → AreApart link seens → AreApart link (removed index seens)
+pub removed_apart : (link index : ℕ) (seens : List (Seen Ticket)) → AreApart link seens → AreApart link (removed index seens)
 removed_apart link index [] apart = tt
 removed_apart link zero (seen ∷ others) apart = apart.1
 removed_apart link (suc index) (seen ∷ others) apart = (apart.0, removed_apart link index others apart.1)
 
-removed_keeps : (how : How) (has : ℕ → Bool) (slices : List Slice) (now : board.Seen) (calls : List wire.Call) (seens : List (Seen Ticket)) (index : ℕ) (seen : Seen Ticket) (limit : ℕ) (handle : Machine Ticket) →
+pub removed_says : (how : How) (has : ℕ → Bool) (slices : List Slice) (now : board.Seen) (calls : List wire.Call) (seens : List (Seen Ticket)) (index : ℕ) (seen : Seen Ticket) (limit : ℕ) (handle : Machine Ticket) → (c : Course how has slices now calls seens) → slice_get seens index ≡ Some seen → StandsFor limit seen.history handle →
+    (link : ℕ) → AreApart link (removed index seens) → DrivenSays (c.histories link) (on_link link calls)
+removed_says how has slices now calls seens index seen limit handle c there stands link apart = by (cases_eq link seen.link)
+  where
+    taken : DrivenSays (c.histories seen.link) (on_link seen.link calls)
+    taken = subst (λ h. DrivenSays h (on_link seen.link calls)) (sym (one_has index seen c.histories seens there c.held)) (driven_said limit calls seens index seen handle c.drive there stands)
+
+    by : (link ≡ seen.link) ⊎ (link ≡ seen.link → ⊥) → DrivenSays (c.histories link) (on_link link calls)
+    by (inl is) = subst (λ (n : ℕ). DrivenSays (c.histories n) (on_link n calls)) (sym is) taken
+    by (inr differ) = c.parted link (apart_or link index seen seens there apart differ)
+
+unfoldable pub removed_keeps : (how : How) (has : ℕ → Bool) (slices : List Slice) (now : board.Seen) (calls : List wire.Call) (seens : List (Seen Ticket)) (index : ℕ) (seen : Seen Ticket) (limit : ℕ) (handle : Machine Ticket) →
     Course how has slices now calls seens → slice_get seens index ≡ Some seen → StandsFor limit seen.history handle → Course how has slices now calls (removed index seens)
 removed_keeps how has slices now calls seens index seen limit handle c there stands = record {
   histories = c.histories;
   held = removed_have index c.histories seens c.held;
   drive = subst (DriveOwnLinks calls) (sym (take_drop index seens)) (taken_drive calls seens index c.drive);
-  parted = λ link apart. by link apart (cases_eq link seen.link);
+  parted = removed_says how has slices now calls seens index seen limit handle c there stands;
   unused = λ link new.
       let u = c.unused link new in
       record { apart = removed_apart link index seens u.apart; quiet = u.quiet; blank = u.blank };
   stood = c.stood;
 }
-  where
-    taken : DrivenSays (c.histories seen.link) (on_link seen.link calls)
-    taken = subst (λ h. DrivenSays h (on_link seen.link calls)) (sym (one_has index seen c.histories seens there c.held)) (driven_said limit calls seens index seen handle c.drive there stands)
-
-    by : (link : ℕ) → AreApart link (removed index seens) → (link ≡ seen.link) ⊎ (link ≡ seen.link → ⊥) → DrivenSays (c.histories link) (on_link link calls)
-    by link apart (inl is) = subst (λ (n : ℕ). DrivenSays (c.histories n) (on_link n calls)) (sym is) taken
-    by link apart (inr differ) = c.parted link (apart_or link index seen seens there apart differ)
 
 pub taking_keeps : TakingKeeps
 taking_keeps how has slices now calls seens index seen limit handle c there stands =
@@ -201,15 +209,15 @@ taking_keeps how has slices now calls seens index seen limit handle c there stan
 
 -- A handle begins.
 
-new_have : (link : ℕ) (histories : Histories) (seens : List (Seen Ticket)) → histories link ≡ [] → AllHave histories seens → AllHave histories (seens ++ new_on link ∷ [])
+pub new_have : (link : ℕ) (histories : Histories) (seens : List (Seen Ticket)) → histories link ≡ [] → AllHave histories seens → AllHave histories (seens ++ new_on link ∷ [])
 new_have link histories [] blank have = (blank, tt)
 new_have link histories (seen ∷ others) blank have = (have.0, new_have link histories others blank have.1)
 
-new_apart : (n link : ℕ) (seens : List (Seen Ticket)) → link ≢ n → AreApart n seens → AreApart n (seens ++ new_on link ∷ [])
+pub new_apart : (n link : ℕ) (seens : List (Seen Ticket)) → link ≢ n → AreApart n seens → AreApart n (seens ++ new_on link ∷ [])
 new_apart n link [] differ apart = (differ, tt)
 new_apart n link (seen ∷ others) differ apart = (apart.0, new_apart n link others differ apart.1)
 
-old_apart : (n link : ℕ) (seens : List (Seen Ticket)) → AreApart n (seens ++ new_on link ∷ []) → AreApart n seens
+pub old_apart : (n link : ℕ) (seens : List (Seen Ticket)) → AreApart n (seens ++ new_on link ∷ []) → AreApart n seens
 old_apart n link [] apart = tt
 old_apart n link (seen ∷ others) apart = (apart.0, old_apart n link others apart.1)
 
@@ -218,13 +226,13 @@ second_not : (a b : Bool) → (a || b) ≡ false → b ≡ false
 second_not true b e = absurd (false≢true (sym e))
 second_not false b e = e
 
-other_given : (n link : ℕ) (calls : List wire.Call) (to : Target) → is_given n (calls ++ wire.Connect to (Some link) ∷ []) ≡ false → link ≢ n
+pub other_given : (n link : ℕ) (calls : List wire.Call) (to : Target) → is_given n (calls ++ wire.Connect to (Some link) ∷ []) ≡ false → link ≢ n
 other_given n link calls to e same =
     let last = second_not (is_given n calls) (is_given n (wire.Connect to (Some link) ∷ [])) (sym (is_given-append n calls (wire.Connect to (Some link) ∷ [])) ∙ e) in
     false≢true (sym last ∙ ap (λ (b : Bool). b || false) (eq-eqb link n same))
 
 -- On which side a link is on which nothing happened is no matter.
-same_side : (has : ℕ → Bool) (histories : Histories) (link : ℕ) (source : Bool) → histories link ≡ [] → Same (on_side (with_link link source has) histories) (on_side has histories)
+pub same_side : (has : ℕ → Bool) (histories : Histories) (link : ℕ) (source : Bool) → histories link ≡ [] → Same (on_side (with_link link source has) histories) (on_side has histories)
 same_side has histories link source blank other = go (cases_eq link other)
   where
     either : (b : Bool) (h : History Ticket) → h ≡ [] → (let none : History Ticket = [] in if b then h else none) ≡ []
@@ -237,7 +245,7 @@ same_side has histories link source blank other = go (cases_eq link other)
         either (with_link link source has other) (histories other) none ∙ sym (either (has other) (histories other) none)
     go (inr differ) = ap (λ (b : Bool). let none : History Ticket = [] in if (if b then source else has other) then histories other else none) (ne_eqb link other differ)
 
-same_beside : (has : ℕ → Bool) (histories : Histories) (link : ℕ) (source : Bool) → histories link ≡ [] → Same (on_side (beside (with_link link source has)) histories) (on_side (beside has) histories)
+pub same_beside : (has : ℕ → Bool) (histories : Histories) (link : ℕ) (source : Bool) → histories link ≡ [] → Same (on_side (beside (with_link link source has)) histories) (on_side (beside has) histories)
 same_beside has histories link source blank other = go (cases_eq link other)
   where
     either : (b : Bool) (h : History Ticket) → h ≡ [] → (let none : History Ticket = [] in if b then h else none) ≡ []
@@ -250,7 +258,7 @@ same_beside has histories link source blank other = go (cases_eq link other)
         either (beside (with_link link source has) other) (histories other) none ∙ sym (either (beside has other) (histories other) none)
     go (inr differ) = ap (λ (b : Bool). let none : History Ticket = [] in if not (if b then source else has other) then histories other else none) (ne_eqb link other differ)
 
-pub opens_on_course : OpensOnCourse
+unfoldable pub opens_on_course : OpensOnCourse
 unfolding calls_keep
 opens_on_course how has slices now calls seens to link source c new =
     let k = calls_keep how has slices now calls (wire.Connect to (Some link) ∷ []) seens c (λ n. refl) in
@@ -282,7 +290,7 @@ asks_so how how' (ticket.Slice n) command asks = absurd (none_below n asks.1.beg
 asks_so how how' ticket.Extents command asks = asks
 asks_so how how' ticket.Flush command asks = asks
 
-stands_so : (how how' : How) (source destination : List Request) → Stands how [] [] source destination → Stands how' [] [] source destination
+pub stands_so : (how how' : How) (source destination : List Request) → Stands how [] [] source destination → Stands how' [] [] source destination
 stands_so how how' source destination s = record {
   each = λ i l. absurd (none_below i l);
   reads = s.reads;
@@ -295,7 +303,7 @@ stands_so how how' source destination s = record {
     none_below : (n : ℕ) → n < 0 → ⊥
     none_below n l = omega (arith, l)
 
-pub settling_keeps : SettlingKeeps
+unfoldable pub settling_keeps : SettlingKeeps
 settling_keeps how how' has now now' calls seens c none well none' = record {
   histories = c.histories;
   held = c.held;

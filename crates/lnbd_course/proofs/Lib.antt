@@ -1,7 +1,13 @@
 pub mod Standing
+pub mod Later
 pub mod Turning
 pub mod Holding
 pub mod Asking
 pub mod Taken
 pub mod Ending
 pub mod Orders
+pub mod Telling
+pub mod Address
+pub mod Placing
+pub mod Opening
+pub mod Placed

@@ -1,11 +1,11 @@
 -- What stands between two turns of a copy: what was asked on each link, by the histories of its handles, is what the board's rows say.
-use Rattle.std.specs.Prelude.{◌≡◌, ◌==◌, ℕ, ◌≤◌, ◌<◌, Bool, true, false, not, List, [], ◌∷◌, Some, None, if◌then◌else◌}
+use Rattle.std.specs.Prelude.{◌≡◌, ◌==◌, ℕ, ◌≤◌, ◌<◌, Bool, true, false, not, List, [], ◌∷◌, Some, None, if◌then◌else◌, nat_le}
 use Rattle.lnbd_model.specs.declared.target.Place.{Place}
 use Rattle.lnbd_link.specs.Call as wire
 use Rattle.lnbd_link.specs.Numbers.{is_given}
 use Rattle.lnbd_history.specs.Commands as commands
 use Rattle.lnbd_history.specs.History.{request}
-use Rattle.lnbd_asked.specs.Driven.{DrivenSays}
+use Rattle.lnbd_asked.specs.Driven.{DrivenSays, written}
 use Rattle.lnbd_asked.specs.Transcript.{is_of, on_link, dealt_with}
 use Rattle.lnbd_poll.specs.Alone.{AreApart, calls_on}
 use Rattle.lnbd_poll.specs.Seen.{Seen}
@@ -68,9 +68,9 @@ pub record Course (how : How) (has : ℕ → Bool) (slices : List Slice) (now : 
 
 -- The end.
 
--- Each link on which a command was asked is of its side's export, and no link of the other side is.
+-- Each link on which a command was wholly written is of its side's export, and no link of the other side is.
 pub record AreOfSides (from to : Place) (calls : List wire.Call) (has : ℕ → Bool) (histories : Histories) : Type 0 where
-  pub asked : (link cookie : ℕ) (asks : commands.Request Ticket) → request (histories link) cookie ≡ Some asks → is_of (if has link then from else to) calls link ≡ true
+  pub asked : (link cookie : ℕ) (asks : commands.Request Ticket) → request (histories link) cookie ≡ Some asks → nat_le cookie (written (histories link)) ≡ true → is_of (if has link then from else to) calls link ≡ true
   pub source : (link : ℕ) → is_of from calls link ≡ true → has link ≡ true
   pub destination : (link : ℕ) → is_of to calls link ≡ true → has link ≡ false
 

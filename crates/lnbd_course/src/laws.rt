@@ -1,8 +1,10 @@
 //! Laws of the course of a copy. Each is the contract of a function that does nothing.
 
 ghost use Rattle.lnbd_course.specs.Laws.{NothingIsOnCourse, OpensOnCourse, SettlingKeeps, TurnsKeep, CallsKeep, SourceAsksKeep, DestinationAsksKeep, BoardMovesKeep, OthersKeep, TakingKeeps, FinishedCopies};
+ghost use Rattle.lnbd_course.specs.Betweens.{NothingIsBetween, OpensBetween, SettlingKeepsBetween, AgreeingSettles, TurnsKeepBetween, CallsKeepBetween, SourceAsksKeepBetween, DestinationAsksKeepBetween, BoardMovesKeepBetween, OthersKeepBetween, TakingKeepsBetween, LinksAreOfSides, EndedCopies};
 ghost use Rattle.lnbd_course.specs.Orders.{BeginningAsks, GoingAsks, OverAsksNothing};
 ghost use Rattle.lnbd_course.specs.Taken.{BuffersAreNoMatter, TakenAreSpelled};
+ghost use Rattle.lnbd_course.specs.Told.{NothingIsTold, OpeningTells, SettlingTells, TurnsTell, CallsTell, SourceAsksTell, DestinationAsksTell, ExtentsAskTell, BoardMovesTell, OthersTell, HearingTells, FewerTell, WindowsTell, TakingTells, KnownWasTold, SidesAreOfSource};
 
 /// A copy is on its course before it has a handle, with each one that begins on a link which was just
 /// made, and where it is settled how it writes.
@@ -60,4 +62,94 @@ pub fn taking_keeps()
 /// A copy that is finished has copied, whatever contents the exports have over which both servers are honest.
 pub fn finished_copies()
     ensures { FinishedCopies }
+{}
+
+/// What was told as zero stays known beside the course of a copy: before it has a handle, with each one
+/// that begins on a link which was just made, and where it is settled how the copy writes.
+pub fn beginning_tells()
+    ensures nothing { NothingIsTold }
+    ensures opens { OpeningTells }
+    ensures settling { SettlingTells }
+{}
+
+/// It stays so in a turn in which each handle took its part.
+pub fn turns_tell()
+    ensures { TurnsTell }
+{}
+
+/// It stays so where the wires wait, or shut a link.
+pub fn calls_tell()
+    ensures { CallsTell }
+{}
+
+/// It stays so where a handle of a side is asked what the board says; and where extents are asked for, those
+/// of their range are waited for.
+pub fn asking_tells()
+    ensures source { SourceAsksTell }
+    ensures destination { DestinationAsksTell }
+    ensures extents { ExtentsAskTell }
+{}
+
+/// It stays so where the board goes on and nothing is asked.
+pub fn board_moves_tell()
+    ensures { BoardMovesTell }
+{}
+
+/// It stays so where a caller does something else with a handle, but that it turns opt mode on.
+pub fn others_tell()
+    ensures { OthersTell }
+{}
+
+/// Where the range that was waited for was answered, what the board holds of it as told as zero is known. Of
+/// what is known some may be left out, as where a window is planned.
+pub fn hearing_tells()
+    ensures hearing { HearingTells }
+    ensures fewer { FewerTell }
+    ensures windows { WindowsTell }
+{}
+
+/// It stays so where a handle is taken out.
+pub fn taking_tells()
+    ensures { TakingTells }
+{}
+
+/// With no handle held, each position that is known as zero was told so by what was dealt with the source.
+pub fn known_was_told()
+    ensures told { KnownWasTold }
+    ensures sides { SidesAreOfSource }
+{}
+
+/// A copy from one place to another is so before it has a handle, with each one that begins for its side on a
+/// link which was just made, where it is settled how it writes, and where the source's size is settled.
+pub fn beginning_keeps_between()
+    ensures nothing { NothingIsBetween }
+    ensures opens { OpensBetween }
+    ensures settling { SettlingKeepsBetween }
+    ensures agreeing { AgreeingSettles }
+{}
+
+/// It stays so in a turn in which each handle took its part, and where the wires wait, or shut a link.
+pub fn turns_keep_between()
+    ensures turns { TurnsKeepBetween }
+    ensures calls { CallsKeepBetween }
+{}
+
+/// It stays so where a handle of a side is asked what the board says, where the board goes on, and where a
+/// caller does something else with a handle, but that it sets a name or turns opt mode on.
+pub fn asking_keeps_between()
+    ensures source { SourceAsksKeepBetween }
+    ensures destination { DestinationAsksKeepBetween }
+    ensures board { BoardMovesKeepBetween }
+    ensures others { OthersKeepBetween }
+{}
+
+/// It stays so where a handle is taken out.
+pub fn taking_keeps_between()
+    ensures { TakingKeepsBetween }
+{}
+
+/// In the end each link is of its side's export, both sides told their sizes, and so the copy has copied.
+pub fn ended_copies()
+    ensures links { LinksAreOfSides }
+    ensures copies { EndedCopies }
 {}

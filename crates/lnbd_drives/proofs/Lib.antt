@@ -7,3 +7,4 @@ pub mod Calling
 pub mod Waiting
 pub mod Framing
 pub mod Saying
+pub mod Exports

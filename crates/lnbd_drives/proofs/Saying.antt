@@ -28,11 +28,11 @@ bare_none (Some asks) e = absurd (some_none (bare asks) e)
 
 module _ {K : Type 0} where
   -- one of the handles
-  record One (calls : List wire.Call) (seen : Seen K) : Type 0 where
-    drives : Drives seen.link calls seen.history seen.unread
-    plain : IsPlain seen
+  pub record One (calls : List wire.Call) (seen : Seen K) : Type 0 where
+    pub drives : Drives seen.link calls seen.history seen.unread
+    pub plain : IsPlain seen
 
-  one_of : (calls : List wire.Call) (seens : List (Seen K)) (index : ℕ) (seen : Seen K) → slice_get seens index ≡ Some seen → AllDrive calls seens → AllPlain seens → One calls seen
+  pub one_of : (calls : List wire.Call) (seens : List (Seen K)) (index : ℕ) (seen : Seen K) → slice_get seens index ≡ Some seen → AllDrive calls seens → AllPlain seens → One calls seen
   one_of calls [] index seen there drive plain = absurd (none_some seen there)
     where
       none_some : (one : Seen K) → None ≡ Some one → ⊥

@@ -32,12 +32,12 @@ use Rattle.lnbd_drives.specs.Laws.{NothingWaits}
 use Rattle.lnbd_drives.proofs.Keeping.{dies_keep, closed_keep, refused_keep, ended_keep, failed_keep}
 
 -- how many commands end with these parts
-abbrev ends_in : List Part → ℕ
+abbrev pub ends_in : List Part → ℕ
 ends_in [] = 0
 ends_in (part ∷ parts) = one_if part.ends + ends_in parts
 
 -- no part is empty
-abbrev AreSome : List Part → Type 0
+abbrev pub AreSome : List Part → Type 0
 AreSome [] = Unit {0}
 AreSome (part ∷ parts) = (0 < length part.bytes) × AreSome parts
 
@@ -54,9 +54,9 @@ all_out (part ∷ parts) n some none = go (n == 0) (nat_lt n (length part.bytes)
     go false false less none rest = ap (λ m. one_if part.ends + m) (rest none)
 
 -- no part is empty, and so many commands end with them
-record Counted (n : ℕ) (parts : List Part) : Type 0 where
-  some : AreSome parts
-  ends : ends_in parts ≡ n
+pub record Counted (n : ℕ) (parts : List Part) : Type 0 where
+  pub some : AreSome parts
+  pub ends : ends_in parts ≡ n
 
 some_more : (parts more : List Part) → AreSome parts → AreSome more → AreSome (parts ++ more)
 some_more [] more one two = two
@@ -146,7 +146,7 @@ offers_none [] e = refl
 offers_none (byte ∷ bytes) e = absurd (omega (arith, e))
 
 -- A handle of direction 1 is living and offers nothing.
-one_none : (stage : Stage) (parts : List Part) (n : ℕ) → direction_of (is_living stage) (out (waiting_at stage parts n)) ≡ 1 → out (waiting parts n) ≡ []
+pub one_none : (stage : Stage) (parts : List Part) (n : ℕ) → direction_of (is_living stage) (out (waiting_at stage parts n)) ≡ 1 → out (waiting parts n) ≡ []
 one_none Created parts n e = absurd (omega (arith, e))
 one_none Open parts n e = offers_none (out (waiting parts n)) e
 one_none Disconnecting parts n e = offers_none (out (waiting parts n)) e
@@ -169,7 +169,7 @@ module _ {K : Type 0} where
   counted_lasts before n known bytes Passed c e = c
   counted_lasts before n known bytes Ignored c e = c
 
-  counted : (history : History K) → Counted (asked history).issued (reading history).known.parts
+  pub counted : (history : History K) → Counted (asked history).issued (reading history).known.parts
   counted [] = record { some = tt; ends = refl }
   counted (event.Set setting ∷ before) = turned_counted (asked before).issued (reading before).known.parts (turn.Set setting) (reading before).known.turns (counted before)
   counted (StrictMode bits ∷ before) = counted before

@@ -1,3 +1,4 @@
 pub mod Driving
 pub mod Said
 pub mod Laws
+pub mod Exports

@@ -2,6 +2,7 @@
 //! does nothing.
 
 ghost use Rattle.lnbd_drives.specs.Laws.{TurnsDrive, ShortTurnsDrive, TurnsPassOthers, PassingCallsDrive, OtherCallsPass, CallersDrive, NewDrive, TakenDrive, DrivenSaid, AllSaid, NothingWaits, DoneSaid, SaidStays};
+ghost use Rattle.lnbd_drives.specs.Exports.{HandlesAreOf, InfoWasTold, TurnsGiveNone};
 
 use lnbd_callbacks::Caller;
 
@@ -69,4 +70,19 @@ pub fn done_said<K>()
 /// What a link says stays, whatever is called on others.
 pub fn said_stays()
     ensures { SaidStays }
+{}
+
+/// The link of each handle is of the export of the name that was set on it.
+pub fn handles_are_of<K>()
+    ensures { HandlesAreOf K }
+{}
+
+/// A handle that may make requests and has nothing to write was told the size of which it tells.
+pub fn info_was_told<K>()
+    ensures { InfoWasTold K }
+{}
+
+/// A turn makes no link.
+pub fn turns_give_none<K: Caller>()
+    ensures { TurnsGiveNone K.steps }
 {}

@@ -8,11 +8,12 @@ ghost use Rattle.lnbd_history.specs.declared.kinds.Phase.TheVariants.{Ready};
 
 use crate::connection::Connection;
 use crate::pending::Pending;
-use crate::turns::{by_name_size, has_no_zeroes, waiting_at};
-use lnbd_arrivals::{Announced, content_size};
+use crate::turns::{by_name_size, has_no_zeroes, replies_of, waiting_at};
+use lnbd_arrivals::{Announced, Replies, content_size};
 use lnbd_commands::Waiting;
 use lnbd_history::Phase;
 use lnbd_records::u32_at;
+use lnbd_wire::{Read, read_chunk_head, read_chunk_head_ext};
 
 /// How many bytes an option reply has, as far as these show.
 fn option_size(bytes: &[u8]) -> usize
@@ -25,16 +26,45 @@ fn option_size(bytes: &[u8]) -> usize
     }
 }
 
-/// How many bytes a simple reply has, as far as these show.
-fn frame_size(waiting: Option<Waiting>, bytes: &[u8]) -> usize
+/// How many bytes a simple reply has, as its head shows.
+fn simple_size(waiting: Option<Waiting>, head: &[u8]) -> usize
+    requires { 8 ≤ length head.now }
+{
+    match waiting {
+        None => 16,
+        Some(command) => (content_size(&command, u32_at(head, 4)) as usize).saturating_add(16),
+    }
+}
+
+/// How many bytes a chunk has, as far as these show. A simple reply in its place has no more than its head.
+fn chunk_size(bytes: &[u8]) -> usize {
+    match read_chunk_head(bytes) {
+        Read::Value(head) => (head.length as usize).saturating_add(20),
+        Read::NeedMore => 20,
+        Read::BadMagic(_) => 16,
+    }
+}
+
+/// The same with extended headers.
+fn extended_chunk_size(bytes: &[u8]) -> usize {
+    match read_chunk_head_ext(bytes) {
+        Read::Value(head) => (head.length as usize).saturating_add(32),
+        Read::NeedMore => 32,
+        Read::BadMagic(_) => 16,
+    }
+}
+
+/// How many bytes a reply has, as far as these show.
+fn frame_size(replies: Replies, waiting: Option<Waiting>, bytes: &[u8]) -> usize
     ensures { length bytes.now < simple_head_size → result ≡ simple_head_size }
 {
     if bytes.len() < 16 {
         return 16;
     }
-    match waiting {
-        None => 16,
-        Some(command) => (content_size(&command, u32_at(bytes, 4)) as usize).saturating_add(16),
+    match replies {
+        Replies::Simple => simple_size(waiting, bytes),
+        Replies::Structured => chunk_size(bytes),
+        Replies::Extended => extended_chunk_size(bytes),
     }
 }
 
@@ -47,7 +77,7 @@ fn size_at<K>(connection: &Connection<K>, phase: Phase, bytes: &[u8]) -> usize
         Phase::Asked(_) => option_size(bytes),
         Phase::OptMode => option_size(bytes),
         Phase::AskedByName => by_name_size(has_no_zeroes(connection.flags)),
-        Phase::Ready => frame_size(waiting_at(connection, bytes), bytes),
+        Phase::Ready => frame_size(replies_of(connection), waiting_at(connection, bytes), bytes),
         Phase::Refused(_) => 0,
     }
 }

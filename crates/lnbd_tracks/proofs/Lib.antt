@@ -10,3 +10,7 @@ pub mod Sides
 pub mod Finished
 pub mod Dealt
 pub mod Written
+pub mod Along
+pub mod Heard
+pub mod Staying
+pub mod Mapped

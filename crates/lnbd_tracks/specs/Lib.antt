@@ -1,3 +1,4 @@
 pub mod Tracks
 pub mod Laws
 pub mod Dealing
+pub mod Mapping

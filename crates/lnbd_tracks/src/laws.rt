@@ -2,6 +2,7 @@
 
 ghost use Rattle.lnbd_tracks.specs.Laws.{NothingTracks, OpeningTracks, OneHappens, IssueTracks, OthersTrack, BytesComeBack, SourceKeeps, DestinationKeeps, FinishedAreDone, FinishedTracks};
 ghost use Rattle.lnbd_tracks.specs.Dealing.{DoneIsWritten, TrackedAreDealt};
+ghost use Rattle.lnbd_tracks.specs.Mapping.{NothingMaps, ComingMaps, OthersMap, AskingMaps, HearingMaps, ZeroesStay};
 
 /// Before any handle was asked anything, nothing was asked; and a handle that begins changes nothing.
 pub fn nothing_tracks()
@@ -51,4 +52,22 @@ pub fn done_is_written<K>()
 /// What the handles of an export's links were asked is what was dealt with the export.
 pub fn tracked_are_dealt()
     ensures { TrackedAreDealt }
+{}
+
+/// What a board knows of extents came of one block status of the source, whatever happens.
+pub fn mapping_keeps()
+    ensures nothing { NothingMaps }
+    ensures coming { ComingMaps }
+    ensures others { OthersMap }
+    ensures asking { AskingMaps }
+{}
+
+/// Where that block status was answered, it told as zero what the board holds as told as zero.
+pub fn mapped_are_told()
+    ensures { HearingMaps }
+{}
+
+/// What a block status that is done told as zero stays told.
+pub fn zeroes_stay()
+    ensures { ZeroesStay }
 {}

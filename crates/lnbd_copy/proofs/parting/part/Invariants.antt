@@ -1,5 +1,12 @@
-use Rattle.std.proofs.Common.{◌≡◌, length}
+use Rattle.std.proofs.Common.{◌≡◌, [], length}
+use Rattle.lnbd_board.specs.declared.how.How.{How}
+use Rattle.lnbd_board.specs.Files.{Seen}
+use Rattle.lnbd_copy.specs.declared.sides.Sides.{Sides}
+use Rattle.lnbd_copy.specs.Way.{Keeps}
 use Rattle.lnbd_copy.proofs.parting.part.Given as goal
 
 abbrev pub invariant-handles : goal.invariant-handles
-invariant-handles l = length l.handles ≡ length l.initial.handles
+invariant-handles l = record {
+  count : length l.handles ≡ length l.initial.handles;
+  keeps : (how : How) (sides : Sides) (now : Seen) → Keeps how sides [] now now l.fn.handles l.handles;
+}

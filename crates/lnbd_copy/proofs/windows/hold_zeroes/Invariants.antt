@@ -1,5 +1,5 @@
-use Rattle.std.proofs.Common.{◌≤◌}
+use Rattle.lnbd_copy.proofs.WindowLemmas.{HoldsTold}
 use Rattle.lnbd_copy.proofs.windows.hold_zeroes.Given as goal
 
 abbrev pub invariant-extents : goal.invariant-extents
-invariant-extents l = l.reached ≤ l.most
+invariant-extents l = HoldsTold l.told l.fn.zero l.zero l.from l.extent-index l.reached l.most

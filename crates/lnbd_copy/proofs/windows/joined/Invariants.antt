@@ -1,6 +1,5 @@
-use Rattle.std.proofs.Common.{◌≡◌, ◌+◌}
-use Rattle.lnbd_extents.specs.Lists.{span}
+use Rattle.lnbd_copy.proofs.WindowLemmas.{Joins}
 use Rattle.lnbd_copy.proofs.windows.joined.Given as goal
 
 abbrev pub invariant-extents : goal.invariant-extents
-invariant-extents l = span l.list.items + l.left ≡ l.most
+invariant-extents l = Joins l.told l.list.items l.extent-index l.left l.most

@@ -1,9 +1,12 @@
-use Rattle.std.proofs.Common.{◌≡◌}
+use Rattle.std.proofs.Common.{◌≡◌, ◌+◌, ◌≤◌, length}
 use Rattle.lnbd_copy.specs.Causes.{GoesOn}
+use Rattle.lnbd_copy.specs.Copier.{GoesFurther}
 use Rattle.lnbd_copy.proofs.copier.Copier.dial_destinations.Given as goal
 
 abbrev pub invariant-further : goal.invariant-further
 invariant-further g l = record {
-  kept : l.self ≡ l.fn.self;
+  kept : l.self ≡ record l.fn.self { held = l.self.held; board = l.self.board };
+  more : length l.fn.self.held ≤ length l.self.held;
+  further : GoesFurther l.fn.self l.fn.sides (l.fn.sides.source + 1) l.fn.self.board l.fn.self.held (g.W.Wires.told l.fn.wires) l.self.board l.self.held (g.W.Wires.told l.wires);
   counts : GoesOn (g.W.Wires.faults l.fn.wires) (g.W.Wires.faults l.wires) (g.W.Wires.idles l.fn.wires) (g.W.Wires.idles l.wires) (g.W.Wires.contents l.fn.wires) (g.W.Wires.contents l.wires);
 }

@@ -1,0 +1,8 @@
+use Rattle.std.proofs.Common.{sym}
+use Rattle.lnbd_cli.proofs.copying.copy_asked.Goals as goal
+
+pub returns-in-Ok-copy-clause-ends : goal.returns-in-Ok-copy-clause-ends
+returns-in-Ok-copy-clause-ends g c = record {
+  asked = record { wish = c.in-Ok.wish; transfer = c.in-Some.what; asks = c.in-Ok.ensures.asked; is = sym c.in-Some.ensures };
+  copied = c.in-Ok-copy.ensures.copies;
+}

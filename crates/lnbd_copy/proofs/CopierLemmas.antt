@@ -1,0 +1,219 @@
+-- From a copy's first connection to all that it makes.
+use Rattle.std.proofs.Common.{◌≡◌, ◌≢◌, ℕ, zero, suc, ◌+◌, ◌<◌, ◌≤◌, Bool, true, false, ◌&&◌, ◌||◌, ◌==◌, nat_lt, nat_le, List, [], ◌∷◌, ◌++◌, length, Option, Some, None, Result, Ok, Err, IfOk, OnOk, if◌then◌else◌, refl, ap, sym, subst, ◌∙◌, arith}
+use Rattle.lnbd_model.specs.declared.target.Place.{Place}
+use Rattle.lnbd_link.specs.Call as wire
+use Rattle.lnbd_plan.specs.declared.options.CopyOptions.{CopyOptions}
+use Rattle.lnbd_poll.specs.declared.held.Held.{Held}
+use Rattle.lnbd_board.specs.declared.how.How.{How}
+use Rattle.lnbd_board.specs.declared.ticket.Ticket.{Ticket}
+use Rattle.lnbd_board.specs.Files as board
+use Rattle.lnbd_copy.specs.declared.sides.Sides.{Sides}
+use Rattle.lnbd_copy.specs.declared.terms.Terms.{Terms}
+use Rattle.lnbd_course.proofs.Placing.{agreeing_settles}
+use Rattle.lnbd_copy.specs.Agreed.{Agrees, AreAgreed}
+use Rattle.lnbd_copy.specs.declared.job.Phase.TheVariants.{Copying}
+use Rattle.lnbd_copy.specs.Copier.{GoesFurther, HasMet, HasNotBegun, IsBlank, IsOnItsWay, Seen, beginning}
+use Rattle.lnbd_copy.specs.Job as job
+use Rattle.lnbd_copy.specs.Opening.{Dials, place_of}
+use Rattle.lnbd_copy.specs.Way.{Filed, Goes, IsOn, IsUnderWay, Stand, Told, Way, is_source}
+use Rattle.lnbd_copy.proofs.DialLemmas.{nothing_is_on, settled}
+use Rattle.lnbd_copy.proofs.FiledLemmas.{filed_none, filed_then}
+use Rattle.lnbd_copy.proofs.TurnLemmas.{told_begins}
+
+pub told_as : {Is Is' : List wire.Call → Type 0} (start told : Option (List wire.Call)) → ((calls : List wire.Call) → Is calls → Is' calls) → Told start told Is → Told start told Is'
+told_as start told leads t = record {
+  since = λ all is.
+      let since = t.since all is in
+      record { before = since.before; calls = since.calls; was = since.was; now = since.now; is = leads since.calls since.is };
+}
+
+-- What stands on success leads on.
+pub if_ok_leads : {T F : Type 0} {A B : T → Type 0} (r : Result T F) → ((value : T) → A value → B value) → IfOk r A → IfOk r B
+if_ok_leads (Ok value) leads a = leads value a
+if_ok_leads (Err fault) leads a = tt
+
+pub always_on_ok : {T F : Type 0} {A : Type 0} (r : Result T F) → A → OnOk r A
+always_on_ok (Ok value) a = a
+always_on_ok (Err fault) a = tt
+
+-- Further connections.
+
+module _ (copy : Seen) (sides : Sides) (first : ℕ) where
+  pub further_none : (now : board.Seen) (held : List (Held Ticket)) (told : Option (List wire.Call)) → GoesFurther copy sides first now held told now held told
+  further_none now held told = record { stand = λ s. s; filed = λ s. filed_none now; on = λ size how start s count on. on }
+
+  pub further_dials : (place : Place) (now now' : board.Seen) (held held2 held3 : List (Held Ticket)) (a b c : Option (List wire.Call)) → GoesFurther copy sides first now held a now' held2 b → Dials place now' held2 b held3 c →
+      (length held ≡ first → (size : Option ℕ) (how : How) → place_of (beginning copy size how sides) (length held2) ≡ place) → GoesFurther copy sides first now held a now' held3 c
+  further_dials place now now' held held2 held3 a b c further dials there = record {
+    stand = λ s. dials.stand (further.stand s);
+    filed = further.filed;
+    on = λ size how start s count on. dials.on (beginning copy size how sides) start (there count size how) (further.on size how start s count on);
+  }
+
+  pub further_goes : (now now2 now3 : board.Seen) (held held2 held3 : List (Held Ticket)) (a b c : Option (List wire.Call)) → GoesFurther copy sides first now held a now2 held2 b → Goes now2 held2 b now3 held3 c → GoesFurther copy sides first now held a now3 held3 c
+  further_goes now now2 now3 held held2 held3 a b c further goes = record {
+    stand = λ s. goes.stand (further.stand s);
+    filed = λ s. filed_then now now2 now3 (further.filed s) (goes.filed (further.stand s));
+    on = λ size how start s count on. goes.on false (beginning copy size how sides) start (further.stand s) (further.on size how start s count on);
+  }
+
+  pub further_then : (second : ℕ) (now now2 now3 : board.Seen) (held held2 held3 : List (Held Ticket)) (a b c : Option (List wire.Call)) → GoesFurther copy sides first now held a now2 held2 b → GoesFurther copy sides second now2 held2 b now3 held3 c →
+      (length held ≡ first → length held2 ≡ second) → GoesFurther copy sides first now held a now3 held3 c
+  further_then second now now2 now3 held held2 held3 a b c one two count = record {
+    stand = λ s. two.stand (one.stand s);
+    filed = λ s. filed_then now now2 now3 (one.filed s) (two.filed (one.stand s));
+    on = λ size how start s is on. two.on size how start (one.stand s) (count is) (one.on size how start s is on);
+  }
+
+-- The first connection of each side.
+
+no_handles : (copy : Seen) → HasNotBegun copy → Stand copy.held
+no_handles copy none = subst Stand (sym none.held) (record { seens = []; at = tt })
+
+from_first : (copy : Seen) (how : How) (sides : Sides) (n : ℕ) → n ≡ 0 → place_of (beginning copy None how sides) n ≡ copy.from
+from_first copy how sides n is = ap (λ (m : ℕ). place_of (beginning copy None how sides) m) is
+
+to_second : (copy : Seen) (how : How) (sides : Sides) (n : ℕ) → n ≡ 1 → place_of (beginning copy None how sides) n ≡ copy.to
+to_second copy how sides n is = ap (λ (m : ℕ). place_of (beginning copy None how sides) m) is
+
+begins_on : (copy : Seen) (how : How) (sides : Sides) → HasNotBegun copy → IsOn (beginning copy None how sides) copy.board [] copy.held
+begins_on copy how sides none = subst (λ (held : List (Held Ticket)). IsOn (beginning copy None how sides) copy.board [] held) (sym none.held) (nothing_is_on (beginning copy None how sides) copy.board refl refl refl (λ p. refl) none.rows none.begun)
+
+-- The first two handles agreed on the source's size.
+agreed_on : (copy : Seen) (size : ℕ) (how : How) (sides : Sides) (calls : List wire.Call) → Agrees size copy.held → IsOn (beginning copy None how sides) copy.board calls copy.held → IsOn (beginning copy (Some size) how sides) copy.board calls copy.held
+agreed_on copy size how sides calls agrees on =
+    let a = agrees.on on.seens on.at in
+    record {
+      has = on.has;
+      seens = on.seens;
+      at = on.at;
+      sided = on.sided;
+      begun = on.begun;
+      stands = record {
+        between = agreeing_settles copy.from copy.to how on.has [] copy.board calls on.seens 0 1 a.source.seen a.destination.seen size a.room on.stands.between a.source.there (on.sided 0 a.source.seen a.source.there) a.source.told a.destination.there (on.sided 1 a.destination.seen a.destination.there) a.destination.told a.fits;
+        told = on.stands.told;
+      };
+    }
+
+module _ (copy : Seen) (b c : board.Seen) (h i j k : List (Held Ticket)) (t u v w x : Option (List wire.Call)) where
+  two_stand : Dials copy.from copy.board copy.held t h u → Goes copy.board h u b i v → Dials copy.to b i v j w → Goes b j w c k x → HasNotBegun copy → length k ≡ 2
+  two_stand first one second two none =
+      let s1 = first.stand (no_handles copy none) in
+      let s2 = one.stand s1 in
+      let s3 = second.stand s2 in
+      two.many s3 ∙ second.many ∙ ap (λ (n : ℕ). n + 1) (one.many s1 ∙ first.many ∙ ap (λ (n : ℕ). n + 1) (ap (λ (l : List (Held Ticket)). length l) none.held))
+
+  pub has_met : (terms : Terms) → terms.how.skip ≡ copy.options.destination_is_zero → Agrees terms.size k → HasNotBegun copy → Dials copy.from copy.board copy.held t h u → Goes copy.board h u b i v → Dials copy.to b i v j w → Goes b j w c k x →
+      HasMet (record copy { held = k; board = c }) t x terms
+  has_met terms skip agrees none first one second two =
+      let s0 = no_handles copy none in
+      let s1 = first.stand s0 in
+      let s2 = one.stand s1 in
+      let s3 = second.stand s2 in
+      let none_held : length copy.held ≡ 0 = ap (λ (l : List (Held Ticket)). length l) none.held in
+      let one_held : length i ≡ 1 = one.many s1 ∙ first.many ∙ ap (λ (n : ℕ). n + 1) none_held in
+      let filed = filed_then copy.board b c (one.filed s1) (two.filed s3) in
+      record {
+        stand = two.stand s3;
+        blank = record { rows = filed.none none.rows; begun = filed.begun ∙ none.begun };
+        skip = skip;
+        on =
+            let how = terms.how in
+            let sides = terms.sides in
+            let way = beginning copy None how sides in
+            told_as t x (λ calls on. agreed_on (record copy { held = k; board = c }) terms.size how sides calls agrees on)
+            (two.on false way t s3
+            (second.on way t (to_second copy how sides (length i) one_held)
+            (one.on false way t s1
+            (first.on way t (from_first copy how sides (length copy.held) none_held)
+            (told_begins t (begins_on copy how sides none))))));
+      }
+
+-- Behind them further ones.
+
+pub source_place : (copy : Seen) (size : Option ℕ) (how : How) (sides : Sides) (n : ℕ) → is_source sides n ≡ true → place_of (beginning copy size how sides) n ≡ copy.from
+source_place copy size how sides n is = ap (λ (b : Bool). if b then copy.from else copy.to) is
+
+pub destination_place : (copy : Seen) (size : Option ℕ) (how : How) (sides : Sides) (n : ℕ) → is_source sides n ≡ false → place_of (beginning copy size how sides) n ≡ copy.to
+destination_place copy size how sides n is = ap (λ (b : Bool). if b then copy.from else copy.to) is
+
+-- A connection more is made where these were made before.
+module _ (copy mid new : Seen) (sides : Sides) (first : ℕ) (a b c : Option (List wire.Call)) (kept : mid ≡ record copy { held = mid.held; board = mid.board }) (same : new.board ≡ mid.board) (further : GoesFurther copy sides first copy.board copy.held a mid.board mid.held b) where
+  pub source_more : Dials mid.from mid.board mid.held b new.held c → (length copy.held ≡ first → is_source sides (length mid.held) ≡ true) → GoesFurther copy sides first copy.board copy.held a new.board new.held c
+  source_more dials side = subst (λ (n : board.Seen). GoesFurther copy sides first copy.board copy.held a n new.held c) (sym same)
+      (further_dials copy sides first mid.from copy.board mid.board copy.held mid.held new.held a b c further dials
+      (λ count size how. source_place copy size how sides (length mid.held) (side count) ∙ sym (ap (λ (s : Seen). s.from) kept)))
+
+  pub destination_more : Dials mid.to mid.board mid.held b new.held c → (length copy.held ≡ first → is_source sides (length mid.held) ≡ false) → GoesFurther copy sides first copy.board copy.held a new.board new.held c
+  destination_more dials side = subst (λ (n : board.Seen). GoesFurther copy sides first copy.board copy.held a n new.held c) (sym same)
+      (further_dials copy sides first mid.to copy.board mid.board copy.held mid.held new.held a b c further dials
+      (λ count size how. destination_place copy size how sides (length mid.held) (side count) ∙ sym (ap (λ (s : Seen). s.to) kept)))
+
+-- Its connections and its board go on.
+abbrev pub with_held : Seen → Seen → Seen
+with_held copy now = record copy { held = now.held; board = now.board }
+
+pub kept_then : (a b c : Seen) → b ≡ with_held a b → c ≡ with_held b c → c ≡ with_held a c
+kept_then a b c one two = two ∙ ap (λ (s : Seen). with_held s c) one
+
+-- The first connection of each side stands, and both have settled.
+pub meets : (s0 s1 s2 s3 s4 : Seen) (t u v w x : Option (List wire.Call)) (options : CopyOptions) (held : List (Held Ticket)) (terms : Terms) →
+    s1 ≡ with_held s0 s1 → s2 ≡ with_held s1 s2 → s3 ≡ with_held s2 s3 → s4 ≡ with_held s3 s4 → s1.board ≡ s0.board → s3.board ≡ s2.board → options ≡ s4.options → held ≡ s4.held →
+    Dials s0.from s0.board s0.held t s1.held u → Goes s1.board s1.held u s2.board s2.held v → Dials s2.to s2.board s2.held v s3.held w → Goes s3.board s3.held w s4.board s4.held x →
+    HasNotBegun s0 → AreAgreed options terms held → HasMet s4 t x terms
+meets s0 s1 s2 s3 s4 t u v w x options held terms k1 k2 k3 k4 b1 b3 same_options same_held first one second two none agreed =
+    let k02 = kept_then s0 s1 s2 k1 k2 in
+    let k04 = kept_then s0 s2 s4 k02 (kept_then s2 s3 s4 k3 k4) in
+    let one' : Goes s0.board s1.held u s2.board s2.held v = subst (λ (b : board.Seen). Goes b s1.held u s2.board s2.held v) b1 one in
+    let second' : Dials s0.to s2.board s2.held v s3.held w = subst (λ (p : Place). Dials p s2.board s2.held v s3.held w) (ap (λ (s : Seen). s.to) k02) second in
+    let two' : Goes s2.board s3.held w s4.board s4.held x = subst (λ (b : board.Seen). Goes b s3.held w s4.board s4.held x) b3 two in
+    subst (λ (s : Seen). HasMet s t x terms) (sym k04)
+    (has_met s0 s2.board s4.board s1.held s2.held s3.held s4.held t u v w x terms (agreed.skip ∙ ap (λ (o : CopyOptions). o.destination_is_zero) (same_options ∙ ap (λ (s : Seen). s.options) k04))
+    (subst (Agrees terms.size) same_held agreed.size) none first one' second' two')
+
+pub two_meet : (s0 s1 s2 s3 s4 : Seen) (t u v w x : Option (List wire.Call)) → s1 ≡ with_held s0 s1 → s2 ≡ with_held s1 s2 → s1.board ≡ s0.board → s3.board ≡ s2.board →
+    Dials s0.from s0.board s0.held t s1.held u → Goes s1.board s1.held u s2.board s2.held v → Dials s2.to s2.board s2.held v s3.held w → Goes s3.board s3.held w s4.board s4.held x → HasNotBegun s0 → length s4.held ≡ 2
+two_meet s0 s1 s2 s3 s4 t u v w x k1 k2 b1 b3 first one second two none =
+    let k02 = kept_then s0 s1 s2 k1 k2 in
+    let one' : Goes s0.board s1.held u s2.board s2.held v = subst (λ (b : board.Seen). Goes b s1.held u s2.board s2.held v) b1 one in
+    let second' : Dials s0.to s2.board s2.held v s3.held w = subst (λ (p : Place). Dials p s2.board s2.held v s3.held w) (ap (λ (s : Seen). s.to) k02) second in
+    let two' : Goes s2.board s3.held w s4.board s4.held x = subst (λ (b : board.Seen). Goes b s3.held w s4.board s4.held x) b3 two in
+    two_stand s0 s2.board s4.board s1.held s2.held s3.held s4.held t u v w x first one' second' two' none
+
+-- Further connections stand behind those that met.
+met_on : (copy : Seen) (now : board.Seen) (held : List (Held Ticket)) (t u v : Option (List wire.Call)) (terms : Terms) → HasMet copy t u terms → length copy.held ≡ 2 → GoesFurther copy terms.sides 2 copy.board copy.held u now held v → HasMet (record copy { held = held; board = now }) t v terms
+met_on copy now held t u v terms met two further =
+    let filed = further.filed met.stand in
+    record {
+      stand = further.stand met.stand;
+      blank = record { rows = filed.none met.blank.rows; begun = filed.begun ∙ met.blank.begun };
+      skip = met.skip;
+      on = further.on (Some terms.size) terms.how t met.stand two met.on;
+    }
+
+pub met_further : (copy new : Seen) (t u v : Option (List wire.Call)) (terms : Terms) → new ≡ with_held copy new → HasMet copy t u terms → length copy.held ≡ 2 → GoesFurther copy terms.sides 2 copy.board copy.held u new.board new.held v → HasMet new t v terms
+met_further copy new t u v terms kept met two further = subst (λ (s : Seen). HasMet s t v terms) (sym kept) (met_on copy new.board new.held t u v terms met two further)
+
+pub further_kept : (copy mid : Seen) (sides : Sides) (first : ℕ) (now now' : board.Seen) (held held' : List (Held Ticket)) (a b : Option (List wire.Call)) → mid ≡ with_held copy mid → GoesFurther mid sides first now held a now' held' b → GoesFurther copy sides first now held a now' held' b
+further_kept copy mid sides first now now' held held' a b kept further =
+    let same : GoesFurther (with_held copy mid) sides first now held a now' held' b = subst (λ (s : Seen). GoesFurther s sides first now held a now' held' b) kept further in
+    record { stand = same.stand; filed = same.filed; on = λ size how start s count on. same.on size how start s count on }
+
+-- What is settled begins.
+pub begins_job : (copy : Seen) (start told : Option (List wire.Call)) (terms : Terms) (j : job.Seen) (now : board.Seen) → HasMet copy start told terms → copy.board.error ≡ None → now.rows ≡ [] → now.begun ≡ 0 → j.terms ≡ terms → j.phase ≡ Copying →
+    ((way : Way) (b : board.Seen) → way.size ≡ Some terms.size → way.how ≡ terms.how → way.sides ≡ terms.sides → way.slices ≡ [] → way.asked ≡ None → job.IsJob j way b) → IsOnItsWay start told (record copy { board = now; job = Some j })
+begins_job copy start told terms j now met well empty new same copying is =
+    let way = beginning copy (Some terms.size) terms.how terms.sides in
+    record {
+      stand = met.stand;
+      job = j;
+      there = refl;
+      way = way;
+      from = refl;
+      to = refl;
+      skip = ap (λ (t : Terms). t.how.skip) same ∙ met.skip;
+      is = is way now refl refl refl refl refl;
+      on = told_as start told
+          (λ calls on. subst (λ (p : Bool). IsUnderWay p way now calls copy.held) (sym (ap job.is_parting copying)) (settled way terms.how copy.board now calls copy.held refl refl met.blank.rows well empty new on))
+          met.on;
+    }

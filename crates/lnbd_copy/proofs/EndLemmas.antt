@@ -1,0 +1,234 @@
+-- What stands after each step of a turn, and that a copy which has parted from all its connections has copied.
+use Rattle.std.proofs.Common.{◌≡◌, ◌≢◌, ◌⊎◌, inl, inr, ℕ, ◌+◌, ◌<◌, Bool, true, false, not, List, [], ◌∷◌, ◌++◌, Option, Some, None, if◌then◌else◌, refl, ap, sym, subst, ◌∙◌}
+use Rattle.std.proofs.lemmas.Bool.{false≢true}
+use Rattle.std.proofs.lemmas.List.{append-nil}
+use Rattle.lnbd_model.specs.declared.target.Place.{Place}
+use Rattle.lnbd_link.specs.Call as wire
+use Rattle.lnbd_poll.specs.Held.{AreAt}
+use Rattle.lnbd_poll.specs.Seen as poll
+use Rattle.lnbd_plan.specs.declared.grid.Slice.{Slice}
+use Rattle.lnbd_board.specs.declared.how.How.{How}
+use Rattle.lnbd_poll.specs.declared.held.Held.{Held}
+use Rattle.lnbd_board.specs.declared.ticket.Ticket.{Ticket}
+use Rattle.lnbd_board.specs.Files as board
+use Rattle.lnbd_course.specs.Between.{Between}
+use Rattle.lnbd_course.specs.Copied.{Copied, Copies}
+use Rattle.lnbd_course.specs.Course.{IsPlannedWhole}
+use Rattle.lnbd_course.proofs.Placed.{ended_copies, links_are_of_sides}
+use Rattle.lnbd_course.proofs.Telling.{known_was_told, sides_are_of_source}
+use Rattle.lnbd_copy.specs.declared.job.Phase.{Phase}
+use Rattle.lnbd_copy.specs.declared.job.Phase.TheVariants.{Copying, Flushing, Parting}
+use Rattle.lnbd_copy.specs.declared.terms.Terms.{Terms}
+use Rattle.lnbd_copy.specs.Copier.{HasTurned, IsDone, IsOnItsWay, Seen}
+use Rattle.lnbd_copy.specs.declared.copier.Progress.{Progress}
+use Rattle.lnbd_copy.specs.declared.copier.Progress.TheVariants.{Moved, Still}
+use Rattle.lnbd_copy.specs.Job as job
+use Rattle.lnbd_copy.specs.Leaving.{Leaves}
+use Rattle.lnbd_copy.specs.Windows as windows
+use Rattle.lnbd_copy.specs.Way.{Filed, Goes, IsLeaving, IsOn, IsUnderWay, Stand, Stands, Told, Way}
+use Rattle.lnbd_copy.proofs.CopierLemmas.{told_as}
+use Rattle.lnbd_copy.proofs.PartLemmas.{on_leaving}
+
+some_same : (one other : job.Seen) → Some one ≡ Some other → one ≡ other
+some_same one other e = cc
+
+-- A board with what callbacks were told suits a job as it did.
+job_filed : (j : job.Seen) (way : Way) (now now' : board.Seen) → Filed now now' → job.IsJob j way now → job.IsJob j way now'
+job_filed j way now now' filed is = record {
+  size = is.size;
+  how = is.how;
+  sides = is.sides;
+  zeros = is.zeros;
+  planned = is.planned;
+  asked = is.asked;
+  over = λ past. let over = is.over past in record { planned = over.planned; handed = over.handed; heard = over.heard; rows = filed.none over.rows };
+}
+
+-- Once the connections part, places don't count any more.
+from_on : (parting : Bool) (way : Way) (now : board.Seen) (calls : List wire.Call) (held : List (Held Ticket)) → IsOn way now calls held → IsUnderWay parting way now calls held
+from_on true way now calls held on = on_leaving way now calls held on
+from_on false way now calls held on = on
+
+past_copying : (phase : Phase) → job.is_parting phase ≡ true → phase ≢ Copying
+past_copying Copying parts = absurd (false≢true parts)
+past_copying Flushing parts = absurd (false≢true parts)
+past_copying Parting parts = λ e. cc
+
+module _ (copy : Seen) (start : Option (List wire.Call)) where
+  -- A turn of the handles.
+  pub after_turn : (now : board.Seen) (held : List (Held Ticket)) (a b : Option (List wire.Call)) → Goes copy.board copy.held a now held b → IsOnItsWay start a copy → IsOnItsWay start b (record copy { held = held; board = now })
+  after_turn now held a b goes on = record {
+    stand = goes.stand on.stand;
+    job = on.job;
+    there = on.there;
+    way = on.way;
+    from = on.from;
+    to = on.to;
+    skip = on.skip;
+    is = job_filed on.job on.way copy.board now (goes.filed on.stand) on.is;
+    on = goes.on (job.is_parting on.job.phase) on.way start on.stand on.on;
+  }
+
+  -- The job goes on.
+  pub after_act : (j j' : job.Seen) (now : board.Seen) (held : List (Held Ticket)) (told : Option (List wire.Call)) → copy.job ≡ Some j → j'.terms ≡ j.terms → job.is_parting j.phase ≡ false → job.Acts j j' copy.board now copy.held held →
+      IsOnItsWay start told copy → IsOnItsWay start told (record copy { held = held; board = now; job = Some j' })
+  after_act j j' now held told there terms going acts on =
+      let same : on.job ≡ j = some_same on.job j (sym on.there ∙ there) in
+      let acted = acts.on on.way (subst (λ (x : job.Seen). job.IsJob x on.way copy.board) same on.is) in
+      record {
+        stand = acts.stand on.stand;
+        job = j';
+        there = refl;
+        way = acted.way';
+        from = acted.one.from ∙ on.from;
+        to = acted.one.to ∙ on.to;
+        skip = ap (λ (t : Terms). t.how.skip) terms ∙ ap (λ (x : job.Seen). x.terms.how.skip) (sym same) ∙ on.skip;
+        is = acted.job';
+        on = told_as start told
+            (λ calls is. from_on (job.is_parting j'.phase) acted.way' now calls held (acted.on calls (subst (λ (b : Bool). IsUnderWay b on.way copy.board calls copy.held) (ap (λ (x : job.Seen). job.is_parting x.phase) same ∙ going) is)))
+            on.on;
+      }
+
+  -- Connections part.
+  pub after_leaving : (j : job.Seen) (now : board.Seen) (held : List (Held Ticket)) (a b : Option (List wire.Call)) → copy.job ≡ Some j → job.is_parting j.phase ≡ true → Leaves copy.board copy.held a now held b →
+      IsOnItsWay start a copy → IsOnItsWay start b (record copy { held = held; board = now })
+  after_leaving j now held a b there parts leaves on =
+      let same : on.job ≡ j = some_same on.job j (sym on.there ∙ there) in
+      let parting : job.is_parting on.job.phase ≡ true = ap (λ (x : job.Seen). job.is_parting x.phase) same ∙ parts in
+      let over = on.is.over (past_copying on.job.phase parting) in
+      record {
+        stand = leaves.stand on.stand;
+        job = on.job;
+        there = on.there;
+        way = on.way;
+        from = on.from;
+        to = on.to;
+        skip = on.skip;
+        is = job_filed on.job on.way copy.board now leaves.filed on.is;
+        on = told_as start b (λ calls is. subst (λ (p : Bool). IsUnderWay p on.way now calls held) (sym parting) is)
+            (leaves.on on.way start (on.is.asked ∙ ap (λ (b : Bool). if b then windows.wanted on.job.windows else None) over.heard) over.rows (told_as start a (λ calls is. subst (λ (p : Bool). IsUnderWay p on.way copy.board calls copy.held) parting is) on.on));
+      }
+
+-- The job goes on, whatever it is at.
+cases_bool : (b : Bool) → (b ≡ true) ⊎ (b ≡ false)
+cases_bool true = inl refl
+cases_bool false = inr refl
+
+is_past : (phase : Phase) → job.is_parting phase ≡ true → phase ≡ Parting
+is_past Copying parts = absurd (false≢true parts)
+is_past Flushing parts = absurd (false≢true parts)
+is_past Parting parts = refl
+
+same_way : (copy : Seen) (start told : Option (List wire.Call)) (j j' : job.Seen) (now : board.Seen) (held : List (Held Ticket)) → copy.job ≡ Some j → j' ≡ j → now ≡ copy.board → held ≡ copy.held → IsOnItsWay start told copy → IsOnItsWay start told (record copy { held = held; board = now; job = Some j' })
+same_way copy start told j j' now held there one two three on =
+    subst (λ (h : List (Held Ticket)). IsOnItsWay start told (record copy { held = h; board = now; job = Some j' })) (sym three)
+    (subst (λ (b : board.Seen). IsOnItsWay start told (record copy { board = b; job = Some j' })) (sym two)
+    (subst (λ (o : Option job.Seen). IsOnItsWay start told (record copy { job = o })) (there ∙ ap (λ (x : job.Seen). Some x) (sym one)) on))
+
+pub after_acting : (copy : Seen) (start told : Option (List wire.Call)) (j j' : job.Seen) (now : board.Seen) (held : List (Held Ticket)) → copy.job ≡ Some j → j'.terms ≡ j.terms → job.Acts j j' copy.board now copy.held held →
+    (j.phase ≡ Parting → (j' ≡ j) × (now ≡ copy.board) × (held ≡ copy.held)) → IsOnItsWay start told copy → IsOnItsWay start told (record copy { held = held; board = now; job = Some j' })
+after_acting copy start told j j' now held there terms acts parted on = elim (cases_bool (job.is_parting j.phase)) [
+  | inl parts ↦ (let same = parted (is_past j.phase parts) in same_way copy start told j j' now held there same.0 same.1 same.2 on)
+  | inr going ↦ after_act copy start j j' now held told there terms going acts on
+]
+
+-- From turn to turn.
+
+pub moved_on : (start told : Option (List wire.Call)) (copy : Seen) (did : Progress) (count : ℕ) → did ≡ Moved count → HasTurned start told copy did → IsOnItsWay start told copy
+moved_on start told copy did count is turned = subst (λ (p : Progress). HasTurned start told copy p) is turned
+
+pub still_on : (start told : Option (List wire.Call)) (copy : Seen) (did : Progress) → did ≡ Still → HasTurned start told copy did → IsOnItsWay start told copy
+still_on start told copy did is turned = subst (λ (p : Progress). HasTurned start told copy p) is turned
+
+abbrev pub with_all : Seen → Seen → Seen
+with_all copy now = record copy { start = now.start; held = now.held; board = now.board; job = now.job }
+
+abbrev pub with_work : Seen → Seen → Seen
+with_work copy now = record copy { held = now.held; board = now.board; job = now.job }
+
+pub rested : (a b c : Seen) → b ≡ with_work a b → c ≡ record b { held = c.held } → c ≡ with_work a c
+rested a b c one two =
+    two ∙ ap (λ (s : Seen). record s { held = c.held }) one ∙ ap (λ (s : Seen). record a { held = c.held; board = s.board; job = s.job }) (sym two)
+
+pub all_then : (a b c d : Seen) → b ≡ with_all a b → c ≡ with_work b c → d ≡ c → d ≡ with_all a d
+all_then a b c d one two same =
+    subst (λ (s : Seen). s ≡ with_all a s) (sym same)
+    (two ∙ ap (λ (s : Seen). with_work s c) one ∙ ap (λ (s : Seen). record a { start = s.start; held = c.held; board = c.board; job = c.job }) (sym two))
+
+-- The end.
+
+none_left : (seens : List (poll.Seen Ticket)) → AreAt [] seens → seens ≡ []
+none_left [] at = refl
+none_left (seen ∷ others) at = absurd at
+
+not_false : (b : Bool) → not b ≡ false → b ≡ true
+not_false true e = refl
+not_false false e = absurd (false≢true (sym e))
+
+-- With no handle held, what its handles did stands without them.
+stands_alone : (way : Way) (now : board.Seen) (calls : List wire.Call) → (on : IsLeaving way now calls []) → Stands way on.has now calls []
+stands_alone way now calls on = subst (λ (seens : List (poll.Seen Ticket)). Stands way on.has now calls seens) (none_left on.seens on.at) on.stands
+
+between_sized : (way : Way) (size : ℕ) (has : ℕ → Bool) (now : board.Seen) (calls : List wire.Call) → way.size ≡ Some size → Stands way has now calls [] → Between way.from way.to (Some size) way.how has way.slices now calls []
+between_sized way size has now calls settled s = subst (λ (o : Option ℕ). Between way.from way.to o way.how has way.slices now calls []) settled s.between
+
+-- All is planned, as it was told.
+planned_whole : (j : job.Seen) (way : Way) (now : board.Seen) (calls : List wire.Call) → (is : job.IsJob j way now) → job.IsOver j now → (has : ℕ → Bool) → Stands way has now calls [] → way.from ≢ way.to →
+    IsPlannedWhole way.how j.windows.plan.cells is.planned.parts way.from calls j.terms.size way.slices
+planned_whole j way now calls is over has s two =
+    let b = between_sized way j.terms.size has now calls is.size s in
+    let sides = (links_are_of_sides way.from way.to j.terms.size way.how has way.slices now calls b two).0 in
+    let source = sides_are_of_source way.from way.to way.how has way.slices now calls b.course sides in
+    record {
+      are = sym (append-nil way.slices) ∙ ap (λ (l : List Slice). way.slices ++ l) (sym over.handed) ∙ is.planned.are;
+      whole = is.planned.end ∙ over.planned;
+      told = λ p less zero. known_was_told way.from way.how has way.slices now calls way.asked way.zero s.told source p (is.planned.told p zero);
+      left_out = λ none. ap (λ (h : How). h.skip) is.how ∙ not_false j.terms.how.skip (sym is.zeros ∙ none);
+    }
+
+pub finished : (copy : Seen) (start told : Option (List wire.Call)) (j : job.Seen) → copy.job ≡ Some j → job.is_parting j.phase ≡ true → copy.held ≡ [] → copy.board.error ≡ None → IsOnItsWay start told copy → IsDone start told copy
+finished copy start told j there parts none well on =
+    let same : on.job ≡ j = some_same on.job j (sym on.there ∙ there) in
+    let parting : job.is_parting on.job.phase ≡ true = ap (λ (x : job.Seen). job.is_parting x.phase) same ∙ parts in
+    let over = on.is.over (past_copying on.job.phase parting) in
+    let skip : on.way.how.skip ≡ copy.options.destination_is_zero = ap (λ (h : How). h.skip) on.is.how ∙ on.skip in
+    record {
+      parted = none;
+      copied = λ two.
+          let apart : on.way.from ≢ on.way.to = λ e. two (sym on.from ∙ e ∙ on.to) in
+          told_as start told
+          (λ calls is.
+          let leaving : IsLeaving on.way copy.board calls [] =
+          subst (λ (h : List (Held Ticket)). IsLeaving on.way copy.board calls h) none (subst (λ (p : Bool). IsUnderWay p on.way copy.board calls copy.held) parting is) in
+          let s = stands_alone on.way copy.board calls leaving in
+          copied_as on.way copy calls on.from on.to skip
+          (ended_copies on.way.from on.way.to on.job.terms.size on.way.how leaving.has on.way.slices copy.board calls on.job.windows.plan.cells on.is.planned.parts
+          (between_sized on.way on.job.terms.size leaving.has copy.board calls on.is.size s) over.rows well (planned_whole on.job on.way copy.board calls on.is over leaving.has s apart) apart))
+          on.on;
+    }
+  where
+    copied_as : (way : Way) (copy : Seen) (calls : List wire.Call) → way.from ≡ copy.from → way.to ≡ copy.to → way.how.skip ≡ copy.options.destination_is_zero → Copied way.from way.to way.how.skip calls → Copied copy.from copy.to copy.options.destination_is_zero calls
+    copied_as way copy calls from to skip c = subst (λ (b : Bool). Copied copy.from copy.to b calls) skip (subst (λ (t : Place). Copied copy.from t way.how.skip calls) to (subst (λ (f : Place). Copied f way.to way.how.skip calls) from c))
+
+-- What was copied since the transcript was this, was copied by the part that it grew by.
+
+same_rest : (one two three : List wire.Call) → one ++ two ≡ one ++ three → two ≡ three
+same_rest [] two three e = e
+same_rest (call ∷ one) two three e = same_rest one two three (cc e)
+
+same_calls : (one two : List wire.Call) → Some one ≡ Some two → one ≡ two
+same_calls one two e = cc
+
+pub told_copies : (from to : Place) (blank : Bool) (a b : Option (List wire.Call)) → Told a b (Copied from to blank) → Copies from to blank a b
+told_copies from to blank a b told = λ all part is grown.
+    let since = told.since all is in
+    let grew = grown all is in
+    let same : since.before ≡ grew.0 = same_calls since.before grew.0 (sym since.was ∙ grew.1) in
+    subst (Copied from to blank) (same_rest since.before since.calls part (sym since.now ∙ grew.2 ∙ ap (λ (l : List wire.Call). l ++ part) (sym same))) since.is
+
+-- A copy that is done has copied what it was to copy, whatever it held meanwhile.
+pub done_copies : (copy new : Seen) (a b c : Option (List wire.Call)) → new ≡ record copy { start = new.start; held = new.held; board = new.board; job = new.job } → c ≡ b → copy.from ≢ copy.to → IsDone a b new →
+    Copies copy.from copy.to copy.options.destination_is_zero a c
+done_copies copy new a b c kept same two done =
+    let so : IsDone a b (record copy { start = new.start; held = new.held; board = new.board; job = new.job }) = subst (λ (s : Seen). IsDone a b s) kept done in
+    subst (λ (t : Option (List wire.Call)). Copies copy.from copy.to copy.options.destination_is_zero a t) (sym same) (told_copies copy.from copy.to copy.options.destination_is_zero a b (so.copied two))

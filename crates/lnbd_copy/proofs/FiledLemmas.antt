@@ -1,0 +1,78 @@
+-- What callbacks do to a board is filed, whatever they are told.
+use Rattle.std.proofs.Common.{◌≡◌, inl, inr, ℕ, Bool, true, false, ◌==◌, List, [], ◌∷◌, Option, Some, None, if◌then◌else◌, refl, ap, sym, subst, ◌∙◌}
+use Rattle.lnbd_keyed.specs.Keyed.{value_at}
+use Rattle.lnbd_model.specs.declared.export.Extent.{Extent}
+use Rattle.lnbd_callbacks.specs.Calls.{Call, Chunk, Extents, Complete, Free}
+use Rattle.lnbd_callbacks.specs.Steps.{OneByOne}
+use Rattle.lnbd_history.specs.Events.{Event, History}
+use Rattle.lnbd_handle.specs.Histories.{Plays}
+use Rattle.lnbd_board.specs.declared.row.Row.{Row}
+use Rattle.lnbd_board.specs.declared.ticket.Ticket.{Ticket}
+use Rattle.lnbd_board.specs.declared.ticket.Ticket.TheVariants as ticket
+use Rattle.lnbd_board.specs.Files.{Files, Hears, came_with, filed_done, is_map, is_unfit, or_error, rows_with}
+use Rattle.lnbd_board.specs.Files as board
+use Rattle.lnbd_copy.specs.Way.{Filed}
+
+pub filed_none : (now : board.Seen) → Filed now now
+filed_none now = record { how = refl; begun = refl; none = λ e. e; error = λ e. e; read = refl; written = refl; zeroed = refl }
+
+pub filed_then : (a b c : board.Seen) → Filed a b → Filed b c → Filed a c
+filed_then a b c one two = record {
+  how = two.how ∙ one.how;
+  begun = two.begun ∙ one.begun;
+  none = λ e. two.none (one.none e);
+  error = λ e. one.error (two.error e);
+  read = two.read ∙ one.read;
+  written = two.written ∙ one.written;
+  zeroed = two.zeroed ∙ one.zeroed;
+}
+
+filed_same : (old new : board.Seen) → new ≡ old → Filed old new
+filed_same old new is = subst (Filed old) (sym is) (filed_none old)
+
+no_error : (old : Option ℕ) (error : ℕ) → or_error old error ≡ None → old ≡ None
+no_error None error e = refl
+no_error (Some first) error e = e
+
+error_filed : (old : board.Seen) (error : ℕ) → Filed old (record old { error = or_error old.error error })
+error_filed old error = record { how = refl; begun = refl; none = λ e. e; error = λ e. no_error old.error error e; read = refl; written = refl; zeroed = refl }
+
+slice_filed : (unfit : Bool) (n : ℕ) (buf : List ℕ) (old : board.Seen)
+    → Filed old (if unfit then record old { error = or_error old.error 71 } else record old { rows = rows_with (value_at n old.rows) n buf old.rows; came = came_with (value_at n old.rows) n old.came })
+slice_filed true n buf old = error_filed old 71
+slice_filed false n buf old = record {
+  how = refl;
+  begun = refl;
+  none = λ e. ap (λ (rows : List (ℕ × Row)). rows_with (value_at n rows) n buf rows) e;
+  error = λ e. e;
+  read = refl;
+  written = refl;
+  zeroed = refl;
+}
+
+done_filed : (by : Ticket) (buf : List ℕ) (old : board.Seen) → Filed old (filed_done by buf old)
+done_filed (ticket.Slice n) buf old = slice_filed (is_unfit (value_at n old.rows) buf) n buf old
+done_filed ticket.Extents buf old = record { how = refl; begun = refl; none = λ e. e; error = λ e. e; read = refl; written = refl; zeroed = refl }
+done_filed ticket.Flush buf old = record { how = refl; begun = refl; none = λ e. e; error = λ e. e; read = refl; written = refl; zeroed = refl }
+
+completed_filed : (well : Bool) (by : Ticket) (error : ℕ) (buf : List ℕ) (old : board.Seen) → Filed old (if well then filed_done by buf old else record old { error = or_error old.error error })
+completed_filed true by error buf old = done_filed by buf old
+completed_filed false by error buf old = error_filed old error
+
+hears_filed : (is : Bool) (entries : List Extent) (old new : board.Seen) → Hears is entries old new → Filed old new
+hears_filed true entries old new (inl e) = subst (Filed old) (sym e) (record { how = refl; begun = refl; none = λ e. e; error = λ e. e; read = refl; written = refl; zeroed = refl })
+hears_filed true entries old new (inr e) = subst (Filed old) (sym e) (record { how = refl; begun = refl; none = λ e. e; error = λ e. e; read = refl; written = refl; zeroed = refl })
+hears_filed false entries old new e = filed_same old new e
+
+call_filed : (old new : board.Seen) (call : Call Ticket) → Files old call new → Filed old new
+call_filed old new (Chunk by bytes offset status error heard) f = filed_same old new f.1
+call_filed old new (Extents by context offset entries error heard) f = hears_filed (is_map by context) entries old new f.1
+call_filed old new (Complete by error buf verdict) f = subst (Filed old) (sym f.1) (completed_filed (error == 0) by error buf old)
+call_filed old new (Free by) f = filed_same old new f
+
+pub calls_filed : (calls : List (Call Ticket)) (old new : board.Seen) → OneByOne Files old calls new → Filed old new
+calls_filed [] old new done = filed_same old new done
+calls_filed (call ∷ calls) old new done = filed_then old done.0 new (call_filed old done.0 call done.1.0) (calls_filed calls done.0 new done.1.1)
+
+pub plays_filed : (event : Event Ticket) (history : History Ticket) (old new : board.Seen) → Plays (OneByOne Files) event history old new → Filed old new
+plays_filed event history old new plays = calls_filed plays.calls old new plays.world

@@ -1,0 +1,286 @@
+-- What a job does keeps a copy on its way: its slices go on and begin, extents are asked for and heard, and in the end all connections part.
+use Rattle.std.proofs.Common.{◌≡◌, ◌≢◌, ◌⊎◌, inl, inr, ◌&&◌, ◌||◌, ℕ, ◌+◌, Bool, true, false, not, List, [], ◌∷◌, ◌++◌, length, Option, Some, None, if◌then◌else◌, refl, ap, sym, subst, ◌∙◌, arith}
+use Rattle.std.proofs.lemmas.Bool.{false≢true}
+use Rattle.std.proofs.lemmas.List.{append-nil, append_assoc}
+use Rattle.lnbd_link.specs.Call as wire
+use Rattle.lnbd_handle.specs.Issues.{flush_of, block_status_of}
+use Rattle.lnbd_history.specs.Commands.{Command}
+use Rattle.lnbd_history.specs.Events.{Issue}
+use Rattle.lnbd_extents.specs.Positions.{within}
+use Rattle.lnbd_asked.specs.Transcript.{zero_in}
+use Rattle.lnbd_poll.specs.declared.held.Held.{Held}
+use Rattle.lnbd_poll.specs.Seen as poll
+use Rattle.lnbd_drives.specs.Driving.{with_event}
+use Rattle.lnbd_plan.specs.declared.cells.Cells.{Cells}
+use Rattle.lnbd_plan.specs.declared.grid.Slice.{Slice}
+use Rattle.lnbd_board.specs.declared.how.How.{How}
+use Rattle.lnbd_board.specs.declared.row.Row.{Row}
+use Rattle.lnbd_board.specs.declared.ticket.Ticket.{Ticket}
+use Rattle.lnbd_board.specs.declared.ticket.Ticket.TheVariants as ticket
+use Rattle.lnbd_board.specs.Files as board
+use Rattle.lnbd_board.specs.Requests.{Request, asking}
+use Rattle.lnbd_board.specs.Rows as rows
+use Rattle.lnbd_board.proofs.Turning.{extents_kept, flush_kept}
+use Rattle.lnbd_course.specs.Laws.{AsksSource, AsksDestination}
+use Rattle.lnbd_course.specs.Taken.{without_buffer}
+use Rattle.lnbd_tracks.specs.Laws.{asked_by}
+use Rattle.lnbd_tracks.specs.Mapping.{HoldsZero}
+use Rattle.lnbd_copy.specs.declared.job.Phase.{Phase}
+use Rattle.lnbd_copy.specs.declared.job.Phase.TheVariants.{Copying, Flushing}
+use Rattle.lnbd_copy.specs.declared.sides.Sides.{Sides}
+use Rattle.lnbd_copy.specs.Asked.{IsAsked}
+use Rattle.lnbd_copy.specs.Dealing.{Begins, IsAskedOf}
+use Rattle.lnbd_copy.specs.Job.{Acts, AreOfOne, IsFurther, IsJob, IsOver, Seen, with_asked, with_heard}
+use Rattle.lnbd_copy.specs.Way.{IsOn, Keeps, Stand, Stands, Way, with_slices}
+use Rattle.lnbd_copy.specs.Windows as windows
+use Rattle.lnbd_copy.proofs.StepLemmas.{extents_ask_stand, hearing_stands, unheard_stands}
+use Rattle.lnbd_copy.proofs.WayLemmas.{destination_keeps, sided_after}
+
+-- One step after another.
+
+one_same : (way : Way) → AreOfOne way way
+one_same way = record { from = refl; to = refl; how = refl; sides = refl }
+
+one_then : (a b c : Way) → AreOfOne a b → AreOfOne b c → AreOfOne a c
+one_then a b c first second = record { from = second.from ∙ first.from; to = second.to ∙ first.to; how = second.how ∙ first.how; sides = second.sides ∙ first.sides }
+
+pub acts_none : (job : Seen) (now : board.Seen) (held : List (Held Ticket)) → Acts job job now now held held
+acts_none job now held = record { stand = λ s. s; on = λ way had. record { way' = way; one = one_same way; job' = had; on = λ calls on. on } }
+
+pub acts_then : (a b c : Seen) (m n o : board.Seen) (h k l : List (Held Ticket)) → Acts a b m n h k → Acts b c n o k l → Acts a c m o h l
+acts_then a b c m n o h k l first second = record {
+  stand = λ s. second.stand (first.stand s);
+  on = λ way had.
+      let one = first.on way had in
+      let two = second.on one.way' one.job' in
+      record { way' = two.way'; one = one_then way one.way' two.way' one.one two.one; job' = two.job'; on = λ calls on. two.on calls (one.on calls on) };
+}
+
+-- What stands on the way.
+
+-- Extents that were asked for are heard.
+or_heard : (a b : Bool) → (a || b) ≡ true → (a ≡ true) ⊎ (b ≡ true)
+or_heard true b e = inl refl
+or_heard false b e = inr e
+
+both : (a b : Bool) → (a && b) ≡ true → (a ≡ true) × (b ≡ true)
+both true b e = (refl, e)
+both false b e = absurd (false≢true e)
+
+heard_in : (way : Way) (range : ℕ × ℕ) (now : board.Seen) (p : ℕ) → (way.zero p || windows.zero_within range now.told p) ≡ true → (way.zero p ≡ true) ⊎ HoldsZero range now p
+heard_in way range now p e = elim (or_heard (way.zero p) (windows.zero_within range now.told p) e) [ inl was ↦ inl was | inr here ↦ let h = both (within range p) (zero_in range.0 now.told p) here in inr (record { has = h.0; zero = h.1 }) ]
+
+heard_stands : (way : Way) (asked : Option (ℕ × ℕ)) → way.asked ≡ asked → (has : ℕ → Bool) (now : board.Seen) (calls : List wire.Call) (seens : List (poll.Seen Ticket)) → now.mapped ≡ true → Stands way has now calls seens →
+    Stands (record way { zero = λ p. way.zero p || windows.zero_heard asked now.told p; asked = None }) has now calls seens
+heard_stands way None none has now calls seens mapped s = unheard_stands way has now calls seens (λ p. way.zero p || false) none s (λ p e. elim (or_heard (way.zero p) false e) [ inl was ↦ was | inr e ↦ absurd (false≢true e) ])
+heard_stands way (Some range) some has now calls seens mapped s = hearing_stands way has now calls seens range (λ p. way.zero p || windows.zero_within range now.told p) some s mapped (heard_in way range now)
+
+heard_on : (way : Way) (now : board.Seen) (calls : List wire.Call) (held : List (Held Ticket)) → now.mapped ≡ true → IsOn way now calls held → IsOn (with_heard now.told way) now calls held
+heard_on way now calls held mapped on = record { has = on.has; seens = on.seens; at = on.at; sided = on.sided; begun = on.begun; stands = heard_stands way way.asked refl on.has now calls on.seens mapped on.stands }
+
+-- no slice more was begun
+none_on : (how : How) (sides : Sides) (now now' : board.Seen) (held held' : List (Held Ticket)) → Keeps how sides [] now now' held held' → (way : Way) (calls : List wire.Call) → way.how ≡ how → way.sides ≡ sides →
+    IsOn way now calls held → IsOn way now' calls held'
+none_on how sides now now' held held' keeps way calls h s on = subst (λ (slices : List Slice). IsOn (record way { slices = slices }) now' calls held') (append-nil way.slices) (keeps.on way calls h s on)
+
+-- With a block status that the source was asked the invariant of the slices stands.
+extents_ask : (how : How) (now now' : board.Seen) (offset size : ℕ) (slices : List Slice) → now' ≡ record now { told = []; mapped = false } →
+    AsksSource how (without_buffer (block_status_of size offset ticket.Extents ticket.Extents 0)) slices slices now now'
+extents_ask how now now' offset size slices is =
+    let command = without_buffer (block_status_of size offset ticket.Extents ticket.Extents 0) in
+    record {
+      bytes = λ _. refl;
+      earlier = λ none. sym (ap (λ (b : board.Seen). b.error) is) ∙ none;
+      on = λ source destination link cookie stands.
+          subst (λ (b : board.Seen). rows.Stands how slices b.rows (asking link cookie ticket.Extents (asked_by command) source) destination) (sym is)
+          ((extents_kept how now.rows source destination link cookie (asked_by command) refl).on slices stands);
+    }
+
+-- Extents of a range are asked for, of the source's first connection, while none are.
+asked_on : (way : Way) (now now' : board.Seen) (calls : List wire.Call) (held held' : List (Held Ticket)) (offset size : ℕ) → way.asked ≡ None → now' ≡ record now { told = []; mapped = false } →
+    IsAsked 0 (block_status_of size offset ticket.Extents ticket.Extents 0) held held' → IsOn way now calls held → IsOn (with_asked (Some (offset, size)) way) now' calls held'
+asked_on way now now' calls held held' offset size none is asked on =
+    let command = without_buffer (block_status_of size offset ticket.Extents ticket.Extents 0) in
+    let was = asked.on on.seens on.at in
+    record {
+      has = on.has;
+      seens = with_event 0 (Issue command) on.seens;
+      at = was.at;
+      sided = sided_after way.sides on.has 0 (Issue command) on.seens on.sided;
+      begun = on.begun ∙ ap (λ (b : board.Seen). b.begun) (sym is);
+      stands = extents_ask_stand way on.has now now' calls on.seens (offset, size) 0 was.seen command none on.stands was.there (on.sided 0 was.seen was.there) was.spells (extents_ask way.how now now' offset size way.slices is)
+          (record { kind = refl; offset = refl; length_ = refl }) (ap (λ (b : board.Seen). b.told) is) (ap (λ (b : board.Seen). b.mapped) is);
+    }
+
+-- Slices go on.
+
+phases_differ : Flushing ≡ Copying → ⊥
+phases_differ e = cc
+
+pub acts_keeps : (job : Seen) (how : How) (sides : Sides) (now now' : board.Seen) (held held' : List (Held Ticket)) → how ≡ job.terms.how → sides ≡ job.terms.sides → job.phase ≡ Copying → Keeps how sides [] now now' held held' →
+    Acts job job now now' held held'
+acts_keeps job how sides now now' held held' h s copying keeps = record {
+  stand = keeps.stand;
+  on = λ way had. record {
+    way' = way;
+    one = one_same way;
+    job' = record { size = had.size; how = had.how; sides = had.sides; zeros = had.zeros; planned = had.planned; asked = had.asked; over = λ other. absurd (other copying) };
+    on = λ calls on. none_on how sides now now' held held' keeps way calls (had.how ∙ sym h) (had.sides ∙ sym s) on;
+  };
+}
+
+-- Extents are heard, and asked for.
+
+pub acts_heard : (job job' : Seen) (windows' : windows.Seen) (now : board.Seen) (held : List (Held Ticket)) → job.phase ≡ Copying → job.asked ≡ true → now.mapped ≡ true → job' ≡ record job { windows = windows'; asked = false } →
+    windows'.plan.cells ≡ job.windows.plan.cells →
+    ((blank : ℕ → Bool) (slices : List Slice) → windows.IsPlanned job.windows blank slices → windows.IsPlanned windows' (λ p. blank p || windows.zero_heard (windows.wanted job.windows) now.told p) slices) →
+    Acts job job' now now held held
+acts_heard job job' windows' now held copying asked mapped is cells hears = subst (λ (j : Seen). Acts job j now now held held) (sym is) (record {
+  stand = λ s. s;
+  on = λ way had.
+      let range : way.asked ≡ windows.wanted job.windows = had.asked ∙ ap (λ (b : Bool). if b then windows.wanted job.windows else None) asked in
+      record {
+        way' = with_heard now.told way;
+        one = record { from = refl; to = refl; how = refl; sides = refl };
+        job' = record {
+          size = had.size;
+          how = had.how;
+          sides = had.sides;
+          zeros = ap (λ (c : Cells). c.zeros) cells ∙ had.zeros;
+          planned = subst (λ (r : Option (ℕ × ℕ)). windows.IsPlanned windows' (λ p. way.zero p || windows.zero_heard r now.told p) way.slices) (sym range) (hears way.zero way.slices had.planned);
+          asked = refl;
+          over = λ other. absurd (other copying);
+        };
+        on = λ calls on. heard_on way now calls held mapped on;
+      };
+})
+
+stand_asked : (index : ℕ) (command : Command Ticket) (held held' : List (Held Ticket)) → IsAsked index command held held' → Stand held → Stand held'
+stand_asked index command held held' asked s = record { seens = with_event index (Issue (without_buffer command)) s.seens; at = (asked.on s.seens s.at).at }
+
+pub acts_asked : (job job' : Seen) (now now' : board.Seen) (held held' : List (Held Ticket)) (offset size : ℕ) → job.phase ≡ Copying → job.asked ≡ false → windows.wanted job.windows ≡ Some (offset, size) →
+    job' ≡ record job { asked = true } → now' ≡ record now { told = []; mapped = false } → IsAsked 0 (block_status_of size offset ticket.Extents ticket.Extents 0) held held' → Acts job job' now now' held held'
+acts_asked job job' now now' held held' offset size copying none range is forgets asked = subst (λ (j : Seen). Acts job j now now' held held') (sym is) (record {
+  stand = stand_asked 0 (block_status_of size offset ticket.Extents ticket.Extents 0) held held' asked;
+  on = λ way had.
+      let blank : way.asked ≡ None = had.asked ∙ ap (λ (b : Bool). if b then windows.wanted job.windows else None) none in
+      record {
+        way' = with_asked (Some (offset, size)) way;
+        one = record { from = refl; to = refl; how = refl; sides = refl };
+        job' = record { size = had.size; how = had.how; sides = had.sides; zeros = had.zeros; planned = had.planned; asked = sym range; over = λ other. absurd (other copying) };
+        on = λ calls on. asked_on way now now' calls held held' offset size blank forgets asked on;
+      };
+})
+
+-- Slices begin.
+
+abbrev with_left : windows.Seen → List Slice → windows.Seen
+with_left plan slices = record plan { plan = record plan.plan { slices = slices } }
+
+handed_planned : (plan plan' : windows.Seen) (blank : ℕ → Bool) (slices more : List Slice) → plan.plan.slices ≡ more ++ plan'.plan.slices → plan' ≡ with_left plan plan'.plan.slices → windows.IsPlanned plan blank slices →
+    windows.IsPlanned plan' blank (slices ++ more)
+handed_planned plan plan' blank slices more handed others planned = subst (λ (w : windows.Seen). windows.IsPlanned w blank (slices ++ more)) (sym others) (record {
+  parts = planned.parts;
+  are = append_assoc slices more plan'.plan.slices ∙ ap (λ (l : List Slice). slices ++ l) (sym handed) ∙ planned.are;
+  end = planned.end;
+  told = planned.told;
+  under_way = planned.under_way;
+})
+
+pub acts_begun : (job job' : Seen) (windows' : windows.Seen) (how : How) (sides : Sides) (now now' : board.Seen) (held held' : List (Held Ticket)) → job.phase ≡ Copying → how ≡ job.terms.how → sides ≡ job.terms.sides → job' ≡ record job { windows = windows' } →
+    Begins how sides job.windows windows' now now' held held' → Acts job job' now now' held held'
+acts_begun job job' windows' how sides now now' held held' copying h s is begins = subst (λ (j : Seen). Acts job j now now' held held') (sym is) (record {
+  stand = begins.keeps.stand;
+  on = λ way had. record {
+    way' = with_slices begins.more way;
+    one = record { from = refl; to = refl; how = refl; sides = refl };
+    job' = record {
+      size = had.size;
+      how = had.how;
+      sides = had.sides;
+      zeros = ap (λ (w : windows.Seen). w.plan.cells.zeros) begins.others ∙ had.zeros;
+      planned = handed_planned job.windows windows' way.zero way.slices begins.more begins.handed begins.others had.planned;
+      asked = had.asked ∙ ap (λ (w : windows.Seen). if job.asked then windows.wanted w else None) (sym begins.others);
+      over = λ other. absurd (other copying);
+    };
+    on = λ calls on. begins.keeps.on way calls (had.how ∙ sym h) (had.sides ∙ sym s) on;
+  };
+})
+
+-- The end.
+
+-- With all slices over the copy is at its end, whatever is still asked.
+acts_over : (job job' : Seen) (phase' : Phase) (now now' : board.Seen) (held held' : List (Held Ticket)) → job' ≡ record job { phase = phase' } → now'.rows ≡ now.rows → ((way : Way) → IsJob job way now → IsOver job now) →
+    Keeps job.terms.how job.terms.sides [] now now' held held' → Acts job job' now now' held held'
+acts_over job job' phase' now now' held held' is rows over keeps = subst (λ (j : Seen). Acts job j now now' held held') (sym is) (record {
+  stand = keeps.stand;
+  on = λ way had. record {
+    way' = way;
+    one = one_same way;
+    job' = record {
+      size = had.size;
+      how = had.how;
+      sides = had.sides;
+      zeros = had.zeros;
+      planned = had.planned;
+      asked = had.asked;
+      over = λ other. let was = over way had in record { planned = was.planned; handed = was.handed; heard = was.heard; rows = rows ∙ was.rows };
+    };
+    on = λ calls on. none_on job.terms.how job.terms.sides now now' held held' keeps way calls had.how had.sides on;
+  };
+})
+
+-- All connections are asked to part.
+pub acts_parting : (job job' : Seen) (phase' : Phase) (now : board.Seen) (held held' : List (Held Ticket)) → job' ≡ record job { phase = phase' } → IsOver job now →
+    Keeps job.terms.how job.terms.sides [] now now held held' → Acts job job' now now held held'
+acts_parting job job' phase' now held held' is over keeps = acts_over job job' phase' now now held held' is refl (λ way had. over) keeps
+
+pub acts_flushed : (job job' : Seen) (phase' : Phase) (now : board.Seen) (held held' : List (Held Ticket)) → job' ≡ record job { phase = phase' } → job.phase ≡ Flushing →
+    Keeps job.terms.how job.terms.sides [] now now held held' → Acts job job' now now held held'
+acts_flushed job job' phase' now held held' is flushing keeps = acts_over job job' phase' now now held held' is refl (λ way had. had.over (λ e. phases_differ (sym flushing ∙ e))) keeps
+
+-- The destination's first connection is asked to flush.
+flush_asks : (how : How) (now now' : board.Seen) (slices : List Slice) → now' ≡ now → AsksDestination how (without_buffer (flush_of ticket.Flush 0)) slices (slices ++ []) now now'
+flush_asks how now now' slices is =
+    let command = without_buffer (flush_of ticket.Flush 0) in
+    record {
+      bytes = λ _. refl;
+      earlier = λ none. sym (ap (λ (b : board.Seen). b.error) is) ∙ none;
+      on = λ source destination link cookie stands.
+          subst (λ (more : List Slice). rows.Stands how more now'.rows source (asking link cookie ticket.Flush (asked_by command) destination)) (sym (append-nil slices))
+          (subst (λ (b : board.Seen). rows.Stands how slices b.rows source (asking link cookie ticket.Flush (asked_by command) destination)) (sym is)
+          ((flush_kept how now.rows source destination link cookie (asked_by command) refl).on slices stands));
+    }
+
+pub acts_flushing : (job job' : Seen) (phase' : Phase) (now now' : board.Seen) (held held' : List (Held Ticket)) → job' ≡ record job { phase = phase' } → IsOver job now → now' ≡ now → IsAsked 1 (flush_of ticket.Flush 0) held held' →
+    Acts job job' now now' held held'
+acts_flushing job job' phase' now now' held held' is over same asked =
+    let begun : now'.begun ≡ now.begun = ap (λ (b : board.Seen). b.begun) same in
+    acts_over job job' phase' now now' held held' is (ap (λ (b : board.Seen). b.rows) same) (λ way had. over)
+    (destination_keeps job.terms.how job.terms.sides [] (flush_of ticket.Flush 0) now now' held held' (omega (arith, begun)) refl (record { told = ap (λ (b : board.Seen). b.told) same; mapped = ap (λ (b : board.Seen). b.mapped) same }) (λ slices count. flush_asks job.terms.how now now' slices same)
+    (record { index = 1; side = refl; asked = asked }))
+
+-- A job begins.
+pub job_begins : (job : Seen) (way : Way) (now : board.Seen) → job.asked ≡ false → job.phase ≡ Copying → job.windows.plan.cells.zeros ≡ not job.terms.how.skip → ((blank : ℕ → Bool) → windows.IsPlanned job.windows blank []) →
+    way.size ≡ Some job.terms.size → way.how ≡ job.terms.how → way.sides ≡ job.terms.sides → way.slices ≡ [] → way.asked ≡ None → IsJob job way now
+job_begins job way now none copying zeros planned z h s blank asked = record {
+  size = z;
+  how = h;
+  sides = s;
+  zeros = zeros;
+  planned = subst (λ (l : List Slice). windows.IsPlanned job.windows way.zero l) (sym blank) (planned way.zero);
+  asked = asked ∙ ap (λ (b : Bool). if b then windows.wanted job.windows else None) (sym none);
+  over = λ other. absurd (other copying);
+}
+
+-- Copies write alike whose terms are alike.
+how_of : (block : ℕ) (skip zeroes allocated : Bool) → How
+how_of block skip zeroes allocated = record { block = block; skip = skip; zeroes = zeroes; allocated = allocated }
+
+pub same_how : (one other : How) → one.block ≡ other.block → one.skip ≡ other.skip → one.zeroes ≡ other.zeroes → one.allocated ≡ other.allocated → one ≡ other
+unfolding how_of
+same_how one other b s z a =
+    subst (λ (x : ℕ). one ≡ how_of x other.skip other.zeroes other.allocated) b
+    (subst (λ (x : Bool). one ≡ how_of one.block x other.zeroes other.allocated) s
+    (subst (λ (x : Bool). one ≡ how_of one.block one.skip x other.allocated) z
+    (subst (λ (x : Bool). one ≡ how_of one.block one.skip one.zeroes x) a refl)))

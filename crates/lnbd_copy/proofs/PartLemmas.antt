@@ -1,0 +1,208 @@
+-- The connections of a copy are asked to end, and are taken out.
+use Rattle.std.proofs.Common.{◌≡◌, ℕ, zero, suc, ◌+◌, Bool, true, false, List, [], ◌∷◌, ◌++◌, Option, None, Some, Result, Ok, Err, slice_get, take, drop, refl, ap, sym, subst, ◌∙◌}
+use Rattle.std.proofs.lemmas.List.{append-nil}
+use Rattle.std.specs.Option.{option_map}
+use Rattle.lnbd_history.specs.Events.{Disconnect, Event}
+use Rattle.lnbd_link.specs.Call as wire
+use Rattle.lnbd_link.specs.Part.{Adds}
+use Rattle.lnbd_machine.specs.Machine.{Machine}
+use Rattle.lnbd_model.specs.declared.refusal.Why.{Why}
+use Rattle.lnbd_standing.specs.Standing.{StandsFor}
+use Rattle.lnbd_handle.specs.Histories.{AddsOnOk, ForEach, max_unretired}
+use Rattle.lnbd_handle.specs.Histories as histories
+use Rattle.lnbd_poll.specs.declared.held.Held.{Held}
+use Rattle.lnbd_poll.specs.Held.{AreAt}
+use Rattle.lnbd_poll.specs.Lends.{with_handle}
+use Rattle.lnbd_poll.specs.Seen.{Seen}
+use Rattle.lnbd_drives.specs.Driving.{with_event}
+use Rattle.lnbd_plan.specs.declared.grid.Slice.{Slice}
+use Rattle.lnbd_board.specs.declared.how.How.{How}
+use Rattle.lnbd_board.specs.declared.row.Row.{Row}
+use Rattle.lnbd_board.specs.declared.ticket.Ticket.{Ticket}
+use Rattle.lnbd_board.specs.Files as board
+use Rattle.lnbd_board.specs.Rows as rows
+use Rattle.lnbd_copy.specs.declared.sides.Sides.{Sides}
+use Rattle.lnbd_copy.specs.Leaving.{Leaves}
+use Rattle.lnbd_copy.specs.Way.{Filed, IsLeaving, IsOn, IsUnderWay, Keeps, Stand, Stands, Way}
+use Rattle.lnbd_copy.proofs.FiledLemmas.{filed_none, filed_then}
+use Rattle.lnbd_copy.proofs.StepLemmas.{others_stand, taking_stands, unasked_moves_stand}
+use Rattle.lnbd_copy.proofs.TurnLemmas.{SameLinks, called, links_stay, none_some, placed_same, some_same, told_on}
+
+-- Steps without slices.
+
+pub keeps_none : (how : How) (sides : Sides) (now : board.Seen) (held : List (Held Ticket)) → Keeps how sides [] now now held held
+keeps_none how sides now held = record {
+  stand = λ s. s;
+  on = λ way calls is_how is_sides on. subst (λ (slices : List Slice). IsOn (record way { slices = slices }) now calls held) (sym (append-nil way.slices)) on;
+}
+
+-- With what happened on a handle.
+
+-- this one was there, and the same handles stand with the event on it
+record Happened (index : ℕ) (event : Event Ticket) (seens : List (Seen Ticket)) (new : List (Held Ticket)) : Type 0 where
+  seen : Seen Ticket
+  there : slice_get seens index ≡ Some seen
+  at : AreAt new (with_event index event seens)
+
+module _ (handle handle' : Machine Ticket) where
+  abbrev IsThere : ℕ → List (Held Ticket) → Type 0
+  IsThere index all = option_map (λ held. held.handle) (slice_get all index) ≡ Some handle
+
+  happens : (event : Event Ticket) (index : ℕ) (all : List (Held Ticket)) (seens : List (Seen Ticket)) → ForEach handle (histories.Adds event handle') → IsThere index all → AreAt all seens → Happened index event seens (with_handle all index handle')
+  happens event index [] seens adds is at = absurd (none_some handle is)
+  happens event index (held ∷ others) [] adds is at = absurd at
+  happens event zero (held ∷ others) (seen ∷ more) adds is at =
+      let stands = adds seen.history (subst (λ (m : Machine Ticket). StandsFor max_unretired seen.history m) (some_same held.handle handle is) at.0.stands) in
+      record { seen = seen; there = refl; at = (record { link = at.0.link; stands = stands; unread = at.0.unread }, at.1) }
+  happens event (suc index) (held ∷ others) (seen ∷ more) adds is at =
+      let rest = happens event index others more adds is at.1 in
+      record { seen = rest.seen; there = rest.there; at = (at.0, rest.at) }
+
+  -- nothing happened
+  still : (index : ℕ) (all : List (Held Ticket)) (seens : List (Seen Ticket)) → ForEach handle (histories.Stays handle') → IsThere index all → AreAt all seens → AreAt (with_handle all index handle') seens
+  still index [] seens stays is at = absurd (none_some handle is)
+  still index (held ∷ others) [] stays is at = absurd at
+  still zero (held ∷ others) (seen ∷ more) stays is at =
+      let stands = stays seen.history (subst (λ (m : Machine Ticket). StandsFor max_unretired seen.history m) (some_same held.handle handle is) at.0.stands) in
+      (record { link = at.0.link; stands = stands; unread = at.0.unread }, at.1)
+  still (suc index) (held ∷ others) (seen ∷ more) stays is at = (at.0, still index others more stays is at.1)
+
+event_links : (index : ℕ) (event : Event Ticket) (seens : List (Seen Ticket)) → SameLinks seens (with_event index event seens)
+event_links index event [] = tt
+event_links zero event (seen ∷ others) = (refl, links_stay others)
+event_links (suc index) event (seen ∷ others) = (refl, event_links index event others)
+
+-- A handle that asks for the end changes nothing else.
+parts : (how : How) (sides : Sides) (now : board.Seen) (index : ℕ) (held : List (Held Ticket)) (handle handle' : Machine Ticket) → ForEach handle (histories.Adds Disconnect handle') → option_map (λ held. held.handle) (slice_get held index) ≡ Some handle
+    → Keeps how sides [] now now held (with_handle held index handle')
+parts how sides now index held handle handle' adds is = record {
+  stand = λ s. record { seens = with_event index Disconnect s.seens; at = (happens handle handle' Disconnect index held s.seens adds is s.at).at };
+  on = λ way calls is_how is_sides on.
+      let did = happens handle handle' Disconnect index held on.seens adds is on.at in
+      let after = with_event index Disconnect on.seens in
+      (keeps_none how sides now (with_handle held index handle')).on way calls is_how is_sides (record {
+        has = on.has;
+        seens = after;
+        at = did.at;
+        sided = placed_same false way.sides on.has on.seens after (event_links index Disconnect on.seens) on.sided;
+        begun = on.begun;
+        stands = others_stand way on.has now calls on.seens index did.seen Disconnect on.stands did.there (record { inward = refl; unasked = refl; still = refl; spelled = tt; mode = refl }) refl;
+      });
+}
+
+stays : (how : How) (sides : Sides) (now : board.Seen) (index : ℕ) (held : List (Held Ticket)) (handle handle' : Machine Ticket) → ForEach handle (histories.Stays handle') → option_map (λ held. held.handle) (slice_get held index) ≡ Some handle
+    → Keeps how sides [] now now held (with_handle held index handle')
+stays how sides now index held handle handle' same is = record {
+  stand = λ s. record { seens = s.seens; at = still handle handle' index held s.seens same is s.at };
+  on = λ way calls is_how is_sides on. (keeps_none how sides now (with_handle held index handle')).on way calls is_how is_sides (record {
+    has = on.has;
+    seens = on.seens;
+    at = still handle handle' index held on.seens same is on.at;
+    sided = on.sided;
+    begun = on.begun;
+    stands = on.stands;
+  });
+}
+
+-- A handle was asked for the end, whether that was taken or not.
+pub parts_or_not : (how : How) (sides : Sides) (now : board.Seen) (index : ℕ) (held : List (Held Ticket)) (handle handle' : Machine Ticket) (result : Result (Unit {0}) Why) → option_map (λ held. held.handle) (slice_get held index) ≡ Some handle
+    → ForEach handle (AddsOnOk result Disconnect handle') → Keeps how sides [] now now held (with_handle held index handle')
+parts_or_not how sides now index held handle handle' (Ok done) is adds = parts how sides now index held handle handle' adds is
+parts_or_not how sides now index held handle handle' (Err why) is same = stays how sides now index held handle handle' same is
+
+-- the slices that none were begun of are none
+pub keeps_on : (how : How) (sides : Sides) (a b c : board.Seen) (held held2 held3 : List (Held Ticket)) → Keeps how sides [] a b held held2 → Keeps how sides [] b c held2 held3 → Keeps how sides [] a c held held3
+keeps_on how sides a b c held held2 held3 one two = record {
+  stand = λ s. two.stand (one.stand s);
+  on = λ way calls is_how is_sides on.
+      let half = subst (λ (slices : List Slice). IsOn (record way { slices = slices }) b calls held2) (append-nil way.slices) (one.on way calls is_how is_sides on) in
+      two.on way calls is_how is_sides half;
+}
+
+-- A handle is taken out.
+
+taken_at : (n : ℕ) (held : List (Held Ticket)) (seens : List (Seen Ticket)) → AreAt held seens → AreAt (take n held) (take n seens)
+taken_at zero [] [] at = tt
+taken_at (suc n) [] [] at = tt
+taken_at n [] (seen ∷ all) at = absurd at
+taken_at n (one ∷ others) [] at = absurd at
+taken_at zero (one ∷ others) (seen ∷ all) at = tt
+taken_at (suc n) (one ∷ others) (seen ∷ all) at = (at.0, taken_at n others all at.1)
+
+dropped_at : (n : ℕ) (held : List (Held Ticket)) (seens : List (Seen Ticket)) → AreAt held seens → AreAt (drop n held) (drop n seens)
+dropped_at zero [] [] at = tt
+dropped_at (suc n) [] [] at = tt
+dropped_at n [] (seen ∷ all) at = absurd at
+dropped_at n (one ∷ others) [] at = absurd at
+dropped_at zero (one ∷ others) (seen ∷ all) at = at
+dropped_at (suc n) (one ∷ others) (seen ∷ all) at = dropped_at n others all at.1
+
+joined_at : (held held2 : List (Held Ticket)) (seens seens2 : List (Seen Ticket)) → AreAt held seens → AreAt held2 seens2 → AreAt (held ++ held2) (seens ++ seens2)
+joined_at [] held2 [] seens2 at more = more
+joined_at [] held2 (seen ∷ all) seens2 at more = absurd at
+joined_at (one ∷ others) held2 [] seens2 at more = absurd at
+joined_at (one ∷ others) held2 (seen ∷ all) seens2 at more = (at.0, joined_at others held2 all seens2 at.1 more)
+
+without_at : (index : ℕ) (held : List (Held Ticket)) (seens : List (Seen Ticket)) → AreAt held seens → AreAt (take index held ++ drop (index + 1) held) (take index seens ++ drop (index + 1) seens)
+without_at index held seens at = joined_at (take index held) (drop (index + 1) held) (take index seens) (drop (index + 1) seens) (taken_at index held seens at) (dropped_at (index + 1) held seens at)
+
+-- where the handle stands that was taken out
+record Stood (index : ℕ) (seens : List (Seen Ticket)) (handle : Machine Ticket) : Type 0 where
+  seen : Seen Ticket
+  there : slice_get seens index ≡ Some seen
+  stands : StandsFor max_unretired seen.history handle
+
+stood : (index : ℕ) (held : List (Held Ticket)) (seens : List (Seen Ticket)) (taken : ℕ × Machine Ticket) → option_map {U = ℕ × Machine Ticket} (λ held. (held.link, held.handle)) (slice_get held index) ≡ Some taken → AreAt held seens → Stood index seens taken.1
+stood index [] seens taken is at = absurd (none_some taken is)
+stood index (one ∷ others) [] taken is at = absurd at
+stood zero (one ∷ others) (seen ∷ all) taken is at =
+    record { seen = seen; there = refl; stands = subst (λ (m : Machine Ticket). StandsFor max_unretired seen.history m) (ap (λ (p : ℕ × Machine Ticket). p.1) (some_same (one.link, one.handle) taken is)) at.0.stands }
+stood (suc index) (one ∷ others) (seen ∷ all) taken is at =
+    let rest = stood index others all taken is at.1 in
+    record { seen = rest.seen; there = rest.there; stands = rest.stands }
+
+-- what is filed on a board without rows keeps what stands, where no extents are waited for
+filed_stands : (way : Way) (has : ℕ → Bool) (now now' : board.Seen) (calls : List wire.Call) (seens : List (Seen Ticket)) → way.asked ≡ None → Filed now now' → now.rows ≡ [] → Stands way has now calls seens → Stands way has now' calls seens
+filed_stands way has now now' calls seens unasked filed none stands =
+    let same : now'.rows ≡ now.rows = filed.none none ∙ sym none in
+    unasked_moves_stand way has now now' calls seens unasked stands filed.error (λ source destination. record {
+      on = λ all kept. subst (λ (r : List (ℕ × Row)). rows.Stands way.how all r source destination) (sym same) kept;
+    })
+
+hung_up : (way : Way) (now now' : board.Seen) (calls : List wire.Call) (held : List (Held Ticket)) (index : ℕ) (taken : ℕ × Machine Ticket) → option_map {U = ℕ × Machine Ticket} (λ held. (held.link, held.handle)) (slice_get held index) ≡ Some taken → way.asked ≡ None → Filed now now' → now.rows ≡ []
+    → IsLeaving way now calls held → IsLeaving way now' calls (take index held ++ drop (index + 1) held)
+hung_up way now now' calls held index taken is unasked filed none on =
+    let one = stood index held on.seens taken is on.at in
+    let left = take index on.seens ++ drop (index + 1) on.seens in
+    record {
+      has = on.has;
+      seens = left;
+      at = without_at index held on.seens on.at;
+      sided = tt;
+      begun = on.begun ∙ sym filed.begun;
+      stands = filed_stands way on.has now now' calls left unasked filed none (taking_stands way on.has now calls on.seens index one.seen max_unretired taken.1 on.stands one.there one.stands);
+    }
+
+-- A handle is taken out and closed, and its link is shut.
+pub leaves_one : (a b : Option (List wire.Call)) (now now' : board.Seen) (held held' : List (Held Ticket)) (index : ℕ) (one : ℕ × Machine Ticket) → option_map {U = ℕ × Machine Ticket} (λ held. (held.link, held.handle)) (slice_get held index) ≡ Some one
+    → held' ≡ take index held ++ drop (index + 1) held → Filed now now' → Adds a b (wire.Shut one.0) → Leaves now held a now' held' b
+leaves_one a b now now' held held' index one is held_is filed adds = subst (λ (l : List (Held Ticket)). Leaves now held a now' l b) (sym held_is) (record {
+  stand = λ s. record { seens = take index s.seens ++ drop (index + 1) s.seens; at = without_at index held s.seens s.at };
+  filed = filed;
+  on = λ way start unasked none told. told_on start a b (wire.Shut one.0) adds
+      (λ calls on. called true way now' calls (wire.Shut one.0 ∷ []) (take index held ++ drop (index + 1) held) (λ n. refl) (λ n. refl) (hung_up way now now' calls held index one is unasked filed none on)) told;
+})
+
+pub leaves_none : (now : board.Seen) (held : List (Held Ticket)) (told : Option (List wire.Call)) → Leaves now held told now held told
+leaves_none now held told = record { stand = λ s. s; filed = filed_none now; on = λ way start unasked none is. is }
+
+pub leaves_then : (now now2 now3 : board.Seen) (held held2 held3 : List (Held Ticket)) (a b c : Option (List wire.Call)) → Leaves now held a now2 held2 b → Leaves now2 held2 b now3 held3 c → Leaves now held a now3 held3 c
+leaves_then now now2 now3 held held2 held3 a b c one two = record {
+  stand = λ s. two.stand (one.stand s);
+  filed = filed_then now now2 now3 one.filed two.filed;
+  on = λ way start unasked none told. two.on way start unasked (one.filed.none none) (one.on way start unasked none told);
+}
+
+-- A copy on its way may leave.
+pub on_leaving : (way : Way) (now : board.Seen) (calls : List wire.Call) (held : List (Held Ticket)) → IsOn way now calls held → IsLeaving way now calls held
+on_leaving way now calls held on = record { has = on.has; seens = on.seens; at = on.at; sided = tt; begun = on.begun; stands = on.stands }

@@ -1,0 +1,13 @@
+use Rattle.std.proofs.Common.{refl, ap, sym, ◌∙◌}
+use Rattle.lnbd_copy.specs.Copier.{Seen}
+use Rattle.lnbd_copy.proofs.EndLemmas.{finished}
+use Rattle.lnbd_copy.proofs.copier.Copier.go_on.Goals as goal
+
+pub returns-then-is_finished-clause-turns : goal.returns-then-is_finished-clause-turns
+returns-then-is_finished-clause-turns g c start on =
+    let parting = c.if-is_finished.ensures.parting refl in
+    let left = c.part-parted.ensures.on start (c.in_ok-acted.ensures.on start _ (c.in_ok-moved.ensures.on start on)) in
+    finished _ start _ parting.job parting.there parting.parts (c.if-is_finished.ensures.parted refl) (sym (ap (λ (s : Seen). s.board.error) c.self.view_is) ∙ c.in_ok-check_answers.ensures.well) left
+
+pub returns-clause-turns : goal.returns-clause-turns
+returns-clause-turns g c start on = c.progress_of.ensures start _ _ (c.part-parted.ensures.on start (c.in_ok-acted.ensures.on start _ (c.in_ok-moved.ensures.on start on)))

@@ -1,0 +1,10 @@
+use Rattle.std.proofs.Common.{refl, sym, subst}
+use Rattle.lnbd_copy.specs.Copier.{IsOnItsWay, IsParting, Seen}
+use Rattle.lnbd_copy.proofs.EndLemmas.{after_leaving}
+use Rattle.lnbd_copy.proofs.copier.Copier.part.Goals as goal
+
+pub returns-clause-on : goal.returns-clause-on
+returns-clause-on g c start on =
+    let parts = subst IsParting (sym c.self.view_is) (c.if-not-is_parting.ensures refl) in
+    after_leaving _ start parts.job c.shut_parted.new.board c.shut_parted.new.handles (g.W.Wires.told c.args.wires.now) (g.W.Wires.told c.shut_parted.new.wires) parts.there parts.parts c.shut_parted.ensures.leaves
+    (subst (λ (s : Seen). IsOnItsWay start (g.W.Wires.told c.args.wires.now) s) (sym c.self.view_is) on)

@@ -1,0 +1,12 @@
+use Rattle.std.proofs.Common.{◌∙◌}
+use Rattle.lnbd_board.specs.Board.{first_row}
+use Rattle.lnbd_copy.proofs.DealingLemmas.{begun_keeps, on_ok_both}
+use Rattle.lnbd_copy.proofs.dealing.Bindings.begin_one.Goals as goal
+
+pub returns-clause-keeps : goal.returns-clause-keeps
+returns-clause-keeps c =
+    on_ok_both c.ask_first.result
+    (λ asked same. begun_keeps c.args.board.now.how c.args.self.now c.sides.result c.args.slice c.begun-number.result (first_row c.args.slice c.fewest-source.result.0 c.fewest-source.result.1) c.in_ok-first.first
+    c.args.board.now c.begin.new.self c.ask_first.new.board c.args.handles.now c.ask_first.new.handles
+    (c.sides.ensures ∙ c.bind.ensures) c.begun-number.ensures c.in_ok-first.ensures.row c.in_ok-first.ensures.ok same asked)
+    c.ask_first.ensures.asked c.ask_first.ensures.board

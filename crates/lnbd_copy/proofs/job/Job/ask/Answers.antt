@@ -1,0 +1,12 @@
+use Rattle.std.proofs.Common.{true, false, refl, ap, sym, subst, ◌∙◌}
+use Rattle.lnbd_copy.specs.Job.{Acts, Seen}
+use Rattle.lnbd_copy.proofs.JobLemmas.{acts_asked}
+use Rattle.lnbd_copy.proofs.job.Job.ask.Goals as goal
+
+pub returns-in_ok-ask_extents-in-Some-clause-acts : goal.returns-in_ok-ask_extents-in-Some-clause-acts
+returns-in_ok-ask_extents-in-Some-clause-acts c =
+    let was : Seen = record { terms = c.self.inside.terms; windows = c.self.inside.windows; asked = c.self.inside.asked; phase = c.self.inside.phase } in
+    let new : Seen = record { terms = c.self.inside.terms; windows = c.self.inside.windows; asked = true; phase = c.self.inside.phase } in
+    subst (λ (j : Seen). Acts j new c.args.board.now c.ask_extents.new.board c.args.handles.now c.ask_extents.new.handles) c.self.view_is
+    (acts_asked was new c.args.board.now c.ask_extents.new.board c.args.handles.now c.ask_extents.new.handles c.in-Some.wanted.offset c.in-Some.wanted.length (ap (λ (j : Seen). j.phase) c.self.view_is ∙ c.requires) (ap (λ (j : Seen). j.asked) c.self.view_is ∙ c.may_ask.ensures c.if-not-may_ask.false) (sym c.in-Some.ensures) refl
+    c.in_ok-ask_extents-in-Some.ensures.board c.in_ok-ask_extents-in-Some.ensures.asked)

@@ -1,0 +1,15 @@
+use Rattle.std.proofs.Common.{refl, sym, subst}
+use Rattle.lnbd_copy.specs.declared.job.Phase.TheVariants as phase
+use Rattle.lnbd_copy.specs.Job.{Acts, IsOver, Seen}
+use Rattle.lnbd_copy.proofs.JobLemmas.{acts_flushing, acts_parting}
+use Rattle.lnbd_copy.proofs.job.Job.conclude.Goals as goal
+
+pub returns-then-self-clause-acts : goal.returns-then-self-clause-acts
+returns-then-self-clause-acts c =
+    let was : Seen = record { terms = c.self.inside.terms; windows = c.self.inside.windows; asked = c.self.inside.asked; phase = c.self.inside.phase } in
+    let new : Seen = record { terms = c.self.inside.terms; windows = c.self.inside.windows; asked = c.self.inside.asked; phase = phase.Flushing } in
+    subst (λ (j : Seen). Acts j new c.args.board.now c.ask_flush.new.board c.args.handles.now c.ask_flush.new.handles) c.self.view_is
+    (acts_flushing was new phase.Flushing c.args.board.now c.ask_flush.new.board c.args.handles.now c.ask_flush.new.handles refl (subst (λ (j : Seen). IsOver j c.args.board.now) (sym c.self.view_is) c.requires) c.in_ok-ask_flush.ensures.board c.in_ok-ask_flush.ensures.asked)
+
+pub returns-clause-acts : goal.returns-clause-acts
+returns-clause-acts c = acts_parting c.args.self.now c.leave.new.self phase.Parting c.args.board.now c.args.handles.now c.leave.new.handles c.leave.ensures.others c.requires (c.leave.ensures.keeps c.args.board.now)

@@ -1,0 +1,17 @@
+use Rattle.std.proofs.Common.{◌||◌, ℕ, false, Bool, List, refl, ap, subst, ◌∙◌}
+use Rattle.lnbd_model.specs.declared.export.Extent.{Extent}
+use Rattle.lnbd_plan.specs.declared.grid.Slice.{Slice}
+use Rattle.lnbd_copy.specs.Job.{Acts, Seen}
+use Rattle.lnbd_copy.specs.Windows as windows
+use Rattle.lnbd_copy.proofs.JobLemmas.{acts_heard}
+use Rattle.lnbd_copy.proofs.job.Job.hear.Goals as goal
+
+pub returns-clause-acts : goal.returns-clause-acts
+returns-clause-acts c = λ held.
+    let was : Seen = record { terms = c.self.inside.terms; windows = c.self.inside.windows; asked = c.self.inside.asked; phase = c.self.inside.phase } in
+    let new : Seen = record { terms = c.self.inside.terms; windows = c.hear.new.self; asked = false; phase = c.self.inside.phase } in
+    let hears =
+    subst (λ (told : List Extent). (blank : ℕ → Bool) (slices : List Slice) → windows.IsPlanned c.self.inside.windows blank slices → windows.IsPlanned c.hear.new.self (λ p. blank p || windows.zero_heard (windows.wanted c.self.inside.windows) told p) slices)
+    c.told.ensures c.in_ok-hear.ensures.planned in
+    subst (λ (j : Seen). Acts j new c.args.board.now c.args.board.now held held) c.self.view_is
+    (acts_heard was new c.hear.new.self c.args.board.now held (ap (λ (j : Seen). j.phase) c.self.view_is ∙ c.requires) (ap (λ (j : Seen). j.asked) c.self.view_is ∙ c.has_come.ensures.asked c.if-not-has_come.false) (c.has_come.ensures.mapped c.if-not-has_come.false) refl c.hear.ensures.cells hears)

@@ -1,0 +1,16 @@
+use Rattle.std.proofs.Common.{◌≤◌, ◌+◌, ◌-◌, ◌≡◌, sym, subst, arith}
+use Rattle.lnbd_copy.specs.Windows.{Seen, IsPlanned}
+use Rattle.lnbd_copy.proofs.WindowLemmas.{window_kept, window_planned}
+use Rattle.lnbd_copy.proofs.windows.Windows.plan_rest.Goals as goal
+
+pub invariant_of-self-2 : goal.invariant_of-self-2
+invariant_of-self-2 c =
+    let kept = c.self.invariant in
+    let inside : c.self.inside.start ≤ c.self.inside.size = omega (arith, kept.ahead, kept.inside) in
+    let last : c.self.inside.start + (c.self.inside.size - c.self.inside.start) ≡ c.self.inside.size = omega arith in
+    window_kept c.self.inside.plan c.window.new.self c.self.inside.start c.self.inside.at c.self.inside.size c.self.inside.grain (c.self.inside.size - c.self.inside.start) c.self.inside.size c.self.inside.zero kept last (omega arith) c.in_ok-window.ensures.ok
+
+pub returns-clause-planned : goal.returns-clause-planned
+returns-clause-planned c = λ blank slices planned.
+    let was = subst (λ (w : Seen). IsPlanned w blank slices) (sym c.self.view_is) planned in
+    window_planned _ _ blank slices c.self.inside.start (c.self.inside.size - c.self.inside.start) c.self.inside.zero was c.self.invariant.begins c.in_ok-window.ensures.ok was.under_way was.under_way

@@ -1,0 +1,91 @@
+-- What a contract sees of a copy, and what stands between two of its turns.
+use Rattle.std.specs.Prelude.{◌≡◌, ◌≢◌, ℕ, true, false, List, [], length, Option, Some, None}
+use Rattle.lnbd_model.specs.declared.target.Place.{Place}
+use Rattle.lnbd_link.specs.Call as wire
+use Rattle.lnbd_plan.specs.declared.options.CopyOptions.{CopyOptions}
+use Rattle.lnbd_poll.specs.declared.held.Held.{Held}
+use Rattle.lnbd_board.specs.declared.how.How.{How}
+use Rattle.lnbd_board.specs.declared.ticket.Ticket.{Ticket}
+use Rattle.lnbd_board.specs.Files as board
+use Rattle.lnbd_course.specs.Copied.{Copied}
+use Rattle.lnbd_copy.specs.declared.copier.Progress.{Progress}
+use Rattle.lnbd_copy.specs.declared.copier.Progress.TheVariants as progress
+use Rattle.lnbd_copy.specs.declared.counts.Counts.{Counts}
+use Rattle.lnbd_copy.specs.declared.sides.Sides.{Sides}
+use Rattle.lnbd_copy.specs.declared.terms.Terms.{Terms}
+use Rattle.lnbd_copy.specs.Job as work
+use Rattle.lnbd_copy.specs.Way.{Filed, IsOn, IsUnderWay, Stand, Told, Way}
+
+pub record Seen : Type 0 where
+  pub options : CopyOptions
+  pub from : Place
+  pub to : Place
+  -- what the wires had counted when it began
+  pub start : Counts
+  -- its connections
+  pub held : List (Held Ticket)
+  pub board : board.Seen
+  -- what is under way, once all connections stand
+  pub job : Option work.Seen
+
+-- It has not begun.
+pub record HasNotBegun (copy : Seen) : Type 0 where
+  pub held : copy.held ≡ []
+  pub rows : copy.board.rows ≡ []
+  pub begun : copy.board.begun ≡ 0
+
+-- Its connections.
+
+-- no slice is begun, of a copy that writes so
+abbrev pub beginning : Seen → (size : Option ℕ) → How → Sides → Way
+beginning copy size how sides = record { from = copy.from; to = copy.to; size = size; how = how; sides = sides; slices = []; zero = λ p. false; asked = None }
+
+-- no slice was begun
+pub record IsBlank (now : board.Seen) : Type 0 where
+  pub rows : now.rows ≡ []
+  pub begun : now.begun ≡ 0
+
+-- Connections stand, and no slice is begun, of a copy that is to be made so.
+pub record HasMet (copy : Seen) (start told : Option (List wire.Call)) (terms : Terms) : Type 0 where
+  pub stand : Stand copy.held
+  pub blank : IsBlank copy.board
+  pub skip : terms.how.skip ≡ copy.options.destination_is_zero
+  pub on : Told start told (λ calls. IsOn (beginning copy (Some terms.size) terms.how terms.sides) copy.board calls copy.held)
+
+-- Further connections are made, each to the side that its place says, where so many were made before.
+pub record GoesFurther (copy : Seen) (sides : Sides) (first : ℕ) (now : board.Seen) (held : List (Held Ticket)) (told : Option (List wire.Call)) (now' : board.Seen) (held' : List (Held Ticket)) (told' : Option (List wire.Call)) : Type 0 where
+  pub stand : Stand held → Stand held'
+  pub filed : Stand held → Filed now now'
+  pub on : (size : Option ℕ) (how : How) (start : Option (List wire.Call)) → Stand held → length held ≡ first →
+      Told start told (λ calls. IsOn (beginning copy size how sides) now calls held) → Told start told' (λ calls. IsOn (beginning copy size how sides) now' calls held')
+
+-- Turns.
+
+-- All its connections stand, and with its calls since the transcript was this it is so far.
+pub record IsOnItsWay (start told : Option (List wire.Call)) (copy : Seen) : Type 0 where
+  pub stand : Stand copy.held
+  pub job : work.Seen
+  pub there : copy.job ≡ Some job
+  pub way : Way
+  pub from : way.from ≡ copy.from
+  pub to : way.to ≡ copy.to
+  pub skip : job.terms.how.skip ≡ copy.options.destination_is_zero
+  pub is : work.IsJob job way copy.board
+  pub on : Told start told (λ calls. IsUnderWay (work.is_parting job.phase) way copy.board calls copy.held)
+
+-- Its connections part.
+pub record IsParting (copy : Seen) : Type 0 where
+  pub job : work.Seen
+  pub there : copy.job ≡ Some job
+  pub parts : work.is_parting job.phase ≡ true
+
+-- It is finished: each connection has parted, and its calls copied, if it was from one place to another.
+pub record IsDone (start told : Option (List wire.Call)) (copy : Seen) : Type 0 where
+  pub parted : copy.held ≡ []
+  pub copied : copy.from ≢ copy.to → Told start told (Copied copy.from copy.to copy.options.destination_is_zero)
+
+-- After a turn it is on its way still, or it is finished.
+abbrev pub HasTurned : (start told : Option (List wire.Call)) → Seen → Progress → Type 0
+HasTurned start told copy (progress.Moved n) = IsOnItsWay start told copy
+HasTurned start told copy progress.Still = IsOnItsWay start told copy
+HasTurned start told copy (progress.Finished summary) = IsDone start told copy

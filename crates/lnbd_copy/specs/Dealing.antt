@@ -1,0 +1,50 @@
+-- What is asked of the connections of a copy: the first request of a slice, and what slices that go on ask for.
+use Rattle.std.specs.Prelude.{◌≡◌, ℕ, Bool, true, false, List, ◌++◌, length}
+use Rattle.lnbd_handle.specs.Issues.{read_of}
+use Rattle.lnbd_history.specs.Commands.{Command}
+use Rattle.lnbd_plan.specs.declared.grid.Slice.{Slice}
+use Rattle.lnbd_poll.specs.declared.held.Held.{Held}
+use Rattle.lnbd_board.specs.declared.ask.Ask.{Ask}
+use Rattle.lnbd_board.specs.declared.ask.Ask.TheVariants as ask
+use Rattle.lnbd_board.specs.declared.how.How.{How}
+use Rattle.lnbd_board.specs.declared.ticket.Ticket.{Ticket}
+use Rattle.lnbd_board.specs.declared.ticket.Ticket.TheVariants as ticket
+use Rattle.lnbd_board.specs.Files as board
+use Rattle.lnbd_course.specs.Orders.{command_of}
+use Rattle.lnbd_copy.specs.declared.sides.Sides.{Sides}
+use Rattle.lnbd_copy.specs.Asked.{IsAsked}
+use Rattle.lnbd_copy.specs.Way.{Keeps, is_source}
+use Rattle.lnbd_copy.specs.Windows as windows
+
+-- A connection of the source, or else of the destination, was asked the command.
+pub record IsAskedOf (sides : Sides) (source : Bool) (command : Command Ticket) (old new : List (Held Ticket)) : Type 0 where
+  pub index : ℕ
+  pub side : is_source sides index ≡ source
+  pub asked : IsAsked index command old new
+
+-- The source was asked to read so many bytes of a slice, into some buffer.
+pub record IsAskedToRead (sides : Sides) (n offset count : ℕ) (old new : List (Held Ticket)) : Type 0 where
+  pub bytes : List ℕ
+  pub count_ : length bytes ≡ count
+  pub asked : IsAskedOf sides true (read_of bytes offset (ticket.Slice n) 0) old new
+
+-- The first request of a slice was asked of its side.
+abbrev pub IsAskedFirst : Sides → (n : ℕ) → Ask → (old new : List (Held Ticket)) → Type 0
+IsAskedFirst sides n (ask.Read offset buf) old new = IsAskedToRead sides n offset (length buf) old new
+IsAskedFirst sides n (ask.Change one) old new = IsAskedOf sides false (command_of n one) old new
+
+-- Slices of a board went on: no other was begun, and nothing was told.
+abbrev pub HasGoneOn : (old new : board.Seen) → Type 0
+HasGoneOn old new = new ≡ record old { rows = new.rows; came = new.came; written = new.written; zeroed = new.zeroed }
+
+-- Slices of a board were begun, and nothing was told.
+abbrev pub HasBegun : (old new : board.Seen) → Type 0
+HasBegun old new = new ≡ record old { begun = new.begun; rows = new.rows; read = new.read; written = new.written; zeroed = new.zeroed }
+
+-- Planned slices were begun, as they come in the plan, and all else of the windows is as it was.
+pub record Begins (how : How) (sides : Sides) (old new : windows.Seen) (now now' : board.Seen) (held held' : List (Held Ticket)) : Type 0 where
+  pub more : List Slice
+  pub handed : old.plan.slices ≡ more ++ new.plan.slices
+  pub others : new ≡ record old { plan = record old.plan { slices = new.plan.slices } }
+  pub begun : HasBegun now now'
+  pub keeps : Keeps how sides more now now' held held'

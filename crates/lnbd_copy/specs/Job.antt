@@ -1,0 +1,76 @@
+-- What is under way in a copy whose connections stand.
+use Rattle.std.specs.Prelude.{◌≡◌, ◌≢◌, ◌||◌, ℕ, Bool, true, false, List, [], not, Option, Some, None, if◌then◌else◌}
+use Rattle.lnbd_link.specs.Call as wire
+use Rattle.lnbd_model.specs.declared.export.Extent.{Extent}
+use Rattle.lnbd_poll.specs.declared.held.Held.{Held}
+use Rattle.lnbd_board.specs.Files as board
+use Rattle.lnbd_board.specs.declared.ticket.Ticket.{Ticket}
+use Rattle.lnbd_copy.specs.declared.job.Phase.{Phase}
+use Rattle.lnbd_copy.specs.declared.job.Phase.TheVariants.{Copying, Flushing, Parting}
+use Rattle.lnbd_copy.specs.declared.sides.Sides.{Sides}
+use Rattle.lnbd_copy.specs.declared.terms.Terms.{Terms}
+use Rattle.lnbd_copy.specs.Way.{Way, IsOn, Stand}
+use Rattle.lnbd_copy.specs.Windows as windows
+
+pub record Seen : Type 0 where
+  pub terms : Terms
+  pub windows : windows.Seen
+  -- extents were asked for, and not heard yet
+  pub asked : Bool
+  pub phase : Phase
+
+-- the connections part
+abbrev pub is_parting : Phase → Bool
+is_parting Copying = false
+is_parting Flushing = false
+is_parting Parting = true
+
+-- All slices of all windows are over.
+pub record IsOver (job : Seen) (now : board.Seen) : Type 0 where
+  pub planned : job.windows.plan.end ≡ job.terms.size
+  pub handed : job.windows.plan.slices ≡ []
+  pub heard : job.asked ≡ false
+  pub rows : now.rows ≡ []
+
+-- A copy that is so far has this job.
+pub record IsJob (job : Seen) (way : Way) (now : board.Seen) : Type 0 where
+  pub size : way.size ≡ Some job.terms.size
+  pub how : way.how ≡ job.terms.how
+  pub sides : way.sides ≡ job.terms.sides
+  pub zeros : job.windows.plan.cells.zeros ≡ not job.terms.how.skip
+  pub planned : windows.IsPlanned job.windows way.zero way.slices
+  pub asked : way.asked ≡ (if job.asked then windows.wanted job.windows else None)
+  pub over : job.phase ≢ Copying → IsOver job now
+
+-- What was settled of a copy holds of its windows and of the connections that slices are bound to.
+pub record IsSettled (terms : Terms) (planned : windows.Seen) (sides : Sides) : Type 0 where
+  pub size : planned.size ≡ terms.size
+  pub zeros : planned.plan.cells.zeros ≡ not terms.how.skip
+  pub sides_ : sides ≡ terms.sides
+
+-- Two ways are of one copy.
+pub record AreOfOne (way way' : Way) : Type 0 where
+  pub from : way'.from ≡ way.from
+  pub to : way'.to ≡ way.to
+  pub how : way'.how ≡ way.how
+  pub sides : way'.sides ≡ way.sides
+
+-- A copy that was on its way is further on it, and has this job.
+pub record IsFurther (way : Way) (job : Seen) (now now' : board.Seen) (held held' : List (Held Ticket)) : Type 0 where
+  pub way' : Way
+  pub one : AreOfOne way way'
+  pub job' : IsJob job way' now'
+  pub on : (calls : List wire.Call) → IsOn way now calls held → IsOn way' now' calls held'
+
+-- A job that is done without calls on the wires keeps a copy on its way, wherever on it the copy was. Handles that stood for histories do so still.
+pub record Acts (job job' : Seen) (now now' : board.Seen) (held held' : List (Held Ticket)) : Type 0 where
+  pub stand : Stand held → Stand held'
+  pub on : (way : Way) → IsJob job way now → IsFurther way job' now now' held held'
+
+-- the extents were heard that had been asked for
+abbrev pub with_heard : List Extent → Way → Way
+with_heard told way = record way { zero = λ p. way.zero p || windows.zero_heard way.asked told p; asked = None }
+
+-- extents of this range are asked for
+abbrev pub with_asked : Option (ℕ × ℕ) → Way → Way
+with_asked range way = record way { asked = range }

@@ -1,0 +1,13 @@
+-- How the connections of a copy end.
+use Rattle.std.specs.Prelude.{◌≡◌, List, [], Option, None}
+use Rattle.lnbd_link.specs.Call as wire
+use Rattle.lnbd_poll.specs.declared.held.Held.{Held}
+use Rattle.lnbd_board.specs.declared.ticket.Ticket.{Ticket}
+use Rattle.lnbd_board.specs.Files as board
+use Rattle.lnbd_copy.specs.Way.{Filed, IsLeaving, Stand, Told, Way}
+
+-- Handles are taken out, closed, and their links shut: where no slice is under way and no extents are waited for, a copy stays on its way.
+pub record Leaves (now : board.Seen) (held : List (Held Ticket)) (told : Option (List wire.Call)) (now' : board.Seen) (held' : List (Held Ticket)) (told' : Option (List wire.Call)) : Type 0 where
+  pub stand : Stand held → Stand held'
+  pub filed : Filed now now'
+  pub on : (way : Way) (start : Option (List wire.Call)) → way.asked ≡ None → now.rows ≡ [] → Told start told (λ calls. IsLeaving way now calls held) → Told start told' (λ calls. IsLeaving way now' calls held')

@@ -1,0 +1,112 @@
+-- What stands between two steps of a copy: by what its handles were asked and told so far, what its board holds is so.
+use Rattle.std.specs.Prelude.{◌≡◌, ◌≢◌, ℕ, Bool, true, false, ◌&&◌, ◌||◌, ◌==◌, nat_lt, nat_le, List, [], ◌∷◌, ◌++◌, length, Option, Some, None, slice_get, if◌then◌else◌}
+use Rattle.lnbd_model.specs.declared.target.Place.{Place}
+use Rattle.lnbd_link.specs.Call as wire
+use Rattle.lnbd_poll.specs.declared.held.Held.{Held}
+use Rattle.lnbd_poll.specs.Held.{AreAt}
+use Rattle.lnbd_poll.specs.Seen.{Seen}
+use Rattle.lnbd_plan.specs.declared.grid.Slice.{Slice}
+use Rattle.lnbd_board.specs.declared.how.How.{How}
+use Rattle.lnbd_board.specs.declared.ticket.Ticket.{Ticket}
+use Rattle.lnbd_board.specs.Files as board
+use Rattle.lnbd_course.specs.Between.{Between}
+use Rattle.lnbd_course.specs.Told as course
+use Rattle.lnbd_copy.specs.declared.sides.Sides.{Sides}
+
+-- The first handle is the source's first connection and the second the destination's; behind them stand the others of the source, and then those of the
+-- destination.
+abbrev pub is_source : Sides → ℕ → Bool
+is_source sides index = (index == 0) || (nat_lt 1 index && nat_le index sides.source)
+
+-- Each handle is on the side that its place among the handles says.
+abbrev pub AreSided : Sides → (has : ℕ → Bool) → List (Seen Ticket) → Type 0
+AreSided sides has seens = (index : ℕ) (seen : Seen Ticket) → slice_get seens index ≡ Some seen → has seen.link ≡ is_source sides index
+
+-- Until a handle is taken out, each is on the side that its place among the handles says.
+abbrev pub ArePlaced : (parting : Bool) → Sides → (has : ℕ → Bool) → List (Seen Ticket) → Type 0
+ArePlaced false sides has seens = AreSided sides has seens
+ArePlaced true sides has seens = Unit {0}
+
+-- Each handle that is held stands for a history.
+pub record Stand (held : List (Held Ticket)) : Type 0 where
+  pub seens : List (Seen Ticket)
+  pub at : AreAt held seens
+
+-- How far a copy is.
+pub record Way : Type 0 where
+  -- the exports
+  pub from : Place
+  pub to : Place
+  -- the source's size, once it is settled
+  pub size : Option ℕ
+  pub how : How
+  pub sides : Sides
+  -- the slices that were begun, in the order of their numbers
+  pub slices : List Slice
+  -- the positions of the source that were told as zero
+  pub zero : ℕ → Bool
+  -- the range whose extents were asked for, until they are heard: where it begins, and its length
+  pub asked : Option (ℕ × ℕ)
+
+-- By these calls of its own the handles of a copy did what it is so far, with these links of the source: what they were asked is what the board's rows say, each link is
+-- of its side's export, and the positions known as zero were told so.
+pub record Stands (way : Way) (has : ℕ → Bool) (now : board.Seen) (calls : List wire.Call) (seens : List (Seen Ticket)) : Type 0 where
+  pub between : Between way.from way.to way.size way.how has way.slices now calls seens
+  pub told : course.Told way.how has way.slices now calls seens way.asked way.zero
+
+-- After these calls of its own a copy is so far, its board is this, and these are its handles. Once it is parting they are taken out one by one.
+pub record IsUnderWay (parting : Bool) (way : Way) (now : board.Seen) (calls : List wire.Call) (held : List (Held Ticket)) : Type 0 where
+  -- the links of the source
+  pub has : ℕ → Bool
+  pub seens : List (Seen Ticket)
+  pub at : AreAt held seens
+  pub sided : ArePlaced parting way.sides has seens
+  pub begun : length way.slices ≡ now.begun
+  pub stands : Stands way has now calls seens
+
+-- So it is while each connection that was made is held,
+abbrev pub IsOn : Way → board.Seen → List wire.Call → List (Held Ticket) → Type 0
+IsOn way now calls held = IsUnderWay false way now calls held
+
+-- and while they are taken out.
+abbrev pub IsLeaving : Way → board.Seen → List wire.Call → List (Held Ticket) → Type 0
+IsLeaving way now calls held = IsUnderWay true way now calls held
+
+-- these slices were begun behind the others
+abbrev pub with_slices : List Slice → Way → Way
+with_slices more way = record way { slices = way.slices ++ more }
+
+-- A step without a call on the wires keeps a copy on its way, wherever on it the copy was: these slices were begun. Handles that stood for histories do so still.
+pub record Keeps (how : How) (sides : Sides) (more : List Slice) (now now' : board.Seen) (held held' : List (Held Ticket)) : Type 0 where
+  pub stand : Stand held → Stand held'
+  pub on : (way : Way) (calls : List wire.Call) → way.how ≡ how → way.sides ≡ sides → IsOn way now calls held → IsOn (with_slices more way) now' calls held'
+
+-- Of the calls of a transcript those since the start are so.
+pub record Since (start : Option (List wire.Call)) (all : List wire.Call) (Is : List wire.Call → Type 0) : Type 0 where
+  pub before : List wire.Call
+  pub calls : List wire.Call
+  pub was : start ≡ Some before
+  pub now : all ≡ before ++ calls
+  pub is : Is calls
+
+-- Where the transcript is told, its calls since the start are so.
+pub record Told (start told : Option (List wire.Call)) (Is : List wire.Call → Type 0) : Type 0 where
+  pub since : (all : List wire.Call) → told ≡ Some all → Since start all Is
+
+-- What callbacks are told is filed on a board: no slice is begun, a board without rows has none, and an error that was told stands.
+pub record Filed (old new : board.Seen) : Type 0 where
+  pub how : new.how ≡ old.how
+  pub begun : new.begun ≡ old.begun
+  pub none : old.rows ≡ [] → new.rows ≡ []
+  pub error : new.error ≡ None → old.error ≡ None
+  pub read : new.read ≡ old.read
+  pub written : new.written ≡ old.written
+  pub zeroed : new.zeroed ≡ old.zeroed
+
+-- A step with calls on the wires keeps a copy on its way, if its handles stand for histories: so many stand still, and the board has what their callbacks were told.
+pub record Goes (now : board.Seen) (held : List (Held Ticket)) (told : Option (List wire.Call)) (now' : board.Seen) (held' : List (Held Ticket)) (told' : Option (List wire.Call)) : Type 0 where
+  pub stand : Stand held → Stand held'
+  pub many : Stand held → length held' ≡ length held
+  pub filed : Stand held → Filed now now'
+  pub on : (parting : Bool) (way : Way) (start : Option (List wire.Call)) → Stand held →
+      Told start told (λ calls. IsUnderWay parting way now calls held) → Told start told' (λ calls. IsUnderWay parting way now' calls held')

@@ -1,0 +1,130 @@
+-- Where no handle is held any more, each link is of its side's export, and both sides told their sizes.
+use Rattle.std.proofs.Common.{◌≡◌, ◌≢◌, ℕ, zero, suc, ◌≤◌, Bool, true, false, ◌&&◌, List, [], Some, None, refl, ap, sym, subst, ◌∙◌, arith, nat_le}
+use Rattle.std.proofs.lemmas.Bool.{false≢true, leb-true}
+use Rattle.lnbd_model.specs.declared.target.Place.{Place}
+use Rattle.lnbd_model.specs.declared.target.Target.{Target}
+use Rattle.lnbd_link.specs.Call as wire
+use Rattle.lnbd_link.specs.Numbers.{is_given}
+use Rattle.lnbd_link.specs.Traffic.{target_of}
+use Rattle.lnbd_history.specs.Commands as commands
+use Rattle.lnbd_history.specs.Events.{History}
+use Rattle.lnbd_history.specs.History.{request}
+use Rattle.lnbd_history.proofs.Cookies.{request_zero}
+use Rattle.lnbd_asked.specs.Driven.{written}
+use Rattle.lnbd_asked.specs.Exports.{name_set}
+use Rattle.lnbd_asked.specs.Transcript.{is_of, is_target, is_name, name_asked, on_link, only_if, size_told, dealt_with}
+use Rattle.lnbd_plan.specs.declared.grid.Slice.{Slice}
+use Rattle.lnbd_board.specs.declared.how.How.{How}
+use Rattle.lnbd_board.specs.declared.ticket.Ticket.{Ticket}
+use Rattle.lnbd_board.specs.Files as board
+use Rattle.lnbd_board.specs.Holds.{WasToldSize}
+use Rattle.lnbd_tracks.specs.Tracks.{Histories}
+use Rattle.lnbd_course.specs.Between.{Between, SideWasTold, place_of}
+use Rattle.lnbd_course.specs.Betweens.{LinksAreOfSides, EndedCopies}
+use Rattle.lnbd_course.specs.Course.{AreOfSides, HaveSizes}
+use Rattle.lnbd_course.proofs.Address.{target_is, is_there, name_is, is_called, target_none, both}
+use Rattle.lnbd_course.proofs.Ending.{finished_copies}
+
+none_some : {A : Type 0} (x : A) → None ≡ Some x → ⊥
+none_some x e = cc
+
+some_same : {A : Type 0} (x y : A) → Some x ≡ Some y → x ≡ y
+some_same x y e = cc
+
+abbrev place : Target → List ℕ → Place
+place to name = record { to = to; name = name }
+
+place_same : (one other : Place) → one.to ≡ other.to → one.name ≡ other.name → one ≡ other
+place_same one other e f = ap (λ t. place t one.name) e ∙ ap (λ n. place other.to n) f
+
+-- a link that was connected was given
+given_by_target : (link : ℕ) (calls : List wire.Call) (to : Target) → target_of link calls ≡ Some to → is_given link calls ≡ true
+given_by_target link calls to e = go (is_given link calls) refl
+  where
+    go : (b : Bool) → is_given link calls ≡ b → is_given link calls ≡ true
+    go true g = g
+    go false g = absurd (none_some to (sym (target_none link calls g) ∙ e))
+
+module _ (from to : Place) (size : ℕ) (how : How) (has : ℕ → Bool) (slices : List Slice) (now : board.Seen) (calls : List wire.Call) (b : Between from to (Some size) how has slices now calls []) where
+  abbrev histories : Histories
+  histories = b.course.histories
+
+  abbrev mine : ℕ → Place
+  mine link = place_of from to (has link)
+
+  -- a link that asks for its name is of its side's export
+  of_side : (link : ℕ) → is_given link calls ≡ true → name_asked (on_link link calls).wishes ≡ Some (name_set (histories link)) → is_of (mine link) calls link ≡ true
+  of_side link given asks =
+      ap (λ t. is_target (mine link).to t && is_name (mine link).name (name_asked (on_link link calls).wishes)) (b.placed.address link given)
+      ∙ ap (λ c. c && is_name (mine link).name (name_asked (on_link link calls).wishes)) (is_there (mine link).to)
+      ∙ ap (is_name (mine link).name) (asks ∙ ap (λ n. Some n) (b.placed.name link given))
+      ∙ is_called (mine link).name
+
+  -- and of no other
+  only_side : (other : Place) (link : ℕ) → is_of other calls link ≡ true → mine link ≡ other
+  only_side other link e =
+      let c = both (is_target other.to (target_of link calls)) (is_name other.name (name_asked (on_link link calls).wishes)) e in
+      let there = target_is other.to (target_of link calls) c.0 in
+      let given = given_by_target link calls other.to there in
+      let called = (b.parted link tt).name other.name (name_is other.name (name_asked (on_link link calls).wishes) c.1) in
+      place_same (mine link) other (some_same (mine link).to other.to (sym (b.placed.address link given) ∙ there)) (sym (b.placed.name link given) ∙ sym called)
+
+  -- a link on which a command was issued was given
+  asked_given : (link cookie : ℕ) (asks : commands.Request Ticket) → request (histories link) cookie ≡ Some asks → is_given link calls ≡ true
+  asked_given link cookie asks e = go (is_given link calls) refl
+    where
+      go : (g : Bool) → is_given link calls ≡ g → is_given link calls ≡ true
+      go true g = g
+      go false g = absurd (none_some asks (sym (ap (λ (h : History Ticket). request h cookie) (b.course.unused link g).blank) ∙ e))
+
+  -- and if it was wholly written, one was
+  one_written : (link cookie : ℕ) (asks : commands.Request Ticket) → request (histories link) cookie ≡ Some asks → nat_le cookie (written (histories link)) ≡ true → 1 ≤ written (histories link)
+  one_written link zero asks e out = absurd (none_some asks (sym (request_zero (histories link)) ∙ e))
+  one_written link (suc n) asks e out = let l = leb-true (suc n) (written (histories link)) out in omega (arith, l)
+
+  are_of_sides : from ≢ to → AreOfSides from to calls has b.course.histories
+  are_of_sides two = record {
+    asked = λ link cookie asks e out. of_side link (asked_given link cookie asks e) ((b.parted link tt).asked (one_written link cookie asks e out)).0;
+    source = λ link e. source link (has link) refl (only_side from link e);
+    destination = λ link e. destination link (has link) refl (only_side to link e);
+  }
+    where
+      source : (link : ℕ) (s : Bool) → has link ≡ s → mine link ≡ from → has link ≡ true
+      source link true is e = is
+      source link false is e = absurd (two (sym e ∙ ap (place_of from to) is))
+
+      destination : (link : ℕ) (s : Bool) → has link ≡ s → mine link ≡ to → has link ≡ false
+      destination link false is e = is
+      destination link true is e = absurd (two (sym (ap (place_of from to) is) ∙ e))
+
+  size_of : (source : Bool) (told : ℕ) → SideWasTold source told calls has b.course.histories → WasToldSize (dealt_with (place_of from to source) calls) told
+  size_of source told s =
+      let d = b.parted s.link tt in
+      let said = d.told told s.told in
+      let here = of_side s.link s.given (d.size told said).0 in
+      record {
+        link = s.link;
+        told = ap (λ (c : Bool). only_if c (size_told (on_link s.link calls))) (subst (λ (side : Bool). is_of (place_of from to side) calls s.link ≡ true) s.side here) ∙ said;
+      }
+
+  have_sizes : HaveSizes from to calls size
+  have_sizes = record { room = b.told.room; source = size_of true size b.told.source; destination = size_of false b.told.room b.told.destination; fits = b.told.fits }
+
+pub links_are_of_sides : LinksAreOfSides
+links_are_of_sides from to size how has slices now calls b two = (are_of_sides from to size how has slices now calls b two, have_sizes from to size how has slices now calls b)
+
+pub ended_copies : EndedCopies
+ended_copies from to size how has slices now calls cells windows b over well planned two = finished_copies from to how calls (record {
+  has = has;
+  slices = slices;
+  now = now;
+  cells = cells;
+  windows = windows;
+  size = size;
+  course = b.course;
+  over = over;
+  well = well;
+  sides = are_of_sides from to size how has slices now calls b two;
+  planned = planned;
+  sizes = have_sizes from to size how has slices now calls b;
+})

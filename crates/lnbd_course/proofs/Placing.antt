@@ -1,0 +1,218 @@
+-- What stands of a copy from one place to another is kept by each step of it.
+use Rattle.std.proofs.Common.{◌≡◌, ◌⊎◌, inl, inr, ℕ, ◌≤◌, Bool, true, false, List, [], ◌∷◌, ◌++◌, Option, Some, None, slice_get, take, drop, arith, refl, ap, sym, subst, ◌∙◌}
+use Rattle.std.proofs.lemmas.Bool.{cases_eq, false≢true}
+use Rattle.lnbd_model.specs.declared.target.Place.{Place}
+use Rattle.lnbd_link.specs.Call as wire
+use Rattle.lnbd_link.specs.Numbers.{is_given}
+use Rattle.lnbd_link.specs.Traffic.{target_of}
+use Rattle.lnbd_history.specs.Events.{Event, History, Issue}
+use Rattle.lnbd_asked.specs.Exports.{DrivenIsOf, WasTold, is_naming, size_known}
+use Rattle.lnbd_asked.specs.Transcript.{on_link}
+use Rattle.lnbd_poll.specs.Alone.{AreApart, calls_on}
+use Rattle.lnbd_poll.specs.Seen.{Seen}
+use Rattle.lnbd_poll.specs.Turns.{Whole}
+use Rattle.lnbd_drives.specs.Driving.{with_event}
+use Rattle.lnbd_drives.proofs.Exports.{handles_are_of, turns_give_none}
+use Rattle.lnbd_drives.proofs.Passing.{said_stays}
+use Rattle.lnbd_drives.proofs.Turning.{turns_pass_others}
+use Rattle.lnbd_plan.specs.declared.grid.Slice.{Slice}
+use Rattle.lnbd_board.specs.declared.how.How.{How}
+use Rattle.lnbd_board.specs.declared.ticket.Ticket.{Ticket}
+use Rattle.lnbd_board.specs.Files as board
+use Rattle.lnbd_tracks.specs.Tracks.{Histories}
+use Rattle.lnbd_course.specs.Between.{Between, ArePlaced, SideWasTold, WereTold, AreSettled}
+use Rattle.lnbd_course.specs.Betweens.{NothingIsBetween, SettlingKeepsBetween, AgreeingSettles, TurnsKeepBetween, CallsKeepBetween, SourceAsksKeepBetween, DestinationAsksKeepBetween, BoardMovesKeepBetween, OthersKeepBetween, TakingKeepsBetween}
+use Rattle.lnbd_course.specs.Course.{Course}
+use Rattle.lnbd_course.proofs.Address.{target_stays, given_stays}
+use Rattle.lnbd_course.proofs.Asking.{then, goes_on, source_asks_keep, destination_asks_keep, others_keep, board_moves_keep, was_apart, not_one}
+use Rattle.lnbd_course.proofs.Holding.{no_history, nothing_is_on_course, settling_keeps, turned_keeps, turns_keep, calls_keep, removed_keeps, removed, take_drop, apart_or, one_has}
+use Rattle.lnbd_course.proofs.Later.{IsLater, later_same, later_on, told_later}
+use Rattle.lnbd_course.specs.Course.{Stood}
+use Rattle.lnbd_course.proofs.Standing.{event_stood, quiet_stood, with_others}
+use Rattle.lnbd_course.proofs.Turning.{steps, turns_all}
+
+-- More calls: each link that was given is given, and where it was connected to stays.
+record Goes (calls calls' : List wire.Call) : Type 0 where
+  given : (n : ℕ) → is_given n calls' ≡ is_given n calls
+  target : (n : ℕ) → target_of n calls' ≡ target_of n calls
+
+goes_same : (calls : List wire.Call) → Goes calls calls
+goes_same calls = record { given = λ n. refl; target = λ n. refl }
+
+goes_more : (calls more : List wire.Call) → ((n : ℕ) → is_given n more ≡ false) → Goes calls (calls ++ more)
+goes_more calls more none = record { given = λ n. given_stays n calls more (none n); target = λ n. target_stays n calls more (none n) }
+
+-- On a link without a handle nothing happened.
+record Rests (calls calls' : List wire.Call) (before after : Histories) (n : ℕ) : Type 0 where
+  history : after n ≡ before n
+  said : on_link n calls' ≡ on_link n calls
+
+rests_same : (calls : List wire.Call) (before after : Histories) (n : ℕ) → after n ≡ before n → Rests calls calls before after n
+rests_same calls before after n e = record { history = e; said = refl }
+
+module _ (calls calls' : List wire.Call) (has : ℕ → Bool) (before after : Histories) (goes : Goes calls calls') (later : (n : ℕ) → IsLater (before n) (after n)) where
+  placed_later : (from to : Place) → ArePlaced from to calls has before → ArePlaced from to calls' has after
+  placed_later from to p = record {
+    address = λ n g. goes.target n ∙ p.address n (sym (goes.given n) ∙ g);
+    name = λ n g. (later n).name ∙ p.name n (sym (goes.given n) ∙ g);
+  }
+
+  side_later : (source : Bool) (size : ℕ) → SideWasTold source size calls has before → SideWasTold source size calls' has after
+  side_later source size s = record { link = s.link; given = goes.given s.link ∙ s.given; side = s.side; told = told_later (before s.link) (after s.link) size (later s.link) s.told }
+
+  settled_later : (size : Option ℕ) → AreSettled size calls has before → AreSettled size calls' has after
+  settled_later None t = tt
+  settled_later (Some size) t = record { room = t.room; source = side_later true size t.source; destination = side_later false t.room t.destination; fits = t.fits }
+
+of_rests : (calls calls' : List wire.Call) (before after : Histories) (n : ℕ) → Rests calls calls' before after n → DrivenIsOf (before n) (on_link n calls) → DrivenIsOf (after n) (on_link n calls')
+of_rests calls calls' before after n r d = subst (λ h. DrivenIsOf h (on_link n calls')) (sym r.history) (subst (DrivenIsOf (before n)) (sym r.said) d)
+
+-- A step keeps it that keeps the course.
+module _ (from to : Place) (size : Option ℕ) (has : ℕ → Bool) where
+  step_keeps : (how how' : How) (slices slices' : List Slice) (now now' : board.Seen) (calls calls' : List wire.Call) (seens seens' : List (Seen Ticket)) → (b : Between from to size how has slices now calls seens) → (c : Course how' has slices' now' calls' seens') →
+      Goes calls calls' → ((n : ℕ) → IsLater (b.course.histories n) (c.histories n)) → ((n : ℕ) → AreApart n seens' → AreApart n seens × Rests calls calls' b.course.histories c.histories n) → Between from to size how' has slices' now' calls' seens'
+  step_keeps how how' slices slices' now now' calls calls' seens seens' b c goes later rests = record {
+    course = c;
+    placed = placed_later calls calls' has b.course.histories c.histories goes later from to b.placed;
+    parted = λ n apart. let r = rests n apart in of_rests calls calls' b.course.histories c.histories n r.1 (b.parted n r.0);
+    told = settled_later calls calls' has b.course.histories c.histories goes later size b.told;
+  }
+
+-- Turns and calls.
+
+pub turns_keep_between : TurnsKeepBetween
+unfolding turns_keep turned_keeps
+turns_keep_between from to size how has slices now now' calls part before after moved b turns =
+    let t = turns_all (Stood how has slices) (event_stood how has slices) (quiet_stood how has slices) before now part after now' (Whole moved) b.course.histories turns b.course.drive.own b.course.held b.course.stood in
+    step_keeps from to size has how how slices slices now now' calls (calls ++ part) before after b (turns_keep how has slices now now' calls part before after moved b.course turns)
+    (goes_more calls part (λ n. turns_give_none steps n part before after now now' (Whole moved) turns))
+    t.later
+    (λ n apart.
+    let was = t.was_apart n apart in
+    (was, record { history = t.others n was; said = said_stays n calls part (turns_pass_others steps n part before after now now' (Whole moved) was turns) }))
+
+pub calls_keep_between : CallsKeepBetween
+unfolding calls_keep
+calls_keep_between from to size how has slices now calls more seens b quiet none =
+    step_keeps from to size has how how slices slices now now calls (calls ++ more) seens seens b (calls_keep how has slices now calls more seens b.course quiet)
+    (goes_more calls more none)
+    (λ n. later_same (b.course.histories n) (b.course.histories n) refl)
+    (λ n apart. (apart, record { history = refl; said = said_stays n calls more (quiet n) }))
+
+-- What a caller does, and the board.
+
+module _ (calls : List wire.Call) (seens : List (Seen Ticket)) (index : ℕ) (seen : Seen Ticket) (there : slice_get seens index ≡ Some seen) (event : Event Ticket) (histories : Histories) where
+  event_rests : (n : ℕ) → AreApart n (with_event index event seens) → AreApart n seens × Rests calls calls histories (then event histories seen.link) n
+  event_rests n apart =
+      let was = was_apart n index event seens apart in
+      (was, rests_same calls histories (then event histories seen.link) n (with_others seen.link (event ∷ histories seen.link) histories n (not_one n index seen seens there was)))
+
+pub source_asks_keep_between : SourceAsksKeepBetween
+unfolding source_asks_keep goes_on
+source_asks_keep_between from to size how has slices slices' now now' calls seens index seen command b there is spells asks =
+    step_keeps from to size has how how slices slices' now now' calls calls seens (with_event index (Issue command) seens) b
+    (source_asks_keep how has slices slices' now now' calls seens index seen command b.course there is spells asks)
+    (goes_same calls) (later_on seen.link (Issue command) b.course.histories refl) (event_rests calls seens index seen there (Issue command) b.course.histories)
+
+pub destination_asks_keep_between : DestinationAsksKeepBetween
+unfolding destination_asks_keep goes_on
+destination_asks_keep_between from to size how has slices slices' now now' calls seens index seen command b there is spells asks =
+    step_keeps from to size has how how slices slices' now now' calls calls seens (with_event index (Issue command) seens) b
+    (destination_asks_keep how has slices slices' now now' calls seens index seen command b.course there is spells asks)
+    (goes_same calls) (later_on seen.link (Issue command) b.course.histories refl) (event_rests calls seens index seen there (Issue command) b.course.histories)
+
+pub others_keep_between : OthersKeepBetween
+unfolding others_keep goes_on
+others_keep_between from to size how has slices now calls seens index seen event b there s unnamed =
+    step_keeps from to size has how how slices slices now now calls calls seens (with_event index event seens) b
+    (others_keep how has slices now calls seens index seen event b.course there s.inward s.unasked s.still s.spelled s.mode)
+    (goes_same calls) (later_on seen.link event b.course.histories unnamed) (event_rests calls seens index seen there event b.course.histories)
+
+pub board_moves_keep_between : BoardMovesKeepBetween
+unfolding board_moves_keep
+board_moves_keep_between from to size how has slices now now' calls seens b earlier keeps =
+    step_keeps from to size has how how slices slices now now' calls calls seens seens b (board_moves_keep how has slices now now' calls seens b.course earlier keeps)
+    (goes_same calls) (λ n. later_same (b.course.histories n) (b.course.histories n) refl) (λ n apart. (apart, rests_same calls b.course.histories b.course.histories n refl))
+
+-- The beginning.
+
+none_some : {A : Type 0} (x : A) → None ≡ Some x → ⊥
+none_some x e = cc
+
+none_left : (since earlier : History Ticket) → (let none : History Ticket = [] in none) ≡ since ++ earlier → earlier ≡ []
+none_left [] earlier e = sym e
+none_left (one ∷ since) earlier e = absurd (cc)
+
+nothing_is_of : (n : ℕ) → DrivenIsOf {K = Ticket} [] (on_link n [])
+nothing_is_of n = record {
+  name = λ name e. absurd (none_some name e);
+  size = λ size e. absurd (none_some size e);
+  asked = λ l. absurd (let z : 1 ≤ 0 = l in omega (arith, z));
+  told = λ size w. absurd (none_some size (ap (λ (h : History Ticket). size_known h) (sym (none_left w.since w.earlier w.is)) ∙ w.knew));
+}
+
+pub nothing_is_between : NothingIsBetween
+unfolding nothing_is_on_course
+nothing_is_between from to how has now none = record {
+  course = nothing_is_on_course how has now none;
+  placed = record { address = λ n g. absurd (false≢true g); name = λ n g. absurd (false≢true g) };
+  parted = λ n apart. nothing_is_of n;
+  told = tt;
+}
+
+pub settling_keeps_between : SettlingKeepsBetween
+unfolding settling_keeps
+settling_keeps_between from to size how how' has now now' calls seens b none well none' =
+    step_keeps from to size has how how' [] [] now now' calls calls seens seens b (settling_keeps how how' has now now' calls seens b.course none well none')
+    (goes_same calls) (λ n. later_same (b.course.histories n) (b.course.histories n) refl) (λ n apart. (apart, rests_same calls b.course.histories b.course.histories n refl))
+
+-- Sizes.
+
+-- the link of a handle that is held was given
+held_given : (how : How) (has : ℕ → Bool) (slices : List Slice) (now : board.Seen) (calls : List wire.Call) (seens : List (Seen Ticket)) (index : ℕ) (seen : Seen Ticket) → Course how has slices now calls seens → slice_get seens index ≡ Some seen → is_given seen.link calls ≡ true
+held_given how has slices now calls seens index seen c there = go (is_given seen.link calls) refl
+  where
+    go : (b : Bool) → is_given seen.link calls ≡ b → is_given seen.link calls ≡ true
+    go true e = e
+    go false e = absurd (not_one seen.link index seen seens there (c.unused seen.link e).apart refl)
+
+side_told : (how : How) (has : ℕ → Bool) (slices : List Slice) (now : board.Seen) (calls : List wire.Call) (seens : List (Seen Ticket)) (index : ℕ) (seen : Seen Ticket) (source : Bool) (size : ℕ) → (c : Course how has slices now calls seens) →
+    slice_get seens index ≡ Some seen → has seen.link ≡ source → WasTold seen.history size → SideWasTold source size calls has c.histories
+side_told how has slices now calls seens index seen source size c there side told = record {
+  link = seen.link;
+  given = held_given how has slices now calls seens index seen c there;
+  side = side;
+  told = subst (λ h. WasTold h size) (sym (one_has index seen c.histories seens there c.held)) told;
+}
+
+pub agreeing_settles : AgreeingSettles
+agreeing_settles from to how has slices now calls seens index index' one other size room b there side told there' side' told' fits = record {
+  course = b.course;
+  placed = b.placed;
+  parted = b.parted;
+  told = record {
+    room = room;
+    source = side_told how has slices now calls seens index one true size b.course there side told;
+    destination = side_told how has slices now calls seens index' other false room b.course there' side' told';
+    fits = fits;
+  };
+}
+
+-- A handle is taken out.
+
+pub taking_keeps_between : TakingKeepsBetween
+unfolding removed_keeps
+taking_keeps_between from to size how has slices now calls seens index seen limit handle b there stands =
+    subst (Between from to size how has slices now calls) (take_drop index seens) (record {
+      course = removed_keeps how has slices now calls seens index seen limit handle b.course there stands;
+      placed = b.placed;
+      parted = λ n apart. by n apart (cases_eq n seen.link);
+      told = b.told;
+    })
+  where
+    taken : DrivenIsOf (b.course.histories seen.link) (on_link seen.link calls)
+    taken = subst (λ h. DrivenIsOf h (on_link seen.link calls)) (sym (one_has index seen b.course.histories seens there b.course.held)) (handles_are_of limit calls seens index seen handle b.course.drive there stands)
+
+    by : (n : ℕ) → AreApart n (removed index seens) → (n ≡ seen.link) ⊎ (n ≡ seen.link → ⊥) → DrivenIsOf (b.course.histories n) (on_link n calls)
+    by n apart (inl is) = subst (λ (m : ℕ). DrivenIsOf (b.course.histories m) (on_link m calls)) (sym is) taken
+    by n apart (inr differ) = b.parted n (apart_or n index seen seens there apart differ)

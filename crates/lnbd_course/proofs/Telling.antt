@@ -1,0 +1,317 @@
+-- What was told as zero stays known beside the course of a copy, and in the end is what was dealt with the source.
+use Rattle.std.proofs.Common.{◌≡◌, ◌≢◌, ◌⊎◌, inl, inr, ℕ, zero, suc, ◌+◌, Bool, true, false, not, ◌&&◌, List, [], ◌∷◌, ◌++◌, Option, Some, None, slice_get, take, drop, refl, ap, sym, subst, ◌∙◌, ◌==◌, nat_le, nat_lt, if◌then◌else◌}
+use Rattle.std.proofs.lemmas.Bool.{cases_eq, false≢true, ne_eqb}
+use Rattle.std.specs.Option.{option_map}
+use Rattle.lnbd_model.specs.declared.export.Extent.{Extent}
+use Rattle.lnbd_model.specs.declared.target.Place.{Place}
+use Rattle.lnbd_callbacks.specs.Calls.{Call}
+use Rattle.lnbd_callbacks.specs.Steps.{OneByOne}
+use Rattle.lnbd_outcome.specs.Outcome.{Unfinished}
+use Rattle.lnbd_handle.specs.Histories.{Plays}
+use Rattle.lnbd_link.specs.Call as wire
+use Rattle.lnbd_link.specs.Numbers.{is_given}
+use Rattle.lnbd_machine.specs.Machine.{Machine}
+use Rattle.lnbd_standing.specs.Standing.{StandsFor}
+use Rattle.lnbd_history.specs.Commands.{Command, Request}
+use Rattle.lnbd_history.specs.Events.{Event, History, Issue}
+use Rattle.lnbd_history.specs.History.{request, reading}
+use Rattle.lnbd_asked.specs.Driven.{DrivenSays, outcome_after, written, zero_after}
+use Rattle.lnbd_asked.specs.Link.{Nobody}
+use Rattle.lnbd_asked.specs.Transcript.{bare, is_of, on_link, asked_on, answered, told_zero, zero_in, only_if, dealt_with}
+use Rattle.lnbd_poll.specs.Seen.{Seen}
+use Rattle.lnbd_poll.specs.Turns.{Whole}
+use Rattle.lnbd_drives.specs.Driving.{with_event}
+use Rattle.lnbd_plan.specs.declared.grid.Slice.{Slice}
+use Rattle.lnbd_plan.specs.Laws.{Window, told_by}
+use Rattle.lnbd_board.specs.declared.how.How.{How}
+use Rattle.lnbd_board.specs.Asks.{Keeps}
+use Rattle.lnbd_board.specs.Requests as sides
+use Rattle.lnbd_board.specs.declared.ticket.Ticket.{Ticket}
+use Rattle.lnbd_board.specs.Files as board
+use Rattle.lnbd_board.specs.Holds.{WasToldZero}
+use Rattle.lnbd_tracks.specs.Laws.{is_coming}
+use Rattle.lnbd_tracks.specs.Mapping.{IsWanted, Maps, IsToldZero, ToldAlike, asks_extents}
+use Rattle.lnbd_tracks.specs.Tracks.{NoneFails, Histories, Happens, is_issue}
+use Rattle.lnbd_tracks.proofs.Mapped.{nothing_maps, not_issued, coming_maps, others_map, asking_maps, hearing_maps, zeroes_stay}
+use Rattle.lnbd_tracks.proofs.Written.{done_is_written}
+use Rattle.lnbd_course.specs.Course.{Course, Stood, on_side, beside, with_link}
+use Rattle.lnbd_course.specs.Told.{Told, AreOfSource, NothingIsTold, OpeningTells, SettlingTells, TurnsTell, CallsTell, SourceAsksTell, DestinationAsksTell, ExtentsAskTell, BoardMovesTell, OthersTell, HearingTells, FewerTell, WindowsTell, TakingTells, KnownWasTold, SidesAreOfSource}
+use Rattle.lnbd_course.proofs.Asking.{goes_on, source_asks_keep, destination_asks_keep, others_keep, board_moves_keep, then}
+use Rattle.lnbd_course.proofs.Holding.{nothing_is_on_course, opens_on_course, settling_keeps, calls_keep, turned_keeps, removed, removed_keeps, take_drop}
+use Rattle.lnbd_course.proofs.Standing.{on_here, event_stood, quiet_stood, with_happens}
+use Rattle.lnbd_course.proofs.Turning.{steps, turns_all}
+
+-- Sides.
+
+module _ (sources sources2 : ℕ → Bool) (histories : Histories) (same : (link cookie : ℕ) (asks : Request Ticket) → request (histories link) cookie ≡ Some asks → sources link ≡ true → sources2 link ≡ true) where
+  -- A link on which something was asked stays on its side.
+  sides_asked : (range : ℕ × ℕ) (now : board.Seen) → IsWanted sources histories range now → IsWanted sources2 histories range now
+  sides_asked range now m = record {
+    link = m.link;
+    cookie = m.cookie;
+    asks = m.asks;
+    source = same m.link m.cookie m.asks m.asked m.source;
+    asked = m.asked;
+    kind = m.kind;
+    offset = m.offset;
+    length_ = m.length_;
+    others = m.others;
+    zero = m.zero;
+    answered = m.answered;
+  }
+
+  sides_maps : (wanted : Option (ℕ × ℕ)) (now : board.Seen) → Maps sources histories wanted now → Maps sources2 histories wanted now
+  sides_maps None now m = m
+  sides_maps (Some range) now m = sides_asked range now m
+
+  sides_zero : (p : ℕ) → IsToldZero sources histories p → IsToldZero sources2 histories p
+  sides_zero p z = record {
+    link = z.link;
+    cookie = z.cookie;
+    asks = z.asks;
+    source = same z.link z.cookie z.asks z.asked z.source;
+    asked = z.asked;
+    kind = z.kind;
+    has = z.has;
+    done = z.done;
+    zero = z.zero;
+  }
+
+-- One event.
+
+module _ (how : How) (has : ℕ → Bool) (slices : List Slice) (wanted : Option (ℕ × ℕ)) (known : ℕ → Bool) where
+  -- what stands of the board and of all histories, and what is known
+  pub record Both (now : board.Seen) (histories : Histories) : Type 0 where
+    pub stood : Stood how has slices now histories
+    pub maps : Maps has histories wanted now
+    pub knows : (p : ℕ) → known p ≡ true → IsToldZero has histories p
+
+  -- no callback answered an error
+  none_fails : (now : board.Seen) (histories : Histories) (link : ℕ) → Stood how has slices now histories → NoneFails (reading (histories link)).known.entries
+  none_fails now histories link s = go (has link) refl
+    where
+      go : (b : Bool) → has link ≡ b → NoneFails (reading (histories link)).known.entries
+      go true is = subst (λ (h : History Ticket). NoneFails (reading h).known.entries) (on_here has histories link is) (s.reads link).well
+      go false is = subst (λ (h : History Ticket). NoneFails (reading h).known.entries) (on_here (beside has) histories link (ap not is)) (s.changes link).well
+
+  module _ (link : ℕ) (event : Event Ticket) (before after : Histories) (happens : Happens link event before after) where
+    event_both : (now now' : board.Seen) → Both now before → is_issue event ≡ false → Plays steps event (before link) now now' → Both now' after
+    event_both now now' b other plays = record {
+      stood = event_stood how has slices link event before after happens now now' b.stood other plays;
+      maps = coming_maps has link event before after wanted plays.calls now now' b.maps (none_fails now before link b.stood) other happens plays.told plays.world;
+      knows = λ p k. zeroes_stay has link event before after p happens (b.knows p k);
+    }
+
+    quiet_both : (now : board.Seen) → Both now before → is_issue event ≡ false → is_coming event ≡ false → Both now after
+    quiet_both now b other none = record {
+      stood = quiet_stood how has slices link event before after happens now b.stood other none;
+      maps = others_map has link event before after wanted now now b.maps (not_issued event other) happens (record { told = refl; mapped = refl });
+      knows = λ p k. zeroes_stay has link event before after p happens (b.knows p k);
+    }
+
+-- The beginning.
+
+pub nothing_is_told : NothingIsTold
+unfolding nothing_is_on_course
+nothing_is_told how has now known none unknown = record {
+  course = nothing_is_on_course how has now none;
+  maps = nothing_maps has now;
+  knows = λ p k. absurd (false≢true (sym (unknown p) ∙ k));
+}
+
+pub opening_tells : OpeningTells
+unfolding opens_on_course calls_keep
+opening_tells how has slices now calls seens wanted known to link source t new = record {
+  course = opens_on_course how has slices now calls seens to link source t.course new;
+  maps = sides_maps has (with_link link source has) t.course.histories same wanted now t.maps;
+  knows = λ p k. sides_zero has (with_link link source has) t.course.histories same p (t.knows p k);
+}
+  where
+    none_some : (asks : Request Ticket) → None ≡ Some asks → ⊥
+    none_some asks e = cc
+
+    same : (other cookie : ℕ) (asks : Request Ticket) → request (t.course.histories other) cookie ≡ Some asks → has other ≡ true → with_link link source has other ≡ true
+    same other cookie asks is e = go (cases_eq link other)
+      where
+        go : (link ≡ other) ⊎ (link ≡ other → ⊥) → with_link link source has other ≡ true
+        go (inl here) = absurd (none_some asks (sym (ap (λ (h : History Ticket). request h cookie) (ap t.course.histories (sym here) ∙ (t.course.unused link new).blank)) ∙ is))
+        go (inr differ) = ap (λ (b : Bool). if b then source else has other) (ne_eqb link other differ) ∙ e
+
+pub settling_tells : SettlingTells
+unfolding settling_keeps
+settling_tells how how' has now now' calls seens known t none well none' =
+    record { course = settling_keeps how how' has now now' calls seens t.course none well none'; maps = t.maps; knows = t.knows }
+
+-- Turns.
+
+pub turns_tell : TurnsTell
+unfolding turned_keeps
+turns_tell how has slices now now' calls part before after wanted known moved t turns =
+    let S : board.Seen → Histories → Type 0 = Both how has slices wanted known in
+    let u = turns_all S (event_both how has slices wanted known) (quiet_both how has slices wanted known) before now part after now' (Whole moved) t.course.histories turns t.course.drive.own t.course.held
+    (record { stood = t.course.stood; maps = t.maps; knows = t.knows }) in
+    record {
+      course = turned_keeps how has slices now now' calls part before after moved t.course turns S u (λ histories b. b.stood);
+      maps = u.stood.maps;
+      knows = u.stood.knows;
+    }
+
+pub calls_tell : CallsTell
+unfolding calls_keep
+calls_tell how has slices now calls more seens wanted known t none = record { course = calls_keep how has slices now calls more seens t.course none; maps = t.maps; knows = t.knows }
+
+-- Asking.
+
+module _ (has : ℕ → Bool) (histories : Histories) (link : ℕ) (event : Event Ticket) (known : ℕ → Bool) (knows : (p : ℕ) → known p ≡ true → IsToldZero has histories p) where
+  then_knows : (p : ℕ) → known p ≡ true → IsToldZero has ((then) event histories link) p
+  then_knows p k = zeroes_stay has link event histories ((then) event histories link) p (with_happens link event histories) (knows p k)
+
+pub source_asks_tell : SourceAsksTell
+unfolding source_asks_keep goes_on
+source_asks_tell how has slices slices' now now' calls seens wanted known index seen command t there is spells asks none alike = record {
+  course = source_asks_keep how has slices slices' now now' calls seens index seen command t.course there is spells asks;
+  maps = others_map has seen.link (Issue command) t.course.histories ((then) (Issue command) t.course.histories seen.link) wanted now now' t.maps none (with_happens seen.link (Issue command) t.course.histories) alike;
+  knows = then_knows has t.course.histories seen.link (Issue command) known t.knows;
+}
+
+pub destination_asks_tell : DestinationAsksTell
+unfolding destination_asks_keep goes_on
+destination_asks_tell how has slices slices' now now' calls seens wanted known index seen command t there is spells asks none alike = record {
+  course = destination_asks_keep how has slices slices' now now' calls seens index seen command t.course there is spells asks;
+  maps = others_map has seen.link (Issue command) t.course.histories ((then) (Issue command) t.course.histories seen.link) wanted now now' t.maps none (with_happens seen.link (Issue command) t.course.histories) alike;
+  knows = then_knows has t.course.histories seen.link (Issue command) known t.knows;
+}
+
+pub extents_ask_tell : ExtentsAskTell
+unfolding source_asks_keep goes_on
+extents_ask_tell how has slices slices' now now' calls seens range known index seen command t there is spells asks wants forgotten unmapped = record {
+  course = source_asks_keep how has slices slices' now now' calls seens index seen command t.course there is spells asks;
+  maps = asking_maps has seen.link command range t.course.histories ((then) (Issue command) t.course.histories seen.link) now now' t.maps is wants (with_happens seen.link (Issue command) t.course.histories) forgotten unmapped;
+  knows = then_knows has t.course.histories seen.link (Issue command) known t.knows;
+}
+
+-- the same of another board, which was told the same
+alike_maps : (has : ℕ → Bool) (histories : Histories) (wanted : Option (ℕ × ℕ)) (now now' : board.Seen) → ToldAlike now now' → Maps has histories wanted now → Maps has histories wanted now'
+alike_maps has histories None now now' alike m = m
+alike_maps has histories (Some range) now now' alike m = record {
+  link = m.link;
+  cookie = m.cookie;
+  asks = m.asks;
+  source = m.source;
+  asked = m.asked;
+  kind = m.kind;
+  offset = m.offset;
+  length_ = m.length_;
+  others = m.others;
+  zero = λ p z. m.zero p (ap (λ (l : List Extent). zero_in range.0 l p) (sym alike.told) ∙ z);
+  answered = λ e. m.answered (sym alike.mapped ∙ e);
+}
+
+pub board_moves_tell : BoardMovesTell
+unfolding board_moves_keep
+board_moves_tell how has slices now now' calls seens wanted known t earlier keeps alike =
+    record { course = board_moves_keep how has slices now now' calls seens t.course earlier keeps; maps = alike_maps has t.course.histories wanted now now' alike t.maps; knows = t.knows }
+
+-- Where no extents are waited for, it does not matter what the board was told of them.
+pub unasked_moves_tell : (how : How) (has : ℕ → Bool) (slices : List Slice) (now now' : board.Seen) (calls : List wire.Call) (seens : List (Seen Ticket)) (known : ℕ → Bool) → Told how has slices now calls seens None known → (now'.error ≡ None → now.error ≡ None) →
+    ((source destination : List sides.Request) → Keeps how now.rows source destination now'.rows source destination) → Told how has slices now' calls seens None known
+unfolding board_moves_keep
+unasked_moves_tell how has slices now now' calls seens known t earlier keeps =
+    record { course = board_moves_keep how has slices now now' calls seens t.course earlier keeps; maps = t.maps; knows = t.knows }
+
+pub others_tell : OthersTell
+unfolding others_keep goes_on
+others_tell how has slices now calls seens wanted known index seen event t there inward other none spells off = record {
+  course = others_keep how has slices now calls seens index seen event t.course there inward other none spells off;
+  maps = others_map has seen.link event t.course.histories ((then) event t.course.histories seen.link) wanted now now t.maps (not_issued event other) (with_happens seen.link event t.course.histories) (record { told = refl; mapped = refl });
+  knows = then_knows has t.course.histories seen.link event known t.knows;
+}
+
+-- Hearing.
+
+pub hearing_tells : HearingTells
+hearing_tells how has slices now calls seens range known known' t answered more =
+    let h = hearing_maps has t.course.histories range now t.maps answered in
+    record { course = t.course; maps = h.0; knows = λ p k. elim (more p k) [ inl was ↦ t.knows p was | inr here ↦ h.1 p here ] }
+
+pub fewer_tell : FewerTell
+fewer_tell how has slices now calls seens wanted known known' t fewer = record { course = t.course; maps = t.maps; knows = λ p k. t.knows p (fewer p k) }
+
+pub windows_tell : WindowsTell
+windows_tell start [] window p e = go (nat_lt p (start + window.count)) e
+  where
+    go : (b : Bool) → (if b then window.told p else false) ≡ true → (told_by start [] p ≡ true) ⊎ (window.told p ≡ true)
+    go true k = inr k
+    go false k = absurd (false≢true k)
+windows_tell start (first ∷ windows) window p e = go (nat_lt p (start + first.count)) refl (windows_tell (start + first.count) windows window p) e
+  where
+    lasts : (b : Bool) → nat_lt p (start + first.count) ≡ b → (if b then first.told p else told_by (start + first.count) windows p) ≡ true → told_by start (first ∷ windows) p ≡ true
+    lasts b is k = ap (λ (c : Bool). if c then first.told p else told_by (start + first.count) windows p) is ∙ k
+
+    rest : nat_lt p (start + first.count) ≡ false → (told_by (start + first.count) windows p ≡ true) ⊎ (window.told p ≡ true) → (told_by start (first ∷ windows) p ≡ true) ⊎ (window.told p ≡ true)
+    rest is (inl k) = inl (lasts false is k)
+    rest is (inr k) = inr k
+
+    go : (b : Bool) → nat_lt p (start + first.count) ≡ b → (told_by (start + first.count) (windows ++ window ∷ []) p ≡ true → (told_by (start + first.count) windows p ≡ true) ⊎ (window.told p ≡ true)) →
+        (if b then first.told p else told_by (start + first.count) (windows ++ window ∷ []) p) ≡ true → (told_by start (first ∷ windows) p ≡ true) ⊎ (window.told p ≡ true)
+    go true is more k = inl (lasts true is k)
+    go false is more k = rest is (more k)
+
+-- The end.
+
+removed_tells : (how : How) (has : ℕ → Bool) (slices : List Slice) (now : board.Seen) (calls : List wire.Call) (seens : List (Seen Ticket)) (wanted : Option (ℕ × ℕ)) (known : ℕ → Bool) (index : ℕ) (seen : Seen Ticket) (limit : ℕ) (handle : Machine Ticket) →
+    Told how has slices now calls seens wanted known → slice_get seens index ≡ Some seen → StandsFor limit seen.history handle → Told how has slices now calls (removed index seens) wanted known
+unfolding removed_keeps
+removed_tells how has slices now calls seens wanted known index seen limit handle t there stands =
+    record { course = removed_keeps how has slices now calls seens index seen limit handle t.course there stands; maps = t.maps; knows = t.knows }
+
+pub taking_tells : TakingTells
+taking_tells how has slices now calls seens wanted known index seen limit handle t there stands =
+    subst (λ (l : List (Seen Ticket)). Told how has slices now calls l wanted known) (take_drop index seens) (removed_tells how has slices now calls seens wanted known index seen limit handle t there stands)
+
+module _ (from : Place) (has : ℕ → Bool) (calls : List wire.Call) (histories : Histories) (says : (link : ℕ) → DrivenSays (histories link) (on_link link calls)) (of : AreOfSource from calls has) (p : ℕ) (z : IsToldZero has histories p) where
+  -- the block status was wholly written, and so it was asked of the export
+  out : nat_le z.cookie (written (histories z.link)) ≡ true
+  out = done_is_written (histories z.link) z.cookie z.done.bytes z.done.is
+
+  asked_so : asked_on (on_link z.link calls) z.cookie ≡ Some (bare z.asks)
+  asked_so =
+      (says z.link).requests z.cookie
+      ∙ ap (λ (b : Bool). if b then option_map bare (request (histories z.link) z.cookie) else None) out
+      ∙ ap (λ (a : Option (Request Ticket)). option_map bare a) z.asked
+
+  here : is_of from calls z.link ≡ true
+  here = of z.link z.cookie (bare z.asks) z.source asked_so
+
+  was_told : WasToldZero (dealt_with from calls) p
+  was_told = record {
+    link = z.link;
+    cookie = z.cookie;
+    command = bare z.asks;
+    bytes = z.done.bytes;
+    asked = ap (λ (b : Bool). only_if b (asked_on (on_link z.link calls) z.cookie)) here ∙ asked_so;
+    kind = z.kind;
+    done = ap (λ (b : Bool). if b then answered (on_link z.link calls) z.cookie else Unfinished) here ∙ (says z.link).outcomes z.cookie out ∙ z.done.is;
+    has = z.has;
+    zero = ap (λ (b : Bool). b && told_zero (on_link z.link calls) z.cookie p) here ∙ (says z.link).zero z.cookie p out ∙ z.zero;
+  }
+
+pub known_was_told : KnownWasTold
+known_was_told from how has slices now calls wanted known t of p k = was_told from has calls t.course.histories (λ link. t.course.parted link tt) of p (t.knows p k)
+
+pub sides_are_of_source : SidesAreOfSource
+sides_are_of_source from to how has slices now calls c sides link cookie command is e = go (nat_le cookie (written (c.histories link))) refl
+  where
+    none_some : None ≡ Some command → ⊥
+    none_some k = cc
+
+    requested : nat_le cookie (written (c.histories link)) ≡ true → option_map bare (request (c.histories link) cookie) ≡ Some command → is_of from calls link ≡ true
+    requested out k = asked (request (c.histories link) cookie) refl k
+      where
+        asked : (a : Option (Request Ticket)) → request (c.histories link) cookie ≡ a → option_map bare a ≡ Some command → is_of from calls link ≡ true
+        asked None there none = absurd (none_some none)
+        asked (Some q) there same = subst (λ (b : Bool). is_of (if b then from else to) calls link ≡ true) is (sides.asked link cookie q there out)
+
+    go : (b : Bool) → nat_le cookie (written (c.histories link)) ≡ b → is_of from calls link ≡ true
+    go true out = requested out (sym (ap (λ (b : Bool). if b then option_map bare (request (c.histories link) cookie) else None) out) ∙ sym ((c.parted link tt).requests cookie) ∙ e)
+    go false out = absurd (none_some (sym (ap (λ (b : Bool). if b then option_map bare (request (c.histories link) cookie) else None) out) ∙ sym ((c.parted link tt).requests cookie) ∙ e))

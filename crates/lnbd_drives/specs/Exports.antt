@@ -1,0 +1,29 @@
+-- Laws of which exports the links of handles are of, and of what was told of them.
+use Rattle.std.specs.Prelude.{◌≡◌, ℕ, false, List, Some, slice_get}
+use Rattle.lnbd_callbacks.specs.Calls.{Call}
+use Rattle.lnbd_link.specs.Call as wire
+use Rattle.lnbd_link.specs.Numbers.{is_given}
+use Rattle.lnbd_model.specs.declared.export.ExportInfo.{ExportInfo}
+use Rattle.lnbd_model.specs.declared.state.State.TheVariants as state
+use Rattle.lnbd_history.specs.Answers.{state_after, info_after, direction_after}
+use Rattle.lnbd_history.specs.Events.{History}
+use Rattle.lnbd_machine.specs.Machine.{Machine}
+use Rattle.lnbd_standing.specs.Standing.{StandsFor}
+use Rattle.lnbd_asked.specs.Exports.{DrivenIsOf, WasTold}
+use Rattle.lnbd_asked.specs.Transcript.{on_link}
+use Rattle.lnbd_poll.specs.Seen.{Seen}
+use Rattle.lnbd_poll.specs.Turns.{Ending, Turns}
+use Rattle.lnbd_drives.specs.Driving.{DriveOwnLinks}
+
+-- The link of each handle is of the export of the name that was set on it.
+abbrev pub HandlesAreOf : Type 0 → Type 0
+HandlesAreOf K = (limit : ℕ) (calls : List wire.Call) (seens : List (Seen K)) (index : ℕ) (seen : Seen K) (now : Machine K) → DriveOwnLinks calls seens → slice_get seens index ≡ Some seen →
+    StandsFor limit seen.history now → DrivenIsOf seen.history (on_link seen.link calls)
+
+-- A handle that may make requests and has nothing to write was told the size of which it tells.
+abbrev pub InfoWasTold : Type 0 → Type 0
+InfoWasTold K = (history : History K) (info : ExportInfo) → state_after history ≡ state.Ready → direction_after history ≡ 1 → info_after history ≡ Some info → WasTold history info.size
+
+-- A turn makes no link.
+abbrev pub TurnsGiveNone : {K World : Type 0} → (World → List (Call K) → World → Type 0) → Type 0
+TurnsGiveNone {K} {World} steps = (link : ℕ) (part : List wire.Call) (before after : List (Seen K)) (world world' : World) (ending : Ending) → Turns steps before world part after world' ending → is_given link part ≡ false

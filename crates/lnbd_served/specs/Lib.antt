@@ -1,0 +1,5 @@
+pub mod Grammars
+pub mod Steps
+pub mod Follows
+pub mod Lawful
+pub mod Served
