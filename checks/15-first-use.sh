@@ -65,7 +65,7 @@ fi
 mv "$dir/version" "$dir/right"
 echo 'rattle-kit-1 logic 0' >"$dir/version"
 use a
-told 'another kit is one line that says what to do' 1 '' "^lnbd: rt is 'rattle-kit-1 logic 0', and these proofs want '.*': put .* first on PATH$"
+told 'another kit is one line that says what to do' 1 '' "^lnbd: rt is 'rattle-kit-1 logic 0', and these proofs want a kit of '.*': put .* first on PATH$"
 mv "$dir/right" "$dir/version"
 
 echo other >"$dir/fails"

@@ -16,10 +16,7 @@ check() {
   rm -f "$dir/socket"
   nbdkit -f -U "$dir/socket" "$@" 2>/dev/null &
   servers+=($!)
-  for _ in $(seq 50); do
-    [ -S "$dir/socket" ] && break
-    sleep 0.2
-  done
+  awaited "$dir/socket"
   out=$(timeout 60 "$example" "$dir/socket" 2>&1)
   code=$?
   if [ "$code" -eq "$status" ] && [ "$out" = "$text" ]; then

@@ -4,6 +4,7 @@
 need nbdkit nbdkit
 need libnbd-bin nbdinfo
 need qemu-utils qemu-nbd
+need nbd-server nbd-server
 
 program=$(tools/built lnbd) || exit 1
 dir=$(mktemp -d)
@@ -11,12 +12,13 @@ servers=()
 trap 'kill "${servers[@]}" 2>/dev/null; rm -rf "$dir"' EXIT
 
 # What both tools say in one form: no line that only one of them has, sizes in bytes alone, and descriptions without quotes.
-lines() { sed 's/ ([0-9.]*[KMGTPE]*)$//; /^\tcontent: /d; /^\turi: /d; s/^\(\tdescription: \)"\(.*\)"$/\1\2/; s/\\x22/"/g' "$1"; }
+text_lines() { sed 's/ ([0-9.]*[KMGTPE]*)$//; /^\tcontent: /d; /^\turi: /d; s/^\(\tdescription: \)"\(.*\)"$/\1\2/; s/\\x22/"/g' "$1"; }
+lines() { text_lines "$1"; }
 
-# same NAME SOCKET: both tools say the same of the export at this socket.
+# same NAME SOCKET [EXPORT]: both tools say the same of this export at this socket, of the one without a name where none is told.
 same() {
-  local uri="nbd+unix:///?socket=$2" wrong=
-  for _ in $(seq 50); do [ -S "$2" ] && break; sleep 0.2; done
+  local uri="nbd+unix:///${3-}?socket=$2" wrong=
+  awaited "$2"
   timeout 60 "$program" nbdinfo "$uri" >"$dir/ours" 2>"$dir/err" || wrong="status $?: $(cat "$dir/err")"
   nbdinfo --no-content "$uri" >"$dir/theirs" 2>/dev/null
   diff <(lines "$dir/ours") <(lines "$dir/theirs") >"$dir/diff" || wrong="$wrong$(cat "$dir/diff")"
@@ -56,6 +58,20 @@ truncate -s 3M "$dir/disk.raw"
 qemu-nbd -t -r -k "$dir/q2" -f raw -D 'a "raw" disk' "$dir/disk.raw" 2>/dev/null &
 servers+=($!)
 same 'a read-only disk of qemu-nbd with a description' "$dir/q2"
+
+truncate -s 2M "$dir/one"
+# serve NAME LINES: an export of nbd-server with these lines. libnbd's nbdinfo tells the size 0 of it, but with --size the right one, as both do.
+serve() {
+  local socket=$dir/s${#servers[@]}
+  printf '[generic]\nunixsock = %s\n[first]\nexportname = %s\n%b' "$socket" "$dir/one" "$2" >"$socket.config"
+  nbd-server -C "$socket.config" -p "$socket.pid" >/dev/null 2>&1
+  awaited "$socket"
+  servers+=("$(cat "$socket.pid")")
+  lines() { text_lines "$1" | sed '/^\texport-size: /d'; }
+  same "$1" "$socket" first
+}
+serve 'an export of nbd-server that flushes, trims and rotates' 'flush = true\nfua = true\ntrim = true\nrotational = true\n'
+serve 'a read-only export of nbd-server' 'readonly = true\n'
 
 # ends STATUS LINE ADDRESS: so nbdinfo ends, and prints nothing else.
 ends() {

@@ -58,7 +58,7 @@ alike() { diff <("$1" "$dir/ours") <("$1" "$dir/theirs") >"$dir/diff" || wrong="
 # listed NAME SOCKET: the exports of this server.
 listed() {
   local uri="nbd+unix:///?socket=$2" wrong=
-  for _ in $(seq 50); do [ -S "$2" ] && break; sleep 0.2; done
+  awaited "$2"
   both --list "$uri"
   alike lines --list
   both --list --json "$uri"

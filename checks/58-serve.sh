@@ -189,6 +189,53 @@ PY
 said 'a client that left with replies unread is followed by another' 4194304 "$(timeout 60 nbdinfo --size "$uri" 2>&1)"
 ends 'it ended its own session alone' 0 'sessions 2' ''
 
+# 65 clients at once: the last one is let in as another leaves. It asks an unknown option, and reads at the end and one byte too far.
+begin "nbd+unix:///?socket=$dir/s10" --size 65536 --sessions 65
+said 'the 65th client waits for another to leave' 'waits in unsupported 0 22' "$(timeout 60 python3 - "$dir/s10" <<'PY'
+import socket, struct, sys
+def connected():
+    client = socket.socket(socket.AF_UNIX)
+    client.settimeout(30)
+    client.connect(sys.argv[1])
+    return client
+def taken(client, n):
+    out = b''
+    while len(out) < n:
+        got = client.recv(n - len(out))
+        if not got:
+            raise SystemExit('left alone')
+        out += got
+    return out
+others = [connected() for _ in range(64)]
+for client in others:
+    taken(client, 18)
+last = connected()
+last.settimeout(1)
+try:
+    taken(last, 18)
+    said = ['comes']
+except socket.timeout:
+    said = ['waits']
+last.settimeout(30)
+others.pop().close()
+taken(last, 18)
+said.append('in')
+last.sendall(struct.pack('>I', 3) + b'IHAVEOPT' + struct.pack('>II', 99, 0))
+magic, option, kind, size = struct.unpack('>QIII', taken(last, 20))
+said.append('unsupported' if (option, kind, size) == (99, 0x80000001, 0) else hex(kind))
+last.sendall(b'IHAVEOPT' + struct.pack('>II', 1, 0))
+taken(last, 10)
+for offset, size in ((65532, 4), (65533, 4)):
+    last.sendall(struct.pack('>IHHQQI', 0x25609513, 0, 0, 7, offset, size))
+    magic, error, cookie = struct.unpack('>IIQ', taken(last, 16))
+    if error == 0:
+        taken(last, size)
+    said.append(str(error))
+print(*said)
+PY
+)"
+ends '65 clients were served, 64 at once' 0 'sessions 65' ''
+
 # ended NAME STATUS ERR WORDS ..: so serve ends at once.
 ended() {
   timeout 60 "$program" serve "${@:4}" >"$dir/said" 2>"$dir/err"

@@ -16,7 +16,7 @@ qemu-img create -q -f qcow2 "$dir/disk.qcow2" 1M
 qemu-nbd -t -k "$dir/qemu" -f qcow2 -x disk -D 'a disk' "$dir/disk.qcow2" 2>/dev/null &
 servers+=($!)
 for socket in kit qemu; do
-  for _ in $(seq 50); do [ -S "$dir/$socket" ] && break; sleep 0.2; done
+  awaited "$dir/$socket"
 done
 
 # plays NAME: the script on standard input prints what stands behind its line '===', with status 0.

@@ -11,7 +11,7 @@ trap 'kill "${servers[@]}" 2>/dev/null; rm -rf "$dir"' EXIT
 
 nbdkit -f -U "$dir/nbd.sock" data '0xab*512' size=1M 2>/dev/null &
 servers+=($!)
-for _ in $(seq 50); do [ -S "$dir/nbd.sock" ] && break; sleep 0.2; done
+awaited "$dir/nbd.sock"
 
 # Each block of a script is N.script, and the block of text behind it N.text.
 awk -v dir="$dir" '

@@ -27,9 +27,6 @@ with open(dir + '/zeros', 'wb') as f:
 PY
 tr '\0' '\21' </dev/zero 2>/dev/null | head -c $size >"$dir/noise"
 
-# wait_for FILE [TEST]: until it is a socket, or that test holds of it.
-wait_for() { for _ in $(seq 100); do [ "${2:--S}" "$1" ] && return; sleep 0.1; done; }
-
 # serve SOCKET KIND FILE: a server of this kind for the file, or in memory.
 serve() {
   rm -f "$1" "$1.pid"
@@ -43,16 +40,16 @@ serve() {
       printf '[generic]\nunixsock = %s\n[disk]\nexportname = %s\n' "$1" "$3" >"$1.conf"
       # (it serves many connections where it is a daemon alone)
       nbd-server -C "$1.conf" -p "$1.pid" >/dev/null 2>&1
-      wait_for "$1.pid" -s
+      for _ in $(seq 100); do [ -s "$1.pid" ] && break; sleep 0.1; done
       server=$(cat "$1.pid")
       servers+=($server)
-      wait_for "$1"
+      awaited "$1"
       return
       ;;
   esac
   server=$!
   servers+=($server)
-  wait_for "$1"
+  awaited "$1"
 }
 
 # uri SOCKET [KIND]: nbd-server has exports with names alone.
@@ -127,7 +124,7 @@ nbdkit -f -U "$dir/two" memory 512k & servers+=($!)
 nbdkit -f -r -U "$dir/three" memory 1M & servers+=($!)
 nbdkit -f -U "$dir/four" --filter=error memory 1M error-pwrite=EIO error-pwrite-rate=100% 2>/dev/null & servers+=($!)
 nbdkit -f -U "$dir/five" data '0xab*1048576' & servers+=($!)
-for name in one two three four five; do wait_for "$dir/$name"; done
+for name in one two three four five; do awaited "$dir/$name"; done
 copy "$(uri "$dir/one")" "$(uri "$dir/two")"
 ended 'to a smaller export' 6 'lnbd: rule smaller 1048576 524288'
 copy "$(uri "$dir/one")" "$(uri "$dir/three")"
@@ -149,8 +146,8 @@ for round in $(seq 12); do
   nbdkit -f -U "$dir/d1" file "$dir/dense" 2>/dev/null & one=$!
   nbdkit -f -U "$dir/d2" file "$dir/target" 2>/dev/null & two=$!
   disown $one $two
-  wait_for "$dir/d1"
-  wait_for "$dir/d2"
+  awaited "$dir/d1"
+  awaited "$dir/d2"
   victim=$one
   [ $((round % 2)) -eq 0 ] && victim=$two
   (sleep "0.0$((RANDOM % 90 + 10))"; kill -9 $victim) 2>/dev/null &
@@ -167,8 +164,8 @@ if [ -z "$wrong" ]; then echo 'ok: nbdcopy and 12 servers that died'; else echo 
 # The program serves both sides itself.
 "$program" serve "$(uri "$dir/s1")" --size 1000000 --seed 3 --sessions 5 >/dev/null & servers+=($!)
 "$program" serve "$(uri "$dir/s2")" --size 1000000 --seed 4 --sessions 5 >/dev/null & servers+=($!)
-wait_for "$dir/s1"
-wait_for "$dir/s2"
+awaited "$dir/s1"
+awaited "$dir/s2"
 copy "$(uri "$dir/s1")" "$(uri "$dir/s2")"
 timeout 60 nbdcopy -C 1 "$(uri "$dir/s1")" "$dir/r1" 2>/dev/null
 timeout 60 nbdcopy -C 1 "$(uri "$dir/s2")" "$dir/r2" 2>/dev/null
@@ -178,7 +175,7 @@ if [ $code -eq 0 ] && cmp -s "$dir/r1" "$dir/r2"; then echo 'ok: nbdcopy between
 lnbd() { timeout 60 "$program" "$@"; }
 awk '/^## /{ on = ($0 == "## Examples") } on && /^```/{ n += !inside; inside = !inside; next } on && inside { print > dir "/block" n }' dir="$dir" docs/nbdcopy.md
 while read -r command; do eval "${command//\/tmp\//$dir/}"; done <"$dir/block2"
-for name in from to; do wait_for "$dir/$name.sock"; servers+=("$(cat "$dir/$name.pid")"); done
+for name in from to; do awaited "$dir/$name.sock"; servers+=("$(cat "$dir/$name.pid")"); done
 while read -r command; do
   eval "${command//\/tmp\//$dir/}" >"$dir/said" 2>&1 && echo "ok: docs/nbdcopy.md: $command" || echo "failed: docs/nbdcopy.md: $command: $(cat "$dir/said")"
 done <"$dir/block1"

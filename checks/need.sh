@@ -10,3 +10,12 @@ need() {
   printf 'skipped: %s needs %s of the package %s, which is not to be had here\n' "$0" "$2" "$1"
   exit 0
 }
+
+# `awaited SOCKET` waits until somebody listens at this Unix socket, ten seconds at most.
+awaited() {
+  for _ in $(seq 100); do
+    [ -S "$1" ] && grep -q " 00010000 .* $1\$" /proc/net/unix && return 0
+    sleep 0.1
+  done
+  return 1
+}

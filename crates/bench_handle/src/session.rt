@@ -1,7 +1,9 @@
 //! A handle in the state Ready, and the peer's answers.
 
+use crate::copies::{BLOCK, BLOCKS};
 use lnbd_callbacks::{Caller, Heard, Verdict};
 use lnbd_handle::Handle;
+use lnbd_history::Completed;
 use lnbd_model::{Bytes, Extent, NoMemory};
 use std::alloc::Global;
 
@@ -12,50 +14,60 @@ const GO: [u8; 52] =
     *b"\0\x03\xe8\x89\x04\x55\x65\xa9\0\0\0\x07\0\0\0\x03\0\0\0\x0c\0\0\0\0\0\0\x04\0\0\0\0\x01\
 \0\x03\xe8\x89\x04\x55\x65\xa9\0\0\0\x07\0\0\0\x01\0\0\0\0";
 
-const BLOCK: usize = 65536;
-
-/// How many commands a round has, and how many bytes each reads.
-const ROUND: u64 = 1024;
-
+/// How many bytes each read of a round has.
 const SMALL: usize = 512;
 
-/// Retires each command.
+/// How many commands succeeded and how many failed.
 #[derive(Clone, Copy)]
-struct Retiring;
+pub struct Counts {
+    pub done: u64,
+    pub failed: u64,
+}
 
-impl Caller for Retiring {
-    type World = u64;
+/// What becomes of a command that completes.
+#[derive(Clone, Copy)]
+enum Ending {
+    Retire,
+    Keep,
+}
+
+impl Caller for Ending {
+    type World = Counts;
 
     ghost steps = { λ before calls after. Unit {0} };
 
-    fn chunk(&self, _: &mut u64, _: &[u8], _: u64, _: u32, _: u32) -> Heard {
+    fn chunk(&self, _: &mut Counts, _: &[u8], _: u64, _: u32, _: u32) -> Heard {
         Heard::Going
     }
 
-    fn extents(&self, _: &mut u64, _: &[u8], _: u64, _: &[Extent], _: u32) -> Heard {
+    fn extents(&self, _: &mut Counts, _: &[u8], _: u64, _: &[Extent], _: u32) -> Heard {
         Heard::Going
     }
 
-    // Counts the commands that succeed.
-    fn complete(&self, world: &mut u64, error: u32, _: Bytes) -> Verdict {
+    fn complete(&self, world: &mut Counts, error: u32, buf: Bytes) -> Verdict {
         if error == 0 {
-            *world = world.wrapping_add(1);
+            world.done = world.done.wrapping_add(1);
+        } else {
+            world.failed = world.failed.wrapping_add(1);
         }
-        Verdict::Retire
+        match self {
+            Ending::Retire => Verdict::Retire,
+            Ending::Keep => Verdict::Keep { error, buf },
+        }
     }
 
-    fn free(self, _: &mut u64) {}
+    fn free(self, _: &mut Counts) {}
 
     ghost empty = { λ world. tt };
 
     ghost append = { λ a b c first second one two. tt };
 }
 
-/// One connection, and how many commands succeeded.
+/// One connection, and what its commands came to.
 pub struct Session {
-    handle: Handle<Retiring>,
+    handle: Handle<Ending>,
     alloc: Global,
-    done: u64,
+    counts: Counts,
 }
 
 /// The head of a reply without an error.
@@ -72,7 +84,7 @@ impl Session {
         let mut session = Session {
             handle: Handle::create(alloc)?,
             alloc,
-            done: 0,
+            counts: Counts { done: 0, failed: 0 },
         };
         if session.handle.start().is_ok() {
             session.feed(&HELLO);
@@ -84,7 +96,7 @@ impl Session {
 
     /// Hands in bytes, where the handle reads.
     fn feed(&mut self, bytes: &[u8]) -> bool {
-        self.handle.direction() != 0 && self.handle.arrive(bytes, &mut self.done).is_ok()
+        self.handle.direction() != 0 && self.handle.arrive(bytes, &mut self.counts).is_ok()
     }
 
     /// Takes all that waits.
@@ -98,14 +110,25 @@ impl Session {
         }
     }
 
-    /// Issues a read of so many bytes at 0, and tells its cookie, 0 for none.
+    /// Issues a read at 0 of as many bytes as the buffer has, and tells its cookie, 0 for none.
+    fn issue_into(&mut self, buf: Vec<u8>, ending: Ending) -> u64 {
+        self.handle
+            .aio_pread(buf, 0, ending, 0, &mut self.counts)
+            .unwrap_or(0)
+    }
+
+    /// The same with a buffer of its own.
     fn issue(&mut self, size: usize) -> u64 {
-        let Ok(buf) = vec![in self.alloc; 0u8; size] else {
-            return 0;
-        };
-        match self.handle.aio_pread(buf, 0, Retiring, 0, &mut self.done) {
-            Ok(cookie) => cookie,
+        match vec![in self.alloc; 0u8; size] {
+            Ok(buf) => self.issue_into(buf, Ending::Retire),
             Err(_) => 0,
+        }
+    }
+
+    /// Hands in data, in pieces of so many bytes.
+    fn feed_in(&mut self, data: &[u8], piece: usize) {
+        for part in data.chunks(piece.max(1)) {
+            self.feed(part);
         }
     }
 
@@ -118,38 +141,71 @@ impl Session {
             return;
         };
         for _ in 0..blocks {
-            for part in block.chunks((piece as usize).max(1)) {
-                self.feed(part);
-            }
+            self.feed_in(&block, piece as usize);
         }
         self.handle.clear_log();
     }
 
-    /// 1,024 reads of 512 bytes, answered in order, or backwards.
-    pub fn round(&mut self, backwards: bool) {
+    /// Reads of 256 KiB, one after another, each into the buffer of the one before.
+    pub fn stream(&mut self, reads: u32) {
+        let (Ok(block), Ok(mut buffer)) = (
+            vec![in self.alloc; 0x5au8; BLOCK],
+            vec![in self.alloc; 0u8; BLOCK * BLOCKS],
+        ) else {
+            return;
+        };
+        for _ in 0..reads {
+            let cookie = self.issue_into(buffer, Ending::Keep);
+            self.write_all();
+            self.feed(&head(cookie));
+            for _ in 0..BLOCKS {
+                self.feed(&block);
+            }
+            self.handle.clear_log();
+            buffer = match self.handle.command_completed(cookie) {
+                Completed::Done(bytes) => bytes.into_vec(),
+                _ => return,
+            };
+        }
+    }
+
+    /// So many reads of 512 bytes in flight at once, answered in order, or backwards.
+    pub fn round(&mut self, commands: u32, backwards: bool) {
         let mut last = 0;
-        for _ in 0..ROUND {
+        for _ in 0..commands {
             last = self.issue(SMALL);
         }
         self.write_all();
         let data = [0x5a; SMALL];
-        for place in 0..ROUND {
-            let behind = if backwards { place } else { ROUND - 1 - place };
-            self.feed(&head(last.saturating_sub(behind)));
+        for place in 0..commands {
+            let behind = if backwards {
+                place
+            } else {
+                commands - 1 - place
+            };
+            self.feed(&head(last.saturating_sub(behind as u64)));
             self.feed(&data);
         }
         self.handle.clear_log();
     }
 
-    /// Ends the handle. Tells how many commands succeeded and how many callbacks were freed.
-    pub fn end(self) -> (u64, u64) {
+    /// So many reads in flight, and then the peer ends the connection.
+    pub fn die(&mut self, commands: u32) {
+        for _ in 0..commands {
+            self.issue(SMALL);
+        }
+        self.handle.ended(&mut self.counts);
+    }
+
+    /// Ends the handle, and tells what its commands came to.
+    pub fn end(self) -> Counts {
         let Session {
             handle,
             alloc: _,
-            done,
+            counts,
         } = self;
-        let mut done = done;
-        let closed = handle.close(&mut done);
-        (done, closed.freed)
+        let mut counts = counts;
+        handle.close(&mut counts);
+        counts
     }
 }

@@ -4,6 +4,9 @@
 
 mod sums;
 
+ghost use Rattle.std.specs.Prelude.{◌≡◌, ◌≤◌, true, length, IfOk, IfSome};
+ghost use Rattle.lnbd_history.specs.Answers.{is_living};
+
 use lnbd_handle::Handle;
 use lnbd_model::State;
 use mio::unix::SourceFd;
@@ -110,23 +113,78 @@ fn send(handle: &mut Handle<Adding>, sums: &mut Sums, stream: &mut UnixStream) {
     }
 }
 
-// Hands in what came, until the socket has no more.
+// Takes what came, until the socket has no more.
 fn receive(handle: &mut Handle<Adding>, sums: &mut Sums, stream: &mut UnixStream) {
     let mut buffer = [0; PIECE as usize];
     for _ in 0..u64::MAX {
         if handle.direction() == 0 {
             return;
         }
-        match stream.read(&mut buffer) {
-            Ok(0) => return handle.ended(sums),
-            Ok(n) => {
-                if handle.arrive(&buffer[..n], sums).is_err() {
-                    return handle.link_failed(sums);
-                }
-            }
-            Err(error) if is_early(&error) => return,
-            Err(_) => return handle.link_failed(sums),
+        let more = match read_placed(handle, stream) {
+            Some(read) => count_placed(handle, sums, read),
+            None => hand_in(handle, sums, stream, &mut buffer),
+        };
+        if !more {
+            return;
         }
+    }
+}
+
+// Reads once straight into the handle's place, where it has one.
+fn read_placed(handle: &mut Handle<Adding>, stream: &mut UnixStream) -> Option<io::Result<usize>>
+    ensures same { handle.new.machine ≡ handle.old.machine }
+    ensures count { IfSome result (λ read. IfOk read (λ n. n ≤ length handle.new.place)) }
+{
+    let place = handle.place();
+    if place.is_empty() {
+        return None;
+    }
+    Some(stream.read(place))
+}
+
+// Counts what came into the handle's place. Whether more may come.
+fn count_placed(handle: &mut Handle<Adding>, sums: &mut Sums, read: io::Result<usize>) -> bool
+    requires { IfOk read (λ n. n ≤ length handle.old.place) }
+{
+    match read {
+        Ok(0) => stop(handle, sums, None),
+        Ok(n) => {
+            handle.placed(n);
+            return true;
+        }
+        Err(error) => stop(handle, sums, Some(error)),
+    }
+    false
+}
+
+// Reads once into a buffer, and hands in what came. Whether more may come.
+fn hand_in(
+    handle: &mut Handle<Adding>,
+    sums: &mut Sums,
+    stream: &mut UnixStream,
+    buffer: &mut [u8],
+) -> bool
+    requires { is_living handle.old.machine.known.stage ≡ true }
+{
+    match stream.read(buffer) {
+        Ok(0) => stop(handle, sums, None),
+        Ok(n) => {
+            if handle.arrive(&buffer[..n], sums).is_ok() {
+                return true;
+            }
+            handle.link_failed(sums);
+        }
+        Err(error) => stop(handle, sums, Some(error)),
+    }
+    false
+}
+
+// Tells the handle of the end, or of an error that is more than an early read.
+fn stop(handle: &mut Handle<Adding>, sums: &mut Sums, error: Option<io::Error>) {
+    match error {
+        None => handle.ended(sums),
+        Some(error) if is_early(&error) => {}
+        Some(_) => handle.link_failed(sums),
     }
 }
 

@@ -10,6 +10,15 @@ use std::io::ErrorKind;
 use std::process::ExitCode;
 use std::{env, io};
 
+/// Of a piece that the C library gets back at once: 64 KiB less than the most by which glibc raises its thresholds (mallopt(3), `M_MMAP_THRESHOLD`).
+const FREED: usize = 33_488_896;
+
+/// Has the C library keep what is freed later: up to twice such a piece. Else glibc gives the buffers of reads back to the system as they are freed, and takes them
+/// again for the next ones, which is half the time of a script of reads. The piece is not written, and where it can't be had all goes on as well.
+fn keep_freed(alloc: Global) {
+    let _ = Vec::<u8>::with_capacity(alloc, FREED);
+}
+
 /// The words behind the program's name.
 fn words(rt: &HostRuntime, alloc: Global) -> io::Result<Vec<String>> {
     let mut words = Vec::new(alloc);
@@ -29,6 +38,7 @@ fn no_words<E: Sink>(error: io::Error, err: &mut E) -> u8 {
 
 fn main(rt: HostRuntime) -> ExitCode {
     let alloc = rt.alloc();
+    keep_freed(alloc);
     let err_rt = rt.stderr();
     let mut err = PrintSink::new(&err_rt);
     let words = match words(&rt, alloc) {

@@ -1,5 +1,5 @@
 -- What a chunk shows, by the breach that it shows or doesn't.
-use Rattle.std.proofs.Common.{◌≡◌, ℕ, ◌-◌, ◌<◌, ◌≤◌, Bool, true, false, List, ◌++◌, length, drop, Option, Some, None, refl, ap, sym, subst, ◌∙◌, arith, nat_lt, ◌%◌, ◌==◌, ◌||◌, ◌&&◌, not, if◌then◌else◌}
+use Rattle.std.proofs.Common.{◌≡◌, ℕ, ◌-◌, ◌<◌, ◌≤◌, Bool, true, false, List, ◌++◌, length, drop, Option, Some, None, refl, ap, sym, subst, ◌∙◌, arith, nat_lt, ◌%◌, ◌==◌, ◌||◌, ◌&&◌, not, if◌then◌else◌, length-append}
 use Rattle.std.proofs.lemmas.Bool.{eqb-true, ltb-true}
 use Rattle.std.proofs.lemmas.List.{length-drop, take_all}
 use Rattle.lnbd_model.specs.declared.breach.Breach.{Breach}
@@ -8,12 +8,12 @@ use Rattle.lnbd_records.specs.Content as content
 use Rattle.lnbd_records.specs.Limits.{max_faults}
 use Rattle.lnbd_records.specs.Numbers.{number_at}
 use Rattle.lnbd_stream.specs.Grammar.{once, wants}
-use Rattle.lnbd_stream.proofs.Grammar.{once_there, once_less}
+use Rattle.lnbd_stream.proofs.Grammar.{once_there, once_less, wants_true}
 use Rattle.lnbd_chunks.specs.declared.form.Form.{Form}
 use Rattle.lnbd_chunks.specs.declared.form.Form.TheVariants.{Empty, Data, Hole, Status, ExtendedStatus, Error, ErrorAt, OtherError, Unknown}
-use Rattle.lnbd_chunks.specs.Chunk.{Waiting, Head, is_done, is_error, form_of, fits_length, may_come, lies_within, shows_data, shows_hole, shows_status, shows_extended_status, shows_error, shows_payload, shows_chunk}
+use Rattle.lnbd_chunks.specs.Chunk.{Waiting, Head, is_done, is_error, form_of, fits_length, may_come, lies_within, shows_data, shows_hole, shows_status, shows_extended_status, shows_error, shows_payload, shows_form, shows_chunk}
 use Rattle.lnbd_chunks.specs.Laws.{breach_in, breach_of}
-use Rattle.lnbd_chunks.proofs.Steady.{least, least_and, stays_chunk}
+use Rattle.lnbd_chunks.proofs.Steady.{at_more, least, least_and, stays_chunk}
 use Rattle.lnbd_commands.specs.Takes.{MayCome}
 use Rattle.lnbd_structured.specs.Assembly.{fixed_size}
 use Rattle.lnbd_structured.specs.Told.{IsInside}
@@ -188,3 +188,24 @@ chunk_may_come extended waiting head p whole e =
 
 pub chunk_fits : (extended : Bool) (waiting : Waiting) (head : Head) (p : List ℕ) → breach_of extended waiting head p ≡ None → fits_length (form_of extended head.type) head.length ≡ true
 chunk_fits extended waiting head p e = (lawful extended waiting head p (form_of extended head.type) refl e).long
+
+-- At its end a payload shows no breach.
+at_end : (n : ℕ) (p : List ℕ) → breach_in (once n p (Some None)) ≡ None
+unfolding once
+at_end n p = go (nat_lt (length p) n)
+  where
+    go : (b : Bool) → breach_in (if b then None else Some None) ≡ None
+    go true = refl
+    go false = refl
+
+-- Data show no breach behind a place that shows none.
+pub fair_data : (extended : Bool) (waiting : Waiting) (head : Head) (place more : List ℕ) → form_of extended head.type ≡ Data → 8 ≤ length place → breach_of extended waiting head place ≡ None →
+    breach_of extended waiting head (place ++ more) ≡ None
+unfolding shows_chunk shows_data
+fair_data extended waiting head place more is there e =
+    let l = lawful extended waiting head place Data is e in
+    let lies = data_lies extended waiting head place is e there in
+    let within : lies_within waiting (number_at 0 8 (place ++ more)) (head.length - 8) ≡ true = ap (λ (n : ℕ). lies_within waiting n (head.length - 8)) (at_more 0 8 place more there) ∙ lies.1 in
+    ap (λ (f : Form). breach_in (shows_form breaks hides f waiting head (place ++ more))) is
+    ∙ ap breach_in (wants_true _ _ _ l.long ∙ wants_true _ _ _ l.suits ∙ wants_true _ _ _ l.may ∙ once_there 8 (place ++ more) _ (omega (arith, there, length-append place more)) ∙ wants_true _ _ _ within)
+    ∙ at_end head.length (place ++ more)

@@ -1,29 +1,39 @@
 -- What bytes show, magic by magic.
-use Rattle.std.proofs.Common.{◌≡◌, ◌≢◌, ℕ, ◌+◌, ◌-◌, ◌<◌, ◌≤◌, Bool, true, false, ◌==◌, ◌||◌, ◌&&◌, List, ◌++◌, length, take, drop, Option, Some, None, refl, ap, sym, ◌∙◌, arith, length-append, if◌then◌else◌, inl, inr, nat_lt}
-use Rattle.std.proofs.lemmas.Bool.{eq-eqb, ne_eqb, ltb-true, ltb-false}
-use Rattle.std.proofs.lemmas.List.{take-append-drop, length-take-le, length-drop, take-append-le, drop-append-le}
+use Rattle.std.specs.Option.{option_map}
+use Rattle.std.specs.Prelude.{IfSome}
+use Rattle.std.proofs.Common.{subst, ◌≡◌, ◌≢◌, ℕ, ◌+◌, ◌-◌, ◌<◌, ◌≤◌, Bool, true, false, ◌==◌, ◌||◌, ◌&&◌, List, ◌++◌, length, take, drop, Option, Some, None, refl, ap, sym, ◌∙◌, arith, length-append, if◌then◌else◌, inl, inr, nat_lt}
+use Rattle.std.proofs.lemmas.Grind.{common_steps}
+use Rattle.std.proofs.lemmas.Bool.{true≢false, eq-eqb, ne_eqb, ltb-true, ltb-false}
+use Rattle.std.proofs.lemmas.List.{take_all, drop_all, take-append-drop, length-take-le, length-drop, take-append-le, drop-append-le}
 use Rattle.lnbd_model.specs.Kind.{is_read}
 use Rattle.lnbd_model.specs.declared.breach.Breach.{Breach}
 use Rattle.lnbd_model.specs.declared.breach.Breach.TheVariants.{BadReplyMagic, UnknownCookie, SimpleForRead, MixedHeaders}
-use Rattle.lnbd_records.specs.Content.{Content}
+use Rattle.lnbd_records.specs.Content.{Content, Data, Bare}
 use Rattle.lnbd_records.specs.Numbers.{number_at}
 use Rattle.lnbd_records.specs.Transmission.{simple_reply_magic, structured_reply_magic, extended_reply_magic}
 use Rattle.lnbd_stream.specs.Grammar.{once, wants}
 use Rattle.lnbd_stream.proofs.Grammar.{once_there, once_less, wants_true, wants_false}
-use Rattle.lnbd_chunks.specs.Chunk.{Waiting, Head, is_done, form_of, shows_chunk}
+use Rattle.lnbd_chunks.specs.declared.form.Form.{Form}
+use Rattle.lnbd_chunks.specs.declared.form.Form.TheVariants as form
+use Rattle.lnbd_chunks.specs.Chunk.{Waiting, Head, is_done, form_of, fits_length, lies_within, shows_chunk}
 use Rattle.lnbd_chunks.specs.Laws.{breach_of}
 use Rattle.lnbd_chunks.specs.Reply.{content_size, simple_content, shows_simple, shows_chunk_for, shows_compact, shows_extended, shows_reply}
 use Rattle.lnbd_chunks.proofs.Steady.{at_more, stays_chunk}
 use Rattle.lnbd_history.specs.Arrivals.{Shown, Broken, reply, shows_frame}
+use Rattle.lnbd_commands.specs.Takes.{MayCome}
+use Rattle.lnbd_commands.specs.Seen.{seen_waiting}
+use Rattle.lnbd_commands.specs.declared.row.Waiting.{Waiting as Told}
 use Rattle.lnbd_structured.specs.Assembly.{head_of}
 use Rattle.lnbd_wire.specs.declared.extended_chunk.ExtHead.{ExtHead}
-use Rattle.lnbd_arrivals.specs.Frames.{IsChunk, IsReply, IsSuccess, is_extended, is_structured, shows_by}
+use Rattle.lnbd_arrivals.specs.Frames.{Announces, IsChunk, IsDataFront, IsFront, IsReply, IsSuccess, front_size, is_extended, is_structured, shows_by}
 use Rattle.lnbd_arrivals.specs.Heads.{IsCut, IsHead, head_in, head_size, magic_breach, magic_of}
 use Rattle.lnbd_arrivals.specs.Payloads.{told_by}
+use Rattle.lnbd_arrivals.specs.declared.announced.Announced.{Announced}
+use Rattle.lnbd_arrivals.specs.declared.announced.Carrier.TheVariants as carrier
 use Rattle.lnbd_arrivals.specs.declared.chunk.Chunk.{Chunk}
 use Rattle.lnbd_arrivals.specs.declared.replies.Replies.{Replies}
 use Rattle.lnbd_arrivals.specs.declared.replies.Replies.TheVariants.{Simple, Structured, Extended}
-use Rattle.lnbd_arrivals.proofs.Chunks.{broke_chunk, none_chunk, told_chunk, front_fair, chunk_may_come, chunk_fits}
+use Rattle.lnbd_arrivals.proofs.Chunks.{broke_chunk, none_chunk, told_chunk, fair_data, fixed_there, front_fair, chunk_may_come, chunk_fits}
 
 pub no_magic : (replies : Replies) (waited : ℕ → Option Waiting) (bytes : List ℕ) → length bytes < 4 → shows_by replies waited bytes ≡ None
 unfolding shows_frame shows_reply
@@ -379,9 +389,158 @@ module _ (waited : ℕ → Option Waiting) (head : List ℕ) (command : Waiting)
     data_size : content_size command (number_at 4 4 (head ++ content)) ≡ command.length
     data_size = rw (none_told, read) refl
 
-    pub announced_whole : length content ≡ command.length → IsReply Simple waited (head ++ content) (number_at 8 8 head) 0 command.length
-    announced_whole enough = whole Simple waited (head ++ content) refl long magic_is command here refl (number_at 8 8 head) 0 command.length (sym (same 8 8 (omega arith))) (sym none_told)
-        (rw read refl) (omega (arith, length-append head content, success.sized, enough))
+    abbrev bytes : List ℕ
+    bytes = head ++ content
 
     pub announced_partial : length content < command.length → shows_by Simple waited (head ++ content) ≡ None
     announced_partial short = no_data Simple waited (head ++ content) refl long magic_is command here refl command.length (sym data_size) (omega (arith, length-append head content, success.sized, short))
+
+    data_is : length content ≡ command.length → take command.length (drop 16 (head ++ content)) ≡ content
+    data_is enough = ap (take command.length) (drop-append-le 16 head content (omega (arith, success.sized)) ∙ ap (λ h. h ++ content) (drop_all 16 head (omega (arith, success.sized)))) ∙ take_all command.length content (omega (arith, enough))
+
+    announced_shown : (cookie : ℕ) → cookie ≡ number_at 8 8 head → length content ≡ command.length → shows_by Simple waited (head ++ content) ≡ Some (reply cookie (Data command.offset content) true)
+    announced_shown cookie is enough =
+        told_whole Simple waited bytes refl long magic_is command here refl (omega (arith, data_size, length-append head content, success.sized, enough))
+        ∙ ap (λ (x : ℕ). Some (reply (number_at 8 8 bytes) (simple_content command x (take (content_size command x) (drop 16 bytes))) true)) none_told
+        ∙ ap (λ (b : Bool). Some (reply (number_at 8 8 bytes) (if b then Data command.offset (take (if b then command.length else 0) (drop 16 bytes)) else Bare) true)) read
+        ∙ ap (λ (d : List ℕ). Some (reply (number_at 8 8 bytes) (Data command.offset d) true)) (data_is enough)
+        ∙ ap (λ (x : ℕ). Some (reply x (Data command.offset content) true)) (same 8 8 (omega arith) ∙ sym is)
+
+  lies_whole : lies_within command command.offset command.length ≡ true
+  lies_whole = grind (arith, common_steps)
+
+  pub reply_announced : (cookie : ℕ) → cookie ≡ number_at 8 8 head → Announces Simple waited head (record { cookie = cookie; offset = command.offset; size = command.length; carrier = carrier.Reply })
+  reply_announced cookie is = record {
+    sized = success.sized;
+    cookie_is = is;
+    carried = refl;
+    partial = λ content short. announced_partial content short;
+    whole = λ content enough. record {
+      command = command;
+      waits = ap waited is ∙ waits;
+      may_come = record { inside = (read, ap (λ (n : ℕ). lies_within command command.offset n) enough ∙ lies_whole); few = λ e. absurd (true≢false e) };
+      all = λ e. (refl, refl);
+      shown = announced_shown content cookie is enough;
+      before = λ front more all short. before_simple Simple waited (head ++ content) refl (long content) (magic_is content) command (here content) refl front more all
+          (omega (arith, short, data_size content, length-append head content, success.sized, enough));
+    };
+  }
+
+-- The front of a chunk of data, whatever of them is there.
+
+data_form : (extended : Bool) (kind : ℕ) → kind ≡ 1 → form_of extended kind ≡ form.Data
+data_form extended kind is = ap (form_of extended) is
+
+pub chunk_front : (replies : Replies) → is_structured replies ≡ true → front_size replies ≡ head_size (is_extended replies) + 8
+chunk_front Simple agreed = absurd (true≢false (sym agreed))
+chunk_front Structured agreed = refl
+chunk_front Extended agreed = refl
+
+module _ (replies : Replies) (waited : ℕ → Option Waiting) (front : List ℕ) (head : ExtHead) (agreed : is_structured replies ≡ true) (h : IsHead (is_extended replies) front head) (command : Waiting) (waits : waited (number_at 8 8 front) ≡ Some command)
+    (sized : length front ≡ front_size replies) (is_data : head.kind ≡ 1) (place : List ℕ) (placed : place ≡ drop (head_size (is_extended replies)) front) (fair : breach_of (is_extended replies) command (head_of head) place ≡ None) where
+  abbrev begin : ℕ
+  begin = head_size (is_extended replies)
+
+  long_front : length front ≡ head_size (is_extended replies) + 8
+  long_front = sized ∙ chunk_front replies agreed
+
+  long_place : length place ≡ 8
+  long_place = omega (arith, long_front, ap length placed, length-drop (head_size (is_extended replies)) front)
+
+  data_fits : 8 ≤ head.length
+  data_fits = fixed_there form.Data head.length (subst (λ (f : Form). fits_length f head.length ≡ true) (data_form (is_extended replies) head.kind is_data) (chunk_fits (is_extended replies) command (head_of head) place fair))
+
+  module _ (content : List ℕ) where
+    alike : (at width : ℕ) → at + width ≤ 20 → number_at at width (front ++ content) ≡ number_at at width front
+    alike at width fits = at_more at width front content (omega (arith, fits, long_front, head_least (is_extended replies)))
+
+    headed_more : IsHead (is_extended replies) (front ++ content) head
+    headed_more = record {
+      there = omega (arith, long_front, length-append front content);
+      magic = alike 0 4 (omega arith) ∙ h.magic;
+      says = h.says ∙ sym (head_more (is_extended replies) front content h.there);
+      cookie = h.cookie ∙ sym (alike 8 8 (omega arith));
+    }
+
+    payload_more : drop (head_size (is_extended replies)) (front ++ content) ≡ place ++ content
+    payload_more = drop-append-le (head_size (is_extended replies)) front content h.there ∙ ap (λ p. p ++ content) (sym placed)
+
+    fair_more : breach_of (is_extended replies) command (head_of head) (drop (head_size (is_extended replies)) (front ++ content)) ≡ None
+    fair_more = ap (breach_of (is_extended replies) command (head_of head)) payload_more
+        ∙ fair_data (is_extended replies) command (head_of head) place content (data_form (is_extended replies) head.kind is_data) (omega (arith, long_place)) fair
+
+    waits_more : waited (number_at 8 8 (front ++ content)) ≡ Some command
+    waits_more = ap waited (alike 8 8 (omega arith)) ∙ waits
+
+    long_payload : length (drop (head_size (is_extended replies)) (front ++ content)) ≡ 8 + length content
+    long_payload = omega (arith, ap length payload_more, length-append place content, long_place)
+
+    data_partial : length content < head.length - 8 → shows_by replies waited (front ++ content) ≡ None
+    data_partial short = chunk_nothing replies waited (front ++ content) head agreed headed_more command waits_more fair_more (omega (arith, short, long_payload))
+
+    told_data : length content ≡ head.length - 8 → told_by (form_of (is_extended replies) head.kind) (drop (head_size (is_extended replies)) (front ++ content)) ≡ Data (number_at 0 8 place) content
+    told_data enough =
+        ap (λ (p : List ℕ). told_by (form_of (is_extended replies) head.kind) p) payload_more
+        ∙ ap (λ (f : Form). told_by f (place ++ content)) (data_form (is_extended replies) head.kind is_data)
+        ∙ ap (λ (n : ℕ). Data n (drop 8 (place ++ content))) (at_more 0 8 place content (omega (arith, long_place)))
+        ∙ ap (λ (d : List ℕ). Data (number_at 0 8 place) d) (drop-append-le 8 place content (omega (arith, long_place)) ∙ ap (λ p. p ++ content) (drop_all 8 place (omega (arith, long_place))))
+
+    data_shown : length content ≡ head.length - 8 → shows_by replies waited (front ++ content) ≡ Some (reply head.cookie (Data (number_at 0 8 place) content) (is_done (head_of head)))
+    data_shown enough =
+        chunk_shown replies waited (front ++ content) head agreed headed_more command waits_more fair_more (omega (arith, enough, long_payload, data_fits))
+        ∙ ap (λ (p : List ℕ). Some (reply (number_at 8 8 (front ++ content)) (told_by (form_of (is_extended replies) head.kind) p) (is_done (head_of head))))
+        (take_all head.length (drop (head_size (is_extended replies)) (front ++ content)) (omega (arith, enough, long_payload, data_fits)))
+        ∙ ap (λ (t : Content). Some (reply (number_at 8 8 (front ++ content)) t (is_done (head_of head)))) (told_data enough)
+        ∙ ap (λ (n : ℕ). Some (reply n (Data (number_at 0 8 place) content) (is_done (head_of head)))) (sym headed_more.cookie)
+
+    data_may_come : length content ≡ head.length - 8 → MayCome command (Data (number_at 0 8 place) content) (is_done (head_of head))
+    data_may_come enough = subst (λ (t : Content). MayCome command t (is_done (head_of head))) (told_data enough)
+        (chunk_may_come (is_extended replies) command (head_of head) (drop (head_size (is_extended replies)) (front ++ content)) (omega (arith, enough, long_payload, data_fits)) fair_more)
+
+  pub chunk_announced : Announces replies waited front (record { cookie = head.cookie; offset = number_at 0 8 place; size = head.length - 8; carrier = carrier.Chunk (is_done (head_of head)) })
+  chunk_announced = record {
+    sized = sized;
+    cookie_is = h.cookie;
+    carried = sym agreed;
+    partial = λ content short. data_partial content short;
+    whole = λ content enough. record {
+      command = command;
+      waits = ap waited h.cookie ∙ waits;
+      may_come = data_may_come content enough;
+      all = λ e. absurd (true≢false e);
+      shown = data_shown content enough;
+      before = λ less more all short. before_end replies waited (front ++ content) head agreed (headed_more content) command (waits_more content) (fair_more content) less more all
+          (omega (arith, short, enough, long_front, length-append front content, data_fits));
+    };
+  }
+
+-- Each front of a chunk of data is read as one.
+pub is_data_front : (replies : Replies) (command : Waiting) (front : List ℕ) → is_structured replies ≡ true → IsFront replies command front → IsDataFront (is_extended replies) command front
+is_data_front Simple command front agreed is = absurd (true≢false (sym agreed))
+is_data_front Structured command front agreed is = is
+is_data_front Extended command front agreed is = is
+
+pub front_uncut : (extended : Bool) (command : Waiting) (front : List ℕ) → IsDataFront extended command front → IsCut (magic_of extended) (head_size extended) front → ⊥
+front_uncut extended command front is cut = elim cut [
+  | inl short ↦ omega (arith, short, is.sized, head_least extended)
+  | inr begun ↦ omega (arith, begun.2, is.sized)
+]
+
+-- Where no chunks come, simple replies alone do.
+pub simple_alone : (replies : Replies) → is_structured replies ≡ false → replies ≡ Simple
+simple_alone Simple e = refl
+simple_alone Structured e = absurd (true≢false e)
+simple_alone Extended e = absurd (true≢false e)
+
+least_front : (replies : Replies) → 16 ≤ front_size replies
+least_front Simple = omega arith
+least_front Structured = omega arith
+least_front Extended = omega arith
+
+-- what is announced to the command that waits is announced to it
+pub announced_to : (replies : Replies) (front : List ℕ) (found : Option Announced) (waiting : Option Told) (command : Told) → waiting ≡ Some command → length front ≡ front_size replies →
+    IfSome found (λ announced. (waited : ℕ → Option Waiting) → waited (number_at 8 8 front) ≡ Some (seen_waiting command) → Announces replies waited front announced) →
+    IfSome found (λ announced. (waited : ℕ → Option Waiting) → (16 ≤ length front → waited (number_at 8 8 front) ≡ option_map seen_waiting waiting) → Announces replies waited front announced)
+announced_to replies front None waiting command is sized told = tt
+announced_to replies front (Some announced) waiting command is sized told = λ waited waits.
+    told waited (waits (omega (arith, sized, least_front replies)) ∙ ap (option_map seen_waiting) is)

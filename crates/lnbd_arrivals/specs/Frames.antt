@@ -2,14 +2,19 @@
 use Rattle.std.specs.Prelude.{◌≡◌, ℕ, ◌+◌, ◌<◌, ◌≤◌, Bool, true, false, List, ◌++◌, length, take, drop, Option, Some, None}
 use Rattle.lnbd_records.specs.Numbers.{number_at}
 use Rattle.lnbd_chunks.specs.Chunk.{Waiting, is_done}
+use Rattle.lnbd_chunks.specs.Laws.{breach_of}
 use Rattle.lnbd_chunks.specs.Reply.{content_size, simple_content}
 use Rattle.lnbd_commands.specs.Takes.{MayCome}
 use Rattle.lnbd_history.specs.Arrivals.{Shown, Reply, Broken, shows_frame, reply}
-use Rattle.lnbd_records.specs.Transmission.{simple_reply_magic}
+use Rattle.lnbd_model.specs.Kind.{is_read}
+use Rattle.lnbd_records.specs.Content.{Data}
+use Rattle.lnbd_records.specs.Transmission.{simple_reply_magic, simple_head_size, chunk_head_size, extended_head_size, reply_type_offset_data}
 use Rattle.lnbd_structured.specs.Assembly.{head_of}
-use Rattle.lnbd_arrivals.specs.Heads.{head_size}
+use Rattle.lnbd_arrivals.specs.Heads.{head_in, head_size, magic_of}
 use Rattle.lnbd_arrivals.specs.Payloads.{told_in, payload_in, IsPayload}
 use Rattle.lnbd_arrivals.specs.declared.announced.Announced.{Announced}
+use Rattle.lnbd_arrivals.specs.declared.announced.Carrier.{Carrier}
+use Rattle.lnbd_arrivals.specs.declared.announced.Carrier.TheVariants as carrier
 use Rattle.lnbd_arrivals.specs.declared.chunk.Chunk.{Chunk}
 use Rattle.lnbd_arrivals.specs.declared.frame.Seen.{Seen}
 use Rattle.lnbd_arrivals.specs.declared.frame.Seen.TheVariants as seen
@@ -72,8 +77,50 @@ pub record IsSuccess (head : List ℕ) : Type 0 where
   pub magic : number_at 0 4 head ≡ simple_reply_magic
   pub error : number_at 4 4 head ≡ 0
 
--- The head of a reply that brings so many bytes of data, where simple replies alone come: with fewer bytes behind it nothing is shown yet, and with so many the whole reply is there.
-pub record Announces (waited : ℕ → Option Waiting) (head : List ℕ) (announced : Announced) : Type 0 where
-  pub sized : length head ≡ 16
-  pub partial : (content : List ℕ) → length content < announced.size → shows_by Simple waited (head ++ content) ≡ None
-  pub whole : (content : List ℕ) → length content ≡ announced.size → IsReply Simple waited (head ++ content) announced.cookie 0 announced.size
+-- Replies that bring data to a read, of which all that stands before the data is there.
+
+-- so many bytes stand before the data: the head, and in a chunk behind it their place
+abbrev pub front_size : Replies → ℕ
+front_size Simple = simple_head_size
+front_size Structured = chunk_head_size + 8
+front_size Extended = extended_head_size + 8
+
+abbrev pub is_chunk : Carrier → Bool
+is_chunk carrier.Reply = false
+is_chunk (carrier.Chunk last) = true
+
+-- nothing follows for the same read
+abbrev pub is_last : Carrier → Bool
+is_last carrier.Reply = true
+is_last (carrier.Chunk last) = last
+
+-- the front of a chunk of data for this command, which breaks no rule
+pub record IsDataFront (extended : Bool) (command : Waiting) (front : List ℕ) : Type 0 where
+  pub sized : length front ≡ head_size extended + 8
+  pub magic : number_at 0 4 front ≡ magic_of extended
+  pub type : (head_in extended front).type ≡ reply_type_offset_data
+  pub lawful : breach_of extended command (head_in extended front) (drop (head_size extended) front) ≡ None
+
+-- the front of a reply without error that brings data to this command
+abbrev pub IsFront : Replies → Waiting → List ℕ → Type 0
+IsFront Simple command front = (is_read command.kind ≡ true) × IsSuccess front
+IsFront Structured command front = IsDataFront false command front
+IsFront Extended command front = IsDataFront true command front
+
+-- The whole reply that was announced, with these data. It may be filed, and a simple reply brings all that its command asked for.
+pub record Carries (replies : Replies) (waited : ℕ → Option Waiting) (bytes : List ℕ) (announced : Announced) (content : List ℕ) : Type 0 where
+  pub command : Waiting
+  pub waits : waited announced.cookie ≡ Some command
+  pub may_come : MayCome command (Data announced.offset content) (is_last announced.carrier)
+  pub all : is_chunk announced.carrier ≡ false → (announced.offset ≡ command.offset) × (announced.size ≡ command.length)
+  -- it is shown by its last byte, and nothing is by fewer bytes
+  pub shown : shows_by replies waited bytes ≡ Some (reply announced.cookie (Data announced.offset content) (is_last announced.carrier))
+  pub before : (front more : List ℕ) → bytes ≡ front ++ more → length front < length bytes → shows_by replies waited front ≡ None
+
+-- The front of a reply that brings so many bytes of data: with fewer bytes behind it nothing is shown yet, and with so many the whole reply is there. To reads chunks come exactly where structured replies are on.
+pub record Announces (replies : Replies) (waited : ℕ → Option Waiting) (front : List ℕ) (announced : Announced) : Type 0 where
+  pub sized : length front ≡ front_size replies
+  pub cookie_is : announced.cookie ≡ number_at 8 8 front
+  pub carried : is_chunk announced.carrier ≡ is_structured replies
+  pub partial : (content : List ℕ) → length content < announced.size → shows_by replies waited (front ++ content) ≡ None
+  pub whole : (content : List ℕ) → length content ≡ announced.size → Carries replies waited (front ++ content) announced content

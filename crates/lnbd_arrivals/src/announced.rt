@@ -1,57 +1,142 @@
-//! Replies with data of which only the head is there.
+//! Replies with data of which all that stands before the data is there: the head of a simple reply, or the head of a chunk and the place of its
+//! data. Whether the data have a content fault is not judged here.
 
-ghost use Rattle.std.specs.Prelude.{◌≡◌, ◌≤◌, ℕ, Option, Some, IfSome, IsSome, IsTrue, ◌↔◌, true, length};
+ghost use Rattle.std.specs.Prelude.{◌≡◌, ◌≤◌, ◌+◌, ℕ, Option, Some, None, IfSome, IsSome, IsTrue, ◌↔◌, true, false, length, drop};
 ghost use Rattle.std.specs.Option.{option_map};
 ghost use Rattle.lnbd_records.specs.Numbers.{number_at};
 ghost use Rattle.lnbd_chunks.specs.Chunk.{Waiting as Known};
-ghost use Rattle.lnbd_model.specs.Kind.{is_read};
+ghost use Rattle.lnbd_chunks.specs.Laws.{breach_of};
+ghost use Rattle.lnbd_structured.specs.Assembly.{head_of};
 ghost use Rattle.lnbd_commands.specs.Seen.{seen_waiting};
-ghost use Rattle.lnbd_arrivals.specs.Frames.{Announces, IsSuccess};
+ghost use Rattle.lnbd_arrivals.specs.Frames.{Announces, IsFront, IsDataFront, IsSuccess, front_size, is_extended, is_last, is_structured};
+ghost use Rattle.lnbd_arrivals.specs.Heads.{IsHead, head_size};
+ghost use Rattle.lnbd_arrivals.specs.declared.replies.Replies.TheVariants.{Simple};
 
-use crate::frame::is_read;
+use crate::frame::{asked, is_read};
+use crate::heads::{chunk_head, head_size};
+use crate::replies::Replies;
 use lnbd_commands::Waiting;
 use lnbd_records::{u32_at, u64_at};
+use lnbd_structured::{breach_shown, is_done};
+use lnbd_wire::{ExtHead, Read};
 
 const MAGIC: u32 = 0x67446698;
 
-/// A reply without error that brings `size` bytes of data to a read: its head is there, and nothing else.
+/// The type of a chunk of data (NBD protocol, "Structured reply types").
+const OFFSET_DATA: u16 = 1;
+
+/// What brings data to a read.
+#[derive(Clone, Copy, Debug, PartialEq, Eq)]
+pub enum Carrier {
+    /// A simple reply, which brings all of them.
+    Reply,
+    /// A chunk, which is the last of its read or not.
+    Chunk { last: bool },
+}
+
+impl Carrier {
+    /// Whether nothing follows for the same read.
+    pub fn is_last(self) -> bool
+        ensures { result ≡ is_last self }
+    {
+        match self {
+            Carrier::Reply => true,
+            Carrier::Chunk { last } => last,
+        }
+    }
+}
+
+/// A reply without error that brings data to a read: what stands before them is there, and nothing else.
 #[derive(Clone, Copy, Debug, PartialEq, Eq)]
 pub struct Announced {
     pub cookie: u64,
+    /// Where in the export the data stand, in bytes.
+    pub offset: u64,
     /// In bytes.
     pub size: usize,
+    pub carrier: Carrier,
+}
+
+/// The reply whose front these bytes are, up to its data, where the server replies so and it brings data to the command that waits for its
+/// cookie, and breaks no rule of the protocol.
+pub fn look_front(replies: Replies, waiting: Option<Waiting>, front: &[u8]) -> Option<Announced>
+    ensures announces { IfSome result (λ announced. (waited : ℕ → Option Known) → (16 ≤ length front.now → waited (number_at 8 8 front.now) ≡ option_map seen_waiting waiting) → Announces replies waited front.now announced) }
+
+    // Each front of a reply without error that brings data to a read that waits is told.
+    ensures all { (command : Known) → option_map seen_waiting waiting ≡ Some command → IsFront replies command front.now → IsSome result }
+{
+    match waiting {
+        None => None,
+        Some(command) => {
+            if front.len() != replies.front_size() {
+                return None;
+            }
+            if replies.is_structured() {
+                look_data(replies, &command, front)
+            } else {
+                look_success(replies, &command, front)
+            }
+        }
+    }
 }
 
 /// Whether these 16 bytes are the head of a simple reply that tells no error.
 fn is_success(head: &[u8]) -> bool
+    requires { length head.now ≡ 16 }
     ensures { IsTrue result ↔ IsSuccess head.now }
 {
-    head.len() == 16 && u32_at(head, 0) == MAGIC && u32_at(head, 4) == 0
+    u32_at(head, 0) == MAGIC && u32_at(head, 4) == 0
 }
 
-/// The reply whose head these bytes are, where simple replies alone come and it brings data to the command that waits for its cookie.
-pub fn look_head(waiting: Option<Waiting>, head: &[u8]) -> Option<Announced>
-    ensures announces { IfSome result (λ announced. (waited : ℕ → Option Known) → (16 ≤ length head.now → waited (number_at 8 8 head.now) ≡ option_map seen_waiting waiting) → Announces waited head.now announced) }
-
-    // It brings as many bytes as the read asked for.
-    ensures sized { IfSome result (λ announced. (command : Known) → option_map seen_waiting waiting ≡ Some command → announced.size ≡ command.length) }
-
-    // Each head of a reply without error to a read that waits is told.
-    ensures all { (command : Known) → option_map seen_waiting waiting ≡ Some command → is_read command.kind ≡ true → IsSuccess head.now → IsSome result }
+/// The simple reply with this head, where no chunks come.
+fn look_success(replies: Replies, command: &Waiting, head: &[u8]) -> Option<Announced>
+    requires sized { length head.now ≡ front_size replies }
+    requires simple { is_structured replies ≡ false }
+    ensures announces { IfSome result (λ announced. (waited : ℕ → Option Known) → waited (number_at 8 8 head.now) ≡ Some (seen_waiting command.now) → Announces replies waited head.now announced) }
+    ensures all { IsFront replies (seen_waiting command.now) head.now → IsSome result }
 {
-    if !is_success(head) {
+    if !is_read(command.kind) || !is_success(head) {
         return None;
     }
-    match waiting {
-        None => None,
-        Some(command) => {
-            if !is_read(command.kind) {
+    Some(Announced {
+        cookie: u64_at(head, 8),
+        offset: command.offset,
+        size: command.length as usize,
+        carrier: Carrier::Reply,
+    })
+}
+
+/// The chunk of data with this front, where chunks come.
+fn look_data(replies: Replies, command: &Waiting, front: &[u8]) -> Option<Announced>
+    requires sized { length front.now ≡ front_size replies }
+    requires agreed { is_structured replies ≡ true }
+    ensures announces { IfSome result (λ announced. (waited : ℕ → Option Known) → waited (number_at 8 8 front.now) ≡ Some (seen_waiting command.now) → Announces replies waited front.now announced) }
+    ensures all { IsFront replies (seen_waiting command.now) front.now → IsSome result }
+{
+    let extended = replies.is_extended();
+    match chunk_head(extended, front) {
+        Read::Value(head) => {
+            let (_, place) = front.split_at(head_size(extended));
+            if !is_lawful(extended, command, &head, place) {
                 return None;
             }
             Some(Announced {
-                cookie: u64_at(head, 8),
-                size: command.length as usize,
+                cookie: head.cookie,
+                offset: u64_at(place, 0),
+                size: head.length.saturating_sub(8) as usize,
+                carrier: Carrier::Chunk {
+                    last: is_done(head.flags),
+                },
             })
         }
+        Read::NeedMore => None,
+        Read::BadMagic(_) => None,
     }
+}
+
+/// Whether a chunk with this head is one of data and shows no breach by these bytes behind it.
+fn is_lawful(extended: bool, command: &Waiting, head: &ExtHead, place: &[u8]) -> bool
+    ensures { IsTrue result ↔ ((head.now.kind ≡ 1) × (breach_of extended (seen_waiting command.now) (head_of head.now) place.now ≡ None)) }
+{
+    head.kind == OFFSET_DATA && breach_shown(&asked(command), extended, head, place).is_none()
 }

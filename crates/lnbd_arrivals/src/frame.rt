@@ -74,7 +74,7 @@ pub fn content_size(command: &Waiting, error: u32) -> u64
 }
 
 /// By what the chunks of a command are judged.
-fn asked(command: &Waiting) -> Asked
+pub(crate) fn asked(command: &Waiting) -> Asked
     ensures { waiting_in result ≡ seen_waiting command.now }
 {
     Asked {

@@ -3,7 +3,7 @@
 ghost use Rattle.std.specs.Prelude.{◌≡◌, ℕ, List, Option, false};
 ghost use Rattle.lnbd_chunks.specs.Chunk.{Waiting as Known};
 ghost use Rattle.lnbd_history.specs.Arrivals.{shows_frame};
-ghost use Rattle.lnbd_arrivals.specs.Frames.{is_extended, is_structured, shows_by};
+ghost use Rattle.lnbd_arrivals.specs.Frames.{front_size, is_extended, is_structured, shows_by};
 ghost use Rattle.lnbd_arrivals.specs.declared.replies.Replies.TheVariants.{Simple};
 
 /// How a server replies to commands.
@@ -52,6 +52,17 @@ impl Replies {
             Replies::Simple => false,
             Replies::Structured => false,
             Replies::Extended => true,
+        }
+    }
+
+    /// How many bytes stand before the data of a reply that brings data to a read: its head, and in a chunk behind it their place.
+    pub fn front_size(self) -> usize
+        ensures { result ≡ front_size self }
+    {
+        match self {
+            Replies::Simple => 16,
+            Replies::Structured => 28,
+            Replies::Extended => 40,
         }
     }
 }

@@ -1,6 +1,6 @@
 //! Replies to a read and a block status of 16 bytes from place 0 on, and to a write, byte by byte: each front of a record shows nothing yet.
 
-use crate::{Announced, Replies, Seen, content_size, cookie_in, look_frame, look_head};
+use crate::{Announced, Carrier, Replies, Seen, content_size, cookie_in, look_frame, look_front};
 use lnbd_commands::Waiting;
 use lnbd_model::{Breach, Extent, Kind};
 use lnbd_structured::Told;
@@ -383,11 +383,60 @@ fn simple_replies(rt: HostRuntime) {
     }
     assert!(rt; Replies::agreed(false, true) == Replies::Extended);
     assert!(rt; content_size(&waits(Kind::Read, 0), 0) == 16);
-    assert!(rt;
-        look_head(Some(waits(Kind::Read, 0)), written)
-            == Some(Announced {
-                cookie: 1,
-                size: 16,
-            })
-    );
+}
+
+#[test]
+fn data_announced(rt: HostRuntime) {
+    let lines: [(Replies, &[u8], Option<Announced>); 6] = [
+        (
+            Replies::Simple,
+            b"\x67\x44\x66\x98\0\0\0\0\0\0\0\0\0\0\0\x01",
+            Some(announced(0, 16, Carrier::Reply)),
+        ),
+        // twelve bytes from place 4 on, the last ones
+        (
+            Replies::Structured,
+            b"\x66\x8e\x33\xef\0\x01\0\x01\0\0\0\0\0\0\0\x01\0\0\0\x14\0\0\0\0\0\0\0\x04",
+            Some(announced(4, 12, Carrier::Chunk { last: true })),
+        ),
+        // thirteen
+        (
+            Replies::Structured,
+            b"\x66\x8e\x33\xef\0\x01\0\x01\0\0\0\0\0\0\0\x01\0\0\0\x15\0\0\0\0\0\0\0\x04",
+            None,
+        ),
+        // twelve zeros
+        (
+            Replies::Structured,
+            b"\x66\x8e\x33\xef\0\x01\0\x02\0\0\0\0\0\0\0\x01\0\0\0\x0c\0\0\0\0\0\0\0\x04",
+            None,
+        ),
+        // all, with extended headers, and not the last
+        (
+            Replies::Extended,
+            b"\x6e\x8a\x27\x8c\0\0\0\x01\0\0\0\0\0\0\0\x01\0\0\0\0\0\0\0\0\0\0\0\0\0\0\0\x18\0\0\0\0\0\0\0\0",
+            Some(announced(0, 16, Carrier::Chunk { last: false })),
+        ),
+        // a head without the place
+        (
+            Replies::Extended,
+            b"\x6e\x8a\x27\x8c\0\0\0\x01\0\0\0\0\0\0\0\x01\0\0\0\0\0\0\0\0\0\0\0\0\0\0\0\x18",
+            None,
+        ),
+    ];
+    for (replies, front, wanted) in lines {
+        assert!(rt; look_front(replies, Some(waits(Kind::Read, 0)), front) == wanted);
+        assert!(rt; look_front(replies, None, front) == None);
+    }
+    assert!(rt; Carrier::Reply.is_last());
+}
+
+/// Data that are announced to the first command.
+fn announced(offset: u64, size: usize, carrier: Carrier) -> Announced {
+    Announced {
+        cookie: 1,
+        offset,
+        size,
+        carrier,
+    }
 }

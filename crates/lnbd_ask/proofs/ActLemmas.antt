@@ -22,7 +22,7 @@ use Rattle.lnbd_machine.specs.Machine.{Machine}
 use Rattle.lnbd_machine.specs.Now.{state_now}
 use Rattle.lnbd_standing.specs.Standing.{StandsFor}
 use Rattle.lnbd_standing.proofs.Standing.{stands_right}
-use Rattle.lnbd_poll.specs.declared.held.Held.{Held}
+use Rattle.lnbd_poll.specs.Held.{Held}
 use Rattle.lnbd_poll.specs.Lends.{with_handle}
 use Rattle.lnbd_poll.specs.Seen.{Seen}
 use Rattle.lnbd_ask.specs.declared.conversation.Halt.{Halt}

@@ -12,7 +12,7 @@ use Rattle.lnbd_handle.specs.declared.issue.IssueFault.{IssueFault}
 use Rattle.lnbd_handle.specs.declared.issue.IssueFault.TheVariants as fault
 use Rattle.lnbd_link.specs.Call as wire
 use Rattle.lnbd_link.proofs.Parts.{grows_none}
-use Rattle.lnbd_poll.specs.declared.held.Held.{Held}
+use Rattle.lnbd_poll.specs.Held.{Held}
 use Rattle.lnbd_poll.specs.Seen.{Goes, Seen}
 use Rattle.lnbd_poll.specs.Lends.{with_handle}
 use Rattle.lnbd_ask.specs.declared.conversation.Awaited.{Awaited}

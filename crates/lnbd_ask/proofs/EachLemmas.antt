@@ -7,7 +7,7 @@ use Rattle.lnbd_info.specs.declared.told.Entry.{Entry}
 use Rattle.lnbd_link.specs.Call as wire
 use Rattle.lnbd_link.specs.Part.{Grows}
 use Rattle.lnbd_link.proofs.Parts.{grows_none, grows_on}
-use Rattle.lnbd_poll.specs.declared.held.Held.{Held}
+use Rattle.lnbd_poll.specs.Held.{Held}
 use Rattle.lnbd_poll.specs.Seen.{Goes, Seen, Went}
 use Rattle.lnbd_poll.specs.Turns.{Blames}
 use Rattle.lnbd_poll.proofs.TurnLemmas.{blames_on}

@@ -18,7 +18,7 @@ use Rattle.lnbd_link.specs.Count.{Rises}
 use Rattle.lnbd_link.specs.Listed.{has_failed}
 use Rattle.lnbd_link.specs.Part.{Adds}
 use Rattle.lnbd_link.proofs.Parts.{grows_none, grows_on}
-use Rattle.lnbd_poll.specs.declared.held.Held.{Held}
+use Rattle.lnbd_poll.specs.Held.{Held}
 use Rattle.lnbd_poll.specs.Turns.{Blames}
 use Rattle.lnbd_ask.specs.declared.conversation.Halt.{Halt}
 use Rattle.lnbd_ask.specs.declared.conversation.Halt.TheVariants as halt

@@ -18,7 +18,7 @@ use Rattle.lnbd_info.specs.Map.{AreFilled, IsMapOf}
 use Rattle.lnbd_info.proofs.MapLemmas.{filled}
 use Rattle.lnbd_link.specs.Call as wire
 use Rattle.lnbd_link.proofs.Parts.{grows_on}
-use Rattle.lnbd_poll.specs.declared.held.Held.{Held}
+use Rattle.lnbd_poll.specs.Held.{Held}
 use Rattle.lnbd_poll.specs.Seen.{Goes, Seen}
 use Rattle.lnbd_poll.proofs.TurnLemmas.{blames_on}
 use Rattle.lnbd_ask.specs.declared.asking.Plan.{Plan}

@@ -26,7 +26,7 @@ use Rattle.lnbd_link.specs.Part.{Adds}
 use Rattle.lnbd_link.proofs.Parts.{grows_none, grows_on}
 use Rattle.lnbd_machine.specs.Machine.{Machine}
 use Rattle.lnbd_standing.specs.Standing.{StandsFor}
-use Rattle.lnbd_poll.specs.declared.held.Held.{Held}
+use Rattle.lnbd_poll.specs.Held.{Held}
 use Rattle.lnbd_poll.specs.Seen.{Seen}
 use Rattle.lnbd_poll.specs.Turns.{Blames}
 use Rattle.lnbd_ask.specs.declared.conversation.Awaited.TheVariants as awaited

@@ -26,7 +26,7 @@ use Rattle.lnbd_link.specs.Listed.{has_failed}
 use Rattle.lnbd_poll.specs.declared.noticed.Noticed.{Noticed}
 use Rattle.lnbd_poll.specs.declared.noticed.Noticed.TheVariants as noticed
 use Rattle.lnbd_poll.specs.Seen.{Follows, Seen}
-use Rattle.lnbd_poll.specs.Notices.{Arrives, Hears, ReadsIf, ReadsOn, Sends, WritesIf, is_reading, is_waiting}
+use Rattle.lnbd_poll.specs.Notices.{Arrives, Hears, ReadsIf, ReadsOn, Sends, WritesIf, is_reading, is_waiting, room_after}
 use Rattle.lnbd_poll.specs.Turns.{Goes_on, Stops, Told, TurnsOne, WritesAll, is_lost}
 use Rattle.lnbd_ask.specs.declared.conversation.Awaited.{Awaited}
 use Rattle.lnbd_ask.specs.declared.conversation.Halt.{Halt}
@@ -175,7 +175,7 @@ module _ {K World : Type 0} (steps : World → List (Call K) → World → Type 
   read_kept false notice before after calls world world' r well kept = subst (λ (s : Seen K). IsKept s.history) (sym r.2.0) kept
   read_kept true notice before after calls world world' r well kept = on before.unread r
     where
-      hears : (told : ReadTold) → calls ≡ wire.Read before.link 65536 told ∷ [] → Hears steps told notice before after world world' → IsKept after.history
+      hears : (told : ReadTold) → calls ≡ wire.Read before.link (room_after before.history) told ∷ [] → Hears steps told notice before after world world' → IsKept after.history
       hears (Moved bytes) is h = arrives_kept bytes notice before after world world' h.1 kept
       hears Unready is h = subst (λ (s : Seen K). IsKept s.history) (sym h.1.0) kept
       hears Ended is h = follows_kept (End h.1.0) [] before after world world' h.1.1 (ended_kept before.history h.1.0 kept)

@@ -2,7 +2,7 @@
 use Rattle.std.proofs.Common.{◌≡◌, ◌≤◌, ℕ, List, [], ◌++◌, Option, Result, Ok, Err, refl, subst}
 use Rattle.lnbd_link.specs.Call as wire
 use Rattle.lnbd_link.proofs.Parts.{grows_none, grows_on}
-use Rattle.lnbd_poll.specs.declared.held.Held.{Held}
+use Rattle.lnbd_poll.specs.Held.{Held}
 use Rattle.lnbd_poll.specs.Seen.{Goes, Seen}
 use Rattle.lnbd_poll.proofs.TurnLemmas.{blames_on}
 use Rattle.lnbd_ask.specs.declared.conversation.Awaited.{Awaited}

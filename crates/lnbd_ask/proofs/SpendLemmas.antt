@@ -13,7 +13,7 @@ use Rattle.lnbd_bounds.specs.Budget.{budget, IsSpending}
 use Rattle.lnbd_bounds.proofs.Spending.{spends}
 use Rattle.lnbd_link.specs.Call as wire
 use Rattle.lnbd_link.specs.Call.{ReadTold, Moved, Unready, Ended, ReadFault, WriteTold, Sent, Full, WriteFault}
-use Rattle.lnbd_poll.specs.declared.held.Held.{Held}
+use Rattle.lnbd_poll.specs.Held.{Held}
 use Rattle.lnbd_poll.specs.declared.noticed.Noticed.{Noticed}
 use Rattle.lnbd_poll.specs.declared.noticed.Noticed.TheVariants as noticed
 use Rattle.lnbd_poll.specs.Seen.{Follows, Seen}

@@ -21,7 +21,7 @@ use Rattle.lnbd_standing.proofs.Standing.{stands_right}
 use Rattle.lnbd_handle.specs.Histories.{AddsOnOk, ForEach}
 use Rattle.lnbd_link.specs.Call as wire
 use Rattle.lnbd_link.proofs.Parts.{grows_on}
-use Rattle.lnbd_poll.specs.declared.held.Held.{Held}
+use Rattle.lnbd_poll.specs.Held.{Held}
 use Rattle.lnbd_poll.specs.Lends.{with_handle}
 use Rattle.lnbd_poll.specs.Seen.{Goes, Seen}
 use Rattle.lnbd_poll.proofs.TurnLemmas.{blames_on}

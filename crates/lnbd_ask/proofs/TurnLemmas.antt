@@ -4,12 +4,11 @@ use Rattle.std.specs.Prelude.{Result, Ok, Err, IfOk, OnErr}
 use Rattle.std.proofs.lemmas.List.{append-nil}
 use Rattle.lnbd_callbacks.specs.Calls.{Call}
 use Rattle.lnbd_link.specs.Call as wire
-use Rattle.lnbd_poll.specs.declared.held.Held.{Held}
 use Rattle.lnbd_poll.specs.declared.noticed.Noticed.{Noticed}
 use Rattle.lnbd_poll.specs.declared.noticed.Noticed.TheVariants as noticed
 use Rattle.lnbd_poll.specs.declared.noticed.Turn.{Turn}
 use Rattle.lnbd_poll.specs.Seen.{Seen, Goes}
-use Rattle.lnbd_poll.specs.Held.{AreAt}
+use Rattle.lnbd_poll.specs.Held.{Held, AreAt}
 use Rattle.lnbd_poll.specs.Steps.{TookEnough, TookShort}
 use Rattle.lnbd_poll.specs.Turned.{TurnsShort, TurnsWhole}
 use Rattle.lnbd_poll.specs.Turns.{Ending, Whole, Short, Turns, All_took, Takes, Runs_short, TurnsOne, is_short, turn_of, with_moved}

@@ -15,11 +15,10 @@ use Rattle.lnbd_link.specs.Call.{Pause}
 use Rattle.lnbd_link.specs.Part.{Adds, Grows}
 use Rattle.lnbd_link.specs.declared.wires.Want.{Want}
 use Rattle.lnbd_link.proofs.Parts.{grows_none, grows_on}
-use Rattle.lnbd_poll.specs.declared.held.Held.{Held}
 use Rattle.lnbd_poll.specs.declared.noticed.Turn.{Turn}
 use Rattle.lnbd_poll.specs.declared.noticed.Turn.TheVariants as turn
 use Rattle.lnbd_poll.specs.Seen.{Goes, Seen, Went}
-use Rattle.lnbd_poll.specs.Held.{AreAt, wants_after, wants_now}
+use Rattle.lnbd_poll.specs.Held.{Held, AreAt, wants_after, wants_now}
 use Rattle.lnbd_poll.specs.Steps.{TookEnough, TookShort}
 use Rattle.lnbd_poll.specs.Turns.{Blames, TurnsOne, turn_of}
 use Rattle.lnbd_poll.proofs.TurnLemmas.{blames_on}

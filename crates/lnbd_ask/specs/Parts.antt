@@ -1,7 +1,7 @@
 -- What is done on the one handle that is held and on its link, part after part.
 use Rattle.std.specs.Prelude.{◌≡◌, ℕ, List, [], ◌++◌, Result, Ok, Err}
 use Rattle.lnbd_link.specs.Call as wire
-use Rattle.lnbd_poll.specs.declared.held.Held.{Held}
+use Rattle.lnbd_poll.specs.Held.{Held}
 use Rattle.lnbd_poll.specs.Seen.{Seen}
 use Rattle.lnbd_poll.specs.Turns.{Blames}
 use Rattle.lnbd_ask.specs.declared.conversation.Halt.{Halt}

@@ -7,12 +7,11 @@ use Rattle.lnbd_history.specs.Events.{History}
 use Rattle.lnbd_history.specs.Answers.{state_after, in_flight_after, direction_after}
 use Rattle.lnbd_link.specs.Call as wire
 use Rattle.lnbd_link.specs.Call.{Pause}
-use Rattle.lnbd_poll.specs.declared.held.Held.{Held}
 use Rattle.lnbd_poll.specs.declared.noticed.Noticed.{Noticed}
 use Rattle.lnbd_poll.specs.declared.noticed.Noticed.TheVariants as noticed
 use Rattle.lnbd_poll.specs.Seen.{Seen}
 use Rattle.lnbd_link.specs.declared.wires.Want.{Want}
-use Rattle.lnbd_poll.specs.Held.{AreAt}
+use Rattle.lnbd_poll.specs.Held.{Held, AreAt}
 use Rattle.lnbd_poll.specs.Turns.{Blames, TurnsOne, is_short}
 use Rattle.lnbd_ask.specs.declared.conversation.Awaited.{Awaited}
 use Rattle.lnbd_ask.specs.declared.conversation.Awaited.TheVariants as awaited

@@ -103,7 +103,7 @@ fn collect_on<W: Wires>(
     place: &Place,
     start: Counts,
 ) -> Result<Found, InfoFault>
-    requires stands { StandsFor max_unretired (begun place.now.name base_allocation) handle }
+    requires stands { StandsFor max_unretired (begun place.now.name base_allocation) handle.machine }
     requires started { start.idles ≤ W.idles wires.old }
     requires counted { start.faults ≤ W.faults wires.old }
     ensures collects { CollectedOn Passes link place.now (W.told wires.old) (W.told wires.new) result }
@@ -136,7 +136,7 @@ fn dial<W: Wires>(
     wires: &mut W,
     place: &Place,
 ) -> Result<Found, InfoFault>
-    requires stands { StandsFor max_unretired (begun place.now.name base_allocation) handle }
+    requires stands { StandsFor max_unretired (begun place.now.name base_allocation) handle.machine }
     ensures collects { Collected Passes place.now (W.told wires.old) (W.told wires.new) result }
     ensures link { IfErr result (λ told. IfLink told (λ before after. (before ≡ W.faults wires.old) × Rises 1 before after × (after ≤ W.faults wires.new))) }
     ensures silent { IfErr result (λ told. IfSilent told (λ idles. Rises patience (W.idles wires.old) idles × (idles ≤ W.idles wires.new))) }
@@ -163,7 +163,7 @@ fn dial<W: Wires>(
 
 /// A handle that is to ask for this export.
 fn open_for(alloc: Global, place: &Place) -> Result<Handle<Quiet>, NoMemory>
-    ensures { IfOk result (λ handle. StandsFor max_unretired (begun place.now.name base_allocation) handle) }
+    ensures { IfOk result (λ handle. StandsFor max_unretired (begun place.now.name base_allocation) handle.machine) }
 {
     let name = place.name.try_clone(alloc)?;
     let context = base_allocation(alloc)?;

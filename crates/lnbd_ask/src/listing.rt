@@ -35,8 +35,8 @@ const OPT_LIST: u32 = 3;
 
 /// Asks for extended headers, structured replies and opt mode, and starts.
 fn begin<K>(handle: &mut Handle<K>) -> Result<(), SetFault>
-    requires { StandsFor max_unretired [] handle.old }
-    ensures { OnOk result (StandsFor max_unretired begun_listing handle.new) }
+    requires { StandsFor max_unretired [] handle.old.machine }
+    ensures { OnOk result (StandsFor max_unretired begun_listing handle.new.machine) }
 {
     handle.set_request_extended_headers(true)?;
     handle.set_request_structured_replies(true)?;
@@ -46,7 +46,7 @@ fn begin<K>(handle: &mut Handle<K>) -> Result<(), SetFault>
 
 /// A handle that is to ask for a server's exports.
 fn open<K: Caller>(alloc: Global, world: &mut K::World) -> Result<Handle<K>, NoMemory>
-    ensures { IfOk result (λ handle. StandsFor max_unretired begun_listing handle) }
+    ensures { IfOk result (λ handle. StandsFor max_unretired begun_listing handle.machine) }
 {
     let mut handle = Handle::create(alloc)?;
     match begin(&mut handle) {
@@ -152,7 +152,7 @@ fn list_on<W: Wires>(
     place: &Place,
     start: Counts,
 ) -> Result<Entries, InfoFault>
-    requires stands { StandsFor max_unretired begun_listing handle }
+    requires stands { StandsFor max_unretired begun_listing handle.machine }
     requires started { start.idles ≤ W.idles wires.old }
     requires counted { start.faults ≤ W.faults wires.old }
     ensures lists { HasListedOn Passes link place.now (W.told wires.old) (W.told wires.new) result }
@@ -185,7 +185,7 @@ fn dial<W: Wires>(
     wires: &mut W,
     place: &Place,
 ) -> Result<Entries, InfoFault>
-    requires stands { StandsFor max_unretired begun_listing handle }
+    requires stands { StandsFor max_unretired begun_listing handle.machine }
     ensures lists { HasListed Passes place.now (W.told wires.old) (W.told wires.new) result }
     ensures link { IfErr result (λ told. IfLink told (λ before after. (before ≡ W.faults wires.old) × Rises 1 before after × (after ≤ W.faults wires.new))) }
     ensures silent { IfErr result (λ told. IfSilent told (λ idles. Rises patience (W.idles wires.old) idles × (idles ≤ W.idles wires.new))) }

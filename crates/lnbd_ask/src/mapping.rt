@@ -243,7 +243,7 @@ fn map_on<W: Wires>(
     place: &Place,
     start: Counts,
 ) -> Result<Extents, InfoFault>
-    requires stands { StandsFor max_unretired (begun place.now.name world.old.context) handle }
+    requires stands { StandsFor max_unretired (begun place.now.name world.old.context) handle.machine }
     requires started { start.idles ≤ W.idles wires.old }
     requires counted { start.faults ≤ W.faults wires.old }
     ensures maps { MappedOn link place.now world.old.context (W.told wires.old) (W.told wires.new) result }
@@ -278,7 +278,7 @@ fn dial<W: Wires>(
     world: &mut Survey,
     place: &Place,
 ) -> Result<Extents, InfoFault>
-    requires stands { StandsFor max_unretired (begun place.now.name world.old.context) handle }
+    requires stands { StandsFor max_unretired (begun place.now.name world.old.context) handle.machine }
     ensures maps { Mapped place.now world.old.context (W.told wires.old) (W.told wires.new) result }
     ensures room { IfOk result (λ map. span map ≤ 2 ^ 63) }
     ensures filled { IfOk result (λ map. AreFilled map) }
@@ -306,7 +306,7 @@ fn dial<W: Wires>(
 
 /// A handle that is to ask for this export and this context.
 fn open_for(alloc: Global, place: &Place, context: &Text) -> Result<Handle<Surveyor>, NoMemory>
-    ensures { IfOk result (λ handle. StandsFor max_unretired (begun place.now.name context.now) handle) }
+    ensures { IfOk result (λ handle. StandsFor max_unretired (begun place.now.name context.now) handle.machine) }
 {
     let name = place.name.try_clone(alloc)?;
     let context = context.try_clone(alloc)?;

@@ -22,8 +22,8 @@ pub(crate) fn base_allocation(alloc: Global) -> Result<Text, NoMemory>
 
 /// Asks for extended headers, structured replies, this meta context and the export of this name, and starts.
 fn begin<K>(handle: &mut Handle<K>, name: Text, context: Text) -> Result<(), SetFault>
-    requires { StandsFor max_unretired [] handle.old }
-    ensures { OnOk result (StandsFor max_unretired (begun name context) handle.new) }
+    requires { StandsFor max_unretired [] handle.old.machine }
+    ensures { OnOk result (StandsFor max_unretired (begun name context) handle.new.machine) }
 {
     handle.set_request_extended_headers(true)?;
     handle.set_request_structured_replies(true)?;
@@ -39,7 +39,7 @@ pub(crate) fn open<K: Caller>(
     context: Text,
     world: &mut K::World,
 ) -> Result<Handle<K>, NoMemory>
-    ensures { IfOk result (λ handle. StandsFor max_unretired (begun name context) handle) }
+    ensures { IfOk result (λ handle. StandsFor max_unretired (begun name context) handle.machine) }
 {
     let mut handle = Handle::create(alloc)?;
     match begin(&mut handle, name, context) {

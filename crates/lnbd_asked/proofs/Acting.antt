@@ -92,11 +92,11 @@ module _ {K : Type 0} where
   -- The end is asked for.
 
   next_disconnected : (before : History K) (e : Bool) (n : ℕ) (order : Order) (kind : Option Kind) → IsNextOf e before n order kind → IsNextOf e (Disconnect ∷ before) n order kind
-  next_disconnected before e n order None is = tt
+  next_disconnected before e n order None is = is
   next_disconnected before e n order (Some kind) is = is
 
   owed_disconnected : (before : History K) (e : Bool) (n : ℕ) (orders : List Said) → Owed e before n orders → Owed e (Disconnect ∷ before) n (orders ++ Orders the_disconnect ∷ [])
-  owed_disconnected before e n [] o = let zero_ : n + 0 ≡ n = omega arith in (disconnect_fits e, tt, o ∙ sym zero_)
+  owed_disconnected before e n [] o = let zero_ : n + 0 ≡ n = omega arith in (disconnect_fits e, refl, o ∙ sym zero_)
   owed_disconnected before e n (Orders order ∷ more) o = (o.0, next_disconnected before e n order (kind_of order.type) o.1, owed_disconnected before e (n + requests_in (Orders order)) more o.2)
   owed_disconnected before e n (Flags flags ∷ more) o = absurd o
   owed_disconnected before e n (Wishes wish ∷ more) o = absurd o
@@ -195,6 +195,7 @@ module _ {K : Type 0} where
     settled = a.settled;
     opened = a.opened;
     are = a.are;
+    bows = a.bows;
     greets = a.greets;
     pend = a.pend;
     options = a.options ∙ sym options;

@@ -3,8 +3,10 @@ use Rattle.std.proofs.Common.{◌≡◌, ◌≢◌, ℕ, ◌+◌, ◌≤◌, Boo
 use Rattle.std.specs.Option.{option_map}
 use Rattle.lnbd_model.specs.declared.kind.Kind.{Kind}
 use Rattle.lnbd_model.specs.declared.state.Cause.{Cause}
-use Rattle.lnbd_records.specs.Numbers.{AllFit}
+use Rattle.lnbd_records.specs.Flags.{flag_no_zeroes}
+use Rattle.lnbd_records.specs.Numbers.{AllFit, has_bit}
 use Rattle.lnbd_records.specs.Handshake.{client_flags, option_head}
+use Rattle.lnbd_records.specs.Transmission.{type_disc}
 use Rattle.lnbd_stream.specs.Stream.{Held}
 use Rattle.lnbd_history.specs.declared.kinds.Phase.{Phase}
 use Rattle.lnbd_history.specs.declared.kinds.Phase.TheVariants.{Greeting, Asked, AskedByName, OptMode, Ready, Refused}
@@ -15,7 +17,7 @@ use Rattle.lnbd_history.specs.Entries.{own}
 use Rattle.lnbd_history.specs.Events.{History}
 use Rattle.lnbd_history.specs.History.{Known, asked, request}
 use Rattle.lnbd_history.specs.Outgoing.{whole, total}
-use Rattle.lnbd_asked.specs.Client.{Said, Flags, Wishes, Orders, Order, Fits}
+use Rattle.lnbd_asked.specs.Client.{Said, Flags, Wishes, Orders, Stray, Order, Fits}
 use Rattle.lnbd_asked.specs.Link.{Link, server, kind_of, command_of, is_by_name}
 use Rattle.lnbd_asked.specs.Laws.{is_waiting}
 use Rattle.lnbd_asked.specs.InStep.{InStep, is_reading, silent_pieces}
@@ -33,6 +35,14 @@ AreAsks greeted [] = Unit {0}
 AreAsks false (Flags flags ∷ more) = AllFit (client_flags flags) × AreAsks true more
 AreAsks true (Wishes wish ∷ more) = AllFit (option_head wish.option (length wish.body)) × AreAsks true more
 AreAsks greeted other = ⊥
+
+-- Where the flags are to be said first, they have NO_ZEROES if the hello offered it.
+abbrev pub Bows : Link → List Said → Type 0
+Bows link [] = Unit {0}
+Bows link (Flags flags ∷ more) = has_bit flag_no_zeroes link.heard.flags ≡ true → has_bit flag_no_zeroes flags ≡ true
+Bows link (Wishes wish ∷ more) = Unit {0}
+Bows link (Orders order ∷ more) = Unit {0}
+Bows link (Stray ∷ more) = Unit {0}
 
 -- A link's stage is open until it is dead.
 abbrev pub IsOpened : Stage → Type 0
@@ -64,9 +74,9 @@ Meets Ready link = ⊥
 Meets (Refused code) link = ⊥
 
 module _ {K : Type 0} where
-  -- this request is the next one of the history
+  -- this request is the next one of the history, or DISC
   abbrev pub IsNextOf : (extended : Bool) → History K → ℕ → Order → Option Kind → Type 0
-  IsNextOf extended history n order None = Unit {0}
+  IsNextOf extended history n order None = order.type ≡ type_disc
   IsNextOf extended history n order (Some kind) = (order.cookie ≡ n + 1) × (option_map bare (request history (n + 1)) ≡ Some (command_of extended kind order))
 
   -- These are the requests behind the first n.
@@ -120,6 +130,7 @@ module _ {K : Type 0} where
     pub settled : server.shows h.known h.pending ≡ None
     pub opened : IsOpened h.known.heard.stage
     pub are : AreAsks h.known.greeted asks
+    pub bows : Bows h.known asks
     pub greets : greeted_after h.known.greeted asks ≡ v.known.greeted
     pub pend : held.pending ≡ v.pending
     pub options : v.known.wishes ≡ wishes_of held.known.turns

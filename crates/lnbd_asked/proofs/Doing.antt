@@ -106,7 +106,7 @@ module _ {K : Type 0} where
     pub own : (c : ℕ) → own c later.entries ≡ own c known.entries
 
   unheard_next : (before after : History K) (known later : Known K) (e : Bool) (n : ℕ) (order : Order) (kind : Option Kind) → Unheard before after known later → IsNextOf e before n order kind → IsNextOf e after n order kind
-  unheard_next before after known later e n order None u is = tt
+  unheard_next before after known later e n order None u is = is
   unheard_next before after known later e n order (Some kind) u is = (is.0, ap (option_map bare) (u.request (n + 1)) ∙ is.1)
 
   unheard_owed : (before after : History K) (known later : Known K) (e : Bool) (n : ℕ) (orders : List Said) → Unheard before after known later → Owed e before n orders → Owed e after n orders
@@ -177,6 +177,7 @@ module _ {K : Type 0} where
     settled = a.settled;
     opened = a.opened;
     are = a.are;
+    bows = a.bows;
     greets = a.greets;
     pend = a.pend;
     options = a.options ∙ ap wishes_of (sym u.turns);
@@ -203,7 +204,7 @@ module _ {K : Type 0} where
   request_old before command c low = ap (λ (b : Bool). if b then Some (request_of (asked before).admitted command) else request before c) (ne_eqb ((asked before).issued + 1) c (λ e. absurd (omega (arith, e, low))))
 
   next_issued : (before : History K) (command : Command K) (e : Bool) (n : ℕ) (order : Order) (kind : Option Kind) → n + one_if (is_some kind) ≤ (asked before).issued → IsNextOf e before n order kind → IsNextOf e (Issue command ∷ before) n order kind
-  next_issued before command e n order None low is = tt
+  next_issued before command e n order None low is = is
   next_issued before command e n order (Some kind) low is = (is.0, ap (option_map bare) (request_old before command (n + 1) low) ∙ is.1)
 
   owed_low : (e : Bool) (history : History K) (n : ℕ) (orders : List Said) → Owed e history n orders → n ≤ (asked history).issued
@@ -254,6 +255,7 @@ module _ {K : Type 0} where
     settled = a.settled;
     opened = a.opened;
     are = a.are;
+    bows = a.bows;
     greets = a.greets;
     pend = a.pend;
     options = a.options ∙ ap wishes_of (sym turns);

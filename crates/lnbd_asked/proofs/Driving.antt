@@ -73,6 +73,7 @@ module _ {K : Type 0} where
       settled = server_steady.none nothing;
       opened = tt;
       are = tt;
+      bows = tt;
       greets = refl;
       pend = refl;
       options = refl;

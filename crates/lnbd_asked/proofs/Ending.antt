@@ -152,6 +152,7 @@ module _ {K : Type 0} (before : History K) where
         settled = server_steady.none (dead_link why h).known;
         opened = subst IsOpened (sym (all_still h.known.requests Lost (cookies (asked h.known.requests).issued) (record h.known.heard { stage = Dead why })).stage) tt;
         are = tt;
+        bows = tt;
         greets = refl;
         pend = refl;
         options = ap (λ k. k.known.wishes) (subst (λ xs. Reaches h xs a.v) none a.reach) ∙ a.options ∙ ap wishes_of (sym turns);

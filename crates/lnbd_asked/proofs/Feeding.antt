@@ -29,7 +29,7 @@ use Rattle.lnbd_asked.proofs.Alive.{AreAsks, greeted_after, is_done, Owed, Haggl
 use Rattle.lnbd_asked.proofs.Asks.{wishes_of, IsTail}
 use Rattle.lnbd_asked.proofs.Chain.{waiting_feeds, reaches_feed}
 use Rattle.lnbd_asked.proofs.Haggling.{haggle_byte}
-use Rattle.lnbd_asked.proofs.Keeping.{client_stays, settled_feed, opened_feed}
+use Rattle.lnbd_asked.proofs.Keeping.{bows_feed, client_stays, settled_feed, opened_feed}
 use Rattle.lnbd_history.proofs.Cookies.{request_past}
 use Rattle.lnbd_history.proofs.Flies.{frame_flies}
 use Rattle.lnbd_asked.proofs.Match.{piece_with, file_pieces, file_still, all_still}
@@ -184,6 +184,7 @@ module _ {K : Type 0} (history : History K) where
         settled = settled_feed h bytes a.settled;
         opened = opened_feed h bytes a.opened;
         are = subst (λ b. AreAsks b a.asks) (sym (client_stays h bytes).greeted) a.are;
+        bows = bows_feed h a.asks a.v bytes a.reach a.bows;
         greets = ap (λ b. greeted_after b a.asks) (client_stays h bytes).greeted ∙ a.greets ∙ sym (client_stays a.v bytes).greeted;
         pend = f.1;
         options = (client_stays a.v bytes).wishes ∙ a.options ∙ ap wishes_of (sym f.0.turns_);

@@ -23,7 +23,8 @@ use Rattle.lnbd_history.specs.History.{Known, asked, request, rules, sight, wait
 use Rattle.lnbd_history.specs.Outgoing.{plain, client_flags, request_at, next_request, whole, total}
 use Rattle.lnbd_history.proofs.Cookies.{request_zero}
 use Rattle.lnbd_asked.specs.Client.{Said, Flags, Wishes, Wish, spell}
-use Rattle.std.proofs.lemmas.Nat.{and_le_r}
+use Rattle.std.proofs.lemmas.Nat.{and_le_r, and_assoc}
+use Rattle.lnbd_records.specs.Flags.{flag_no_zeroes}
 use Rattle.lnbd_asked.specs.Link.{Link, server, wished, is_free, is_by_name, turns_with}
 use Rattle.lnbd_asked.specs.Link.{shows_by_name as by_name_shown}
 use Rattle.lnbd_asked.specs.Link.{waited as link_waited}
@@ -32,10 +33,10 @@ use Rattle.lnbd_asked.specs.InStep.{is_reading, is_passing, silent_pieces}
 use Rattle.lnbd_asked.specs.Parts.{count}
 use Rattle.lnbd_asked.specs.Transcript.{bare, size_at, size_told}
 use Rattle.std.specs.Option.{option_map}
-use Rattle.lnbd_asked.proofs.Alive.{AreAsks, greeted_after, is_done, Owed, Meets, Haggles, Transmits, Alive, Over, Stands}
+use Rattle.lnbd_asked.proofs.Alive.{AreAsks, Bows, greeted_after, is_done, Owed, Meets, Haggles, Transmits, Alive, Over, Stands}
 use Rattle.lnbd_asked.proofs.Asks.{wishes_at, if_over, wishes_of, IsTail}
 use Rattle.lnbd_asked.proofs.Chain.{tell, Reaches, waiting_feeds, reaches_feed, reaches_more}
-use Rattle.lnbd_asked.proofs.Keeping.{client_stays, settled_feed, opened_feed, reaches_requests, are_more_flags, are_more_wish, tail_then, tail_same, reaches_options}
+use Rattle.lnbd_asked.proofs.Keeping.{bows_feed, bows_first, bows_more, client_stays, settled_feed, opened_feed, reaches_requests, are_more_flags, are_more_wish, tail_then, tail_same, reaches_options}
 use Rattle.lnbd_asked.proofs.Match.{all_still}
 use Rattle.lnbd_asked.proofs.Phases.{Leads, Asks, Names, Readies, Refuses, answer_leads, hello_asks, AreShort, wish_for, wish_fits}
 use Rattle.lnbd_asked.proofs.Sending.{Sends, sends_more, sends_whole, flags_some, wish_some}
@@ -150,6 +151,7 @@ module _ {K : Type 0} (history : History K) where
       settled = settled_feed h (byte ∷ []) a.settled;
       opened = opened_feed h (byte ∷ []) a.opened;
       are = subst (λ b. AreAsks b a.asks) (sym (client_stays h (byte ∷ [])).greeted) a.are;
+      bows = bows_feed h a.asks a.v (byte ∷ []) a.reach a.bows;
       greets = ap (λ b. greeted_after b a.asks) (client_stays h (byte ∷ [])).greeted ∙ a.greets ∙ sym greeted;
       pend = refl;
       options = ap (λ k. k.known.wishes) (sym is) ∙ (client_stays a.v (byte ∷ [])).wishes ∙ a.options ∙ sym options;
@@ -175,6 +177,7 @@ module _ {K : Type 0} (history : History K) where
       settled = settled_feed h (byte ∷ []) a.settled;
       opened = opened_feed h (byte ∷ []) a.opened;
       are = subst (λ b. AreAsks b (a.asks ++ Wishes wish ∷ [])) (sym (client_stays h (byte ∷ [])).greeted) (are_more_wish h.known.greeted a.asks (Wishes wish) (a.greets ∙ greeted) a.are (fits, tt));
+      bows = bows_more (feed server h (byte ∷ [])).known a.asks wish (bows_feed h a.asks a.v (byte ∷ []) a.reach a.bows);
       greets = after_more late.known.greeted a.asks ∙ sym later;
       pend = refl;
       options = options;
@@ -442,6 +445,15 @@ module _ {K : Type 0} (history : History K) where
       hello_after b [] one = refl
       hello_after b (first ∷ more) one = refl
 
+      -- the flags have NO_ZEROES if the hello has
+      said_bit : shown.has_bit flag_no_zeroes flags ≡ true → shown.has_bit flag_no_zeroes said_flags ≡ true
+      unfolding said_flags
+      said_bit e = ap (λ n. not (n == 0)) (and_assoc flag_no_zeroes flags 3) ∙ e
+
+      hello_bows : (asks : List Said) → Reaches h asks a.v → Bows h.known asks → Bows (feed server h (byte ∷ [])).known (asks ++ Flags said_flags ∷ [])
+      hello_bows [] r b = subst (λ k. Bows k.known (Flags said_flags ∷ [])) (sym (ap (λ k. feed server k (byte ∷ [])) r ∙ link_now (Some (shown.Hello flags)) e)) said_bit
+      hello_bows (one ∷ more) r b = bows_first (feed server h (byte ∷ [])).known one more (more ++ Flags said_flags ∷ []) (bows_feed h (one ∷ more) a.v (byte ∷ []) r b)
+
       hello_go : (which : ℕ) → phase (Hello ∷ held.known.turns) ≡ Asked which → (which == opt_export_name) ≡ false → which < 256 ^ 4 → Stands history (take_byte (rules history) held byte) (feed server h (byte ∷ [])) written
       unfolding hello_known hello_link said_flags greeting late
       hello_go which hp other small =
@@ -468,6 +480,7 @@ module _ {K : Type 0} (history : History K) where
             are = subst (λ b. AreAsks b ((a.asks ++ Flags said_flags ∷ []) ++ Wishes (wish_for which (Hello ∷ held.known.turns)) ∷ [])) (sym (client_stays h (byte ∷ [])).greeted)
                 (are_more_wish h.known.greeted (a.asks ++ Flags said_flags ∷ []) (Wishes (wish_for which (Hello ∷ held.known.turns))) (hello_after h.known.greeted a.asks (Flags said_flags))
                 (are_more_flags h.known.greeted a.asks said_flags (a.greets ∙ m.2) ((omega (arith, small_flags), tt), tt)) (wish_fits which (Hello ∷ held.known.turns) hello_short small, tt));
+            bows = bows_more (feed server h (byte ∷ [])).known (a.asks ++ Flags said_flags ∷ []) (wish_for which (Hello ∷ held.known.turns)) (hello_bows a.asks a.reach a.bows);
             greets = hello_after (feed server h (byte ∷ [])).known.greeted (a.asks ++ Flags said_flags ∷ []) (Wishes (wish_for which (Hello ∷ held.known.turns)));
             pend = refl;
             options = ap (λ ws. wish_for which (Hello ∷ held.known.turns) ∷ ws) a.options ∙ sym (ap (λ x. wishes_at x (Hello ∷ held.known.turns) ++ wishes_of held.known.turns) hp);

@@ -18,9 +18,9 @@ use Rattle.lnbd_history.specs.Events.{History}
 use Rattle.lnbd_history.specs.History.{Known, asked, request, turned, if_refused, cookies}
 use Rattle.lnbd_asked.proofs.Match.{file_still, all_still}
 use Rattle.lnbd_asked.specs.Link.{Nobody, Link, server, said, kind_of, next, issued, ordered}
-use Rattle.lnbd_asked.proofs.Alive.{AreAsks, greeted_after, IsOpened}
+use Rattle.lnbd_asked.proofs.Alive.{AreAsks, Bows, greeted_after, IsOpened}
 use Rattle.lnbd_asked.proofs.Asks.{IsTail}
-use Rattle.lnbd_asked.proofs.Chain.{tell, Reaches}
+use Rattle.lnbd_asked.proofs.Chain.{tell, Reaches, waiting_feeds}
 use Rattle.lnbd_asked.proofs.Sides.{server_steady}
 
 -- what the client's bytes alone decide
@@ -155,6 +155,29 @@ are_more_wish true (Orders order ∷ more) one e all are = absurd all
 are_more_wish false (Orders order ∷ more) one e all are = absurd all
 are_more_wish true (Stray ∷ more) one e all are = absurd all
 are_more_wish false (Stray ∷ more) one e all are = absurd all
+
+-- The flags that are to be said stay right: what comes waits until they are said.
+
+pub bows_feed : (h : Held Link) (all : List Said) (v : Held Link) (bytes : List ℕ) → Reaches h all v → Bows h.known all → Bows (feed server h bytes).known all
+bows_feed h [] v bytes r b = tt
+bows_feed h (one ∷ more) v bytes r b = subst (λ k. Bows k.known (one ∷ more)) (sym (waiting_feeds h bytes r.0)) b
+
+pub bows_first : (link : Link) (one : Said) (more other : List Said) → Bows link (one ∷ more) → Bows link (one ∷ other)
+bows_first link (Flags flags) more other b = b
+bows_first link (Wishes wish) more other b = tt
+bows_first link (Orders order) more other b = tt
+bows_first link Stray more other b = tt
+
+pub bows_more : (link : Link) (all : List Said) (wish : Wish) → Bows link all → Bows link (all ++ Wishes wish ∷ [])
+bows_more link [] wish b = tt
+bows_more link (one ∷ more) wish b = bows_first link one more (more ++ Wishes wish ∷ []) b
+
+pub bows_asks : (link : Link) (all : List Said) → AreAsks true all → Bows link all
+bows_asks link [] are = tt
+bows_asks link (Wishes wish ∷ more) are = tt
+bows_asks link (Flags flags ∷ more) are = absurd are
+bows_asks link (Orders order ∷ more) are = tt
+bows_asks link (Stray ∷ more) are = tt
 
 -- Options that were asked stay, and are those of the link before the ones that are still to be said.
 

@@ -26,8 +26,8 @@ use Rattle.lnbd_asked.proofs.Fading.{frame_fades, request_grows}
 use Rattle.lnbd_asked.proofs.Steps.{shows_ready}
 use Rattle.lnbd_asked.proofs.Alive.{AreAsks, greeted_after, is_done, IsNextOf, Owed, IsRight, Haggles, Transmits, Alive, Over, Stands}
 use Rattle.lnbd_asked.proofs.Asks.{wishes_of}
-use Rattle.lnbd_asked.proofs.Chain.{Reaches}
-use Rattle.lnbd_asked.proofs.Keeping.{again_same, settled_tell, opened_tell, told_requests, are_first}
+use Rattle.lnbd_asked.proofs.Chain.{tell, Reaches}
+use Rattle.lnbd_asked.proofs.Keeping.{bows_asks, again_same, settled_tell, opened_tell, told_requests, are_first}
 use Rattle.lnbd_asked.proofs.Sending.{Sends, sends_whole, sends_said, sends_part, none_offered, is_written, flags_some, wish_some, order_some}
 use Rattle.lnbd_asked.proofs.Sides.{client_steady, flags_are_read, what_is_said_is_read}
 
@@ -228,6 +228,7 @@ module _ {K : Type 0} where
           settled = a.settled;
           opened = a.opened;
           are = a.are;
+          bows = a.bows;
           greets = a.greets;
           pend = a.pend;
           options = a.options;
@@ -261,6 +262,7 @@ module _ {K : Type 0} where
           settled = settled_tell one h;
           opened = opened_tell one h a.opened;
           are = subst (λ b. AreAsks b more) (sym told.1) first.1;
+          bows = bows_asks (tell one h).known more first.1;
           greets = ap (λ b. greeted_after b more) told.1 ∙ greeted_true more ∙ greets;
           pend = a.pend;
           options = a.options;
@@ -377,6 +379,7 @@ module _ {K : Type 0} where
               settled = a.settled;
               opened = a.opened;
               are = tt;
+              bows = tt;
               greets = refl;
               pend = pend;
               options = options;
@@ -406,6 +409,7 @@ module _ {K : Type 0} where
               settled = settled;
               opened = a.opened;
               are = tt;
+              bows = tt;
               greets = refl;
               pend = pend;
               options = options;

@@ -1,13 +1,14 @@
 //! The first request of a slice, and the buffers for it.
 
-ghost use Rattle.std.specs.Prelude.{◌≡◌, ℕ, ◌+◌, ◌≤◌, ◌^◌, [], replicate, true, false, length, IfOk, if◌then◌else◌};
+ghost use Rattle.std.specs.Prelude.{◌≡◌, ℕ, ◌+◌, ◌≤◌, ◌^◌, [], true, false, length, IfOk, if◌then◌else◌};
 ghost use Rattle.lnbd_board.specs.Asks.{IsFirstAsk, first_stage};
 
 use crate::advance::zero_flags;
 use crate::ask::{Ask, Change};
 use crate::how::How;
 use crate::row::Stage;
-use lnbd_model::{Bytes, NoMemory};
+use crate::spare::{read_buffer, zero_buffer};
+use lnbd_model::NoMemory;
 use lnbd_plan::Slice;
 use std::alloc::Global;
 
@@ -48,31 +49,5 @@ pub(crate) fn stage_of(slice: Slice) -> Stage
         Stage::Last
     } else {
         Stage::Reading
-    }
-}
-
-/// A buffer of so many bytes, whatever they are.
-fn read_buffer(spare: &mut Vec<Vec<u8>>, alloc: Global, count: usize) -> Result<Bytes, NoMemory>
-    ensures { IfOk result (λ buf. length buf ≡ count) }
-{
-    let mut buf = free_buffer(spare, alloc);
-    buf.resize(count, 0)?;
-    Ok(Bytes::from_vec(buf))
-}
-
-/// A buffer of so many zeros.
-fn zero_buffer(spare: &mut Vec<Vec<u8>>, alloc: Global, count: usize) -> Result<Bytes, NoMemory>
-    ensures { IfOk result (λ buf. buf ≡ replicate count 0) }
-{
-    let mut buf = free_buffer(spare, alloc);
-    buf.clear();
-    buf.resize(count, 0)?;
-    Ok(Bytes::from_vec(buf))
-}
-
-fn free_buffer(spare: &mut Vec<Vec<u8>>, alloc: Global) -> Vec<u8> {
-    match spare.pop() {
-        Some(buf) => buf,
-        None => Vec::new(alloc),
     }
 }

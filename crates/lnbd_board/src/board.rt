@@ -14,6 +14,7 @@ use crate::begin::{first_ask, stage_of};
 use crate::how::How;
 use crate::next::Next;
 use crate::row::{Row, Stage};
+use crate::spare::keep_buffer;
 use crate::ticket::Ticket;
 use lnbd_inflight::Table;
 use lnbd_model::{Bytes, EPROTO, Extent, NoMemory};
@@ -400,8 +401,7 @@ fn drop_row(rows: &mut Table<Row>, spare: &mut Vec<Vec<u8>>, number: u64)
 {
     if let Some(row) = rows.remove(number) {
         if let Stage::Finished { bytes } = row.stage {
-            // Where there is no memory for it, it is let go.
-            let _kept = spare.push(bytes.into_vec());
+            keep_buffer(spare, bytes);
         }
     }
 }

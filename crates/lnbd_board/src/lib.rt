@@ -12,6 +12,7 @@ mod laws;
 mod next;
 mod pieces;
 mod row;
+mod spare;
 mod ticket;
 
 pub use ask::{Ask, Change};

@@ -12,6 +12,7 @@ use Rattle.lnbd_link.specs.Count.{Rises}
 use Rattle.lnbd_plan.specs.declared.options.CopyOptions.{CopyOptions}
 use Rattle.lnbd_plan.specs.declared.fault.CopyFault.{CopyFault}
 use Rattle.lnbd_plan.specs.declared.fault.CopyFault.TheVariants as copying
+use Rattle.lnbd_course.specs.Asks.{GrewBy, HasAskedOnce, WereDone}
 use Rattle.lnbd_course.specs.Copied.{Copies}
 use Rattle.lnbd_copy.specs.Copier as copier
 use Rattle.lnbd_cli.specs.declared.copying.Uncopied.{Uncopied}
@@ -128,3 +129,15 @@ copied_by seen from to options a b what run two =
     subst (λ (o : CopyOptions). Copies from to o.destination_is_zero a b) what.0
     (subst (λ (p : Place). Copies from p seen.options.destination_is_zero a b) what.2
     (subst (λ (p : Place). Copies p seen.to seen.options.destination_is_zero a b) what.1 (run (λ e. two (sym what.1 ∙ e ∙ what.2)))))
+
+pub asked_by : (seen : copier.Seen) (from to : Place) (options : CopyOptions) (a b : Option (List Call)) → (seen.options ≡ options) × (seen.from ≡ from) × (seen.to ≡ to) →
+    (seen.from ≢ seen.to → GrewBy (HasAskedOnce seen.options.allocated seen.from seen.to) a b) → from ≢ to → GrewBy (HasAskedOnce options.allocated from to) a b
+asked_by seen from to options a b what run two =
+    subst (λ (o : CopyOptions). GrewBy (HasAskedOnce o.allocated from to) a b) what.0
+    (subst (λ (p : Place). GrewBy (HasAskedOnce seen.options.allocated from p) a b) what.2
+    (subst (λ (p : Place). GrewBy (HasAskedOnce seen.options.allocated p seen.to) a b) what.1 (run (λ e. two (sym what.1 ∙ e ∙ what.2)))))
+
+pub done_by : (seen : copier.Seen) (from to : Place) (options : CopyOptions) (a b : Option (List Call)) → (seen.options ≡ options) × (seen.from ≡ from) × (seen.to ≡ to) →
+    (seen.from ≢ seen.to → GrewBy (WereDone seen.from seen.to) a b) → from ≢ to → GrewBy (WereDone from to) a b
+done_by seen from to options a b what run two =
+    subst (λ (p : Place). GrewBy (WereDone from p) a b) what.2 (subst (λ (p : Place). GrewBy (WereDone p seen.to) a b) what.1 (run (λ e. two (sym what.1 ∙ e ∙ what.2))))

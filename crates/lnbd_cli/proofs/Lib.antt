@@ -4,3 +4,4 @@ pub mod InfoLemmas
 pub mod HeardLemmas
 pub mod ServeLemmas
 pub mod CopyLemmas
+pub mod TrialLemmas

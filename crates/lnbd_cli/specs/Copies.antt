@@ -10,12 +10,12 @@ use Rattle.lnbd_plan.specs.declared.fault.CopyFault.TheVariants as copying
 use Rattle.lnbd_args.specs.declared.asked.Asked.{Asked}
 use Rattle.lnbd_args.specs.declared.asked.Asked.TheVariants as asked
 use Rattle.lnbd_args.specs.Tools.{Asks, IsMisplaced, Reads, Wanted}
+use Rattle.lnbd_course.specs.Asks.{GrewBy, HasAskedOnce, WereDone}
 use Rattle.lnbd_course.specs.Copied.{Copies}
 use Rattle.lnbd_cli.specs.declared.copying.Transfer.{Transfer}
 use Rattle.lnbd_cli.specs.declared.copying.Uncopied.{Uncopied}
 use Rattle.lnbd_cli.specs.declared.copying.Uncopied.TheVariants as why
-use Rattle.lnbd_cli.specs.Informs.{IsInfo, spelled}
-use Rattle.lnbd_cli.specs.Serves.{IsServe}
+use Rattle.lnbd_cli.specs.Informs.{spelled}
 use Rattle.lnbd_cli.specs.Statuses.{broken_text}
 
 -- the first word names the tool
@@ -24,10 +24,6 @@ pub record IsCopy (words : List (String Global)) : Type 0 where
   pub others : List (String Global)
   pub split : words ≡ word ∷ others
   pub named : string_bytes word ≡ codes "nbdcopy"
-
--- the first word names a tool that plays no script
-abbrev pub IsOther : List (String Global) → Type 0
-IsOther words = IsInfo words ⊎ (IsServe words ⊎ IsCopy words)
 
 -- what is to be copied, where that is asked
 abbrev pub transfer_of : Asked → Option Transfer
@@ -87,10 +83,12 @@ pub record IsTransfer (words : List (String Global)) : Type 0 where
   pub asks : Asks (spelled words) wish
   pub is : transfer_of wish ≡ Some transfer
 
--- What the words ask to be copied, from one place to another, was copied by the calls that this transcript grew by.
+-- What the words ask to be copied, from one place to another, was copied by the calls that this transcript grew by; nothing was asked twice, and all of it was done.
 pub record HasCopied (words : List (String Global)) (told told' : Option (List Call)) : Type 0 where
   pub asked : IsTransfer words
   pub copied : asked.transfer.from ≢ asked.transfer.to → Copies asked.transfer.from asked.transfer.to asked.transfer.options.destination_is_zero told told'
+  pub once : asked.transfer.from ≢ asked.transfer.to → GrewBy (HasAskedOnce asked.transfer.options.allocated asked.transfer.from asked.transfer.to) told told'
+  pub done : asked.transfer.from ≢ asked.transfer.to → GrewBy (WereDone asked.transfer.from asked.transfer.to) told told'
 
 -- What the end of a run tells of the words and of the calls; the last says that nothing was called.
 abbrev pub CopyEnds : Result (Unit {0}) Uncopied → List (String Global) → (told told' : Option (List Call)) → (Uncalled : Type 0) → Type 0

@@ -5,3 +5,4 @@ pub mod Heard
 pub mod Informs
 pub mod Serves
 pub mod Copies
+pub mod Trials

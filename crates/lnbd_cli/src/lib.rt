@@ -8,7 +8,9 @@ mod fault;
 mod hearing;
 mod informing;
 mod input;
+mod selftesting;
 mod serving;
 mod top;
 
+pub use lnbd_rehearsal::{Rehearsed, rehearse};
 pub use top::{no_memory, run, usage};

@@ -7,7 +7,8 @@ ghost use Rattle.lnbd_cli.specs.Inputs.{ReadAtMost, ReadUpTo, fault_of, most_rea
 ghost use Rattle.lnbd_cli.specs.Runs.{Ends, IsBad, IsCalls, IsLawful, IsOneOf, Nothing, Prints, Ran};
 ghost use Rattle.lnbd_cli.specs.Informs.{InfoRan, IsInfo, IsInfoDone, IsLawfulInfo, is_info_status};
 ghost use Rattle.lnbd_cli.specs.Serves.{IsLawfulServe, IsServe, IsServeDone, ServeRan, is_serve_status};
-ghost use Rattle.lnbd_cli.specs.Copies.{CopyRan, IsCopy, IsCopyDone, IsOther, IsTransfer, is_copy_status};
+ghost use Rattle.lnbd_cli.specs.Copies.{CopyRan, IsCopy, IsCopyDone, IsTransfer, is_copy_status};
+ghost use Rattle.lnbd_cli.specs.Trials.{IsLargeTrial, IsOther, IsSelftest, IsSmallTrial, TestRan, is_test_status};
 ghost use Rattle.lnbd_cli.specs.Statuses.{end_line, end_of, fault_line, is_bad, is_status, is_whole, line_of_end, status_of, status_of_end};
 ghost use Rattle.lnbd_cli.specs.declared.fault.Fault.TheVariants as fault;
 ghost use Rattle.lnbd_script.specs.declared.event.PlayFault.TheVariants as play;
@@ -17,6 +18,7 @@ use crate::copying::{names_copy, run_copy};
 use crate::fault::Fault;
 use crate::informing::{names_info, run_info};
 use crate::input::{Unread, read_script};
+use crate::selftesting::{names_selftest, run_selftest};
 use crate::serving::{names_serve, run_serve};
 use lnbd_link::{Sink, Source, Wires};
 use lnbd_script::{PlayFault, play, put};
@@ -25,7 +27,7 @@ use std::alloc::{AllocError, Global};
 /// Runs the tool that the words name over this outside, and tells the status that it ends with.
 ///
 /// 0: all is done. 1: words or a script are in no grammar. 2: what nbdinfo was asked is false. 3: the peer answered an option or a command by an error. 4: it broke
-/// the protocol, or ended before the run was done; a client of serve broke it. 5: a link failed. 6: the server did not agree to a map's context, or two exports don't fit for a copy. 7: the wires were idle for too long. 8: `out` failed.
+/// the protocol, or ended before the run was done; a client of serve broke it. 5: a link failed. 6: the server did not agree to a map's context, two exports don't fit for a copy, or a selftest's size is too large. 7: the wires were idle for too long. 8: `out` failed.
 /// 9: memory ran out. 10: `input` failed. Every status but 0 and 2 prints its line on `err`.
 pub fn run<W: Wires, I: Source, O: Sink, E: Sink>(
     alloc: Global,
@@ -72,6 +74,7 @@ pub fn run<W: Wires, I: Source, O: Sink, E: Sink>(
     ensures info_known { IsInfo words.now → is_info_status result ≡ true }
     ensures serve_known { IsServe words.now → is_serve_status result ≡ true }
     ensures copy_known { IsCopy words.now → is_copy_status result ≡ true }
+    ensures selftest_known { IsSelftest words.now → is_test_status result ≡ true }
 
     // Where words and script are lawful and no count rose, the script is played to its end, or memory runs out.
     ensures complete { (¬ IsOther words.now) → IsLawful words.now (I.left input.old) → (¬ Rises 1 (W.faults wires.old) (W.faults wires.new)) → (¬ Rises patience (W.idles wires.old) (W.idles wires.new)) → (¬ Rises 1 (O.faults out.old) (O.faults out.new)) → (¬ Rises 1 (I.faults input.old) (I.faults input.new)) → IsOneOf result }
@@ -95,6 +98,17 @@ pub fn run<W: Wires, I: Source, O: Sink, E: Sink>(
 
     // Where they are lawful and no count rose, all is copied, a peer told an error or broke off, a rule between the exports doesn't hold, or memory runs out.
     ensures copy_complete { IsCopy words.now → IsTransfer words.now → (¬ Rises 1 (W.faults wires.old) (W.faults wires.new)) → (¬ Rises patience (W.idles wires.old) (W.idles wires.new)) → IsCopyDone result }
+
+    // Words whose first is selftest: the copy that they ask for was made in memory and its line printed, or the run ended for this cause. The wires
+    // are as they were.
+    ensures selftest { IsSelftest words.now → TestRan words.now (O.taken out.old) (O.taken out.new) (out.new ≡ out.old) (Prints (E.taken err.old) (E.taken err.new) (E.faults err.old) (E.faults err.new)) result }
+    ensures selftest_wires { IsSelftest words.now → wires.new ≡ wires.old }
+
+    // Where they are lawful, the size is no larger than it may be and the output did not fail, the copy was made and its line printed, or memory runs out.
+    ensures selftest_complete { IsSelftest words.now → IsSmallTrial words.now → (¬ Rises 1 (O.faults out.old) (O.faults out.new)) → (result ≡ 0) ⊎ (result ≡ 9) }
+
+    // Where the size is larger, that is told, or memory runs out.
+    ensures selftest_refuses { IsSelftest words.now → IsLargeTrial words.now → (result ≡ 6) ⊎ (result ≡ 9) }
 {
     if names_info(words) {
         return run_info(alloc, words, wires, out, err);
@@ -104,6 +118,9 @@ pub fn run<W: Wires, I: Source, O: Sink, E: Sink>(
     }
     if names_copy(words) {
         return run_copy(alloc, words, wires, err);
+    }
+    if names_selftest(words) {
+        return run_selftest(alloc, words, out, err);
     }
     let end = tool(alloc, words, input, wires, out);
     print_end(alloc, end, err)

@@ -1,5 +1,5 @@
 -- The bytes that a simple reply brings.
-use Rattle.std.proofs.Common.{◌≡◌, ℕ, zero, suc, ◌+◌, ◌-◌, List, [], ◌∷◌, ◌++◌, true, false, cond, length, get_or, refl, ap, sym, ◌∙◌, arith, append_assoc, length-append, ◌==◌, nat_lt}
+use Rattle.std.proofs.Common.{◌≤◌, ◌≡◌, ℕ, zero, suc, ◌+◌, ◌-◌, List, [], ◌∷◌, ◌++◌, true, false, cond, length, get_or, refl, ap, sym, ◌∙◌, arith, append_assoc, length-append, ◌==◌, nat_lt}
 use Rattle.std.specs.Prelude.{nat_le, if◌then◌else◌}
 use Rattle.std.specs.List.{list_any}
 use Rattle.std.proofs.lemmas.Grind.{common_steps}
@@ -7,6 +7,7 @@ use Rattle.lnbd_model.specs.Errors.{error_of, known_errors}
 use Rattle.lnbd_records.specs.Content.{Data}
 use Rattle.lnbd_outcome.specs.Pieces.{has_place, byte_of}
 use Rattle.lnbd_outcome.specs.Outcome.{each}
+use Rattle.lnbd_structured.specs.Placed.{with_content}
 
 -- only 0 is told as no error
 pub error_of_zero : (n : ℕ) → error_of n ≡ 0 → n ≡ 0
@@ -46,3 +47,9 @@ each_content offset size old bytes h =
     let e = each_part size offset old bytes [] bytes refl h in
     let start : offset + 0 ≡ offset = omega arith in
     rw start at e
+
+-- Data of the whole read are its buffer.
+pub whole_content : (offset place : ℕ) (bytes old : List ℕ) → length bytes ≡ length old → offset ≤ place → place + length bytes ≤ offset + length old → with_content offset (Data place bytes) old ≡ bytes
+whole_content offset place bytes old sized low high =
+    let same : place ≡ offset = omega arith in
+    ap (λ (p : ℕ). with_content offset (Data p bytes) old) same ∙ each_content offset (length old) (λ p. get_or old (p - offset) 0) bytes sized

@@ -1,9 +1,11 @@
-//! The bytes that a simple reply brings: some that are copied, or a buffer that is taken over. Of which command they are
+//! The bytes that a reply brings: some that are copied, or a buffer that is taken over. Of which command they are
 //! is not known here.
 
 ghost use Rattle.std.specs.Prelude.{◌≡◌, Some, length, vec_len};
-ghost use Rattle.lnbd_commands.specs.Contents.{IsSpare, bytes_in};
+ghost use Rattle.lnbd_structured.specs.Told.{content_in};
+ghost use Rattle.lnbd_commands.specs.Contents.{IsSpare, bytes_in, told_of};
 
+use lnbd_structured::Told;
 use std::alloc::Global;
 
 /// What a simple reply brings.
@@ -51,5 +53,29 @@ pub(crate) fn spare_of(alloc: Global, content: Option<Content<'_>>) -> Vec<u8>
         Some(Content::Moved(buffer)) => buffer,
         Some(Content::Copied(_)) => Vec::new(alloc),
         None => Vec::new(alloc),
+    }
+}
+
+/// What a chunk brings.
+#[derive(Drop)]
+pub(crate) enum Brought<'a> {
+    /// What it tells. Data are copied.
+    Told(Told<'a>),
+    /// Data from a place of the export on, in a buffer to be taken over.
+    Filled { offset: u64, buffer: Vec<u8> },
+}
+
+impl Brought<'_> {
+    /// What it tells.
+    pub(crate) fn told(&self) -> Told<'_>
+        ensures { content_in result ≡ told_of self.now }
+    {
+        match self {
+            Brought::Told(told) => *told,
+            Brought::Filled { offset, buffer } => Told::Data {
+                offset: *offset,
+                bytes: buffer.as_slice(),
+            },
+        }
     }
 }

@@ -7,19 +7,17 @@ ghost use Rattle.lnbd_inflight.specs.Done.{is_done, forgetting};
 ghost use Rattle.lnbd_callbacks.specs.declared.caller.Verdict.{Verdict};
 ghost use Rattle.lnbd_outcome.specs.Outcome.{error_number};
 ghost use Rattle.lnbd_history.specs.Entries.{call_of, completion_acts};
-ghost use Rattle.lnbd_commands.specs.Contents.{IsSpare, bytes_in};
+ghost use Rattle.lnbd_commands.specs.Contents.{IsSpare, IsSpareOf, bytes_in, told_of};
 ghost use Rattle.lnbd_commands.specs.Flights.{IsLiveFlight, completing, has_first};
-ghost use Rattle.lnbd_structured.specs.Told.{content_in};
 ghost use Rattle.lnbd_commands.specs.Lands.{AnswerableAt, EndsAt, HearsAt, LandsAt, LosableAt, LostAt, TellableAt, told_row};
 ghost use Rattle.lnbd_commands.specs.Rows.{changed, ended, flight_of_row, keeping, kept_of_row, landed, unanswered};
 
-use crate::content::Content;
+use crate::content::{Brought, Content};
 use crate::flight::complete;
 use crate::row::{Landed, Row, error_number};
 use lnbd_callbacks::{Caller, Desk, Heard, Verdict};
 use lnbd_inflight::Table;
-use lnbd_model::{Bytes, Contexts, NoMemory};
-use lnbd_structured::Told;
+use lnbd_model::{Bytes, Contexts};
 use std::alloc::Global;
 
 /// Ends the command of a cookie by a simple reply, and takes its callbacks out of its row. A buffer that is not needed any more
@@ -50,24 +48,28 @@ pub(crate) fn answer_in<'a, K: Caller>(
     }
 }
 
-/// Tells what a chunk brings to the command of a cookie, and what its callback answered, if it was called.
-pub(crate) fn tell_in<K: Caller>(
+/// Tells what a chunk brings to the command of a cookie, and what its callback answered, if it was called. A buffer that is not
+/// needed any more comes back beside.
+pub(crate) fn tell_in<'a, K: Caller>(
     table: &mut Table<Row<K>>,
+    alloc: Global,
     desk: &mut Desk,
     world: &mut K::World,
     cookie: u64,
-    told: Told<'_>,
+    brought: Brought<'a>,
     contexts: &Contexts,
-) -> Result<Option<Heard>, NoMemory>
-    requires { TellableAt (value_at cookie table.old.rows) (content_in told) desk.old.log }
-    ensures hears { IfOk result (λ heard. HearsAt K.steps contexts.now (content_in told.entry) (value_at cookie table.old.rows) heard desk.old.log desk.new.log world.old world.new) }
-    ensures rows { IfOk result (λ heard. table.new ≡ record table.old { rows = changed (told_row contexts.now (content_in told.entry) heard) cookie table.old.rows }) }
+) -> Result<(Option<Heard>, Vec<u8>), Brought<'a>>
+    requires { TellableAt (value_at cookie table.old.rows) (told_of brought) desk.old.log }
+    ensures hears { IfOk result (λ end. HearsAt K.steps contexts.now (told_of brought.entry) (value_at cookie table.old.rows) end.0 desk.old.log desk.new.log world.old world.new) }
+    ensures rows { IfOk result (λ end. table.new ≡ record table.old { rows = changed (told_row contexts.now (told_of brought.entry) end.0) cookie table.old.rows }) }
+    ensures spare { IfOk result (λ end. IsSpareOf brought.entry (length end.1.items)) }
+    ensures handed_back { IfErr result (λ back. back ≡ brought.entry) }
     ensures err_table { OnErr result (table.new ≡ table.old) }
     ensures err_log { OnErr result (desk.new.log ≡ desk.old.log) }
     ensures err_world { OnErr result (world.new ≡ world.old) }
 {
     if let Some(row) = table.get_mut(cookie) {
-        row.tell(desk, world, told, contexts)
+        row.tell(alloc, desk, world, brought, contexts)
     } else {
         unreachable!()
     }

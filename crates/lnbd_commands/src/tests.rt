@@ -181,6 +181,37 @@ fn file(
     commands.chunk(world, cookie, told, last, contexts).is_ok()
 }
 
+/// The same of a chunk of data for the first command, whose buffer is taken over. Answers whether one as long came back.
+fn file_filled(
+    commands: &mut Commands<Keeper>,
+    alloc: Global,
+    world: &mut String,
+    offset: u64,
+    content: &[u8],
+    last: bool,
+) -> bool {
+    let Ok(buffer) = Vec::from_slice(alloc, content) else {
+        return false;
+    };
+    let Some(known) = commands.waiting(1) else {
+        return false;
+    };
+    let told = Told::Data {
+        offset,
+        bytes: buffer.as_slice(),
+    };
+    if !is_inside(&known, told) {
+        return false;
+    }
+    if !last && known.faults >= 1024 {
+        return false;
+    }
+    match commands.chunk_filled(world, 1, offset, buffer, last, &Contexts::new(alloc)) {
+        Ok(spare) => spare.len() == content.len(),
+        Err(_) => false,
+    }
+}
+
 /// Whether this is the result of a command that came to this error, 0 for none, and these bytes.
 fn came_to(completed: Completed, wanted: u32, bytes: &[u8]) -> bool {
     match completed {
@@ -314,6 +345,47 @@ freed\ncompleted, error 0\nfreed\n"
     let closed = commands.close(&mut world);
     assert_eq!(rt; closed.freed, 6);
     Ok(())
+}
+
+// All of a read, its two halves, and its end twice, which is a content fault.
+#[test]
+fn buffers_are_taken_over(rt: HostRuntime) {
+    let alloc = rt.alloc();
+    let lines: [(&[(u64, &[u8])], u32, &[u8], &str); 3] = [
+        (
+            &[(1000, &[5, 6, 7, 8])],
+            0,
+            &[5, 6, 7, 8],
+            "status 1 at 1000: [5, 6, 7, 8], error 0\n",
+        ),
+        (
+            &[(1002, &[7, 8]), (1000, &[5, 6])],
+            0,
+            &[5, 6, 7, 8],
+            "status 1 at 1002: [7, 8], error 0\nstatus 1 at 1000: [5, 6], error 0\n",
+        ),
+        (
+            &[(1003, &[8]), (1000, &[1, 2, 3, 4])],
+            71,
+            &[0, 0, 0, 0],
+            "status 1 at 1003: [8], error 0\n",
+        ),
+    ];
+    for (chunks, error, bytes, heard) in lines {
+        let mut world = String::new(alloc);
+        let mut commands = Commands::new(alloc);
+        assert_eq!(rt; issue(&mut commands, alloc, Kind::Read, 0), 1);
+        for (n, (offset, content)) in chunks.iter().enumerate() {
+            let last = n + 1 == chunks.len();
+            assert!(rt; file_filled(&mut commands, alloc, &mut world, *offset, content, last));
+        }
+        assert!(rt; world.as_str().starts_with(heard), "{world}");
+        assert!(rt;
+            came_to(commands.take_completed(1), error, bytes),
+            "{heard}"
+        );
+        commands.close(&mut world);
+    }
 }
 
 // What has no fault is told to the callback, what has one isn't, and the command fails at its end.

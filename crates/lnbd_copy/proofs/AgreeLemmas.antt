@@ -1,5 +1,6 @@
--- A handle that may make requests, and has nothing to write, was told the size of which it tells.
-use Rattle.std.proofs.Common.{◌≡◌, ℕ, zero, suc, List, [], ◌∷◌, Option, Some, None, slice_get, refl, sym, subst}
+-- Handles that may make requests and have nothing to write, and that such a handle was told the size of which it tells.
+use Rattle.std.proofs.Common.{◌≡◌, inl, inr, ℕ, zero, suc, ◌+◌, ◌<◌, ◌≤◌, length, List, [], ◌∷◌, Option, Some, None, slice_get, refl, ap, sym, subst, ◌∙◌, arith}
+use Rattle.std.proofs.lemmas.Bool.{cases_lt}
 use Rattle.std.specs.Option.{option_map}
 use Rattle.lnbd_model.specs.declared.export.ExportInfo.{ExportInfo}
 use Rattle.lnbd_model.specs.declared.state.State.TheVariants as state
@@ -7,12 +8,11 @@ use Rattle.lnbd_history.specs.Answers.{direction_after, info_after, state_after}
 use Rattle.lnbd_machine.specs.Machine.{Machine}
 use Rattle.lnbd_standing.specs.Standing.{StandsFor}
 use Rattle.lnbd_handle.specs.Histories.{ForEach, max_unretired}
-use Rattle.lnbd_poll.specs.declared.held.Held.{Held}
-use Rattle.lnbd_poll.specs.Held.{AreAt}
+use Rattle.lnbd_poll.specs.Held.{Held, AreAt}
 use Rattle.lnbd_poll.specs.Seen.{Seen}
 use Rattle.lnbd_drives.proofs.Exports.{info_was_told}
 use Rattle.lnbd_board.specs.declared.ticket.Ticket.{Ticket}
-use Rattle.lnbd_copy.specs.Agreed.{HasTold, Tells}
+use Rattle.lnbd_copy.specs.Agreed.{AreQuiet, HasTold, IsQuiet, Tells}
 use Rattle.lnbd_copy.proofs.TurnLemmas.{none_some, some_same}
 
 module _ (handle : Machine Ticket) (info : ExportInfo) (ready : ForEach handle (λ history. state_after history ≡ state.Ready)) (quiet : ForEach handle (λ history. direction_after history ≡ 1)) (told : ForEach handle (λ history. Some info ≡ info_after history)) where
@@ -26,3 +26,38 @@ module _ (handle : Machine Ticket) (info : ExportInfo) (ready : ForEach handle (
 
   pub tells : (index : ℕ) (all : List (Held Ticket)) → option_map (λ held. held.handle) (slice_get all index) ≡ Some handle → Tells index info.size all
   tells index all is = record { on = λ seens at. told_at index all seens is at }
+
+-- Each handle that is held is quiet.
+
+pub quiet_at : (held : List (Held Ticket)) (index : ℕ) (handle : Machine Ticket) → AreQuiet held → option_map (λ (one : Held Ticket). one.handle) (slice_get held index) ≡ Some handle → IsQuiet handle
+quiet_at held index handle quiet is = go (slice_get held index) refl is
+  where
+    go : (o : Option (Held Ticket)) → slice_get held index ≡ o → option_map (λ (one : Held Ticket). one.handle) o ≡ Some handle → IsQuiet handle
+    go None there none = absurd (none_some handle none)
+    go (Some one) there same = subst IsQuiet (some_same one.handle handle same) (quiet index one there)
+
+-- So many of them are.
+pub record QuietBelow (n : ℕ) (held : List (Held Ticket)) : Type 0 where
+  pub on : (index : ℕ) (one : Held Ticket) → index < n → slice_get held index ≡ Some one → IsQuiet one.handle
+
+pub none_quiet : (held : List (Held Ticket)) → QuietBelow 0 held
+none_quiet held = record { on = λ index one l there. absurd (omega (arith, l)) }
+
+pub quiet_more : (n : ℕ) (held : List (Held Ticket)) (handle : Machine Ticket) → QuietBelow n held → option_map (λ (one : Held Ticket). one.handle) (slice_get held n) ≡ Some handle → IsQuiet handle → QuietBelow (n + 1) held
+quiet_more n held handle below is quiet = record {
+  on = λ index one l there. elim (cases_lt index n) [
+    | inl k ↦ below.on index one k there
+    | inr k ↦
+        let same : index ≡ n = omega (arith, l, k) in
+        let here : slice_get held n ≡ Some one = subst (λ (m : ℕ). slice_get held m ≡ Some one) same there in
+        subst IsQuiet (sym (some_same one.handle handle (sym (ap (λ (o : Option (Held Ticket)). option_map (λ (h : Held Ticket). h.handle) o) here) ∙ is))) quiet
+  ];
+}
+
+held_below : (held : List (Held Ticket)) (index : ℕ) (one : Held Ticket) → slice_get held index ≡ Some one → index < length held
+held_below [] index one there = absurd (none_some one there)
+held_below (first ∷ others) zero one there = omega arith
+held_below (first ∷ others) (suc index) one there = let more = held_below others index one there in omega (arith, more)
+
+pub all_quiet : (n : ℕ) (held : List (Held Ticket)) → QuietBelow n held → length held ≤ n → AreQuiet held
+all_quiet n held below all index one there = let l = held_below held index one there in below.on index one (omega (arith, l, all)) there

@@ -1,5 +1,5 @@
 -- A handle that took a command was asked it.
-use Rattle.std.proofs.Common.{◌≡◌, ℕ, zero, suc, ◌+◌, ◌<◌, ◌^◌, arith, false, List, [], ◌∷◌, Option, Some, None, refl, ap, sym, subst, ◌∙◌, slice_get}
+use Rattle.std.proofs.Common.{◌≡◌, ℕ, zero, suc, ◌+◌, ◌<◌, ◌^◌, arith, List, [], ◌∷◌, Some, None, refl, sym, subst, slice_get}
 use Rattle.std.proofs.lemmas.Bool.{false≢true}
 use Rattle.std.specs.Option.{option_map}
 use Rattle.lnbd_history.specs.Commands.{Command}
@@ -10,13 +10,11 @@ use Rattle.lnbd_standing.specs.Standing.{StandsFor}
 use Rattle.lnbd_standing.proofs.Standing.{stands_right}
 use Rattle.lnbd_handle.specs.Issues.{read_of, write_of, zero_of, flush_of, block_status_of}
 use Rattle.lnbd_handle.specs.Histories.{Adds, ForEach, max_unretired}
-use Rattle.lnbd_poll.specs.declared.held.Held.{Held}
-use Rattle.lnbd_poll.specs.Held.{AreAt}
+use Rattle.lnbd_poll.specs.Held.{Held, AreAt}
 use Rattle.lnbd_poll.specs.Lends.{with_handle}
-use Rattle.lnbd_poll.specs.Seen.{Seen, IsAt}
-use Rattle.lnbd_drives.specs.Driving.{with_event}
+use Rattle.lnbd_poll.specs.Seen.{Seen}
 use Rattle.lnbd_board.specs.declared.ticket.Ticket.{Ticket}
-use Rattle.lnbd_course.specs.Taken.{HaveRoom, without_buffer}
+use Rattle.lnbd_course.specs.Taken.{HaveRoom}
 use Rattle.lnbd_course.proofs.Taken.{buffers_are_no_matter, taken_are_spelled}
 use Rattle.lnbd_copy.specs.Asked.{WasAsked, IsAsked}
 

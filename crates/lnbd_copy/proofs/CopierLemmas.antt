@@ -1,21 +1,21 @@
 -- From a copy's first connection to all that it makes.
-use Rattle.std.proofs.Common.{◌≡◌, ◌≢◌, ℕ, zero, suc, ◌+◌, ◌<◌, ◌≤◌, Bool, true, false, ◌&&◌, ◌||◌, ◌==◌, nat_lt, nat_le, List, [], ◌∷◌, ◌++◌, length, Option, Some, None, Result, Ok, Err, IfOk, OnOk, if◌then◌else◌, refl, ap, sym, subst, ◌∙◌, arith}
+use Rattle.std.proofs.Common.{◌≡◌, ℕ, ◌+◌, Bool, true, false, List, [], length, Option, Some, None, Result, Ok, Err, IfOk, OnOk, if◌then◌else◌, refl, ap, sym, subst, ◌∙◌}
 use Rattle.lnbd_model.specs.declared.target.Place.{Place}
 use Rattle.lnbd_link.specs.Call as wire
 use Rattle.lnbd_plan.specs.declared.options.CopyOptions.{CopyOptions}
-use Rattle.lnbd_poll.specs.declared.held.Held.{Held}
+use Rattle.lnbd_poll.specs.Held.{Held}
 use Rattle.lnbd_board.specs.declared.how.How.{How}
 use Rattle.lnbd_board.specs.declared.ticket.Ticket.{Ticket}
 use Rattle.lnbd_board.specs.Files as board
 use Rattle.lnbd_copy.specs.declared.sides.Sides.{Sides}
 use Rattle.lnbd_copy.specs.declared.terms.Terms.{Terms}
 use Rattle.lnbd_course.proofs.Placing.{agreeing_settles}
-use Rattle.lnbd_copy.specs.Agreed.{Agrees, AreAgreed}
+use Rattle.lnbd_copy.specs.Agreed.{Agrees, AreAgreed, IsWished}
 use Rattle.lnbd_copy.specs.declared.job.Phase.TheVariants.{Copying}
-use Rattle.lnbd_copy.specs.Copier.{GoesFurther, HasMet, HasNotBegun, IsBlank, IsOnItsWay, Seen, beginning}
+use Rattle.lnbd_copy.specs.Copier.{GoesFurther, HasMet, HasNotBegun, IsOnItsWay, Seen, beginning}
 use Rattle.lnbd_copy.specs.Job as job
 use Rattle.lnbd_copy.specs.Opening.{Dials, place_of}
-use Rattle.lnbd_copy.specs.Way.{Filed, Goes, IsOn, IsUnderWay, Stand, Told, Way, is_source}
+use Rattle.lnbd_copy.specs.Way.{Goes, IsOn, IsUnderWay, Stand, Told, Way, is_source}
 use Rattle.lnbd_copy.proofs.DialLemmas.{nothing_is_on, settled}
 use Rattle.lnbd_copy.proofs.FiledLemmas.{filed_none, filed_then}
 use Rattle.lnbd_copy.proofs.TurnLemmas.{told_begins}
@@ -103,9 +103,9 @@ module _ (copy : Seen) (b c : board.Seen) (h i j k : List (Held Ticket)) (t u v 
       let s3 = second.stand s2 in
       two.many s3 ∙ second.many ∙ ap (λ (n : ℕ). n + 1) (one.many s1 ∙ first.many ∙ ap (λ (n : ℕ). n + 1) (ap (λ (l : List (Held Ticket)). length l) none.held))
 
-  pub has_met : (terms : Terms) → terms.how.skip ≡ copy.options.destination_is_zero → Agrees terms.size k → HasNotBegun copy → Dials copy.from copy.board copy.held t h u → Goes copy.board h u b i v → Dials copy.to b i v j w → Goes b j w c k x →
+  pub has_met : (terms : Terms) → IsWished copy.options terms.how → Agrees terms.size k → HasNotBegun copy → Dials copy.from copy.board copy.held t h u → Goes copy.board h u b i v → Dials copy.to b i v j w → Goes b j w c k x →
       HasMet (record copy { held = k; board = c }) t x terms
-  has_met terms skip agrees none first one second two =
+  has_met terms wished agrees none first one second two =
       let s0 = no_handles copy none in
       let s1 = first.stand s0 in
       let s2 = one.stand s1 in
@@ -116,7 +116,7 @@ module _ (copy : Seen) (b c : board.Seen) (h i j k : List (Held Ticket)) (t u v 
       record {
         stand = two.stand s3;
         blank = record { rows = filed.none none.rows; begun = filed.begun ∙ none.begun };
-        skip = skip;
+        wished = wished;
         on =
             let how = terms.how in
             let sides = terms.sides in
@@ -168,7 +168,7 @@ meets s0 s1 s2 s3 s4 t u v w x options held terms k1 k2 k3 k4 b1 b3 same_options
     let second' : Dials s0.to s2.board s2.held v s3.held w = subst (λ (p : Place). Dials p s2.board s2.held v s3.held w) (ap (λ (s : Seen). s.to) k02) second in
     let two' : Goes s2.board s3.held w s4.board s4.held x = subst (λ (b : board.Seen). Goes b s3.held w s4.board s4.held x) b3 two in
     subst (λ (s : Seen). HasMet s t x terms) (sym k04)
-    (has_met s0 s2.board s4.board s1.held s2.held s3.held s4.held t u v w x terms (agreed.skip ∙ ap (λ (o : CopyOptions). o.destination_is_zero) (same_options ∙ ap (λ (s : Seen). s.options) k04))
+    (has_met s0 s2.board s4.board s1.held s2.held s3.held s4.held t u v w x terms (subst (λ (o : CopyOptions). IsWished o terms.how) (same_options ∙ ap (λ (s : Seen). s.options) k04) agreed.wished)
     (subst (Agrees terms.size) same_held agreed.size) none first one' second' two')
 
 pub two_meet : (s0 s1 s2 s3 s4 : Seen) (t u v w x : Option (List wire.Call)) → s1 ≡ with_held s0 s1 → s2 ≡ with_held s1 s2 → s1.board ≡ s0.board → s3.board ≡ s2.board →
@@ -187,7 +187,7 @@ met_on copy now held t u v terms met two further =
     record {
       stand = further.stand met.stand;
       blank = record { rows = filed.none met.blank.rows; begun = filed.begun ∙ met.blank.begun };
-      skip = met.skip;
+      wished = met.wished;
       on = further.on (Some terms.size) terms.how t met.stand two met.on;
     }
 
@@ -200,9 +200,9 @@ further_kept copy mid sides first now now' held held' a b kept further =
     record { stand = same.stand; filed = same.filed; on = λ size how start s count on. same.on size how start s count on }
 
 -- What is settled begins.
-pub begins_job : (copy : Seen) (start told : Option (List wire.Call)) (terms : Terms) (j : job.Seen) (now : board.Seen) → HasMet copy start told terms → copy.board.error ≡ None → now.rows ≡ [] → now.begun ≡ 0 → j.terms ≡ terms → j.phase ≡ Copying →
-    ((way : Way) (b : board.Seen) → way.size ≡ Some terms.size → way.how ≡ terms.how → way.sides ≡ terms.sides → way.slices ≡ [] → way.asked ≡ None → job.IsJob j way b) → IsOnItsWay start told (record copy { board = now; job = Some j })
-begins_job copy start told terms j now met well empty new same copying is =
+pub begins_job : (copy : Seen) (start told : Option (List wire.Call)) (terms : Terms) (j : job.Seen) (now : board.Seen) → HasMet copy start told terms → copy.board.error ≡ None → now.rows ≡ [] → now.begun ≡ 0 → now.how ≡ terms.how → j.terms ≡ terms → j.phase ≡ Copying →
+    ((way : Way) (b : board.Seen) → way.size ≡ Some terms.size → b.how ≡ terms.how → way.how ≡ terms.how → way.sides ≡ terms.sides → way.slices ≡ [] → way.asked ≡ None → job.IsJob j way b) → IsOnItsWay start told (record copy { board = now; job = Some j })
+begins_job copy start told terms j now met well empty new writes same copying is =
     let way = beginning copy (Some terms.size) terms.how terms.sides in
     record {
       stand = met.stand;
@@ -211,8 +211,8 @@ begins_job copy start told terms j now met well empty new same copying is =
       way = way;
       from = refl;
       to = refl;
-      skip = ap (λ (t : Terms). t.how.skip) same ∙ met.skip;
-      is = is way now refl refl refl refl refl;
+      wished = subst (λ (t : Terms). IsWished copy.options t.how) (sym same) met.wished;
+      is = is way now refl writes refl refl refl refl;
       on = told_as start told
           (λ calls on. subst (λ (p : Bool). IsUnderWay p way now calls copy.held) (sym (ap job.is_parting copying)) (settled way terms.how copy.board now calls copy.held refl refl met.blank.rows well empty new on))
           met.on;

@@ -7,7 +7,7 @@ use Rattle.lnbd_handle.specs.Issues.{read_of}
 use Rattle.lnbd_history.specs.Commands.{Command}
 use Rattle.lnbd_history.specs.Events.{Issue}
 use Rattle.lnbd_plan.specs.declared.grid.Slice.{Slice}
-use Rattle.lnbd_poll.specs.declared.held.Held.{Held}
+use Rattle.lnbd_poll.specs.Held.{Held}
 use Rattle.lnbd_board.specs.declared.ask.Ask.{Ask}
 use Rattle.lnbd_board.specs.declared.ask.Ask.TheVariants as ask
 use Rattle.lnbd_board.specs.declared.ask.Change.{Change}
@@ -21,9 +21,8 @@ use Rattle.lnbd_board.specs.declared.ticket.Ticket.TheVariants as ticket
 use Rattle.lnbd_board.specs.Asks as asks
 use Rattle.lnbd_board.specs.Board.{AsksOn, EndsRow, IsNext, begun_with, looked_at}
 use Rattle.lnbd_board.specs.Files as board
-use Rattle.lnbd_tracks.specs.Laws.{asked_by}
 use Rattle.lnbd_tracks.specs.Mapping.{ToldAlike, asks_extents}
-use Rattle.lnbd_course.specs.Laws.{AsksSource, AsksDestination}
+use Rattle.lnbd_course.specs.Laws.{AsksDestination}
 use Rattle.lnbd_course.specs.Orders.{command_of}
 use Rattle.lnbd_course.specs.Taken.{without_buffer}
 use Rattle.lnbd_course.proofs.Orders.{beginning_asks, going_asks, over_asks_nothing}
@@ -49,7 +48,7 @@ module _ {X Y : Type 0} (r : Result X Y) (sides : Sides) (index : ℕ) (old new 
   pub asked_to_read : (bytes buf : List ℕ) (offset n : ℕ) → is_source sides index ≡ true → length bytes ≡ length buf → OnOk r (IsAsked index (read_of bytes offset (ticket.Slice n) 0) old new) →
       OnOk r (IsAskedToRead sides n offset (length buf) old new)
   asked_to_read bytes buf offset n side count asked =
-      let of : IsAsked index (read_of bytes offset (ticket.Slice n) 0) old new → IsAskedToRead sides n offset (length buf) old new = λ a. record { bytes = bytes; count_ = count; asked = record { index = index; side = side; asked = a } } in
+      let of : IsAsked index (read_of bytes offset (ticket.Slice n) 0) old new → IsAskedToRead sides n offset (length buf) old new = λ a. record { bytes = bytes; many = count; asked = record { index = index; side = side; asked = a } } in
       on_ok_weaker r of asked
 
 -- told no more of extents
@@ -93,7 +92,7 @@ module _ (how : How) (sides : Sides) where
       asks.Begins how slice old.begun one old.rows new.rows → IsAskedFirst sides old.begun one held held' → Keeps how sides (slice ∷ []) old new held held'
   first_keeps slice (ask.Read offset buf) old new held held' begun error alike begins asked =
       source_keeps how sides (slice ∷ []) (read_of asked.bytes offset (ticket.Slice old.begun) 0) old new held held' begun refl alike
-      (λ slices count. beginning_asks how slice old.begun (ask.Read offset buf) slices old new count (λ none. sym error ∙ none) begins asked.bytes asked.count_) asked.asked
+      (λ slices count. beginning_asks how slice old.begun (ask.Read offset buf) slices old new count (λ none. sym error ∙ none) begins asked.bytes asked.many) asked.asked
   first_keeps slice (ask.Change one) old new held held' begun error alike begins asked =
       destination_keeps how sides (slice ∷ []) (command_of old.begun one) old new held held' begun (change_tells_none old.begun one) alike
       (λ slices count. beginning_asks how slice old.begun (ask.Change one) slices old new count (λ none. sym error ∙ none) begins) asked

@@ -2,7 +2,6 @@
 use Rattle.std.proofs.Common.{◌≡◌, ◌≢◌, ◌≤◌, ◌⊎◌, inl, inr, ℕ, zero, suc, ◌+◌, Bool, true, false, ◌||◌, if◌then◌else◌, arith, List, [], ◌∷◌, ◌++◌, length, Option, Some, None, slice_get, refl, ap, sym, subst, ◌∙◌}
 use Rattle.std.proofs.lemmas.Bool.{eq-eqb, false≢true, ne_eqb}
 use Rattle.lnbd_model.specs.declared.target.Place.{Place}
-use Rattle.lnbd_model.specs.declared.target.Target.{Target}
 use Rattle.lnbd_records.specs.Limits.{max_text}
 use Rattle.lnbd_history.specs.Events.{Context, Event, Extended, History, Name, Set, Start, Structured}
 use Rattle.lnbd_link.specs.Call as wire
@@ -13,9 +12,8 @@ use Rattle.lnbd_machine.specs.Machine.{Machine}
 use Rattle.lnbd_standing.specs.Standing.{StandsFor}
 use Rattle.lnbd_asked.specs.Driven.{Spells, is_inward}
 use Rattle.lnbd_asked.specs.Exports.{name_set}
-use Rattle.lnbd_poll.specs.declared.held.Held.{Held}
 use Rattle.lnbd_poll.specs.Alone.{AreApart}
-use Rattle.lnbd_poll.specs.Held.{AreAt}
+use Rattle.lnbd_poll.specs.Held.{Held, AreAt}
 use Rattle.lnbd_poll.specs.Seen.{Seen}
 use Rattle.lnbd_handle.specs.Histories.{max_unretired}
 use Rattle.lnbd_drives.specs.Driving.{happened, sets_opt_mode, with_event}

@@ -1,31 +1,40 @@
 -- What stands after each step of a turn, and that a copy which has parted from all its connections has copied.
-use Rattle.std.proofs.Common.{◌≡◌, ◌≢◌, ◌⊎◌, inl, inr, ℕ, ◌+◌, ◌<◌, Bool, true, false, not, List, [], ◌∷◌, ◌++◌, Option, Some, None, if◌then◌else◌, refl, ap, sym, subst, ◌∙◌}
+use Rattle.std.proofs.Common.{◌≡◌, ◌≢◌, ◌⊎◌, inl, inr, ℕ, Bool, true, false, not, List, [], ◌∷◌, ◌++◌, Option, Some, None, if◌then◌else◌, refl, ap, sym, subst, ◌∙◌, arith}
 use Rattle.std.proofs.lemmas.Bool.{false≢true}
 use Rattle.std.proofs.lemmas.List.{append-nil}
 use Rattle.lnbd_model.specs.declared.target.Place.{Place}
+use Rattle.lnbd_handle.specs.Histories.{max_unretired}
 use Rattle.lnbd_link.specs.Call as wire
-use Rattle.lnbd_poll.specs.Held.{AreAt}
+use Rattle.lnbd_link.specs.Part.{Grows}
+use Rattle.lnbd_poll.specs.Held.{Held, AreAt}
 use Rattle.lnbd_poll.specs.Seen as poll
+use Rattle.lnbd_plan.proofs.OnceLaws.{all_planned_once}
+use Rattle.lnbd_plan.specs.Laws.{IsPlannedOnce, told_by, windows_slices}
 use Rattle.lnbd_plan.specs.declared.grid.Slice.{Slice}
+use Rattle.lnbd_plan.specs.declared.summary.Summary.{Summary}
 use Rattle.lnbd_board.specs.declared.how.How.{How}
-use Rattle.lnbd_poll.specs.declared.held.Held.{Held}
 use Rattle.lnbd_board.specs.declared.ticket.Ticket.{Ticket}
 use Rattle.lnbd_board.specs.Files as board
+use Rattle.lnbd_course.specs.Asks.{GrewBy, HasAskedOnce, WereDone}
 use Rattle.lnbd_course.specs.Between.{Between}
 use Rattle.lnbd_course.specs.Copied.{Copied, Copies}
 use Rattle.lnbd_course.specs.Course.{IsPlannedWhole}
+use Rattle.lnbd_course.proofs.Holding.{take_drop}
+use Rattle.lnbd_course.proofs.Once.{ended_are_done, ended_asks_once}
+use Rattle.lnbd_course.proofs.Placing.{taking_keeps_between}
 use Rattle.lnbd_course.proofs.Placed.{ended_copies, links_are_of_sides}
 use Rattle.lnbd_course.proofs.Telling.{known_was_told, sides_are_of_source}
 use Rattle.lnbd_copy.specs.declared.job.Phase.{Phase}
 use Rattle.lnbd_copy.specs.declared.job.Phase.TheVariants.{Copying, Flushing, Parting}
 use Rattle.lnbd_copy.specs.declared.terms.Terms.{Terms}
-use Rattle.lnbd_copy.specs.Copier.{HasTurned, IsDone, IsOnItsWay, Seen}
+use Rattle.lnbd_copy.specs.Agreed.{IsWished}
+use Rattle.lnbd_copy.specs.Copier.{HasJob, HasTurned, IsDone, IsOnItsWay, Seen}
 use Rattle.lnbd_copy.specs.declared.copier.Progress.{Progress}
-use Rattle.lnbd_copy.specs.declared.copier.Progress.TheVariants.{Moved, Still}
+use Rattle.lnbd_copy.specs.declared.copier.Progress.TheVariants.{Finished, Moved, Still}
 use Rattle.lnbd_copy.specs.Job as job
 use Rattle.lnbd_copy.specs.Leaving.{Leaves}
 use Rattle.lnbd_copy.specs.Windows as windows
-use Rattle.lnbd_copy.specs.Way.{Filed, Goes, IsLeaving, IsOn, IsUnderWay, Stand, Stands, Told, Way}
+use Rattle.lnbd_copy.specs.Way.{Filed, Goes, IsLeaving, IsOn, IsUnderWay, Stands, Told, Way}
 use Rattle.lnbd_copy.proofs.CopierLemmas.{told_as}
 use Rattle.lnbd_copy.proofs.PartLemmas.{on_leaving}
 
@@ -37,7 +46,9 @@ job_filed : (j : job.Seen) (way : Way) (now now' : board.Seen) → Filed now now
 job_filed j way now now' filed is = record {
   size = is.size;
   how = is.how;
+  writes = filed.how ∙ is.writes;
   sides = is.sides;
+  ends = is.ends;
   zeros = is.zeros;
   planned = is.planned;
   asked = is.asked;
@@ -64,7 +75,7 @@ module _ (copy : Seen) (start : Option (List wire.Call)) where
     way = on.way;
     from = on.from;
     to = on.to;
-    skip = on.skip;
+    wished = on.wished;
     is = job_filed on.job on.way copy.board now (goes.filed on.stand) on.is;
     on = goes.on (job.is_parting on.job.phase) on.way start on.stand on.on;
   }
@@ -82,7 +93,7 @@ module _ (copy : Seen) (start : Option (List wire.Call)) where
         way = acted.way';
         from = acted.one.from ∙ on.from;
         to = acted.one.to ∙ on.to;
-        skip = ap (λ (t : Terms). t.how.skip) terms ∙ ap (λ (x : job.Seen). x.terms.how.skip) (sym same) ∙ on.skip;
+        wished = subst (λ (t : Terms). IsWished copy.options t.how) (ap (λ (x : job.Seen). x.terms) same ∙ sym terms) on.wished;
         is = acted.job';
         on = told_as start told
             (λ calls is. from_on (job.is_parting j'.phase) acted.way' now calls held (acted.on calls (subst (λ (b : Bool). IsUnderWay b on.way copy.board calls copy.held) (ap (λ (x : job.Seen). job.is_parting x.phase) same ∙ going) is)))
@@ -103,7 +114,7 @@ module _ (copy : Seen) (start : Option (List wire.Call)) where
         way = on.way;
         from = on.from;
         to = on.to;
-        skip = on.skip;
+        wished = on.wished;
         is = job_filed on.job on.way copy.board now leaves.filed on.is;
         on = told_as start b (λ calls is. subst (λ (p : Bool). IsUnderWay p on.way now calls held) (sym parting) is)
             (leaves.on on.way start (on.is.asked ∙ ap (λ (b : Bool). if b then windows.wanted on.job.windows else None) over.heard) over.rows (told_as start a (λ calls is. subst (λ (p : Bool). IsUnderWay p on.way copy.board calls copy.held) parting is) on.on));
@@ -139,6 +150,9 @@ moved_on start told copy did count is turned = subst (λ (p : Progress). HasTurn
 
 pub still_on : (start told : Option (List wire.Call)) (copy : Seen) (did : Progress) → did ≡ Still → HasTurned start told copy did → IsOnItsWay start told copy
 still_on start told copy did is turned = subst (λ (p : Progress). HasTurned start told copy p) is turned
+
+pub finished_on : (start told : Option (List wire.Call)) (copy : Seen) (did : Progress) (summary : Summary) → did ≡ Finished summary → HasTurned start told copy did → IsDone start told copy
+finished_on start told copy did summary is turned = subst (λ (p : Progress). HasTurned start told copy p) is turned
 
 abbrev pub with_all : Seen → Seen → Seen
 with_all copy now = record copy { start = now.start; held = now.held; board = now.board; job = now.job }
@@ -186,14 +200,71 @@ planned_whole j way now calls is over has s two =
       left_out = λ none. ap (λ (h : How). h.skip) is.how ∙ not_false j.terms.how.skip (sym is.zeros ∙ none);
     }
 
+-- What is under way is settled.
+
+pub has_job : (start told : Option (List wire.Call)) (copy : Seen) → IsOnItsWay start told copy → HasJob copy
+has_job start told copy on = record { job = on.job; there = on.there; writes = on.is.writes }
+
+pub job_writes : (copy : Seen) (j : job.Seen) → HasJob copy → copy.job ≡ Some j → copy.board.how ≡ j.terms.how
+job_writes copy j has there = has.writes ∙ ap (λ (x : job.Seen). x.terms.how) (some_same has.job j (sym has.there ∙ there))
+
+-- What was asked so far.
+
+-- With all handles taken out what they did stands.
+all_taken : (from to : Place) (size : Option ℕ) (how : How) (has : ℕ → Bool) (slices : List Slice) (now : board.Seen) (calls : List wire.Call) (held : List (Held Ticket)) (seens : List (poll.Seen Ticket)) → AreAt held seens →
+    Between from to size how has slices now calls seens → Between from to size how has slices now calls []
+all_taken from to size how has slices now calls held [] at b = b
+all_taken from to size how has slices now calls [] (seen ∷ others) at b = absurd at
+all_taken from to size how has slices now calls (one ∷ more) (seen ∷ others) at b =
+    all_taken from to size how has slices now calls more others at.1
+    (subst (λ (l : List (poll.Seen Ticket)). Between from to size how has slices now calls l) (sym (take_drop 0 (seen ∷ others)))
+    (taking_keeps_between from to size how has slices now calls (seen ∷ others) 0 seen max_unretired one.handle b refl at.0.stands))
+
+-- The slices that were begun, and those still to come, are planned once.
+planned_once : (j : job.Seen) (way : Way) (now : board.Seen) → (is : job.IsJob j way now) → (p : ℕ) → IsPlannedOnce j.windows.plan.cells (told_by 0 is.planned.parts) 0 j.windows.plan.end p (way.slices ++ j.windows.plan.slices)
+planned_once j way now is p =
+    subst (λ (l : List Slice). IsPlannedOnce j.windows.plan.cells (told_by 0 is.planned.parts) 0 j.windows.plan.end p l) (sym is.planned.are)
+    (subst (λ (n : ℕ). IsPlannedOnce j.windows.plan.cells (told_by 0 is.planned.parts) 0 n p (windows_slices j.windows.plan.cells 0 is.planned.parts)) is.planned.end (all_planned_once j.windows.plan.cells 0 is.planned.parts p))
+
+under_way_asks : (j : job.Seen) (way : Way) (now : board.Seen) (parting : Bool) (calls : List wire.Call) (held : List (Held Ticket)) → job.IsJob j way now → now.error ≡ None → IsUnderWay parting way now calls held → way.from ≢ way.to →
+    HasAskedOnce way.how.allocated way.from way.to calls
+under_way_asks j way now parting calls held is well on two =
+    let between = subst (λ (o : Option ℕ). Between way.from way.to o way.how on.has way.slices now calls on.seens) is.size on.stands.between in
+    let within = is.planned.within in
+    let ends = is.ends in
+    ended_asks_once way.from way.to j.terms.size way.how on.has way.slices j.windows.plan.slices now calls j.windows.plan.cells (told_by 0 is.planned.parts) j.windows.plan.end
+    (all_taken way.from way.to (Some j.terms.size) way.how on.has way.slices now calls held on.seens on.at between) well (planned_once j way now is) (omega (arith, within, ends)) two
+
+pub way_asks : (copy : Seen) (start told : Option (List wire.Call)) → copy.board.error ≡ None → IsOnItsWay start told copy → copy.from ≢ copy.to → Told start told (HasAskedOnce copy.options.allocated copy.from copy.to)
+way_asks copy start told well on two =
+    let apart : on.way.from ≢ on.way.to = λ e. two (sym on.from ∙ e ∙ on.to) in
+    let allocated : on.way.how.allocated ≡ copy.options.allocated = ap (λ (h : How). h.allocated) on.is.how ∙ on.wished.allocated in
+    told_as start told
+    (λ calls is. subst (λ (b : Bool). HasAskedOnce b copy.from copy.to calls) allocated
+    (subst (λ (t : Place). HasAskedOnce on.way.how.allocated copy.from t calls) on.to (subst (λ (f : Place). HasAskedOnce on.way.how.allocated f on.way.to calls) on.from
+    (under_way_asks on.job on.way copy.board (job.is_parting on.job.phase) calls copy.held on.is well is apart))))
+    on.on
+
 pub finished : (copy : Seen) (start told : Option (List wire.Call)) (j : job.Seen) → copy.job ≡ Some j → job.is_parting j.phase ≡ true → copy.held ≡ [] → copy.board.error ≡ None → IsOnItsWay start told copy → IsDone start told copy
 finished copy start told j there parts none well on =
     let same : on.job ≡ j = some_same on.job j (sym on.there ∙ there) in
     let parting : job.is_parting on.job.phase ≡ true = ap (λ (x : job.Seen). job.is_parting x.phase) same ∙ parts in
     let over = on.is.over (past_copying on.job.phase parting) in
-    let skip : on.way.how.skip ≡ copy.options.destination_is_zero = ap (λ (h : How). h.skip) on.is.how ∙ on.skip in
+    let skip : on.way.how.skip ≡ copy.options.destination_is_zero = ap (λ (h : How). h.skip) on.is.how ∙ on.wished.skip in
     record {
       parted = none;
+      asked = λ two. way_asks copy start told well on two;
+      done = λ two.
+          let apart : on.way.from ≢ on.way.to = λ e. two (sym on.from ∙ e ∙ on.to) in
+          told_as start told
+          (λ calls is.
+          let leaving : IsLeaving on.way copy.board calls [] =
+          subst (λ (h : List (Held Ticket)). IsLeaving on.way copy.board calls h) none (subst (λ (p : Bool). IsUnderWay p on.way copy.board calls copy.held) parting is) in
+          let s = stands_alone on.way copy.board calls leaving in
+          subst (λ (t : Place). WereDone copy.from t calls) on.to
+          (subst (λ (f : Place). WereDone f on.way.to calls) on.from
+          (ended_are_done on.way.from on.way.to on.job.terms.size on.way.how leaving.has on.way.slices copy.board calls (between_sized on.way on.job.terms.size leaving.has copy.board calls on.is.size s) over.rows well apart)))
+          on.on;
       copied = λ two.
           let apart : on.way.from ≢ on.way.to = λ e. two (sym on.from ∙ e ∙ on.to) in
           told_as start told
@@ -219,16 +290,28 @@ same_rest (call ∷ one) two three e = same_rest one two three (cc e)
 same_calls : (one two : List wire.Call) → Some one ≡ Some two → one ≡ two
 same_calls one two e = cc
 
-pub told_copies : (from to : Place) (blank : Bool) (a b : Option (List wire.Call)) → Told a b (Copied from to blank) → Copies from to blank a b
-told_copies from to blank a b told = λ all part is grown.
+told_part : {Is : List wire.Call → Type 0} (a b : Option (List wire.Call)) → Told a b Is → (all part : List wire.Call) → b ≡ Some all → Grows a b part → Is part
+told_part {Is} a b told all part is grown =
     let since = told.since all is in
     let grew = grown all is in
     let same : since.before ≡ grew.0 = same_calls since.before grew.0 (sym since.was ∙ grew.1) in
-    subst (Copied from to blank) (same_rest since.before since.calls part (sym since.now ∙ grew.2 ∙ ap (λ (l : List wire.Call). l ++ part) (sym same))) since.is
+    subst Is (same_rest since.before since.calls part (sym since.now ∙ grew.2 ∙ ap (λ (l : List wire.Call). l ++ part) (sym same))) since.is
 
 -- A copy that is done has copied what it was to copy, whatever it held meanwhile.
 pub done_copies : (copy new : Seen) (a b c : Option (List wire.Call)) → new ≡ record copy { start = new.start; held = new.held; board = new.board; job = new.job } → c ≡ b → copy.from ≢ copy.to → IsDone a b new →
     Copies copy.from copy.to copy.options.destination_is_zero a c
 done_copies copy new a b c kept same two done =
-    let so : IsDone a b (record copy { start = new.start; held = new.held; board = new.board; job = new.job }) = subst (λ (s : Seen). IsDone a b s) kept done in
-    subst (λ (t : Option (List wire.Call)). Copies copy.from copy.to copy.options.destination_is_zero a t) (sym same) (told_copies copy.from copy.to copy.options.destination_is_zero a b (so.copied two))
+    let so = subst (λ (s : Seen). IsDone a b s) kept done in
+    subst (λ (t : Option (List wire.Call)). Copies copy.from copy.to copy.options.destination_is_zero a t) (sym same) (told_part a b (so.copied two))
+
+-- It asked nothing twice.
+pub done_asks : (copy new : Seen) (a b c : Option (List wire.Call)) → new ≡ record copy { start = new.start; held = new.held; board = new.board; job = new.job } → c ≡ b → copy.from ≢ copy.to → IsDone a b new → GrewBy (HasAskedOnce copy.options.allocated copy.from copy.to) a c
+done_asks copy new a b c kept same two done =
+    let so = subst (λ (s : Seen). IsDone a b s) kept done in
+    subst (λ (t : Option (List wire.Call)). GrewBy (HasAskedOnce copy.options.allocated copy.from copy.to) a t) (sym same) (told_part a b (so.asked two))
+
+-- All that it asked was done.
+pub done_whole : (copy new : Seen) (a b c : Option (List wire.Call)) → new ≡ record copy { start = new.start; held = new.held; board = new.board; job = new.job } → c ≡ b → copy.from ≢ copy.to → IsDone a b new → GrewBy (WereDone copy.from copy.to) a c
+done_whole copy new a b c kept same two done =
+    let so = subst (λ (s : Seen). IsDone a b s) kept done in
+    subst (λ (t : Option (List wire.Call)). GrewBy (WereDone copy.from copy.to) a t) (sym same) (told_part a b (so.done two))

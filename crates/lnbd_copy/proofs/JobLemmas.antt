@@ -1,5 +1,5 @@
 -- What a job does keeps a copy on its way: its slices go on and begin, extents are asked for and heard, and in the end all connections part.
-use Rattle.std.proofs.Common.{◌≡◌, ◌≢◌, ◌⊎◌, inl, inr, ◌&&◌, ◌||◌, ℕ, ◌+◌, Bool, true, false, not, List, [], ◌∷◌, ◌++◌, length, Option, Some, None, if◌then◌else◌, refl, ap, sym, subst, ◌∙◌, arith}
+use Rattle.std.proofs.Common.{◌≡◌, ◌⊎◌, inl, inr, ◌&&◌, ◌||◌, ℕ, Bool, true, false, not, List, [], ◌++◌, Option, Some, None, if◌then◌else◌, refl, ap, sym, subst, ◌∙◌, arith}
 use Rattle.std.proofs.lemmas.Bool.{false≢true}
 use Rattle.std.proofs.lemmas.List.{append-nil, append_assoc}
 use Rattle.lnbd_link.specs.Call as wire
@@ -8,17 +8,16 @@ use Rattle.lnbd_history.specs.Commands.{Command}
 use Rattle.lnbd_history.specs.Events.{Issue}
 use Rattle.lnbd_extents.specs.Positions.{within}
 use Rattle.lnbd_asked.specs.Transcript.{zero_in}
-use Rattle.lnbd_poll.specs.declared.held.Held.{Held}
+use Rattle.lnbd_poll.specs.Held.{Held}
 use Rattle.lnbd_poll.specs.Seen as poll
 use Rattle.lnbd_drives.specs.Driving.{with_event}
 use Rattle.lnbd_plan.specs.declared.cells.Cells.{Cells}
 use Rattle.lnbd_plan.specs.declared.grid.Slice.{Slice}
 use Rattle.lnbd_board.specs.declared.how.How.{How}
-use Rattle.lnbd_board.specs.declared.row.Row.{Row}
 use Rattle.lnbd_board.specs.declared.ticket.Ticket.{Ticket}
 use Rattle.lnbd_board.specs.declared.ticket.Ticket.TheVariants as ticket
 use Rattle.lnbd_board.specs.Files as board
-use Rattle.lnbd_board.specs.Requests.{Request, asking}
+use Rattle.lnbd_board.specs.Requests.{asking}
 use Rattle.lnbd_board.specs.Rows as rows
 use Rattle.lnbd_board.proofs.Turning.{extents_kept, flush_kept}
 use Rattle.lnbd_course.specs.Laws.{AsksSource, AsksDestination}
@@ -29,8 +28,8 @@ use Rattle.lnbd_copy.specs.declared.job.Phase.{Phase}
 use Rattle.lnbd_copy.specs.declared.job.Phase.TheVariants.{Copying, Flushing}
 use Rattle.lnbd_copy.specs.declared.sides.Sides.{Sides}
 use Rattle.lnbd_copy.specs.Asked.{IsAsked}
-use Rattle.lnbd_copy.specs.Dealing.{Begins, IsAskedOf}
-use Rattle.lnbd_copy.specs.Job.{Acts, AreOfOne, IsFurther, IsJob, IsOver, Seen, with_asked, with_heard}
+use Rattle.lnbd_copy.specs.Dealing.{Begins}
+use Rattle.lnbd_copy.specs.Job.{Acts, AreOfOne, IsJob, IsOver, Seen, with_asked, with_heard}
 use Rattle.lnbd_copy.specs.Way.{IsOn, Keeps, Stand, Stands, Way, with_slices}
 use Rattle.lnbd_copy.specs.Windows as windows
 use Rattle.lnbd_copy.proofs.StepLemmas.{extents_ask_stand, hearing_stands, unheard_stands}
@@ -117,14 +116,14 @@ asked_on way now now' calls held held' offset size none is asked on =
 phases_differ : Flushing ≡ Copying → ⊥
 phases_differ e = cc
 
-pub acts_keeps : (job : Seen) (how : How) (sides : Sides) (now now' : board.Seen) (held held' : List (Held Ticket)) → how ≡ job.terms.how → sides ≡ job.terms.sides → job.phase ≡ Copying → Keeps how sides [] now now' held held' →
+pub acts_keeps : (job : Seen) (how : How) (sides : Sides) (now now' : board.Seen) (held held' : List (Held Ticket)) → how ≡ job.terms.how → sides ≡ job.terms.sides → job.phase ≡ Copying → now'.how ≡ now.how → Keeps how sides [] now now' held held' →
     Acts job job now now' held held'
-acts_keeps job how sides now now' held held' h s copying keeps = record {
+acts_keeps job how sides now now' held held' h s copying writes keeps = record {
   stand = keeps.stand;
   on = λ way had. record {
     way' = way;
     one = one_same way;
-    job' = record { size = had.size; how = had.how; sides = had.sides; zeros = had.zeros; planned = had.planned; asked = had.asked; over = λ other. absurd (other copying) };
+    job' = record { size = had.size; how = had.how; writes = writes ∙ had.writes; sides = had.sides; ends = had.ends; zeros = had.zeros; planned = had.planned; asked = had.asked; over = λ other. absurd (other copying) };
     on = λ calls on. none_on how sides now now' held held' keeps way calls (had.how ∙ sym h) (had.sides ∙ sym s) on;
   };
 }
@@ -132,10 +131,10 @@ acts_keeps job how sides now now' held held' h s copying keeps = record {
 -- Extents are heard, and asked for.
 
 pub acts_heard : (job job' : Seen) (windows' : windows.Seen) (now : board.Seen) (held : List (Held Ticket)) → job.phase ≡ Copying → job.asked ≡ true → now.mapped ≡ true → job' ≡ record job { windows = windows'; asked = false } →
-    windows'.plan.cells ≡ job.windows.plan.cells →
+    windows'.plan.cells ≡ job.windows.plan.cells → windows'.size ≡ job.windows.size →
     ((blank : ℕ → Bool) (slices : List Slice) → windows.IsPlanned job.windows blank slices → windows.IsPlanned windows' (λ p. blank p || windows.zero_heard (windows.wanted job.windows) now.told p) slices) →
     Acts job job' now now held held
-acts_heard job job' windows' now held copying asked mapped is cells hears = subst (λ (j : Seen). Acts job j now now held held) (sym is) (record {
+acts_heard job job' windows' now held copying asked mapped is cells size hears = subst (λ (j : Seen). Acts job j now now held held) (sym is) (record {
   stand = λ s. s;
   on = λ way had.
       let range : way.asked ≡ windows.wanted job.windows = had.asked ∙ ap (λ (b : Bool). if b then windows.wanted job.windows else None) asked in
@@ -145,7 +144,9 @@ acts_heard job job' windows' now held copying asked mapped is cells hears = subs
         job' = record {
           size = had.size;
           how = had.how;
+          writes = had.writes;
           sides = had.sides;
+          ends = size ∙ had.ends;
           zeros = ap (λ (c : Cells). c.zeros) cells ∙ had.zeros;
           planned = subst (λ (r : Option (ℕ × ℕ)). windows.IsPlanned windows' (λ p. way.zero p || windows.zero_heard r now.told p) way.slices) (sym range) (hears way.zero way.slices had.planned);
           asked = refl;
@@ -167,7 +168,7 @@ acts_asked job job' now now' held held' offset size copying none range is forget
       record {
         way' = with_asked (Some (offset, size)) way;
         one = record { from = refl; to = refl; how = refl; sides = refl };
-        job' = record { size = had.size; how = had.how; sides = had.sides; zeros = had.zeros; planned = had.planned; asked = sym range; over = λ other. absurd (other copying) };
+        job' = record { size = had.size; how = had.how; writes = ap (λ (b : board.Seen). b.how) forgets ∙ had.writes; sides = had.sides; ends = had.ends; zeros = had.zeros; planned = had.planned; asked = sym range; over = λ other. absurd (other copying) };
         on = λ calls on. asked_on way now now' calls held held' offset size blank forgets asked on;
       };
 })
@@ -183,6 +184,7 @@ handed_planned plan plan' blank slices more handed others planned = subst (λ (w
   parts = planned.parts;
   are = append_assoc slices more plan'.plan.slices ∙ ap (λ (l : List Slice). slices ++ l) (sym handed) ∙ planned.are;
   end = planned.end;
+  within = planned.within;
   told = planned.told;
   under_way = planned.under_way;
 })
@@ -197,7 +199,9 @@ acts_begun job job' windows' how sides now now' held held' copying h s is begins
     job' = record {
       size = had.size;
       how = had.how;
+      writes = ap (λ (b : board.Seen). b.how) begins.begun ∙ had.writes;
       sides = had.sides;
+      ends = ap (λ (w : windows.Seen). w.size) begins.others ∙ had.ends;
       zeros = ap (λ (w : windows.Seen). w.plan.cells.zeros) begins.others ∙ had.zeros;
       planned = handed_planned job.windows windows' way.zero way.slices begins.more begins.handed begins.others had.planned;
       asked = had.asked ∙ ap (λ (w : windows.Seen). if job.asked then windows.wanted w else None) (sym begins.others);
@@ -210,9 +214,9 @@ acts_begun job job' windows' how sides now now' held held' copying h s is begins
 -- The end.
 
 -- With all slices over the copy is at its end, whatever is still asked.
-acts_over : (job job' : Seen) (phase' : Phase) (now now' : board.Seen) (held held' : List (Held Ticket)) → job' ≡ record job { phase = phase' } → now'.rows ≡ now.rows → ((way : Way) → IsJob job way now → IsOver job now) →
+acts_over : (job job' : Seen) (phase' : Phase) (now now' : board.Seen) (held held' : List (Held Ticket)) → job' ≡ record job { phase = phase' } → now'.rows ≡ now.rows → now'.how ≡ now.how → ((way : Way) → IsJob job way now → IsOver job now) →
     Keeps job.terms.how job.terms.sides [] now now' held held' → Acts job job' now now' held held'
-acts_over job job' phase' now now' held held' is rows over keeps = subst (λ (j : Seen). Acts job j now now' held held') (sym is) (record {
+acts_over job job' phase' now now' held held' is rows writes over keeps = subst (λ (j : Seen). Acts job j now now' held held') (sym is) (record {
   stand = keeps.stand;
   on = λ way had. record {
     way' = way;
@@ -220,7 +224,9 @@ acts_over job job' phase' now now' held held' is rows over keeps = subst (λ (j 
     job' = record {
       size = had.size;
       how = had.how;
+      writes = writes ∙ had.writes;
       sides = had.sides;
+      ends = had.ends;
       zeros = had.zeros;
       planned = had.planned;
       asked = had.asked;
@@ -233,11 +239,11 @@ acts_over job job' phase' now now' held held' is rows over keeps = subst (λ (j 
 -- All connections are asked to part.
 pub acts_parting : (job job' : Seen) (phase' : Phase) (now : board.Seen) (held held' : List (Held Ticket)) → job' ≡ record job { phase = phase' } → IsOver job now →
     Keeps job.terms.how job.terms.sides [] now now held held' → Acts job job' now now held held'
-acts_parting job job' phase' now held held' is over keeps = acts_over job job' phase' now now held held' is refl (λ way had. over) keeps
+acts_parting job job' phase' now held held' is over keeps = acts_over job job' phase' now now held held' is refl refl (λ way had. over) keeps
 
 pub acts_flushed : (job job' : Seen) (phase' : Phase) (now : board.Seen) (held held' : List (Held Ticket)) → job' ≡ record job { phase = phase' } → job.phase ≡ Flushing →
     Keeps job.terms.how job.terms.sides [] now now held held' → Acts job job' now now held held'
-acts_flushed job job' phase' now held held' is flushing keeps = acts_over job job' phase' now now held held' is refl (λ way had. had.over (λ e. phases_differ (sym flushing ∙ e))) keeps
+acts_flushed job job' phase' now held held' is flushing keeps = acts_over job job' phase' now now held held' is refl refl (λ way had. had.over (λ e. phases_differ (sym flushing ∙ e))) keeps
 
 -- The destination's first connection is asked to flush.
 flush_asks : (how : How) (now now' : board.Seen) (slices : List Slice) → now' ≡ now → AsksDestination how (without_buffer (flush_of ticket.Flush 0)) slices (slices ++ []) now now'
@@ -256,31 +262,21 @@ pub acts_flushing : (job job' : Seen) (phase' : Phase) (now now' : board.Seen) (
     Acts job job' now now' held held'
 acts_flushing job job' phase' now now' held held' is over same asked =
     let begun : now'.begun ≡ now.begun = ap (λ (b : board.Seen). b.begun) same in
-    acts_over job job' phase' now now' held held' is (ap (λ (b : board.Seen). b.rows) same) (λ way had. over)
+    acts_over job job' phase' now now' held held' is (ap (λ (b : board.Seen). b.rows) same) (ap (λ (b : board.Seen). b.how) same) (λ way had. over)
     (destination_keeps job.terms.how job.terms.sides [] (flush_of ticket.Flush 0) now now' held held' (omega (arith, begun)) refl (record { told = ap (λ (b : board.Seen). b.told) same; mapped = ap (λ (b : board.Seen). b.mapped) same }) (λ slices count. flush_asks job.terms.how now now' slices same)
     (record { index = 1; side = refl; asked = asked }))
 
 -- A job begins.
-pub job_begins : (job : Seen) (way : Way) (now : board.Seen) → job.asked ≡ false → job.phase ≡ Copying → job.windows.plan.cells.zeros ≡ not job.terms.how.skip → ((blank : ℕ → Bool) → windows.IsPlanned job.windows blank []) →
-    way.size ≡ Some job.terms.size → way.how ≡ job.terms.how → way.sides ≡ job.terms.sides → way.slices ≡ [] → way.asked ≡ None → IsJob job way now
-job_begins job way now none copying zeros planned z h s blank asked = record {
+pub job_begins : (job : Seen) (way : Way) (now : board.Seen) → job.asked ≡ false → job.phase ≡ Copying → job.windows.plan.cells.zeros ≡ not job.terms.how.skip → job.windows.size ≡ job.terms.size → ((blank : ℕ → Bool) → windows.IsPlanned job.windows blank []) →
+    way.size ≡ Some job.terms.size → now.how ≡ job.terms.how → way.how ≡ job.terms.how → way.sides ≡ job.terms.sides → way.slices ≡ [] → way.asked ≡ None → IsJob job way now
+job_begins job way now none copying zeros ends planned z w h s blank asked = record {
   size = z;
   how = h;
+  writes = w;
   sides = s;
+  ends = ends;
   zeros = zeros;
   planned = subst (λ (l : List Slice). windows.IsPlanned job.windows way.zero l) (sym blank) (planned way.zero);
   asked = asked ∙ ap (λ (b : Bool). if b then windows.wanted job.windows else None) (sym none);
   over = λ other. absurd (other copying);
 }
-
--- Copies write alike whose terms are alike.
-how_of : (block : ℕ) (skip zeroes allocated : Bool) → How
-how_of block skip zeroes allocated = record { block = block; skip = skip; zeroes = zeroes; allocated = allocated }
-
-pub same_how : (one other : How) → one.block ≡ other.block → one.skip ≡ other.skip → one.zeroes ≡ other.zeroes → one.allocated ≡ other.allocated → one ≡ other
-unfolding how_of
-same_how one other b s z a =
-    subst (λ (x : ℕ). one ≡ how_of x other.skip other.zeroes other.allocated) b
-    (subst (λ (x : Bool). one ≡ how_of one.block x other.zeroes other.allocated) s
-    (subst (λ (x : Bool). one ≡ how_of one.block one.skip x other.allocated) z
-    (subst (λ (x : Bool). one ≡ how_of one.block one.skip one.zeroes x) a refl)))

@@ -10,8 +10,7 @@ use Rattle.lnbd_model.specs.declared.refusal.Why.{Why}
 use Rattle.lnbd_standing.specs.Standing.{StandsFor}
 use Rattle.lnbd_handle.specs.Histories.{AddsOnOk, ForEach, max_unretired}
 use Rattle.lnbd_handle.specs.Histories as histories
-use Rattle.lnbd_poll.specs.declared.held.Held.{Held}
-use Rattle.lnbd_poll.specs.Held.{AreAt}
+use Rattle.lnbd_poll.specs.Held.{Held, AreAt}
 use Rattle.lnbd_poll.specs.Lends.{with_handle}
 use Rattle.lnbd_poll.specs.Seen.{Seen}
 use Rattle.lnbd_drives.specs.Driving.{with_event}
@@ -23,7 +22,7 @@ use Rattle.lnbd_board.specs.Files as board
 use Rattle.lnbd_board.specs.Rows as rows
 use Rattle.lnbd_copy.specs.declared.sides.Sides.{Sides}
 use Rattle.lnbd_copy.specs.Leaving.{Leaves}
-use Rattle.lnbd_copy.specs.Way.{Filed, IsLeaving, IsOn, IsUnderWay, Keeps, Stand, Stands, Way}
+use Rattle.lnbd_copy.specs.Way.{Filed, IsLeaving, IsOn, Keeps, Stands, Way}
 use Rattle.lnbd_copy.proofs.FiledLemmas.{filed_none, filed_then}
 use Rattle.lnbd_copy.proofs.StepLemmas.{others_stand, taking_stands, unasked_moves_stand}
 use Rattle.lnbd_copy.proofs.TurnLemmas.{SameLinks, called, links_stay, none_some, placed_same, some_same, told_on}

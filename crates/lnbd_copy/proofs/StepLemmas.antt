@@ -1,5 +1,5 @@
 -- Each step of a copy keeps what its handles did: both what stands between two turns, and what was told as zero.
-use Rattle.std.proofs.Common.{◌≡◌, ◌⊎◌, ℕ, ◌+◌, ◌≤◌, Bool, true, false, List, [], ◌∷◌, ◌++◌, Option, Some, None, slice_get, take, drop, refl, sym, subst}
+use Rattle.std.proofs.Common.{◌≡◌, ◌⊎◌, ℕ, ◌+◌, Bool, true, false, List, [], ◌++◌, Option, Some, None, slice_get, take, drop, sym, subst}
 use Rattle.lnbd_callbacks.specs.Steps.{OneByOne}
 use Rattle.lnbd_link.specs.Call as wire
 use Rattle.lnbd_link.specs.Numbers.{is_given}
@@ -8,7 +8,7 @@ use Rattle.lnbd_history.specs.Events.{Event, Issue}
 use Rattle.lnbd_machine.specs.Machine.{Machine}
 use Rattle.lnbd_standing.specs.Standing.{StandsFor}
 use Rattle.lnbd_asked.specs.Driven.{Spells}
-use Rattle.lnbd_asked.specs.Exports.{WasTold, is_naming}
+use Rattle.lnbd_asked.specs.Exports.{is_naming}
 use Rattle.lnbd_poll.specs.Alone.{calls_on}
 use Rattle.lnbd_poll.specs.Seen.{Seen}
 use Rattle.lnbd_poll.specs.Turns.{Turns, Whole}
@@ -23,7 +23,7 @@ use Rattle.lnbd_tracks.specs.Mapping.{AsksRange, HoldsZero, ToldAlike, asks_exte
 use Rattle.lnbd_course.specs.Between.{Between, IsSetting}
 use Rattle.lnbd_course.specs.Told as course
 use Rattle.lnbd_course.specs.Laws.{AsksDestination, AsksSource}
-use Rattle.lnbd_course.proofs.Placing.{agreeing_settles, board_moves_keep_between, calls_keep_between, destination_asks_keep_between, nothing_is_between, others_keep_between, settling_keeps_between, source_asks_keep_between, taking_keeps_between, turns_keep_between}
+use Rattle.lnbd_course.proofs.Placing.{board_moves_keep_between, calls_keep_between, destination_asks_keep_between, nothing_is_between, others_keep_between, settling_keeps_between, source_asks_keep_between, taking_keeps_between, turns_keep_between}
 use Rattle.lnbd_course.proofs.Telling.{board_moves_tell, calls_tell, destination_asks_tell, extents_ask_tell, fewer_tell, hearing_tells, nothing_is_told, others_tell, settling_tells, source_asks_tell, taking_tells, turns_tell, unasked_moves_tell}
 use Rattle.lnbd_copy.specs.Way.{Stands, Way}
 

@@ -10,12 +10,11 @@ use Rattle.lnbd_link.specs.Call as wire
 use Rattle.lnbd_link.specs.Call.{ReadTold, Moved, Unready, Ended, ReadFault}
 use Rattle.lnbd_link.specs.Numbers.{is_given}
 use Rattle.lnbd_link.specs.Part.{Adds}
-use Rattle.lnbd_poll.specs.declared.held.Held.{Held}
 use Rattle.lnbd_poll.specs.declared.noticed.Noticed.{Noticed}
 use Rattle.lnbd_poll.specs.declared.noticed.Noticed.TheVariants as noticed
 use Rattle.lnbd_poll.specs.declared.noticed.Turn.{Turn}
 use Rattle.lnbd_poll.specs.Alone.{calls_on}
-use Rattle.lnbd_poll.specs.Held.{AreAt}
+use Rattle.lnbd_poll.specs.Held.{Held, AreAt}
 use Rattle.lnbd_poll.specs.Notices.{Arrives, Hears, ReadsIf, ReadsOn, is_reading}
 use Rattle.lnbd_poll.specs.Seen.{Follows, Seen}
 use Rattle.lnbd_poll.specs.Seen as poll

@@ -1,11 +1,11 @@
 -- What keeps a copy on its way: steps one after another, a board that goes on, and a command that a side is asked. What stands on the way is made anew
 -- here alone.
-use Rattle.std.proofs.Common.{◌≡◌, ℕ, zero, suc, ◌+◌, Bool, true, false, List, [], ◌∷◌, ◌++◌, length, Option, Some, None, slice_get, refl, ap, sym, subst, ◌∙◌, length-append}
+use Rattle.std.proofs.Common.{◌≡◌, ℕ, zero, suc, ◌+◌, Bool, true, false, List, [], ◌∷◌, ◌++◌, length, Some, None, slice_get, refl, ap, sym, subst, ◌∙◌, length-append}
 use Rattle.std.proofs.lemmas.List.{append-nil, append_assoc}
 use Rattle.lnbd_link.specs.Call as wire
 use Rattle.lnbd_history.specs.Commands.{Command}
 use Rattle.lnbd_history.specs.Events.{Event, Issue}
-use Rattle.lnbd_poll.specs.declared.held.Held.{Held}
+use Rattle.lnbd_poll.specs.Held.{Held}
 use Rattle.lnbd_poll.specs.Seen.{Seen}
 use Rattle.lnbd_drives.specs.Driving.{happened, with_event}
 use Rattle.lnbd_plan.specs.declared.grid.Slice.{Slice}

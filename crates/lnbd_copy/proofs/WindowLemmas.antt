@@ -40,8 +40,8 @@ told_behind start (v ∷ parts) w p =
 -- A window more is planned: so many positions, of which those that are held are zero.
 pub window_planned : (windows new : Seen) (blank : ℕ → Bool) (slices : List Slice) (start n : ℕ) (held : List (ℕ × ℕ)) → IsPlanned windows blank slices → windows.plan.end ≡ start →
     new.plan ≡ record windows.plan { end = start + n; slices = windows.plan.slices ++ window_slices windows.plan.cells (holds held) start n } →
-    ((p : ℕ) → holds held p ≡ true → blank p ≡ true) → ((p : ℕ) → holds new.zero p ≡ true → blank p ≡ true) → IsPlanned new blank slices
-window_planned windows new blank slices start n held planned begins is told under =
+    start + n ≤ new.size → ((p : ℕ) → holds held p ≡ true → blank p ≡ true) → ((p : ℕ) → holds new.zero p ≡ true → blank p ≡ true) → IsPlanned new blank slices
+window_planned windows new blank slices start n held planned begins is fits told under =
     let w : Window = record { count = n; told = holds held } in
     let at_end = planned.end ∙ begins in
     record {
@@ -52,17 +52,19 @@ window_planned windows new blank slices start n held planned begins is told unde
           ∙ ap (λ (e : ℕ). windows_slices windows.plan.cells 0 planned.parts ++ window_slices windows.plan.cells (holds held) e n) (sym at_end)
           ∙ sym (slices_behind windows.plan.cells 0 planned.parts w));
       end = end_behind 0 planned.parts w ∙ ap (λ (e : ℕ). e + n) at_end ∙ sym (ap (λ (p : Planned). p.end) is);
+      within = subst (λ (p : Planned). p.end ≤ new.size) (sym is) fits;
       told = λ p e. elim (told_behind 0 planned.parts w p e) [ inl k ↦ planned.told p k | inr k ↦ told p k ];
       under_way = under;
     }
 
 -- More is known to be zero.
-pub planned_more : (windows new : Seen) (blank more : ℕ → Bool) (slices : List Slice) → IsPlanned windows blank slices → new.plan ≡ windows.plan → ((p : ℕ) → blank p ≡ true → more p ≡ true) →
+pub planned_more : (windows new : Seen) (blank more : ℕ → Bool) (slices : List Slice) → IsPlanned windows blank slices → new.plan ≡ windows.plan → new.size ≡ windows.size → ((p : ℕ) → blank p ≡ true → more p ≡ true) →
     ((p : ℕ) → holds new.zero p ≡ true → more p ≡ true) → IsPlanned new more slices
-planned_more windows new blank more slices planned is known under = record {
+planned_more windows new blank more slices planned is size known under = record {
   parts = planned.parts;
   are = subst (λ (p : Planned). slices ++ p.slices ≡ windows_slices p.cells 0 planned.parts) (sym is) planned.are;
   end = planned.end ∙ sym (ap (λ (p : Planned). p.end) is);
+  within = let within = planned.within in let ends = ap (λ (p : Planned). p.end) is in omega (arith, within, ends, size);
   told = λ p e. known p (planned.told p e);
   under_way = under;
 }
@@ -272,16 +274,16 @@ module _ (windows : Seen) (start end : ℕ) (told list joined : List Extent) (no
   ]
 
   -- a part of the window was told
-  pub hear_partly : (new : Seen) → new.plan ≡ windows.plan → new.zero ≡ now → (blank : ℕ → Bool) (slices : List Slice) → IsPlanned windows blank slices → IsPlanned new (λ p. blank p || zero_heard (wanted windows) told p) slices
-  hear_partly new is held blank slices planned =
-      planned_more windows new blank (λ p. blank p || zero_heard (wanted windows) told p) slices planned is (λ p e. or_first (blank p) _ e)
+  pub hear_partly : (new : Seen) → new.plan ≡ windows.plan → new.size ≡ windows.size → new.zero ≡ now → (blank : ℕ → Bool) (slices : List Slice) → IsPlanned windows blank slices → IsPlanned new (λ p. blank p || zero_heard (wanted windows) told p) slices
+  hear_partly new is size held blank slices planned =
+      planned_more windows new blank (λ p. blank p || zero_heard (wanted windows) told p) slices planned is size (λ p e. or_first (blank p) _ e)
       (λ p e. heard_known blank planned.under_way p (subst (λ (r : List (ℕ × ℕ)). holds r p ≡ true) held e))
 
   -- all of it was, and it is planned
-  pub hear_wholly : (new : Seen) (n : ℕ) → new.plan ≡ record windows.plan { end = start + n; slices = windows.plan.slices ++ window_slices windows.plan.cells (holds now) start n } → new.zero ≡ [] →
+  pub hear_wholly : (new : Seen) (n : ℕ) → new.plan ≡ record windows.plan { end = start + n; slices = windows.plan.slices ++ window_slices windows.plan.cells (holds now) start n } → start + n ≤ new.size → new.zero ≡ [] →
       (blank : ℕ → Bool) (slices : List Slice) → IsPlanned windows blank slices → IsPlanned new (λ p. blank p || zero_heard (wanted windows) told p) slices
-  hear_wholly new n is none blank slices planned =
+  hear_wholly new n is fits none blank slices planned =
       let held : Seen = record windows { zero = now } in
-      let wider = hear_partly held refl refl blank slices planned in
-      window_planned held new (λ p. blank p || zero_heard (wanted windows) told p) slices start n now wider begins is wider.under_way
+      let wider = hear_partly held refl refl refl blank slices planned in
+      window_planned held new (λ p. blank p || zero_heard (wanted windows) told p) slices start n now wider begins is fits wider.under_way
       (λ p e. let no : false ≡ true = subst (λ (r : List (ℕ × ℕ)). holds r p ≡ true) none e in absurd (false≢true no))

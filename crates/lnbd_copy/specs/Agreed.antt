@@ -1,12 +1,25 @@
 -- What the first handle of each side was told.
 use Rattle.std.specs.Prelude.{◌≡◌, ◌<◌, ◌≤◌, ℕ, List, Some, slice_get}
 use Rattle.lnbd_asked.specs.Exports.{WasTold}
+use Rattle.lnbd_handle.specs.Histories.{ForEach}
+use Rattle.lnbd_history.specs.Answers.{direction_after, state_after}
+use Rattle.lnbd_machine.specs.Machine.{Machine}
+use Rattle.lnbd_model.specs.declared.state.State.TheVariants as state
 use Rattle.lnbd_plan.specs.declared.options.CopyOptions.{CopyOptions}
-use Rattle.lnbd_poll.specs.declared.held.Held.{Held}
-use Rattle.lnbd_poll.specs.Held.{AreAt}
+use Rattle.lnbd_poll.specs.Held.{Held, AreAt}
 use Rattle.lnbd_poll.specs.Seen.{Seen}
+use Rattle.lnbd_board.specs.declared.how.How.{How}
 use Rattle.lnbd_board.specs.declared.ticket.Ticket.{Ticket}
 use Rattle.lnbd_copy.specs.declared.terms.Terms.{Terms}
+
+-- A handle may make requests, and has nothing to write.
+pub record IsQuiet (handle : Machine Ticket) : Type 0 where
+  pub ready : ForEach handle (λ history. state_after history ≡ state.Ready)
+  pub quiet : ForEach handle (λ history. direction_after history ≡ 1)
+
+-- Each handle that is held is so.
+abbrev pub AreQuiet : List (Held Ticket) → Type 0
+AreQuiet held = (index : ℕ) (one : Held Ticket) → slice_get held index ≡ Some one → IsQuiet one.handle
 
 -- The handle in this place was told this size.
 pub record HasTold (index size : ℕ) (seens : List (Seen Ticket)) : Type 0 where
@@ -28,8 +41,13 @@ pub record HaveAgreed (size : ℕ) (seens : List (Seen Ticket)) : Type 0 where
 pub record Agrees (size : ℕ) (held : List (Held Ticket)) : Type 0 where
   pub on : (seens : List (Seen Ticket)) → AreAt held seens → HaveAgreed size seens
 
+-- The copy writes as its options say.
+pub record IsWished (options : CopyOptions) (how : How) : Type 0 where
+  pub skip : how.skip ≡ options.destination_is_zero
+  pub allocated : how.allocated ≡ options.allocated
+
 -- What both sides settle by these options: the source's size, how the copy writes, and how many connections it has.
 pub record AreAgreed (options : CopyOptions) (terms : Terms) (held : List (Held Ticket)) : Type 0 where
   pub size : Agrees terms.size held
-  pub skip : terms.how.skip ≡ options.destination_is_zero
+  pub wished : IsWished options terms.how
   pub some : 0 < terms.sides.source

@@ -1,12 +1,9 @@
 -- A command that one of the handles of a copy took.
-use Rattle.std.specs.Prelude.{◌≡◌, ◌<◌, ◌^◌, ℕ, false, List, Some, slice_get}
-use Rattle.lnbd_records.specs.Flags.{cmd_flag_payload_len}
-use Rattle.lnbd_records.specs.Numbers.{has_bit}
+use Rattle.std.specs.Prelude.{◌≡◌, ℕ, List, Some, slice_get}
 use Rattle.lnbd_history.specs.Commands.{Command}
 use Rattle.lnbd_history.specs.Events.{Issue}
 use Rattle.lnbd_asked.specs.Driven.{Spells}
-use Rattle.lnbd_poll.specs.declared.held.Held.{Held}
-use Rattle.lnbd_poll.specs.Held.{AreAt}
+use Rattle.lnbd_poll.specs.Held.{Held, AreAt}
 use Rattle.lnbd_poll.specs.Seen.{Seen}
 use Rattle.lnbd_drives.specs.Driving.{with_event}
 use Rattle.lnbd_board.specs.declared.ticket.Ticket.{Ticket}

@@ -3,16 +3,18 @@ use Rattle.std.specs.Prelude.{◌≡◌, ◌≢◌, ℕ, true, false, List, [], 
 use Rattle.lnbd_model.specs.declared.target.Place.{Place}
 use Rattle.lnbd_link.specs.Call as wire
 use Rattle.lnbd_plan.specs.declared.options.CopyOptions.{CopyOptions}
-use Rattle.lnbd_poll.specs.declared.held.Held.{Held}
+use Rattle.lnbd_poll.specs.Held.{Held}
 use Rattle.lnbd_board.specs.declared.how.How.{How}
 use Rattle.lnbd_board.specs.declared.ticket.Ticket.{Ticket}
 use Rattle.lnbd_board.specs.Files as board
+use Rattle.lnbd_course.specs.Asks.{HasAskedOnce, WereDone}
 use Rattle.lnbd_course.specs.Copied.{Copied}
 use Rattle.lnbd_copy.specs.declared.copier.Progress.{Progress}
 use Rattle.lnbd_copy.specs.declared.copier.Progress.TheVariants as progress
 use Rattle.lnbd_copy.specs.declared.counts.Counts.{Counts}
 use Rattle.lnbd_copy.specs.declared.sides.Sides.{Sides}
 use Rattle.lnbd_copy.specs.declared.terms.Terms.{Terms}
+use Rattle.lnbd_copy.specs.Agreed.{IsWished}
 use Rattle.lnbd_copy.specs.Job as work
 use Rattle.lnbd_copy.specs.Way.{Filed, IsOn, IsUnderWay, Stand, Told, Way}
 
@@ -49,7 +51,7 @@ pub record IsBlank (now : board.Seen) : Type 0 where
 pub record HasMet (copy : Seen) (start told : Option (List wire.Call)) (terms : Terms) : Type 0 where
   pub stand : Stand copy.held
   pub blank : IsBlank copy.board
-  pub skip : terms.how.skip ≡ copy.options.destination_is_zero
+  pub wished : IsWished copy.options terms.how
   pub on : Told start told (λ calls. IsOn (beginning copy (Some terms.size) terms.how terms.sides) copy.board calls copy.held)
 
 -- Further connections are made, each to the side that its place says, where so many were made before.
@@ -69,9 +71,20 @@ pub record IsOnItsWay (start told : Option (List wire.Call)) (copy : Seen) : Typ
   pub way : Way
   pub from : way.from ≡ copy.from
   pub to : way.to ≡ copy.to
-  pub skip : job.terms.how.skip ≡ copy.options.destination_is_zero
+  pub wished : IsWished copy.options job.terms.how
   pub is : work.IsJob job way copy.board
   pub on : Told start told (λ calls. IsUnderWay (work.is_parting job.phase) way copy.board calls copy.held)
+
+-- It has begun and goes on, where this transcript is told now.
+pub record IsGoing (told : Option (List wire.Call)) (copy : Seen) : Type 0 where
+  pub start : Option (List wire.Call)
+  pub on : IsOnItsWay start told copy
+
+-- What is under way is settled, and its board writes so.
+pub record HasJob (copy : Seen) : Type 0 where
+  pub job : work.Seen
+  pub there : copy.job ≡ Some job
+  pub writes : copy.board.how ≡ job.terms.how
 
 -- Its connections part.
 pub record IsParting (copy : Seen) : Type 0 where
@@ -79,9 +92,11 @@ pub record IsParting (copy : Seen) : Type 0 where
   pub there : copy.job ≡ Some job
   pub parts : work.is_parting job.phase ≡ true
 
--- It is finished: each connection has parted, and its calls copied, if it was from one place to another.
+-- It is finished: each connection has parted, and its calls copied, asked nothing twice, and all of it was done, if it was from one place to another.
 pub record IsDone (start told : Option (List wire.Call)) (copy : Seen) : Type 0 where
   pub parted : copy.held ≡ []
+  pub asked : copy.from ≢ copy.to → Told start told (HasAskedOnce copy.options.allocated copy.from copy.to)
+  pub done : copy.from ≢ copy.to → Told start told (WereDone copy.from copy.to)
   pub copied : copy.from ≢ copy.to → Told start told (Copied copy.from copy.to copy.options.destination_is_zero)
 
 -- After a turn it is on its way still, or it is finished.

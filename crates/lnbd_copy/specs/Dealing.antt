@@ -3,7 +3,7 @@ use Rattle.std.specs.Prelude.{◌≡◌, ℕ, Bool, true, false, List, ◌++◌,
 use Rattle.lnbd_handle.specs.Issues.{read_of}
 use Rattle.lnbd_history.specs.Commands.{Command}
 use Rattle.lnbd_plan.specs.declared.grid.Slice.{Slice}
-use Rattle.lnbd_poll.specs.declared.held.Held.{Held}
+use Rattle.lnbd_poll.specs.Held.{Held}
 use Rattle.lnbd_board.specs.declared.ask.Ask.{Ask}
 use Rattle.lnbd_board.specs.declared.ask.Ask.TheVariants as ask
 use Rattle.lnbd_board.specs.declared.how.How.{How}
@@ -25,7 +25,7 @@ pub record IsAskedOf (sides : Sides) (source : Bool) (command : Command Ticket) 
 -- The source was asked to read so many bytes of a slice, into some buffer.
 pub record IsAskedToRead (sides : Sides) (n offset count : ℕ) (old new : List (Held Ticket)) : Type 0 where
   pub bytes : List ℕ
-  pub count_ : length bytes ≡ count
+  pub many : length bytes ≡ count
   pub asked : IsAskedOf sides true (read_of bytes offset (ticket.Slice n) 0) old new
 
 -- The first request of a slice was asked of its side.

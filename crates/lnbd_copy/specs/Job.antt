@@ -2,7 +2,7 @@
 use Rattle.std.specs.Prelude.{◌≡◌, ◌≢◌, ◌||◌, ℕ, Bool, true, false, List, [], not, Option, Some, None, if◌then◌else◌}
 use Rattle.lnbd_link.specs.Call as wire
 use Rattle.lnbd_model.specs.declared.export.Extent.{Extent}
-use Rattle.lnbd_poll.specs.declared.held.Held.{Held}
+use Rattle.lnbd_poll.specs.Held.{Held}
 use Rattle.lnbd_board.specs.Files as board
 use Rattle.lnbd_board.specs.declared.ticket.Ticket.{Ticket}
 use Rattle.lnbd_copy.specs.declared.job.Phase.{Phase}
@@ -36,7 +36,9 @@ pub record IsOver (job : Seen) (now : board.Seen) : Type 0 where
 pub record IsJob (job : Seen) (way : Way) (now : board.Seen) : Type 0 where
   pub size : way.size ≡ Some job.terms.size
   pub how : way.how ≡ job.terms.how
+  pub writes : now.how ≡ job.terms.how
   pub sides : way.sides ≡ job.terms.sides
+  pub ends : job.windows.size ≡ job.terms.size
   pub zeros : job.windows.plan.cells.zeros ≡ not job.terms.how.skip
   pub planned : windows.IsPlanned job.windows way.zero way.slices
   pub asked : way.asked ≡ (if job.asked then windows.wanted job.windows else None)
@@ -46,7 +48,7 @@ pub record IsJob (job : Seen) (way : Way) (now : board.Seen) : Type 0 where
 pub record IsSettled (terms : Terms) (planned : windows.Seen) (sides : Sides) : Type 0 where
   pub size : planned.size ≡ terms.size
   pub zeros : planned.plan.cells.zeros ≡ not terms.how.skip
-  pub sides_ : sides ≡ terms.sides
+  pub bound : sides ≡ terms.sides
 
 -- Two ways are of one copy.
 pub record AreOfOne (way way' : Way) : Type 0 where

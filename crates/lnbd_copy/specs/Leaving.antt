@@ -1,7 +1,7 @@
 -- How the connections of a copy end.
 use Rattle.std.specs.Prelude.{◌≡◌, List, [], Option, None}
 use Rattle.lnbd_link.specs.Call as wire
-use Rattle.lnbd_poll.specs.declared.held.Held.{Held}
+use Rattle.lnbd_poll.specs.Held.{Held}
 use Rattle.lnbd_board.specs.declared.ticket.Ticket.{Ticket}
 use Rattle.lnbd_board.specs.Files as board
 use Rattle.lnbd_copy.specs.Way.{Filed, IsLeaving, Stand, Told, Way}

@@ -3,7 +3,7 @@ use Rattle.std.specs.Prelude.{◌≡◌, ℕ, ◌+◌, Bool, true, false, List, 
 use Rattle.lnbd_model.specs.declared.target.Place.{Place}
 use Rattle.lnbd_history.specs.Events.{History, Name, Context, Structured, Extended, Set, Start}
 use Rattle.lnbd_link.specs.Call as wire
-use Rattle.lnbd_poll.specs.declared.held.Held.{Held}
+use Rattle.lnbd_poll.specs.Held.{Held}
 use Rattle.lnbd_board.specs.declared.ticket.Ticket.{Ticket}
 use Rattle.lnbd_board.specs.Files as board
 use Rattle.lnbd_copy.specs.Way.{IsOn, Stand, Told, Way, is_source}

@@ -1,5 +1,5 @@
 -- What both sides of a copy settle: which rule between them does not hold, and how slices are cut.
-use Rattle.std.specs.Prelude.{◌≡◌, ◌<◌, ◌≤◌, ◌/◌, ◌%◌, ◌*◌, ◌-◌, ℕ, Bool, true, false, not, ◌&&◌, ◌||◌, ◌==◌, nat_lt, nat_le, min, max, Option, Some, None, if◌then◌else◌}
+use Rattle.std.specs.Prelude.{◌%◌, ℕ, not, ◌&&◌, ◌==◌, nat_lt, nat_le, min, max, Option, Some, None, if◌then◌else◌}
 use Rattle.lnbd_model.specs.declared.export.Blocks.{Blocks}
 use Rattle.lnbd_model.specs.declared.export.ExportInfo.{ExportInfo}
 use Rattle.lnbd_plan.specs.declared.fault.Rule.{Rule}

@@ -44,6 +44,7 @@ pub record IsPlanned (windows : Seen) (zero : ℕ → Bool) (slices : List Slice
   pub parts : List Window
   pub are : slices ++ windows.plan.slices ≡ windows_slices windows.plan.cells 0 parts
   pub end : windows_end 0 parts ≡ windows.plan.end
+  pub within : windows.plan.end ≤ windows.size
   pub told : (p : ℕ) → told_by 0 parts p ≡ true → zero p ≡ true
   pub under_way : (p : ℕ) → holds windows.zero p ≡ true → zero p ≡ true
 

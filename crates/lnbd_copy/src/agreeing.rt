@@ -1,10 +1,10 @@
 //! What the connections of a copy tell of their exports, and whether a copy can be made of it.
 
-ghost use Rattle.std.specs.Prelude.{◌≡◌, ◌<◌, ◌≤◌, ◌^◌, true, None, IfErr, IfOk, OnOk};
+ghost use Rattle.std.specs.Prelude.{◌≡◌, ◌<◌, ◌≤◌, ◌^◌, true, length, None, IfErr, IfOk, OnOk};
 ghost use Rattle.lnbd_handle.specs.Histories.{ForEach};
 ghost use Rattle.lnbd_history.specs.Answers.{direction_after, state_after};
 ghost use Rattle.lnbd_model.specs.declared.state.State.TheVariants as state;
-ghost use Rattle.lnbd_copy.specs.Agreed.{AreAgreed, Tells};
+ghost use Rattle.lnbd_copy.specs.Agreed.{AreAgreed, AreQuiet, Tells};
 ghost use Rattle.lnbd_copy.specs.Causes.{tells_no_count};
 
 use crate::sides::{FIRST_DESTINATION, FIRST_SOURCE};
@@ -18,21 +18,15 @@ use lnbd_poll::Handles;
 /// The first size that no export has (libnbd: sizes are below 2^63).
 const SIZE_END: u64 = 1 << 63;
 
-/// What a connection tells of its export. One that has bytes to write, or may make no requests, counts as one for which memory
-/// ran out: once a connection has negotiated, neither is so.
+/// What a connection tells of its export, once all have negotiated.
 fn info_of(handles: &Handles<Ticket>, index: usize) -> Result<&ExportInfo, CopyFault>
+    requires held { index < length handles.now }
+    requires quiet { AreQuiet handles.now }
     ensures size { IfOk result (λ info. info.now.size < 2 ^ 63) }
     ensures tells { IfOk result (λ info. Tells index info.now.size handles.now) }
     ensures free { IfErr result (λ told. tells_no_count told ≡ true) }
 {
-    if index >= handles.len() {
-        return Err(CopyFault::NoMemory);
-    }
-    let handle = handles.get(index);
-    if !is_quiet(handle) {
-        return Err(CopyFault::NoMemory);
-    }
-    match handle.info() {
+    match handles.get(index).info() {
         Some(info) => {
             if info.size < SIZE_END {
                 return Ok(info);
@@ -45,14 +39,29 @@ fn info_of(handles: &Handles<Ticket>, index: usize) -> Result<&ExportInfo, CopyF
 
 /// Whether a connection may make requests, and has nothing to write.
 fn is_quiet(handle: &Handle<Ticket>) -> bool
-    ensures ready { result ≡ true → ForEach handle.now (λ history. state_after history ≡ state.Ready) }
-    ensures quiet { result ≡ true → ForEach handle.now (λ history. direction_after history ≡ 1) }
+    ensures ready { result ≡ true → ForEach handle.now.machine (λ history. state_after history ≡ state.Ready) }
+    ensures quiet { result ≡ true → ForEach handle.now.machine (λ history. direction_after history ≡ 1) }
 {
     matches!(handle.state(), State::Ready) && handle.direction() == 1
 }
 
+/// Whether all connections may make requests, and have nothing to write.
+#[tactic(auto, using(crate::proofs::AgreeLemmas::all_quiet, crate::proofs::AgreeLemmas::none_quiet))]
+pub(crate) fn are_quiet(handles: &Handles<Ticket>) -> bool
+    ensures { result ≡ true → AreQuiet handles.now }
+{
+    'handles: for index in 0..handles.len() {
+        if !is_quiet(handles.get(index)) {
+            return false;
+        }
+    }
+    true
+}
+
 /// What both sides settle, once the first connection of each has negotiated.
 pub(crate) fn agree(handles: &Handles<Ticket>, options: CopyOptions) -> Result<Terms, CopyFault>
+    requires both { 1 < length handles.now }
+    requires quiet { AreQuiet handles.now }
     ensures cells { IfOk result (λ terms. (0 < terms.cell) × (0 < terms.zero_cell) × (0 < terms.grain)) }
     ensures size { IfOk result (λ terms. terms.size ≤ 2 ^ 63) }
     ensures agrees { IfOk result (λ terms. AreAgreed options terms handles.now) }
@@ -84,14 +93,11 @@ fn is_same(one: &ExportInfo, other: &ExportInfo) -> bool {
 
 /// A further connection tells another export than the first of its side, if so.
 pub(crate) fn check_same(handles: &Handles<Ticket>, terms: Terms) -> Result<(), CopyFault>
+    requires { AreQuiet handles.now }
     ensures free { IfErr result (λ told. tells_no_count told ≡ true) }
 {
     'further: for index in 2..handles.len() {
-        let first = if terms.sides.is_source(index) {
-            FIRST_SOURCE
-        } else {
-            FIRST_DESTINATION
-        };
+        let first = terms.sides.first(index);
         if !is_same(info_of(handles, first)?, info_of(handles, index)?) {
             return Err(CopyFault::Broke(Broken::Differs));
         }

@@ -1,12 +1,14 @@
 //! A copy from its first connection to its last byte.
 
-ghost use Rattle.std.specs.Prelude.{◌≡◌, ◌≢◌, ◌<◌, ◌≤◌, ◌+◌, ◌^◌, [], length, List, Option, None, true, IfErr, IfOk, OnOk};
+ghost use Rattle.std.specs.Prelude.{◌≡◌, ◌≢◌, ◌<◌, ◌≤◌, ◌+◌, ◌^◌, [], length, List, Option, None, true, IfErr, IfOk, OnErr, OnOk};
 ghost use Rattle.lnbd_link.specs.Call.{Call};
+ghost use Rattle.lnbd_course.specs.Asks.{GrewBy, HasAskedOnce, WereDone};
 ghost use Rattle.lnbd_course.specs.Copied.{Copies};
+ghost use Rattle.lnbd_copy.specs.Agreed.{AreQuiet};
 ghost use Rattle.lnbd_copy.specs.Causes.{GoesOn, HasCause};
-ghost use Rattle.lnbd_copy.specs.Copier.{GoesFurther, HasMet, HasNotBegun, HasTurned, IsDone, IsOnItsWay, IsParting, Seen};
+ghost use Rattle.lnbd_copy.specs.Copier.{GoesFurther, HasJob, HasMet, HasNotBegun, HasTurned, IsDone, IsGoing, IsOnItsWay, IsParting, Seen};
 ghost use Rattle.lnbd_copy.specs.Opening.{Dials};
-ghost use Rattle.lnbd_copy.specs.Way.{Goes, Stand};
+ghost use Rattle.lnbd_copy.specs.Way.{Goes, Told};
 
 use crate::agreeing::{agree, check_answers, check_same, tells_extents};
 use crate::counts::Counts;
@@ -94,12 +96,15 @@ impl Copier {
     /// the wires were idle for too long. `NoMemory` may come in place of every other answer. All links are then shut.
     #[tactic(auto, using(crate::proofs::CauseLemmas::goes_same, crate::proofs::CauseLemmas::goes_then, crate::proofs::CauseLemmas::cause_later, crate::proofs::CauseLemmas::cause_free))]
     pub fn begin<W: Wires>(&mut self, wires: &mut W) -> Result<(), CopyFault>
+        requires { HasNotBegun self.old }
+
         // What the wires had counted is kept.
         ensures began { self.new.start ≡ record { faults = W.faults wires.old; idles = W.idles wires.old } }
         ensures kept { self.new ≡ record self.old { start = self.new.start; held = self.new.held; board = self.new.board; job = self.new.job } }
 
-        // All connections stand, and nothing is copied yet.
-        ensures begins { HasNotBegun self.old → OnOk result (IsOnItsWay (W.told wires.old) (W.told wires.new) self.new) }
+        // All connections stand, and nothing is copied yet; or none is held any more.
+        ensures begins { OnOk result (IsOnItsWay (W.told wires.old) (W.told wires.new) self.new) }
+        ensures shut { OnErr result (self.new.held ≡ []) }
 
         // The counts, and what they show of a fault.
         ensures causes { IfErr result (λ told. HasCause self.new.start (W.faults wires.new) (W.idles wires.new) told) }
@@ -116,10 +121,11 @@ impl Copier {
     /// Makes all connections, the source's first and then the destination's, and behind them all further ones.
     #[tactic(auto, using(crate::proofs::CauseLemmas::goes_same, crate::proofs::CauseLemmas::goes_then, crate::proofs::CauseLemmas::cause_later, crate::proofs::CauseLemmas::cause_free))]
     fn connect<W: Wires>(&mut self, wires: &mut W) -> Result<(), CopyFault>
+        requires begun { HasNotBegun self.old }
         requires faults { self.old.start.faults ≤ W.faults wires.old }
         requires idles { self.old.start.idles ≤ W.idles wires.old }
         ensures kept { self.new ≡ record self.old { held = self.new.held; board = self.new.board; job = self.new.job } }
-        ensures begins { HasNotBegun self.old → OnOk result (IsOnItsWay (W.told wires.old) (W.told wires.new) self.new) }
+        ensures begins { OnOk result (IsOnItsWay (W.told wires.old) (W.told wires.new) self.new) }
         ensures causes { IfErr result (λ told. HasCause self.old.start (W.faults wires.new) (W.idles wires.new) told) }
         ensures counts { GoesOn (W.faults wires.old) (W.faults wires.new) (W.idles wires.old) (W.idles wires.new) (W.contents wires.old) (W.contents wires.new) }
     {
@@ -133,11 +139,12 @@ impl Copier {
     /// Makes the first connection of each side, the source's first, and settles how the copy is made.
     #[tactic(auto, using(crate::proofs::CauseLemmas::goes_same, crate::proofs::CauseLemmas::goes_then, crate::proofs::CauseLemmas::cause_later, crate::proofs::CauseLemmas::cause_free))]
     fn meet<W: Wires>(&mut self, wires: &mut W) -> Result<Terms, CopyFault>
+        requires begun { HasNotBegun self.old }
         requires faults { self.old.start.faults ≤ W.faults wires.old }
         requires idles { self.old.start.idles ≤ W.idles wires.old }
         ensures kept { self.new ≡ record self.old { held = self.new.held; board = self.new.board } }
-        ensures met { HasNotBegun self.old → IfOk result (λ terms. HasMet self.new (W.told wires.old) (W.told wires.new) terms) }
-        ensures two { HasNotBegun self.old → OnOk result (length self.new.held ≡ 2) }
+        ensures met { IfOk result (λ terms. HasMet self.new (W.told wires.old) (W.told wires.new) terms) }
+        ensures two { OnOk result (length self.new.held ≡ 2) }
         ensures many { IfOk result (λ terms. 0 < terms.sides.source) }
         ensures cells { IfOk result (λ terms. (0 < terms.cell) × (0 < terms.zero_cell) × (0 < terms.grain)) }
         ensures size { IfOk result (λ terms. terms.size ≤ 2 ^ 63) }
@@ -212,6 +219,7 @@ impl Copier {
         requires idles { self.old.start.idles ≤ W.idles wires.old }
         ensures kept { self.new ≡ record self.old { held = self.new.held; board = self.new.board } }
         ensures goes { OnOk result (Goes self.old.board self.old.held (W.told wires.old) self.new.board self.new.held (W.told wires.new)) }
+        ensures quiet { OnOk result (AreQuiet self.new.held) }
         ensures causes { IfErr result (λ told. HasCause self.old.start (W.faults wires.new) (W.idles wires.new) told) }
         ensures counts { GoesOn (W.faults wires.old) (W.faults wires.new) (W.idles wires.old) (W.idles wires.new) (W.contents wires.old) (W.contents wires.new) }
     {
@@ -226,6 +234,7 @@ impl Copier {
         requires some { 0 < sides.source }
         ensures kept { self.new ≡ record self.old { held = self.new.held; board = self.new.board } }
         ensures further { OnOk result (GoesFurther self.old sides 2 self.old.board self.old.held (W.told wires.old) self.new.board self.new.held (W.told wires.new)) }
+        ensures quiet { OnOk result (AreQuiet self.new.held) }
         ensures causes { IfErr result (λ told. HasCause self.old.start (W.faults wires.new) (W.idles wires.new) told) }
         ensures counts { GoesOn (W.faults wires.old) (W.faults wires.new) (W.idles wires.old) (W.idles wires.new) (W.contents wires.old) (W.contents wires.new) }
     {
@@ -272,12 +281,17 @@ impl Copier {
     /// error. All links are then shut.
     #[tactic(auto, using(crate::proofs::CauseLemmas::goes_same, crate::proofs::CauseLemmas::goes_then, crate::proofs::CauseLemmas::cause_later, crate::proofs::CauseLemmas::cause_free))]
     pub fn turn<W: Wires>(&mut self, wires: &mut W) -> Result<Progress, CopyFault>
+        requires going { IsGoing (W.told wires.old) self.old }
         requires faults { self.old.start.faults ≤ W.faults wires.old }
         requires idles { self.old.start.idles ≤ W.idles wires.old }
         ensures kept { self.new ≡ record self.old { held = self.new.held; board = self.new.board; job = self.new.job } }
 
-        // It goes on, or it is finished and has copied.
+        // It goes on, or it is finished and has copied; or no connection is held any more.
         ensures turns { IfOk result (λ told. (start : Option (List Call)) → IsOnItsWay start (W.told wires.old) self.old → HasTurned start (W.told wires.new) self.new told) }
+        ensures shut { OnErr result (self.new.held ≡ []) }
+
+        // Nothing was asked twice so far, and nothing past the source's end.
+        ensures asks { OnOk result ((start : Option (List Call)) → IsOnItsWay start (W.told wires.old) self.old → self.new.from ≢ self.new.to → Told start (W.told wires.new) (HasAskedOnce self.new.options.allocated self.new.from self.new.to)) }
 
         // The counts, and what they show of a fault.
         ensures causes { IfErr result (λ told. HasCause self.old.start (W.faults wires.new) (W.idles wires.new) told) }
@@ -293,18 +307,20 @@ impl Copier {
     /// One turn, after which nothing is shut.
     #[tactic(auto, using(crate::proofs::CauseLemmas::goes_same, crate::proofs::CauseLemmas::goes_then, crate::proofs::CauseLemmas::cause_later, crate::proofs::CauseLemmas::cause_free))]
     fn go_on<W: Wires>(&mut self, wires: &mut W) -> Result<Progress, CopyFault>
+        requires going { IsGoing (W.told wires.old) self.old }
         requires faults { self.old.start.faults ≤ W.faults wires.old }
         requires idles { self.old.start.idles ≤ W.idles wires.old }
         ensures kept { self.new ≡ record self.old { held = self.new.held; board = self.new.board; job = self.new.job } }
         ensures turns { IfOk result (λ told. (start : Option (List Call)) → IsOnItsWay start (W.told wires.old) self.old → HasTurned start (W.told wires.new) self.new told) }
+        ensures asks { OnOk result ((start : Option (List Call)) → IsOnItsWay start (W.told wires.old) self.old → self.new.from ≢ self.new.to → Told start (W.told wires.new) (HasAskedOnce self.new.options.allocated self.new.from self.new.to)) }
         ensures causes { IfErr result (λ told. HasCause self.old.start (W.faults wires.new) (W.idles wires.new) told) }
         ensures counts { GoesOn (W.faults wires.old) (W.faults wires.new) (W.idles wires.old) (W.idles wires.new) (W.contents wires.old) (W.contents wires.new) }
     {
         let moved = self.take_turn(wires)?;
         let acted = self.act()?;
         let parted = self.part(wires);
+        check_answers(&self.board)?;
         if self.is_finished() {
-            check_answers(&self.board)?;
             return Ok(Progress::Finished(self.summary()));
         }
         Ok(progress_of(moved, acted || parted != 0))
@@ -327,12 +343,13 @@ impl Copier {
 
     /// Asks for whatever can be asked for now. Whether anything was, or the copy went on in another way.
     fn act(&mut self) -> Result<bool, NoMemory>
+        requires { HasJob self.old }
         ensures kept { self.new ≡ record self.old { held = self.new.held; board = self.new.board; job = self.new.job } }
         ensures on { OnOk result ((start told : Option (List Call)) → IsOnItsWay start told self.old → IsOnItsWay start told self.new) }
     {
         match &mut self.job {
             Some(job) => job.act(self.alloc, &mut self.handles, &mut self.board),
-            None => Err(NoMemory),
+            None => unreachable!(),
         }
     }
 
@@ -382,8 +399,14 @@ impl Copier {
     /// Those of `begin` and `turn`.
     #[tactic(auto, using(crate::proofs::CauseLemmas::goes_same, crate::proofs::CauseLemmas::goes_then, crate::proofs::CauseLemmas::cause_later, crate::proofs::CauseLemmas::cause_free))]
     pub fn run<W: Wires>(self, wires: &mut W) -> Result<Summary, CopyFault>
+        requires { HasNotBegun self }
+
         // Over honest exports the destination then holds the source's bytes.
-        ensures copies { HasNotBegun self → self.from ≢ self.to → OnOk result (Copies self.from self.to self.options.destination_is_zero (W.told wires.old) (W.told wires.new)) }
+        ensures copies { self.from ≢ self.to → OnOk result (Copies self.from self.to self.options.destination_is_zero (W.told wires.old) (W.told wires.new)) }
+
+        // Nothing was asked twice, and nothing past the source's end; and all of it was done.
+        ensures asks { self.from ≢ self.to → OnOk result (GrewBy (HasAskedOnce self.options.allocated self.from self.to) (W.told wires.old) (W.told wires.new)) }
+        ensures done { self.from ≢ self.to → OnOk result (GrewBy (WereDone self.from self.to) (W.told wires.old) (W.told wires.new)) }
 
         // The counts, and what they show of a fault.
         ensures causes { IfErr result (λ told. HasCause (record { faults = W.faults wires.old; idles = W.idles wires.old }) (W.faults wires.new) (W.idles wires.new) told) }
@@ -398,8 +421,9 @@ impl Copier {
     /// Begins, and takes turns until the copy is finished, with a pause after each in which nothing happened.
     #[tactic(auto, using(crate::proofs::CauseLemmas::goes_same, crate::proofs::CauseLemmas::goes_then, crate::proofs::CauseLemmas::cause_later, crate::proofs::CauseLemmas::cause_free))]
     fn copy<W: Wires>(&mut self, wires: &mut W) -> Result<Summary, CopyFault>
+        requires { HasNotBegun self.old }
         ensures kept { self.new ≡ record self.old { start = self.new.start; held = self.new.held; board = self.new.board; job = self.new.job } }
-        ensures done { HasNotBegun self.old → OnOk result (IsDone (W.told wires.old) (W.told wires.new) self.new) }
+        ensures done { OnOk result (IsDone (W.told wires.old) (W.told wires.new) self.new) }
         ensures causes { IfErr result (λ told. HasCause (record { faults = W.faults wires.old; idles = W.idles wires.old }) (W.faults wires.new) (W.idles wires.new) told) }
         ensures counts { GoesOn (W.faults wires.old) (W.faults wires.new) (W.idles wires.old) (W.idles wires.new) (W.contents wires.old) (W.contents wires.new) }
     {

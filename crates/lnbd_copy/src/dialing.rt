@@ -2,10 +2,12 @@
 
 ghost use Rattle.std.specs.Prelude.{◌≡◌, ◌≤◌, ◌++◌, ◌∷◌, [], true, IfErr, OnOk};
 ghost use Rattle.lnbd_board.specs.Files.{Seen};
+ghost use Rattle.lnbd_copy.specs.Agreed.{AreQuiet};
 ghost use Rattle.lnbd_copy.specs.Causes.{GoesOn, HasCause, tells_no_count};
 ghost use Rattle.lnbd_copy.specs.Opening.{Dials};
 ghost use Rattle.lnbd_copy.specs.Way.{Goes};
 
+use crate::agreeing::are_quiet;
 use crate::counts::{Counts, check_faults, check_idles, of_death};
 use crate::opening::open;
 use lnbd_board::{Board, Ticket};
@@ -30,7 +32,7 @@ fn hold<W: Wires>(
     link: u32,
     handle: Handle<Ticket>,
 ) -> Result<(), NoMemory>
-    ensures held { OnOk result (handles.new ≡ handles.old ++ record { link = link; handle = handle; inbox = [] } ∷ []) }
+    ensures held { OnOk result (handles.new ≡ handles.old ++ record { link = link; handle = handle.machine; inbox = [] } ∷ []) }
     ensures board { OnOk result (board.new ≡ board.old) }
     ensures told { OnOk result (W.told wires.new ≡ W.told wires.old) }
     ensures counts { GoesOn (W.faults wires.old) (W.faults wires.new) (W.idles wires.old) (W.idles wires.new) (W.contents wires.old) (W.contents wires.new) }
@@ -78,17 +80,6 @@ pub(crate) fn dial<W: Wires>(
             })
         }
     }
-}
-
-/// Whether a handle negotiates, or has not written all that it did.
-fn is_negotiating(handles: &Handles<Ticket>) -> bool {
-    'handles: for index in 0..handles.len() {
-        let handle = handles.get(index);
-        if matches!(handle.state(), State::Negotiating) || handle.direction() == 3 {
-            return true;
-        }
-    }
-    false
 }
 
 /// Why the copy ends where one of its connections is dead, if so: the first of them.
@@ -152,7 +143,7 @@ fn rest<W: Wires>(
     }
 }
 
-/// Takes turns until no handle negotiates any more, with a pause after each in which nothing happened.
+/// Takes turns until all handles have negotiated and written all that they did, with a pause after each in which nothing happened.
 #[tactic(auto, using(crate::proofs::CauseLemmas::goes_same, crate::proofs::CauseLemmas::goes_then, crate::proofs::CauseLemmas::cause_later, crate::proofs::CauseLemmas::cause_free, crate::proofs::TurnLemmas::goes_none))]
 pub(crate) fn settle<W: Wires>(
     handles: &mut Handles<Ticket>,
@@ -163,11 +154,12 @@ pub(crate) fn settle<W: Wires>(
     requires faults { start.faults ≤ W.faults wires.old }
     requires idles { start.idles ≤ W.idles wires.old }
     ensures goes { OnOk result (Goes board.old handles.old (W.told wires.old) board.new handles.new (W.told wires.new)) }
+    ensures quiet { OnOk result (AreQuiet handles.new) }
     ensures causes { IfErr result (λ told. HasCause start (W.faults wires.new) (W.idles wires.new) told) }
     ensures counts { GoesOn (W.faults wires.old) (W.faults wires.new) (W.idles wires.old) (W.idles wires.new) (W.contents wires.old) (W.contents wires.new) }
 {
     'turns: for _ in 0..MAX_TURNS {
-        if !is_negotiating(handles) {
+        if are_quiet(handles) {
             return Ok(());
         }
         let told = handles.turn(wires, board)?;

@@ -2,7 +2,7 @@
 //! destination is flushed and all connections part. How bytes move is not known here.
 
 ghost use Rattle.std.specs.Prelude.{◌≡◌, ◌≢◌, ◌<◌, ◌≤◌, ◌^◌, ℕ, true, false, not, List, [], Bool, Some, None, IfOk, OnOk};
-ghost use Rattle.lnbd_poll.specs.declared.held.Held.{Held};
+ghost use Rattle.lnbd_poll.specs.Held.{Held};
 ghost use Rattle.lnbd_board.specs.declared.ticket.Ticket.{Ticket as Tag};
 ghost use Rattle.lnbd_board.specs.Files.{Seen as Kept};
 ghost use Rattle.lnbd_copy.specs.Way.{Keeps, Way};
@@ -12,7 +12,7 @@ use crate::dealing::{Bindings, ask_extents, ask_flush};
 use crate::parting::part;
 use crate::terms::Terms;
 use crate::windows::Windows;
-use lnbd_board::{Board, How, Ticket};
+use lnbd_board::{Board, Ticket};
 use lnbd_model::NoMemory;
 use lnbd_poll::Handles;
 use std::alloc::Global;
@@ -61,7 +61,7 @@ impl Job {
         requires size { terms.size ≤ 2 ^ 63 }
         ensures terms { IfOk result (λ job. job.terms ≡ terms) }
         ensures begins { IfOk result (λ job. job.phase ≡ phase.Copying) }
-        ensures job { IfOk result (λ job. (way : Way) (now : Kept) → way.size ≡ Some terms.size → way.how ≡ terms.how → way.sides ≡ terms.sides → way.slices ≡ [] → way.asked ≡ None → IsJob job way now) }
+        ensures job { IfOk result (λ job. (way : Way) (now : Kept) → way.size ≡ Some terms.size → now.how ≡ terms.how → way.how ≡ terms.how → way.sides ≡ terms.sides → way.slices ≡ [] → way.asked ≡ None → IsJob job way now) }
     {
         let bindings = Bindings::new(alloc, terms)?;
         let windows = first_windows(alloc, terms, extents)?;
@@ -99,6 +99,7 @@ impl Job {
         handles: &mut Handles<Ticket>,
         board: &mut Board,
     ) -> Result<bool, NoMemory>
+        requires { board.old.how ≡ self.old.terms.how }
         ensures acts { OnOk result (Acts self.old self.new board.old board.new handles.old handles.new) }
         ensures terms { self.new.terms ≡ self.old.terms }
         ensures onward { self.old.phase ≢ phase.Copying → self.new.phase ≢ phase.Copying }
@@ -111,21 +112,18 @@ impl Job {
         }
     }
 
-    /// Slices go on, extents are heard and asked for, and slices are begun. A board that doesn't write as was settled counts as
-    /// one for which memory ran out: there is none, but no clause of a turn says so.
+    /// Slices go on, extents are heard and asked for, and slices are begun.
     fn copy(
         &mut self,
         alloc: Global,
         handles: &mut Handles<Ticket>,
         board: &mut Board,
     ) -> Result<bool, NoMemory>
-        requires { self.old.phase ≡ phase.Copying }
+        requires how { board.old.how ≡ self.old.terms.how }
+        requires copying { self.old.phase ≡ phase.Copying }
         ensures acts { OnOk result (Acts self.old self.new board.old board.new handles.old handles.new) }
         ensures terms { self.new.terms ≡ self.old.terms }
     {
-        if !is_same(board.how(), self.terms.how) {
-            return Err(NoMemory);
-        }
         let went = self.go_on(alloc, handles, board)?;
         let heard = self.hear(board)?;
         let asked = self.ask(handles, board)?;
@@ -288,15 +286,4 @@ fn first_windows(alloc: Global, terms: Terms, extents: bool) -> Result<Windows, 
     }
     windows.plan_rest()?;
     Ok(windows)
-}
-
-/// Whether two copies write alike.
-#[tactic(auto, using(crate::proofs::JobLemmas::same_how))]
-fn is_same(one: How, other: How) -> bool
-    ensures { result ≡ true → one ≡ other }
-{
-    one.block == other.block
-        && one.skip == other.skip
-        && one.zeroes == other.zeroes
-        && one.allocated == other.allocated
 }

@@ -24,7 +24,7 @@ fn base_allocation(alloc: Global) -> Result<Text, NoMemory>
 
 /// Asks for this meta context, where there is one.
 fn want(handle: &mut Handle<Ticket>, context: Option<Text>) -> Result<(), SetFault>
-    ensures { OnOk result ((history : History Ticket) → StandsFor max_unretired history handle.old → StandsFor max_unretired (with_context context history) handle.new) }
+    ensures { OnOk result ((history : History Ticket) → StandsFor max_unretired history handle.old.machine → StandsFor max_unretired (with_context context history) handle.new.machine) }
 {
     match context {
         Some(context) => handle.add_meta_context(context),
@@ -35,8 +35,8 @@ fn want(handle: &mut Handle<Ticket>, context: Option<Text>) -> Result<(), SetFau
 /// Asks for extended headers, structured replies, this meta context where there is one, and the export of this name, and
 /// starts.
 fn begin(handle: &mut Handle<Ticket>, name: Text, context: Option<Text>) -> Result<(), SetFault>
-    requires { StandsFor max_unretired [] handle.old }
-    ensures { OnOk result (StandsFor max_unretired (begun name context) handle.new) }
+    requires { StandsFor max_unretired [] handle.old.machine }
+    ensures { OnOk result (StandsFor max_unretired (begun name context) handle.new.machine) }
 {
     handle.set_request_extended_headers(true)?;
     handle.set_request_structured_replies(true)?;
@@ -71,7 +71,7 @@ pub(crate) fn open(
     extents: bool,
     board: &mut Board,
 ) -> Result<Handle<Ticket>, NoMemory>
-    ensures stands { IfOk result (λ handle. StandsFor max_unretired (opened name.now extents) handle) }
+    ensures stands { IfOk result (λ handle. StandsFor max_unretired (opened name.now extents) handle.machine) }
     ensures short { OnOk result (length name.now ≤ max_text) }
     ensures board { OnOk result (board.new ≡ board.old) }
 {

@@ -1,6 +1,6 @@
 //! Which handle of a copy is which connection.
 
-ghost use Rattle.std.specs.Prelude.{◌≡◌, ◌<◌, true, false};
+ghost use Rattle.std.specs.Prelude.{◌≡◌, ◌<◌, ◌≤◌, true, false};
 ghost use Rattle.lnbd_copy.specs.Way.{is_source};
 
 /// How many connections each side has. The first handle that is held is the source's first connection and the second the
@@ -43,5 +43,16 @@ impl Sides {
         ensures { result ≡ is_source self index }
     {
         index == FIRST_SOURCE || FIRST_DESTINATION < index && index <= self.source as usize
+    }
+
+    /// The first handle of the side that this one is on.
+    pub(crate) fn first(self, index: usize) -> usize
+        ensures { result ≤ 1 }
+    {
+        if self.is_source(index) {
+            FIRST_SOURCE
+        } else {
+            FIRST_DESTINATION
+        }
     }
 }

@@ -3,6 +3,7 @@
 
 ghost use Rattle.std.specs.Prelude.{◌≡◌, ◌<◌, ◌≤◌, ◌^◌, true, false, Some, None, IfOk, IfErr, max, min};
 ghost use Rattle.lnbd_records.specs.Numbers.{has_bit};
+ghost use Rattle.lnbd_copy.specs.Agreed.{IsWished};
 ghost use Rattle.lnbd_copy.specs.Terms.{broken_rule, grain, least_block, limit, most_bytes};
 
 use crate::sides::Sides;
@@ -151,7 +152,7 @@ fn sparse_block(options: CopyOptions, destination: &ExportInfo, cell: u32) -> u3
 pub(crate) fn settled(options: CopyOptions, source: &ExportInfo, destination: &ExportInfo) -> Terms
     ensures cells { (0 < result.cell) × (0 < result.zero_cell) × (0 < result.grain) }
     ensures size { result.size ≡ source.now.size }
-    ensures skip { result.how.skip ≡ options.destination_is_zero }
+    ensures wished { IsWished options result.how }
     ensures some { 0 < result.sides.source }
 {
     let grain = least_block(source.blocks).max(least_block(destination.blocks));

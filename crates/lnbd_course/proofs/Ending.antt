@@ -20,6 +20,7 @@ use Rattle.lnbd_board.specs.declared.how.How.{How}
 use Rattle.lnbd_board.specs.declared.row.Row.{Row}
 use Rattle.lnbd_board.specs.declared.ticket.Ticket.{Ticket}
 use Rattle.lnbd_board.specs.declared.ticket.Ticket.TheVariants as ticket
+use Rattle.lnbd_board.specs.Files as board
 use Rattle.lnbd_board.specs.Holds.{IsCopied}
 use Rattle.lnbd_board.specs.Requests.{Said, Request, request, Each, IsIn, Under, IsDealt, own, is_of as is_of_slice, is_slice, unanswered}
 use Rattle.lnbd_board.specs.Rows.{Stands, StandsAs, AsksOfSource, AsksOfDestination, IsChange, slice_at}
@@ -30,7 +31,7 @@ use Rattle.lnbd_tracks.proofs.Finished.{finished_are_done}
 use Rattle.lnbd_tracks.proofs.Under.{same_key, found}
 use Rattle.lnbd_tracks.proofs.Written.{done_is_written}
 use Rattle.lnbd_course.specs.Copied.{Copied}
-use Rattle.lnbd_course.specs.Course.{IsFinished, on_side, beside}
+use Rattle.lnbd_course.specs.Course.{AreOfSides, Course, IsFinished, on_side, beside}
 use Rattle.lnbd_course.specs.Laws.{FinishedCopies}
 use Rattle.lnbd_course.proofs.Standing.{on_here}
 
@@ -75,11 +76,11 @@ module _ (histories : Histories) where
       go (Some q) is (inl e) = record { asks = q; is = is; command = sym (ap (λ (x : Request). x.said.command) e); outcome = sym (ap (λ (x : Request). x.said.outcome) e) }
 
   -- whether the command was wholly written
-  abbrev is_out : Request → Bool
+  abbrev pub is_out : Request → Bool
   is_out r = nat_le r.cookie (written (histories r.link))
 
   -- the requests that were
-  abbrev gone_out : List Request → List Request
+  abbrev pub gone_out : List Request → List Request
   gone_out [] = []
   gone_out (r ∷ rs) = cond (is_out r) (r ∷ gone_out rs) (gone_out rs)
 
@@ -121,7 +122,7 @@ module _ (histories : Histories) where
       let more = fewer_out xs in
       elim (is_out x) as (λ b. unanswered (cond b (x ∷ gone_out xs) (gone_out xs)) ≤ unanswered (x ∷ xs)) [ true ↦ omega (arith, more) | false ↦ omega (arith, more) ]
 
-  out_in : (r : Request) (xs : List Request) → IsIn r (gone_out xs) → IsIn r xs × (is_out r ≡ true)
+  pub out_in : (r : Request) (xs : List Request) → IsIn r (gone_out xs) → IsIn r xs × (is_out r ≡ true)
   out_in r [] h = absurd h
   out_in r (x ∷ xs) h = go (out_in r xs) (is_out x) refl h
     where
@@ -252,24 +253,32 @@ not_beside : (b : Bool) → not b ≡ true → b ≡ false
 not_beside true e = absurd (false≢true e)
 not_beside false e = refl
 
+module _ (from to : Place) (how : How) (has : ℕ → Bool) (slices : List Slice) (now : board.Seen) (calls : List Call) (course : Course how has slices now calls []) (sides : AreOfSides from to calls has course.histories) where
+  side_says : (side : ℕ → Bool) (place : Place) → ((link : ℕ) → is_of place calls link ≡ true → side link ≡ true) → (link : ℕ) → is_of place calls link ≡ true → DrivenSays (on_side side course.histories link) (on_link link calls)
+  side_says side place its link here = subst (λ h. DrivenSays h (on_link link calls)) (sym (on_here side course.histories link (its link here))) (course.parted link tt)
+
+  source_of : (link cookie : ℕ) (q : commands.Request Ticket) → history_of.request (on_side has course.histories link) cookie ≡ Some q → nat_le cookie (written (on_side has course.histories link)) ≡ true → is_of from calls link ≡ true
+  source_of link cookie q e out =
+      let is = no_request course.histories has link cookie q e in
+      let same = on_here has course.histories link is in
+      subst (λ (b : Bool). is_of (if b then from else to) calls link ≡ true) is (sides.asked link cookie q (ap (λ h. history_of.request h cookie) (sym same) ∙ e) (ap (λ h. nat_le cookie (written h)) (sym same) ∙ out))
+
+  destination_of : (link cookie : ℕ) (q : commands.Request Ticket) → history_of.request (on_side (beside has) course.histories link) cookie ≡ Some q → nat_le cookie (written (on_side (beside has) course.histories link)) ≡ true → is_of to calls link ≡ true
+  destination_of link cookie q e out =
+      let is = no_request course.histories (beside has) link cookie q e in
+      let same = on_here (beside has) course.histories link is in
+      subst (λ (b : Bool). is_of (if b then from else to) calls link ≡ true) (not_beside (has link) is) (sides.asked link cookie q (ap (λ h. history_of.request h cookie) (sym same) ∙ e) (ap (λ h. nat_le cookie (written h)) (sym same) ∙ out))
+
+  -- What went out on each side is what was dealt with it.
+  pub source_dealt : IsDealt (gone_out (on_side has course.histories) course.stood.source) (dealt_with from calls)
+  source_dealt = are_dealt from calls (on_side has course.histories) course.stood.source course.stood.reads (side_says has from sides.source) source_of
+
+  pub destination_dealt : IsDealt (gone_out (on_side (beside has) course.histories) course.stood.destination) (dealt_with to calls)
+  destination_dealt = are_dealt to calls (on_side (beside has) course.histories) course.stood.destination course.stood.changes (side_says (beside has) to (λ link here. ap not (sides.destination link here))) destination_of
+
 module _ (from to : Place) (how : How) (calls : List Call) (f : IsFinished from to how calls) where
   abbrev histories : Histories
   histories = f.course.histories
-
-  side_says : (side : ℕ → Bool) (place : Place) → ((link : ℕ) → is_of place calls link ≡ true → side link ≡ true) → (link : ℕ) → is_of place calls link ≡ true → DrivenSays (on_side side histories link) (on_link link calls)
-  side_says side place its link here = subst (λ h. DrivenSays h (on_link link calls)) (sym (on_here side histories link (its link here))) (f.course.parted link tt)
-
-  source_of : (link cookie : ℕ) (q : commands.Request Ticket) → history_of.request (on_side f.has histories link) cookie ≡ Some q → nat_le cookie (written (on_side f.has histories link)) ≡ true → is_of from calls link ≡ true
-  source_of link cookie q e out =
-      let is = no_request histories f.has link cookie q e in
-      let same = on_here f.has histories link is in
-      subst (λ (b : Bool). is_of (if b then from else to) calls link ≡ true) is (f.sides.asked link cookie q (ap (λ h. history_of.request h cookie) (sym same) ∙ e) (ap (λ h. nat_le cookie (written h)) (sym same) ∙ out))
-
-  destination_of : (link cookie : ℕ) (q : commands.Request Ticket) → history_of.request (on_side (beside f.has) histories link) cookie ≡ Some q → nat_le cookie (written (on_side (beside f.has) histories link)) ≡ true → is_of to calls link ≡ true
-  destination_of link cookie q e out =
-      let is = no_request histories (beside f.has) link cookie q e in
-      let same = on_here (beside f.has) histories link is in
-      subst (λ (b : Bool). is_of (if b then from else to) calls link ≡ true) (not_beside (f.has link) is) (f.sides.asked link cookie q (ap (λ h. history_of.request h cookie) (sym same) ∙ e) (ap (λ h. nat_le cookie (written h)) (sym same) ∙ out))
 
   stands_over : Stands how f.slices [] f.course.stood.source f.course.stood.destination
   stands_over = subst (λ (rows : List (ℕ × Row)). Stands how f.slices rows f.course.stood.source f.course.stood.destination) f.over (f.course.stood.stands f.well)
@@ -295,8 +304,8 @@ module _ (from to : Place) (how : How) (calls : List Call) (f : IsFinished from 
   holds : Copied from to how.skip calls
   holds source before end honest honest' blank =
       whole how f.cells (told_by 0 f.windows) f.size f.sizes.room f.slices sources destinations (dealt_with from calls) (dealt_with to calls) is_copied
-      (are_dealt from calls (on_side f.has histories) f.course.stood.source f.course.stood.reads (side_says f.has from f.sides.source) source_of)
-      (are_dealt to calls (on_side (beside f.has) histories) f.course.stood.destination f.course.stood.changes (side_says (beside f.has) to (λ link here. ap not (f.sides.destination link here))) destination_of)
+      (source_dealt from to how f.has f.slices f.now calls f.course f.sides)
+      (destination_dealt from to how f.has f.slices f.now calls f.course f.sides)
       source before end honest honest' f.sizes.source f.sizes.destination f.sizes.fits f.planned.told
       (λ skips p l. blank skips p (subst (λ (n : ℕ). p < n) (honest.sizes.told f.sizes.source.link f.size f.sizes.source.told) l))
 

@@ -11,3 +11,4 @@ pub mod Address
 pub mod Placing
 pub mod Opening
 pub mod Placed
+pub mod Once

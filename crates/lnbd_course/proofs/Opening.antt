@@ -1,25 +1,23 @@
 -- A handle that was set up begins on a link that was just made.
-use Rattle.std.proofs.Common.{◌≡◌, ◌≢◌, ◌==◌, ◌⊎◌, inl, inr, ℕ, Bool, true, false, if◌then◌else◌, List, [], ◌∷◌, ◌++◌, length, Option, Some, None, slice_get, refl, ap, sym, subst, ◌∙◌}
+use Rattle.std.proofs.Common.{◌≡◌, ◌≢◌, ◌⊎◌, inl, inr, ℕ, Bool, true, false, if◌then◌else◌, List, [], ◌∷◌, ◌++◌, length, Option, Some, None, slice_get, refl, ap, sym, subst, ◌∙◌}
 use Rattle.std.proofs.lemmas.Bool.{cases_eq, eq-eqb, false≢true, ne_eqb}
 use Rattle.lnbd_model.specs.declared.target.Place.{Place}
-use Rattle.lnbd_model.specs.declared.target.Target.{Target}
 use Rattle.lnbd_link.specs.Call as wire
 use Rattle.lnbd_link.specs.Numbers.{is_given}
 use Rattle.lnbd_link.specs.Traffic.{target_of}
-use Rattle.lnbd_link.proofs.Openings.{is_given-append}
 use Rattle.lnbd_history.specs.Events.{Event, History}
 use Rattle.lnbd_asked.specs.Exports.{DrivenIsOf, WasTold, name_set}
 use Rattle.lnbd_asked.specs.Transcript.{on_link}
 use Rattle.lnbd_poll.specs.Alone.{AreApart}
 use Rattle.lnbd_poll.specs.Seen.{Seen}
-use Rattle.lnbd_drives.specs.Driving.{new_on, with_event}
+use Rattle.lnbd_drives.specs.Driving.{with_event}
 use Rattle.lnbd_drives.proofs.Passing.{said_stays}
 use Rattle.lnbd_plan.specs.declared.grid.Slice.{Slice}
 use Rattle.lnbd_board.specs.declared.how.How.{How}
 use Rattle.lnbd_board.specs.declared.ticket.Ticket.{Ticket}
 use Rattle.lnbd_board.specs.Files as board
 use Rattle.lnbd_tracks.specs.Tracks.{Histories}
-use Rattle.lnbd_course.specs.Between.{Between, ArePlaced, SideWasTold, AreSettled, AreSettings, IsSetting, place_of, with_history_on}
+use Rattle.lnbd_course.specs.Between.{ArePlaced, SideWasTold, AreSettled, AreSettings, IsSetting, place_of, with_history_on}
 use Rattle.lnbd_course.specs.Betweens.{OpensBetween}
 use Rattle.lnbd_course.specs.Course.{Course, with_link}
 use Rattle.lnbd_course.proofs.Address.{target_stays, target_new, given_stays, new_none}

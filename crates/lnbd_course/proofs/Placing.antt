@@ -1,14 +1,14 @@
 -- What stands of a copy from one place to another is kept by each step of it.
-use Rattle.std.proofs.Common.{◌≡◌, ◌⊎◌, inl, inr, ℕ, ◌≤◌, Bool, true, false, List, [], ◌∷◌, ◌++◌, Option, Some, None, slice_get, take, drop, arith, refl, ap, sym, subst, ◌∙◌}
+use Rattle.std.proofs.Common.{◌≡◌, ◌⊎◌, inl, inr, ℕ, ◌≤◌, Bool, true, false, List, [], ◌∷◌, ◌++◌, Option, Some, None, slice_get, arith, refl, ap, sym, subst, ◌∙◌}
 use Rattle.std.proofs.lemmas.Bool.{cases_eq, false≢true}
 use Rattle.lnbd_model.specs.declared.target.Place.{Place}
 use Rattle.lnbd_link.specs.Call as wire
 use Rattle.lnbd_link.specs.Numbers.{is_given}
 use Rattle.lnbd_link.specs.Traffic.{target_of}
 use Rattle.lnbd_history.specs.Events.{Event, History, Issue}
-use Rattle.lnbd_asked.specs.Exports.{DrivenIsOf, WasTold, is_naming, size_known}
+use Rattle.lnbd_asked.specs.Exports.{DrivenIsOf, WasTold, size_known}
 use Rattle.lnbd_asked.specs.Transcript.{on_link}
-use Rattle.lnbd_poll.specs.Alone.{AreApart, calls_on}
+use Rattle.lnbd_poll.specs.Alone.{AreApart}
 use Rattle.lnbd_poll.specs.Seen.{Seen}
 use Rattle.lnbd_poll.specs.Turns.{Whole}
 use Rattle.lnbd_drives.specs.Driving.{with_event}
@@ -20,12 +20,12 @@ use Rattle.lnbd_board.specs.declared.how.How.{How}
 use Rattle.lnbd_board.specs.declared.ticket.Ticket.{Ticket}
 use Rattle.lnbd_board.specs.Files as board
 use Rattle.lnbd_tracks.specs.Tracks.{Histories}
-use Rattle.lnbd_course.specs.Between.{Between, ArePlaced, SideWasTold, WereTold, AreSettled}
+use Rattle.lnbd_course.specs.Between.{Between, ArePlaced, SideWasTold, AreSettled}
 use Rattle.lnbd_course.specs.Betweens.{NothingIsBetween, SettlingKeepsBetween, AgreeingSettles, TurnsKeepBetween, CallsKeepBetween, SourceAsksKeepBetween, DestinationAsksKeepBetween, BoardMovesKeepBetween, OthersKeepBetween, TakingKeepsBetween}
 use Rattle.lnbd_course.specs.Course.{Course}
 use Rattle.lnbd_course.proofs.Address.{target_stays, given_stays}
 use Rattle.lnbd_course.proofs.Asking.{then, goes_on, source_asks_keep, destination_asks_keep, others_keep, board_moves_keep, was_apart, not_one}
-use Rattle.lnbd_course.proofs.Holding.{no_history, nothing_is_on_course, settling_keeps, turned_keeps, turns_keep, calls_keep, removed_keeps, removed, take_drop, apart_or, one_has}
+use Rattle.lnbd_course.proofs.Holding.{nothing_is_on_course, settling_keeps, turned_keeps, turns_keep, calls_keep, removed_keeps, removed, take_drop, apart_or, one_has}
 use Rattle.lnbd_course.proofs.Later.{IsLater, later_same, later_on, told_later}
 use Rattle.lnbd_course.specs.Course.{Stood}
 use Rattle.lnbd_course.proofs.Standing.{event_stood, quiet_stood, with_others}

@@ -1,28 +1,23 @@
 -- What was told as zero stays known beside the course of a copy, and in the end is what was dealt with the source.
-use Rattle.std.proofs.Common.{◌≡◌, ◌≢◌, ◌⊎◌, inl, inr, ℕ, zero, suc, ◌+◌, Bool, true, false, not, ◌&&◌, List, [], ◌∷◌, ◌++◌, Option, Some, None, slice_get, take, drop, refl, ap, sym, subst, ◌∙◌, ◌==◌, nat_le, nat_lt, if◌then◌else◌}
+use Rattle.std.proofs.Common.{◌≡◌, ◌⊎◌, inl, inr, ℕ, ◌+◌, Bool, true, false, not, ◌&&◌, List, [], ◌∷◌, ◌++◌, Option, Some, None, slice_get, refl, ap, sym, subst, ◌∙◌, nat_le, nat_lt, if◌then◌else◌}
 use Rattle.std.proofs.lemmas.Bool.{cases_eq, false≢true, ne_eqb}
 use Rattle.std.specs.Option.{option_map}
 use Rattle.lnbd_model.specs.declared.export.Extent.{Extent}
 use Rattle.lnbd_model.specs.declared.target.Place.{Place}
-use Rattle.lnbd_callbacks.specs.Calls.{Call}
-use Rattle.lnbd_callbacks.specs.Steps.{OneByOne}
 use Rattle.lnbd_outcome.specs.Outcome.{Unfinished}
 use Rattle.lnbd_handle.specs.Histories.{Plays}
 use Rattle.lnbd_link.specs.Call as wire
-use Rattle.lnbd_link.specs.Numbers.{is_given}
 use Rattle.lnbd_machine.specs.Machine.{Machine}
 use Rattle.lnbd_standing.specs.Standing.{StandsFor}
-use Rattle.lnbd_history.specs.Commands.{Command, Request}
+use Rattle.lnbd_history.specs.Commands.{Request}
 use Rattle.lnbd_history.specs.Events.{Event, History, Issue}
 use Rattle.lnbd_history.specs.History.{request, reading}
-use Rattle.lnbd_asked.specs.Driven.{DrivenSays, outcome_after, written, zero_after}
-use Rattle.lnbd_asked.specs.Link.{Nobody}
+use Rattle.lnbd_asked.specs.Driven.{DrivenSays, written}
 use Rattle.lnbd_asked.specs.Transcript.{bare, is_of, on_link, asked_on, answered, told_zero, zero_in, only_if, dealt_with}
 use Rattle.lnbd_poll.specs.Seen.{Seen}
 use Rattle.lnbd_poll.specs.Turns.{Whole}
-use Rattle.lnbd_drives.specs.Driving.{with_event}
 use Rattle.lnbd_plan.specs.declared.grid.Slice.{Slice}
-use Rattle.lnbd_plan.specs.Laws.{Window, told_by}
+use Rattle.lnbd_plan.specs.Laws.{told_by}
 use Rattle.lnbd_board.specs.declared.how.How.{How}
 use Rattle.lnbd_board.specs.Asks.{Keeps}
 use Rattle.lnbd_board.specs.Requests as sides
@@ -30,11 +25,11 @@ use Rattle.lnbd_board.specs.declared.ticket.Ticket.{Ticket}
 use Rattle.lnbd_board.specs.Files as board
 use Rattle.lnbd_board.specs.Holds.{WasToldZero}
 use Rattle.lnbd_tracks.specs.Laws.{is_coming}
-use Rattle.lnbd_tracks.specs.Mapping.{IsWanted, Maps, IsToldZero, ToldAlike, asks_extents}
+use Rattle.lnbd_tracks.specs.Mapping.{IsWanted, Maps, IsToldZero, ToldAlike}
 use Rattle.lnbd_tracks.specs.Tracks.{NoneFails, Histories, Happens, is_issue}
 use Rattle.lnbd_tracks.proofs.Mapped.{nothing_maps, not_issued, coming_maps, others_map, asking_maps, hearing_maps, zeroes_stay}
 use Rattle.lnbd_tracks.proofs.Written.{done_is_written}
-use Rattle.lnbd_course.specs.Course.{Course, Stood, on_side, beside, with_link}
+use Rattle.lnbd_course.specs.Course.{Stood, beside, with_link}
 use Rattle.lnbd_course.specs.Told.{Told, AreOfSource, NothingIsTold, OpeningTells, SettlingTells, TurnsTell, CallsTell, SourceAsksTell, DestinationAsksTell, ExtentsAskTell, BoardMovesTell, OthersTell, HearingTells, FewerTell, WindowsTell, TakingTells, KnownWasTold, SidesAreOfSource}
 use Rattle.lnbd_course.proofs.Asking.{goes_on, source_asks_keep, destination_asks_keep, others_keep, board_moves_keep, then}
 use Rattle.lnbd_course.proofs.Holding.{nothing_is_on_course, opens_on_course, settling_keeps, calls_keep, turned_keeps, removed, removed_keeps, take_drop}

@@ -6,3 +6,4 @@ pub mod Orders
 pub mod Told
 pub mod Between
 pub mod Betweens
+pub mod Asks

@@ -1,5 +1,6 @@
 //! Laws of the course of a copy. Each is the contract of a function that does nothing.
 
+ghost use Rattle.lnbd_course.specs.Asks.{EndedAreDone, EndedAsksOnce};
 ghost use Rattle.lnbd_course.specs.Laws.{NothingIsOnCourse, OpensOnCourse, SettlingKeeps, TurnsKeep, CallsKeep, SourceAsksKeep, DestinationAsksKeep, BoardMovesKeep, OthersKeep, TakingKeeps, FinishedCopies};
 ghost use Rattle.lnbd_course.specs.Betweens.{NothingIsBetween, OpensBetween, SettlingKeepsBetween, AgreeingSettles, TurnsKeepBetween, CallsKeepBetween, SourceAsksKeepBetween, DestinationAsksKeepBetween, BoardMovesKeepBetween, OthersKeepBetween, TakingKeepsBetween, LinksAreOfSides, EndedCopies};
 ghost use Rattle.lnbd_course.specs.Orders.{BeginningAsks, GoingAsks, OverAsksNothing};
@@ -152,4 +153,10 @@ pub fn taking_keeps_between()
 pub fn ended_copies()
     ensures links { LinksAreOfSides }
     ensures copies { EndedCopies }
+{}
+
+/// Of what a copy asks nothing is asked twice, and nothing past the source's end; and where all slices are over, all of it is done.
+pub fn ended_asks_once()
+    ensures once { EndedAsksOnce }
+    ensures done { EndedAreDone }
 {}

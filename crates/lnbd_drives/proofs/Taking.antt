@@ -12,8 +12,8 @@ use Rattle.lnbd_asked.specs.Driven.{Drives, Writes, Writes_none, Reads, Reads_no
 use Rattle.lnbd_poll.specs.declared.noticed.Noticed.{Noticed}
 use Rattle.lnbd_poll.specs.declared.noticed.Noticed.TheVariants as noticed
 use Rattle.lnbd_poll.specs.Alone.{calls_on}
-use Rattle.lnbd_poll.specs.Seen.{Seen, Follows, inbox_room}
-use Rattle.lnbd_poll.specs.Notices.{Arrives, Hears, ReadsIf, ReadsOn, Sends, WritesIf, is_reading, is_waiting}
+use Rattle.lnbd_poll.specs.Seen.{Seen, Follows}
+use Rattle.lnbd_poll.specs.Notices.{Arrives, Hears, ReadsIf, ReadsOn, Sends, WritesIf, is_reading, is_waiting, room_after}
 use Rattle.lnbd_poll.specs.Turns.{Told, WritesAll, Stops, Goes_on, TurnsOne, is_lost, is_short}
 use Rattle.lnbd_drives.proofs.Modes.{mode, arrived_mode, end_mode, fault_mode}
 use Rattle.lnbd_drives.proofs.Passing.{both_off, one_off, passes}
@@ -72,15 +72,15 @@ module _ {K : Type 0} where
     stays_ran calls short before after is none r = subst (Ran before.link calls short) (sym is) (record { same = refl; runs = r; arrived = λ e. none })
 
     hears_ran : (calls : List wire.Call) (told : ReadTold) (notice : Noticed) (before after : Seen K) → IsLiving before.history → before.unread ≡ [] → Hears steps told notice before after world world' →
-        Runs before.link calls before.history [] → Ran before.link (calls ++ Read before.link inbox_room told ∷ []) (is_short notice) after
-    hears_ran calls (Moved bytes) notice before after living none h r = arrives_ran (calls ++ Read before.link inbox_room (Moved bytes) ∷ []) bytes notice before after h.1
-        (record { drives = Reads calls before.history [] inbox_room bytes _ bytes r.drives refl refl; spelled = r.spelled; off = r.off })
-    hears_ran calls Unready notice before after living none h r = stays_ran (calls ++ Read before.link inbox_room Unready ∷ []) (is_short notice) before after h.1.0 none
-        (subst (Runs before.link (calls ++ Read before.link inbox_room Unready ∷ []) before.history) (sym none) (record { drives = Reads_none calls before.history [] inbox_room _ r.drives refl; spelled = r.spelled; off = r.off }))
-    hears_ran calls Ended notice before after living none h r = follows_ran before.link (calls ++ Read before.link inbox_room Ended ∷ []) (is_short notice) (End h.1.0) [] before after refl h.1.1
-        (record { drives = Ends calls before.history inbox_room h.1.0 _ r.drives living refl; spelled = (tt, r.spelled); off = end_mode before.history h.1.0 ∙ r.off }) (λ e. refl)
-    hears_ran calls ReadFault notice before after living none h r = follows_ran before.link (calls ++ Read before.link inbox_room ReadFault ∷ []) (is_short notice) (LinkFailed h.1.0) [] before after refl h.1.1
-        (record { drives = Fails_to_read calls before.history inbox_room h.1.0 _ r.drives living refl; spelled = (tt, r.spelled); off = fault_mode before.history h.1.0 ∙ r.off }) (λ e. refl)
+        Runs before.link calls before.history [] → Ran before.link (calls ++ Read before.link (room_after before.history) told ∷ []) (is_short notice) after
+    hears_ran calls (Moved bytes) notice before after living none h r = arrives_ran (calls ++ Read before.link (room_after before.history) (Moved bytes) ∷ []) bytes notice before after h.1
+        (record { drives = Reads calls before.history [] (room_after before.history) bytes _ bytes r.drives refl refl; spelled = r.spelled; off = r.off })
+    hears_ran calls Unready notice before after living none h r = stays_ran (calls ++ Read before.link (room_after before.history) Unready ∷ []) (is_short notice) before after h.1.0 none
+        (subst (Runs before.link (calls ++ Read before.link (room_after before.history) Unready ∷ []) before.history) (sym none) (record { drives = Reads_none calls before.history [] (room_after before.history) _ r.drives refl; spelled = r.spelled; off = r.off }))
+    hears_ran calls Ended notice before after living none h r = follows_ran before.link (calls ++ Read before.link (room_after before.history) Ended ∷ []) (is_short notice) (End h.1.0) [] before after refl h.1.1
+        (record { drives = Ends calls before.history (room_after before.history) h.1.0 _ r.drives living refl; spelled = (tt, r.spelled); off = end_mode before.history h.1.0 ∙ r.off }) (λ e. refl)
+    hears_ran calls ReadFault notice before after living none h r = follows_ran before.link (calls ++ Read before.link (room_after before.history) ReadFault ∷ []) (is_short notice) (LinkFailed h.1.0) [] before after refl h.1.1
+        (record { drives = Fails_to_read calls before.history (room_after before.history) h.1.0 _ r.drives living refl; spelled = (tt, r.spelled); off = fault_mode before.history h.1.0 ∙ r.off }) (λ e. refl)
 
     reads_ran : (b : Bool) (calls own : List wire.Call) (notice : Noticed) (before after : Seen K) → is_reading before.history ≡ b → before.unread ≡ [] → ReadsIf steps b notice before world own after world' →
         Runs before.link calls before.history [] → Ran before.link (calls ++ own) (is_short notice) after
@@ -151,7 +151,7 @@ module _ {K : Type 0} where
     read_off true unread notice before after world world' calls differ is r = go unread (subst (λ (u : List ℕ). ReadsOn steps u notice before world calls after world') is r)
       where
         go : (u : List ℕ) → ReadsOn steps u notice before world calls after world' → calls_on link calls ≡ []
-        go [] r = ap (calls_on link) r.1 ∙ one_off link before.link (Read before.link inbox_room r.0) refl differ
+        go [] r = ap (calls_on link) r.1 ∙ one_off link before.link (Read before.link (room_after before.history) r.0) refl differ
         go (byte ∷ bytes) r = none_off link calls r.0
 
     writes_off : (n : ℕ) (before : History K) (world : World) (calls : List wire.Call) (after : History K) (world' : World) (moved : Option ℕ) → n ≢ link → WritesAll steps n before world calls after world' moved → calls_on link calls ≡ []

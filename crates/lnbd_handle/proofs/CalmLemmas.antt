@@ -2,7 +2,7 @@
 use Rattle.std.proofs.Common.{◌≡◌, ◌⊎◌, inl, inr, ℕ, ◌+◌, ◌<◌, ◌≤◌, Bool, true, false, ◌||◌, ◌==◌, nat_lt, nat_le, if◌then◌else◌, List, [], ◌∷◌, ◌++◌, length, replicate, Option, Some, None, refl, ap, sym, ◌∙◌, subst, arith}
 use Rattle.std.specs.Prelude.{is_some, IfNone, IfSome, IsSome}
 use Rattle.std.specs.Option.{IsSomeAnd, option_map}
-use Rattle.std.proofs.lemmas.Bool.{cases_lt, eqb-true, false≢true, ltb-true}
+use Rattle.std.proofs.lemmas.Bool.{and_parts, cases_lt, eqb-true, false≢true, leb-true, ltb-true}
 use Rattle.std.proofs.lemmas.List.{length-append, length-replicate, length-take}
 use Rattle.lnbd_keyed.specs.Keyed.{value_at}
 use Rattle.lnbd_model.specs.Kind.{is_read}
@@ -29,8 +29,10 @@ use Rattle.lnbd_commands.specs.Flights.{has_first}
 use Rattle.lnbd_commands.specs.Rows.{flight_of_row}
 use Rattle.lnbd_commands.specs.Seen.{seen_waiting}
 use Rattle.lnbd_commands.specs.declared.row.Waiting.{Waiting as Told}
-use Rattle.lnbd_arrivals.specs.Frames.{Announces, IsSuccess}
+use Rattle.lnbd_arrivals.specs.Frames.{Announces, IsFront, IsSuccess, front_size, is_structured}
 use Rattle.lnbd_arrivals.specs.declared.announced.Announced.{Announced}
+use Rattle.lnbd_arrivals.specs.declared.replies.Replies.{Replies}
+use Rattle.lnbd_arrivals.specs.declared.replies.Replies.TheVariants.{Simple}
 use Rattle.lnbd_handle.specs.declared.connection.Connection.{Connection}
 use Rattle.lnbd_handle.specs.declared.pending.Pending.{Pending}
 use Rattle.lnbd_handle.specs.Held.{data_in}
@@ -70,7 +72,7 @@ once_none n bytes shown e = go (nat_lt (length bytes) n) refl e
     go true w e = ltb-true (length bytes) n w
     go false w e = let c : Some shown ≡ None = e in cc
 
-sized : (command : Waiting) (error size : ℕ) → content_size command error ≡ size → 0 < size → (error ≡ 0) × (is_read command.kind ≡ true) × (command.length ≡ size)
+pub sized : (command : Waiting) (error size : ℕ) → content_size command error ≡ size → 0 < size → (error ≡ 0) × (is_read command.kind ≡ true) × (command.length ≡ size)
 sized command error size e some = go (error == 0) (is_read command.kind) refl refl e
   where
     go : (a b : Bool) → (error == 0) ≡ a → is_read command.kind ≡ b → (if a then if b then command.length else 0 else 0) ≡ size → (error ≡ 0) × (is_read command.kind ≡ true) × (command.length ≡ size)
@@ -163,6 +165,13 @@ late_at Aborting seen waits bytes found s e = passed_late seen.passed bytes foun
 late_at Closed seen waits bytes found s e = ignored_late bytes found e
 late_at (Dead cause) seen waits bytes found s e = ignored_late bytes found e
 
+-- What was found is announced to the command that waits.
+abbrev pub AreAnnounced : Replies → List ℕ → Option Told → Option Announced → Type 0
+AreAnnounced replies front waiting found = IfSome found (λ announced. (waits : ℕ → Option Waiting) → (16 ≤ length front → waits (number_at 8 8 front) ≡ option_map seen_waiting waiting) → Announces replies waits front announced)
+
+same_length : (one other : Waiting) → Some one ≡ Some other → one.length ≡ other.length
+same_length one other e = let same : one ≡ other = cc in ap (λ (w : Waiting). w.length) same
+
 module _ {K : Type 0} where
   -- It lasts.
 
@@ -219,39 +228,43 @@ module _ {K : Type 0} where
   waited_fits size state cookie command fits e read = waits_fit size (nat_le cookie state.written) (value_at cookie state.rows) state.rows cookie command fits refl e read
 
   -- A reply that is announced to a command that waits.
-  pub announced_fits : (size : ℕ) (state : State K) (head : List ℕ) (found : Option Announced) (waiting : Option Told) → (16 ≤ length head → waited state (number_at 8 8 head) ≡ option_map seen_waiting waiting) →
-      IfSome found (λ announced. (waits : ℕ → Option Waiting) → (16 ≤ length head → waits (number_at 8 8 head) ≡ option_map seen_waiting waiting) → Announces waits head announced) →
-      IfSome found (λ announced. (command : Waiting) → option_map seen_waiting waiting ≡ Some command → announced.size ≡ command.length) →
-      ReadsFit size state.rows → IfSome found (λ announced. announced.size ≤ size)
-  announced_fits size state head None waiting waits announces long fits = tt
-  announced_fits size state head (Some announced) waiting waits announces long fits =
+  pub announced_fits : (size : ℕ) (state : State K) (replies : Replies) (front : List ℕ) (found : Option Announced) (waiting : Option Told) → (16 ≤ length front → waited state (number_at 8 8 front) ≡ option_map seen_waiting waiting) →
+      AreAnnounced replies front waiting found → ReadsFit size state.rows → IfSome found (λ announced. announced.size ≤ size)
+  announced_fits size state replies front None waiting waits announces fits = tt
+  announced_fits size state replies front (Some announced) waiting waits announces fits =
       let a = announces (waited state) waits in
-      let r = a.whole (replicate announced.size 0) (length-replicate announced.size 0) in
-      let front = at_more 8 8 head (replicate announced.size 0) (omega (arith, a.sized)) in
-      let at : waited state (number_at 8 8 head) ≡ Some r.command = ap (waited state) (sym (r.cookie_is ∙ front)) ∙ r.waits in
-      let same = long r.command (sym (waits (omega (arith, a.sized))) ∙ at) in
-      go (is_read r.command.kind) r.command refl at same r.sized
-    where
-      go : (b : Bool) (command : Waiting) → is_read command.kind ≡ b → waited state (number_at 8 8 head) ≡ Some command → announced.size ≡ command.length → announced.size ≡ content_size command 0 → announced.size ≤ size
-      go true command read at same sized = subst (λ (n : ℕ). n ≤ size) (sym same) (waited_fits size state (number_at 8 8 head) command fits at read)
-      go false command read at same sized = let none : announced.size ≡ 0 = sized ∙ ap (λ (b : Bool). if b then command.length else 0) read in omega (arith, none)
+      let long : length (replicate {A = ℕ} announced.size 0) ≡ announced.size = length-replicate announced.size 0 in
+      let r = a.whole (replicate announced.size 0) long in
+      let inside = r.may_come.inside in
+      let parts = and_parts (nat_le r.command.offset announced.offset) (nat_le (announced.offset + length (replicate {A = ℕ} announced.size 0)) (r.command.offset + r.command.length)) inside.1 in
+      let low = leb-true r.command.offset announced.offset parts.0 in
+      let high = leb-true (announced.offset + length (replicate {A = ℕ} announced.size 0)) (r.command.offset + r.command.length) parts.1 in
+      let most = waited_fits size state announced.cookie r.command fits r.waits inside.0 in
+      omega (arith, low, high, most, long)
 
   -- A whole head of a read's reply, where its data are not all there, is told.
-  pub announced_all : (c : Connection K) (head rest : List ℕ) (found : Option Announced) (waiting : Option Told) → (16 ≤ length head → waited (state_of c) (number_at 8 8 head) ≡ option_map seen_waiting waiting) →
-      ((command : Waiting) → option_map seen_waiting waiting ≡ Some command → is_read command.kind ≡ true → IsSuccess head → IsSome found) →
-      IfSome found (λ announced. (command : Waiting) → option_map seen_waiting waiting ≡ Some command → announced.size ≡ command.length) →
+  pub announced_all : (c : Connection K) (replies : Replies) (head rest : List ℕ) (found : Option Announced) (waiting : Option Told) → (16 ≤ length head → waited (state_of c) (number_at 8 8 head) ≡ option_map seen_waiting waiting) →
+      ((command : Waiting) → option_map seen_waiting waiting ≡ Some command → IsFront replies command head → IsSome found) → AreAnnounced replies head waiting found →
+      (c.talk.structured ≡ false → c.talk.extended ≡ false → replies ≡ Simple) →
       RepliesSimply c.stage c.talk.phase c.talk.structured c.talk.extended → length head ≡ simple_head_size → ShowsNothing (state_of c) (head ++ rest) → IsSomeAnd found (λ announced. length rest < announced.size)
-  announced_all c head rest found waiting waits all long simply whole shown =
+  announced_all c replies head rest found waiting waits all announces simple simply whole shown =
       let l = frame_lacks (waited (state_of c)) (head ++ rest) (omega (arith, whole, length-append head rest)) (sym (simple_shows c.stage (sight (state_of c)) (waited (state_of c)) (head ++ rest) simply) ∙ shown) in
       let cookie = at_more 8 8 head rest (omega (arith, whole)) in
-      let at : option_map seen_waiting waiting ≡ Some l.command = sym (waits (omega (arith, whole))) ∙ ap (waited (state_of c)) (sym cookie) ∙ l.there in
-      go found (all l.command at l.read (record { sized = whole; magic = sym (at_more 0 4 head rest (omega (arith, whole))) ∙ l.magic; error = sym (at_more 4 4 head rest (omega (arith, whole))) ∙ l.error })) long l.command at
-      (omega (arith, l.short, whole, length-append head rest))
+      let there : waited (state_of c) (number_at 8 8 head) ≡ Some l.command = ap (waited (state_of c)) (sym cookie) ∙ l.there in
+      let at : option_map seen_waiting waiting ≡ Some l.command = sym (waits (omega (arith, whole))) ∙ there in
+      let is = simple simply.compact simply.short in
+      let success : IsSuccess head = record { sized = whole; magic = sym (at_more 0 4 head rest (omega (arith, whole))) ∙ l.magic; error = sym (at_more 4 4 head rest (omega (arith, whole))) ∙ l.error } in
+      go found is (all l.command at (subst (λ (r : Replies). IsFront r l.command head) (sym is) (l.read, success))) announces l.command there (omega (arith, l.short, whole, length-append head rest))
     where
-      go : (f : Option Announced) → IsSome f → IfSome f (λ announced. (command : Waiting) → option_map seen_waiting waiting ≡ Some command → announced.size ≡ command.length) →
-          (command : Waiting) → option_map seen_waiting waiting ≡ Some command → length rest < command.length → IsSomeAnd f (λ announced. length rest < announced.size)
-      go None some long command at short = absurd (false≢true some)
-      go (Some announced) some long command at short = let e = long command at in omega (arith, e, short)
+      go : (f : Option Announced) → replies ≡ Simple → IsSome f → AreAnnounced replies head waiting f →
+          (command : Waiting) → waited (state_of c) (number_at 8 8 head) ≡ Some command → length rest < command.length → IsSomeAnd f (λ announced. length rest < announced.size)
+      go None is some announces command there short = absurd (false≢true some)
+      go (Some announced) is some announces command there short =
+          let a = announces (waited (state_of c)) waits in
+          let r = a.whole (replicate announced.size 0) (length-replicate announced.size 0) in
+          let sized = (r.all (a.carried ∙ ap is_structured is)).1 in
+          let same = same_length r.command command (sym r.waits ∙ ap (waited (state_of c)) a.cookie_is ∙ there) in
+          omega (arith, sized, same, short)
 
   -- Where no command in flight has a chunk callback, that of no cookie has one.
   pub first_none : (row : Option (Row K)) (rows : List (ℕ × Row K)) (cookie : ℕ) → value_at cookie rows ≡ row → NoneHears rows → has_first (flight_of_row row) ≡ true → ⊥
@@ -279,7 +292,7 @@ module _ {K : Type 0} where
       none (inl some) low = let e = kept.apart some in absurd (omega (arith, e, low))
       none (inr low0) low = omega (arith, low0)
   within_lacks c p (Some some) head front lack is simply kept short brings all more rest fits =
-      let less = all brings.announces.sized in
+      let less = all (brings.announces.sized ∙ ap front_size (brings.simple simply.compact simply.short)) in
       let came : p.came < some.size = omega (arith, less, length-take p.came p.content.items, kept.within, p.content.ok.0) in
       let enough = more came in
       omega (arith, enough, fits)

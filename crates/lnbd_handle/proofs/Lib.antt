@@ -16,3 +16,5 @@ pub mod IssueLemmas
 pub mod HistoryLemmas
 pub mod AbortLemmas
 pub mod OptionLemmas
+pub mod PlacingLemmas
+pub mod PlaceLemmas

@@ -237,7 +237,7 @@ module _ {K World : Type 0} (steps : World → List (Call K) → World → Type 
   turn_refused old middle new before after rest size verdict LinkFailed opened options sized fits shown replies acts dead = absurd replies
 
   -- A reply of just so many bytes to a command that waits.
-  turn_filed : (old : Connection K) (replies : Manner) (commands : Commands K) (before after : World) (rest : List ℕ) (n : ℕ) (frame : Frame) → is_speaking old.stage ≡ true → old.talk.phase ≡ phase.Ready → AreAgreed old replies → IsSound old →
+  pub turn_filed : (old : Connection K) (replies : Manner) (commands : Commands K) (before after : World) (rest : List ℕ) (n : ℕ) (frame : Frame) → is_speaking old.stage ≡ true → old.talk.phase ≡ phase.Ready → AreAgreed old replies → IsSound old →
       (command : Waiting) → waited (state_of old) frame.cookie ≡ Some command → n ≤ length rest → shows_by replies (waited (state_of old)) (take n rest) ≡ Some (Reply frame) →
       ((front more : List ℕ) → rest ≡ front ++ more → length front < n → shows_by replies (waited (state_of old)) front ≡ None) →
       TakesUnder old.talk.contexts steps (file_in frame.cookie (Framed frame.content frame.last)) old.commands commands before after →

@@ -7,5 +7,8 @@ pub mod Completing
 pub mod Queued
 pub mod Issues
 pub mod Held
+pub mod Filing
 pub mod Histories
 pub mod Settings
+pub mod Placing
+pub mod Lends

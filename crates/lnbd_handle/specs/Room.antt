@@ -10,7 +10,9 @@ use Rattle.lnbd_history.specs.declared.kinds.Stage.{Stage}
 use Rattle.lnbd_history.specs.Commands.{Flight}
 use Rattle.lnbd_machine.specs.Machine.{Row, State}
 use Rattle.lnbd_machine.specs.Now.{state_now}
+use Rattle.lnbd_arrivals.specs.Frames.{front_size}
 use Rattle.lnbd_arrivals.specs.declared.announced.Announced.{Announced}
+use Rattle.lnbd_arrivals.specs.declared.replies.Replies.TheVariants.{Extended}
 use Rattle.lnbd_handle.specs.declared.pending.Pending.{Pending}
 use Rattle.lnbd_handle.specs.Turns.{is_speaking}
 
@@ -25,11 +27,15 @@ pub record RepliesSimply (stage : Stage) (phase : Phase) (structured extended : 
 abbrev pub AreOrdered : (structured extended : Bool) → Type 0
 AreOrdered structured extended = extended ≡ true → structured ≡ true
 
--- The data that are held stand in front of the buffer; the head of a simple reply has room, and data are held behind a whole one.
+-- the most bytes that stand before the data of a reply: an extended head and the place of the data
+abbrev pub longest_front : ℕ
+longest_front = front_size Extended
+
+-- The data that are held stand in front of the buffer; all that stands before the data of a reply has room, and data are held behind a whole head.
 pub record IsKept (pending : Pending) : Type 0 where
   pub within : pending.came ≤ vec_len pending.content
-  pub room : simple_head_size ≤ vec_capacity pending.head
-  pub apart : 0 < pending.came → length pending.head.items ≡ simple_head_size
+  pub room : longest_front ≤ vec_capacity pending.head
+  pub apart : 0 < pending.came → simple_head_size ≤ length pending.head.items
 
 -- These bytes and those that are held are at most the head of a simple reply.
 pub record IsHeadWithin (pending : Pending) (front : List ℕ) : Type 0 where

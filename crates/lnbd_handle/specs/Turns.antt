@@ -53,12 +53,14 @@ module _ {K : Type 0} where
   abbrev pub AreAgreed : Connection K → Replies → Type 0
   AreAgreed c replies = (waits : ℕ → Option Waiting) (bytes : List ℕ) → shows_by replies waits bytes ≡ shows_frame c.talk.structured c.talk.extended waits bytes
 
-  -- Where simple replies alone may come, these bytes are the head of one that brings data to its command.
-  pub record Brings (c : Connection K) (head : List ℕ) (announced : Announced) : Type 0 where
+  -- Where replies may come, these bytes are the front of one that brings data to its command.
+  pub record Brings (c : Connection K) (front : List ℕ) (announced : Announced) : Type 0 where
     pub speaking : is_speaking c.stage ≡ true
     pub ready : c.talk.phase ≡ phase.Ready
-    pub agreed : AreAgreed c Simple
-    pub announces : Announces (waited (state_of c)) head announced
+    pub replies : Replies
+    pub agreed : AreAgreed c replies
+    pub simple : c.talk.structured ≡ false → c.talk.extended ≡ false → replies ≡ Simple
+    pub announces : Announces replies (waited (state_of c)) front announced
 
   -- What one turn does with the bytes in front of it: they show nothing yet; so many are a record, which is taken; all are
   -- taken, since nothing counts any more; or nothing is done, for want of memory.

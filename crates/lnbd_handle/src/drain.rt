@@ -14,17 +14,15 @@ ghost use Rattle.lnbd_handle.specs.Turns.{Arrives, Brings, Drained, HoldMeans, S
 ghost use Rattle.lnbd_machine.specs.Laws.{IsPartial};
 
 use crate::connection::Connection;
-use crate::heads::announced_in;
+use crate::filing::file_data;
+use crate::heads::{announced_in, front_size};
 use crate::kinds::{Holding, Short, Taken, Turn};
 use crate::lacking::lacking;
-use crate::pending::{Pending, SIMPLE_HEAD};
+use crate::pending::Pending;
 use crate::turns::turn;
 use lnbd_arrivals::Announced;
 use lnbd_callbacks::Caller;
-use lnbd_commands::Commands;
 use lnbd_model::NoMemory;
-use std::alloc::Global;
-use std::mem::replace;
 
 /// Takes the records of a buffer.
 fn drain<K: Caller>(connection: &mut Connection<K>, world: &mut K::World, buffer: &[u8]) -> Taken
@@ -79,7 +77,7 @@ pub(crate) fn take_fresh<K: Caller>(
     Ok(())
 }
 
-/// Holds the front of a record, where nothing is held: of a reply with data the head, and the data apart.
+/// Holds the front of a record, where nothing is held: of a reply that brings data to a read the data apart.
 fn hold_rest<K>(
     connection: &Connection<K>,
     pending: &mut Pending,
@@ -96,9 +94,9 @@ fn hold_rest<K>(
     ensures split { RepliesSimply connection.now.stage connection.now.talk.phase connection.now.talk.structured connection.now.talk.extended → length pending.new.head.items ≤ simple_head_size }
     ensures memory { (is_speaking connection.now.stage ≡ true → RepliesSimply connection.now.stage connection.now.talk.phase connection.now.talk.structured connection.now.talk.extended) → IsOk result }
 {
-    let (head, data) = rest.split_at(rest.len().min(SIMPLE_HEAD));
-    match announced_in(connection, head) {
-        Some(announced) if data.len() <= announced.size => pending.hold_apart(head, data),
+    let (front, data) = rest.split_at(rest.len().min(front_size(connection)));
+    match announced_in(connection, front) {
+        Some(announced) if data.len() <= announced.size => pending.hold_apart(front, data),
         _ => pending.hold(rest),
     }
 }
@@ -165,42 +163,7 @@ fn hold_record<K: Caller>(
     hold_front(connection, &mut pending.head, world, front)
 }
 
-/// Files the simple reply of which all data are there. Where they fill the buffer it becomes the command's own, whose buffer takes
-/// its place; else they are copied.
-fn file_data<K: Caller>(
-    commands: &mut Commands<K>,
-    alloc: Global,
-    buffer: &mut Vec<u8>,
-    world: &mut K::World,
-    announced: Announced,
-) -> Result<(), NoMemory>
-    requires there { announced.size ≤ vec_len buffer.old }
-    requires reply { IsReply (waiting_at announced.cookie commands.old) 0 (take announced.size buffer.old.items) }
-    ensures ok { OnOk result (TakesReply K.steps announced.cookie (waiting_at announced.cookie commands.old) 0 (take announced.size buffer.old.items) commands.old commands.new world.old world.new) }
-    ensures needed { OnErr result (has_first (flight_of_row (value_at announced.cookie commands.old.rows)) ≡ true) }
-    ensures err { OnErr result (commands.new ≡ commands.old) }
-    ensures err_buffer { OnErr result (buffer.new.items ≡ buffer.old.items) }
-    ensures err_world { OnErr result (world.new ≡ world.old) }
-    ensures room { vec_len buffer.new ≡ vec_len buffer.old }
-{
-    if announced.size < buffer.len() {
-        let (data, _) = buffer.split_at(announced.size);
-        return commands.reply(world, announced.cookie, 0, data);
-    }
-    let data = replace(buffer, Vec::new(alloc));
-    match commands.reply_filled(world, announced.cookie, 0, data) {
-        Ok(spare) => {
-            *buffer = spare;
-            Ok(())
-        }
-        Err(data) => {
-            *buffer = data;
-            Err(NoMemory)
-        }
-    }
-}
-
-/// Holds data behind the head of a reply, and takes the reply that ends in it.
+/// Holds data of a reply, and takes the reply that ends in them.
 fn hold_content<K: Caller>(
     connection: &mut Connection<K>,
     pending: &mut Pending,
@@ -219,8 +182,8 @@ fn hold_content<K: Caller>(
     ensures still { result ≡ Holding.More → connection.new ≡ connection.old }
     ensures kept { IsKept pending.new }
     ensures room { vec_len pending.new.content ≡ vec_len pending.old.content }
-    ensures memory { NoneHears connection.old.commands.rows → result ≢ Holding.Short }
-    ensures head { length pending.new.head.items ≤ simple_head_size }
+    ensures memory { IsCalm (state_of connection.old) → result ≢ Holding.Short }
+    ensures head { length pending.new.head.items ≤ length pending.old.head.items }
 {
     let before = pending.came;
     pending.put(front);
@@ -229,6 +192,7 @@ fn hold_content<K: Caller>(
     }
     let filed = file_data(
         &mut connection.commands,
+        connection.talk.contexts(),
         connection.alloc,
         &mut pending.content,
         world,
@@ -265,7 +229,7 @@ fn hold<K: Caller>(
     ensures kept { IsKept pending.new }
     ensures room { vec_len pending.new.content ≡ vec_len pending.old.content }
     ensures memory { IsCalm (state_of connection.old) → AreWithin announced pending.old front.now → result ≢ Holding.Short }
-    ensures split { AreWithin announced pending.old front.now → length pending.new.head.items ≤ simple_head_size }
+    ensures split { length pending.old.head.items ≤ simple_head_size → AreWithin announced pending.old front.now → length pending.new.head.items ≤ simple_head_size }
 {
     match announced {
         Some(announced) if fits(pending, front, announced.size) => {

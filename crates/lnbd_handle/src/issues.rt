@@ -86,13 +86,13 @@ impl<K: Caller> Handle<K> {
     fn issue(&mut self, asked: Asked<K>, world: &mut K::World) -> Result<u64, IssueFault<K>>
         requires read { is_read asked.kind ≡ true → vec_len asked.buf ≡ asked.length }
         requires write { HasItsBytes (command_of asked) }
-        ensures cookie { IfOk result (λ cookie. cookie ≡ self.new.known.issued) }
-        ensures accepted { OnOk result (refusal_now max_unretired self.old.known (command_of asked) ≡ None) }
-        ensures ok { OnOk result (self.new ≡ step self.old (Issue (command_of asked))) }
+        ensures cookie { IfOk result (λ cookie. cookie ≡ self.new.machine.known.issued) }
+        ensures accepted { OnOk result (refusal_now max_unretired self.old.machine.known (command_of asked) ≡ None) }
+        ensures ok { OnOk result (self.new.machine ≡ step self.old.machine (Issue (command_of asked))) }
         ensures ok_world { OnOk result (world.new ≡ world.old) }
-        ensures faults { IfErr result (λ fault. Faults K.steps (command_of asked) fault self.old self.new world.old world.new) }
-        ensures stands { OnOk result (ForEach self.old (Adds (Issue (command_of asked)) self.new)) }
-        ensures fault_stands { IfErr result (λ fault. ForEach self.old (AddsFault K.steps (command_of asked) fault self.new world.old world.new)) }
+        ensures faults { IfErr result (λ fault. Faults K.steps (command_of asked) fault self.old.machine self.new.machine world.old world.new) }
+        ensures stands { OnOk result (ForEach self.old.machine (Adds (Issue (command_of asked)) self.new.machine)) }
+        ensures fault_stands { IfErr result (λ fault. ForEach self.old.machine (AddsFault K.steps (command_of asked) fault self.new.machine world.old world.new)) }
     {
         let terms = self.connection.terms();
         if let Some(why) = terms.refusal(asked.kind, asked.flags, asked.offset, asked.length) {
@@ -117,13 +117,13 @@ impl<K: Caller> Handle<K> {
         flags: u32,
         world: &mut K::World,
     ) -> Result<u64, IssueFault<K>>
-        ensures cookie { IfOk result (λ cookie. cookie ≡ self.new.known.issued) }
-        ensures accepted { OnOk result (refusal_now max_unretired self.old.known (read_of buf.items offset done flags) ≡ None) }
-        ensures ok { OnOk result (self.new ≡ step self.old (Issue (read_of buf.items offset done flags))) }
+        ensures cookie { IfOk result (λ cookie. cookie ≡ self.new.machine.known.issued) }
+        ensures accepted { OnOk result (refusal_now max_unretired self.old.machine.known (read_of buf.items offset done flags) ≡ None) }
+        ensures ok { OnOk result (self.new.machine ≡ step self.old.machine (Issue (read_of buf.items offset done flags))) }
         ensures ok_world { OnOk result (world.new ≡ world.old) }
-        ensures faults { IfErr result (λ fault. Faults K.steps (read_of buf.items offset done flags) fault self.old self.new world.old world.new) }
-        ensures stands { OnOk result (ForEach self.old (Adds (Issue (read_of buf.items offset done flags)) self.new)) }
-        ensures fault_stands { IfErr result (λ fault. ForEach self.old (AddsFault K.steps (read_of buf.items offset done flags) fault self.new world.old world.new)) }
+        ensures faults { IfErr result (λ fault. Faults K.steps (read_of buf.items offset done flags) fault self.old.machine self.new.machine world.old world.new) }
+        ensures stands { OnOk result (ForEach self.old.machine (Adds (Issue (read_of buf.items offset done flags)) self.new.machine)) }
+        ensures fault_stands { IfErr result (λ fault. ForEach self.old.machine (AddsFault K.steps (read_of buf.items offset done flags) fault self.new.machine world.old world.new)) }
     {
         let asked = with_bytes(Kind::Read, buf, offset, None, done, flags);
         self.issue(asked, world)
@@ -140,13 +140,13 @@ impl<K: Caller> Handle<K> {
         flags: u32,
         world: &mut K::World,
     ) -> Result<u64, IssueFault<K>>
-        ensures cookie { IfOk result (λ cookie. cookie ≡ self.new.known.issued) }
-        ensures accepted { OnOk result (refusal_now max_unretired self.old.known (structured_read_of buf.items offset chunk done flags) ≡ None) }
-        ensures ok { OnOk result (self.new ≡ step self.old (Issue (structured_read_of buf.items offset chunk done flags))) }
+        ensures cookie { IfOk result (λ cookie. cookie ≡ self.new.machine.known.issued) }
+        ensures accepted { OnOk result (refusal_now max_unretired self.old.machine.known (structured_read_of buf.items offset chunk done flags) ≡ None) }
+        ensures ok { OnOk result (self.new.machine ≡ step self.old.machine (Issue (structured_read_of buf.items offset chunk done flags))) }
         ensures ok_world { OnOk result (world.new ≡ world.old) }
-        ensures faults { IfErr result (λ fault. Faults K.steps (structured_read_of buf.items offset chunk done flags) fault self.old self.new world.old world.new) }
-        ensures stands { OnOk result (ForEach self.old (Adds (Issue (structured_read_of buf.items offset chunk done flags)) self.new)) }
-        ensures fault_stands { IfErr result (λ fault. ForEach self.old (AddsFault K.steps (structured_read_of buf.items offset chunk done flags) fault self.new world.old world.new)) }
+        ensures faults { IfErr result (λ fault. Faults K.steps (structured_read_of buf.items offset chunk done flags) fault self.old.machine self.new.machine world.old world.new) }
+        ensures stands { OnOk result (ForEach self.old.machine (Adds (Issue (structured_read_of buf.items offset chunk done flags)) self.new.machine)) }
+        ensures fault_stands { IfErr result (λ fault. ForEach self.old.machine (AddsFault K.steps (structured_read_of buf.items offset chunk done flags) fault self.new.machine world.old world.new)) }
     {
         let asked = with_bytes(Kind::Read, buf, offset, Some(chunk), done, flags);
         self.issue(asked, world)
@@ -162,13 +162,13 @@ impl<K: Caller> Handle<K> {
         flags: u32,
         world: &mut K::World,
     ) -> Result<u64, IssueFault<K>>
-        ensures cookie { IfOk result (λ cookie. cookie ≡ self.new.known.issued) }
-        ensures accepted { OnOk result (refusal_now max_unretired self.old.known (write_of buf.items offset done flags) ≡ None) }
-        ensures ok { OnOk result (self.new ≡ step self.old (Issue (write_of buf.items offset done flags))) }
+        ensures cookie { IfOk result (λ cookie. cookie ≡ self.new.machine.known.issued) }
+        ensures accepted { OnOk result (refusal_now max_unretired self.old.machine.known (write_of buf.items offset done flags) ≡ None) }
+        ensures ok { OnOk result (self.new.machine ≡ step self.old.machine (Issue (write_of buf.items offset done flags))) }
         ensures ok_world { OnOk result (world.new ≡ world.old) }
-        ensures faults { IfErr result (λ fault. Faults K.steps (write_of buf.items offset done flags) fault self.old self.new world.old world.new) }
-        ensures stands { OnOk result (ForEach self.old (Adds (Issue (write_of buf.items offset done flags)) self.new)) }
-        ensures fault_stands { IfErr result (λ fault. ForEach self.old (AddsFault K.steps (write_of buf.items offset done flags) fault self.new world.old world.new)) }
+        ensures faults { IfErr result (λ fault. Faults K.steps (write_of buf.items offset done flags) fault self.old.machine self.new.machine world.old world.new) }
+        ensures stands { OnOk result (ForEach self.old.machine (Adds (Issue (write_of buf.items offset done flags)) self.new.machine)) }
+        ensures fault_stands { IfErr result (λ fault. ForEach self.old.machine (AddsFault K.steps (write_of buf.items offset done flags) fault self.new.machine world.old world.new)) }
     {
         let asked = with_bytes(Kind::Write, buf, offset, None, done, flags);
         self.issue(asked, world)
@@ -181,13 +181,13 @@ impl<K: Caller> Handle<K> {
         flags: u32,
         world: &mut K::World,
     ) -> Result<u64, IssueFault<K>>
-        ensures cookie { IfOk result (λ cookie. cookie ≡ self.new.known.issued) }
-        ensures accepted { OnOk result (refusal_now max_unretired self.old.known (flush_of done flags) ≡ None) }
-        ensures ok { OnOk result (self.new ≡ step self.old (Issue (flush_of done flags))) }
+        ensures cookie { IfOk result (λ cookie. cookie ≡ self.new.machine.known.issued) }
+        ensures accepted { OnOk result (refusal_now max_unretired self.old.machine.known (flush_of done flags) ≡ None) }
+        ensures ok { OnOk result (self.new.machine ≡ step self.old.machine (Issue (flush_of done flags))) }
         ensures ok_world { OnOk result (world.new ≡ world.old) }
-        ensures faults { IfErr result (λ fault. Faults K.steps (flush_of done flags) fault self.old self.new world.old world.new) }
-        ensures stands { OnOk result (ForEach self.old (Adds (Issue (flush_of done flags)) self.new)) }
-        ensures fault_stands { IfErr result (λ fault. ForEach self.old (AddsFault K.steps (flush_of done flags) fault self.new world.old world.new)) }
+        ensures faults { IfErr result (λ fault. Faults K.steps (flush_of done flags) fault self.old.machine self.new.machine world.old world.new) }
+        ensures stands { OnOk result (ForEach self.old.machine (Adds (Issue (flush_of done flags)) self.new.machine)) }
+        ensures fault_stands { IfErr result (λ fault. ForEach self.old.machine (AddsFault K.steps (flush_of done flags) fault self.new.machine world.old world.new)) }
     {
         let asked = self.with_range(Kind::Flush, 0, 0, None, done, flags);
         self.issue(asked, world)
@@ -202,13 +202,13 @@ impl<K: Caller> Handle<K> {
         flags: u32,
         world: &mut K::World,
     ) -> Result<u64, IssueFault<K>>
-        ensures cookie { IfOk result (λ cookie. cookie ≡ self.new.known.issued) }
-        ensures accepted { OnOk result (refusal_now max_unretired self.old.known (trim_of length offset done flags) ≡ None) }
-        ensures ok { OnOk result (self.new ≡ step self.old (Issue (trim_of length offset done flags))) }
+        ensures cookie { IfOk result (λ cookie. cookie ≡ self.new.machine.known.issued) }
+        ensures accepted { OnOk result (refusal_now max_unretired self.old.machine.known (trim_of length offset done flags) ≡ None) }
+        ensures ok { OnOk result (self.new.machine ≡ step self.old.machine (Issue (trim_of length offset done flags))) }
         ensures ok_world { OnOk result (world.new ≡ world.old) }
-        ensures faults { IfErr result (λ fault. Faults K.steps (trim_of length offset done flags) fault self.old self.new world.old world.new) }
-        ensures stands { OnOk result (ForEach self.old (Adds (Issue (trim_of length offset done flags)) self.new)) }
-        ensures fault_stands { IfErr result (λ fault. ForEach self.old (AddsFault K.steps (trim_of length offset done flags) fault self.new world.old world.new)) }
+        ensures faults { IfErr result (λ fault. Faults K.steps (trim_of length offset done flags) fault self.old.machine self.new.machine world.old world.new) }
+        ensures stands { OnOk result (ForEach self.old.machine (Adds (Issue (trim_of length offset done flags)) self.new.machine)) }
+        ensures fault_stands { IfErr result (λ fault. ForEach self.old.machine (AddsFault K.steps (trim_of length offset done flags) fault self.new.machine world.old world.new)) }
     {
         let asked = self.with_range(Kind::Trim, length, offset, None, done, flags);
         self.issue(asked, world)
@@ -223,13 +223,13 @@ impl<K: Caller> Handle<K> {
         flags: u32,
         world: &mut K::World,
     ) -> Result<u64, IssueFault<K>>
-        ensures cookie { IfOk result (λ cookie. cookie ≡ self.new.known.issued) }
-        ensures accepted { OnOk result (refusal_now max_unretired self.old.known (zero_of length offset done flags) ≡ None) }
-        ensures ok { OnOk result (self.new ≡ step self.old (Issue (zero_of length offset done flags))) }
+        ensures cookie { IfOk result (λ cookie. cookie ≡ self.new.machine.known.issued) }
+        ensures accepted { OnOk result (refusal_now max_unretired self.old.machine.known (zero_of length offset done flags) ≡ None) }
+        ensures ok { OnOk result (self.new.machine ≡ step self.old.machine (Issue (zero_of length offset done flags))) }
         ensures ok_world { OnOk result (world.new ≡ world.old) }
-        ensures faults { IfErr result (λ fault. Faults K.steps (zero_of length offset done flags) fault self.old self.new world.old world.new) }
-        ensures stands { OnOk result (ForEach self.old (Adds (Issue (zero_of length offset done flags)) self.new)) }
-        ensures fault_stands { IfErr result (λ fault. ForEach self.old (AddsFault K.steps (zero_of length offset done flags) fault self.new world.old world.new)) }
+        ensures faults { IfErr result (λ fault. Faults K.steps (zero_of length offset done flags) fault self.old.machine self.new.machine world.old world.new) }
+        ensures stands { OnOk result (ForEach self.old.machine (Adds (Issue (zero_of length offset done flags)) self.new.machine)) }
+        ensures fault_stands { IfErr result (λ fault. ForEach self.old.machine (AddsFault K.steps (zero_of length offset done flags) fault self.new.machine world.old world.new)) }
     {
         let asked = self.with_range(Kind::Zero, length, offset, None, done, flags);
         self.issue(asked, world)
@@ -244,13 +244,13 @@ impl<K: Caller> Handle<K> {
         flags: u32,
         world: &mut K::World,
     ) -> Result<u64, IssueFault<K>>
-        ensures cookie { IfOk result (λ cookie. cookie ≡ self.new.known.issued) }
-        ensures accepted { OnOk result (refusal_now max_unretired self.old.known (cache_of length offset done flags) ≡ None) }
-        ensures ok { OnOk result (self.new ≡ step self.old (Issue (cache_of length offset done flags))) }
+        ensures cookie { IfOk result (λ cookie. cookie ≡ self.new.machine.known.issued) }
+        ensures accepted { OnOk result (refusal_now max_unretired self.old.machine.known (cache_of length offset done flags) ≡ None) }
+        ensures ok { OnOk result (self.new.machine ≡ step self.old.machine (Issue (cache_of length offset done flags))) }
         ensures ok_world { OnOk result (world.new ≡ world.old) }
-        ensures faults { IfErr result (λ fault. Faults K.steps (cache_of length offset done flags) fault self.old self.new world.old world.new) }
-        ensures stands { OnOk result (ForEach self.old (Adds (Issue (cache_of length offset done flags)) self.new)) }
-        ensures fault_stands { IfErr result (λ fault. ForEach self.old (AddsFault K.steps (cache_of length offset done flags) fault self.new world.old world.new)) }
+        ensures faults { IfErr result (λ fault. Faults K.steps (cache_of length offset done flags) fault self.old.machine self.new.machine world.old world.new) }
+        ensures stands { OnOk result (ForEach self.old.machine (Adds (Issue (cache_of length offset done flags)) self.new.machine)) }
+        ensures fault_stands { IfErr result (λ fault. ForEach self.old.machine (AddsFault K.steps (cache_of length offset done flags) fault self.new.machine world.old world.new)) }
     {
         let asked = self.with_range(Kind::Cache, length, offset, None, done, flags);
         self.issue(asked, world)
@@ -267,13 +267,13 @@ impl<K: Caller> Handle<K> {
         flags: u32,
         world: &mut K::World,
     ) -> Result<u64, IssueFault<K>>
-        ensures cookie { IfOk result (λ cookie. cookie ≡ self.new.known.issued) }
-        ensures accepted { OnOk result (refusal_now max_unretired self.old.known (block_status_of length offset extents done flags) ≡ None) }
-        ensures ok { OnOk result (self.new ≡ step self.old (Issue (block_status_of length offset extents done flags))) }
+        ensures cookie { IfOk result (λ cookie. cookie ≡ self.new.machine.known.issued) }
+        ensures accepted { OnOk result (refusal_now max_unretired self.old.machine.known (block_status_of length offset extents done flags) ≡ None) }
+        ensures ok { OnOk result (self.new.machine ≡ step self.old.machine (Issue (block_status_of length offset extents done flags))) }
         ensures ok_world { OnOk result (world.new ≡ world.old) }
-        ensures faults { IfErr result (λ fault. Faults K.steps (block_status_of length offset extents done flags) fault self.old self.new world.old world.new) }
-        ensures stands { OnOk result (ForEach self.old (Adds (Issue (block_status_of length offset extents done flags)) self.new)) }
-        ensures fault_stands { IfErr result (λ fault. ForEach self.old (AddsFault K.steps (block_status_of length offset extents done flags) fault self.new world.old world.new)) }
+        ensures faults { IfErr result (λ fault. Faults K.steps (block_status_of length offset extents done flags) fault self.old.machine self.new.machine world.old world.new) }
+        ensures stands { OnOk result (ForEach self.old.machine (Adds (Issue (block_status_of length offset extents done flags)) self.new.machine)) }
+        ensures fault_stands { IfErr result (λ fault. ForEach self.old.machine (AddsFault K.steps (block_status_of length offset extents done flags) fault self.new.machine world.old world.new)) }
     {
         let asked = self.with_range(
             Kind::BlockStatus,

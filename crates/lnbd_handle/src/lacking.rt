@@ -36,10 +36,19 @@ fn simple_size(waiting: Option<Waiting>, head: &[u8]) -> usize
     }
 }
 
+/// Of a chunk that has so many bytes first the front alone, which shows whether it brings data.
+fn front_first(front: usize, size: usize, bytes: &[u8]) -> usize {
+    if bytes.len() < front {
+        size.min(front)
+    } else {
+        size
+    }
+}
+
 /// How many bytes a chunk has, as far as these show. A simple reply in its place has no more than its head.
 fn chunk_size(bytes: &[u8]) -> usize {
     match read_chunk_head(bytes) {
-        Read::Value(head) => (head.length as usize).saturating_add(20),
+        Read::Value(head) => front_first(28, (head.length as usize).saturating_add(20), bytes),
         Read::NeedMore => 20,
         Read::BadMagic(_) => 16,
     }
@@ -48,7 +57,7 @@ fn chunk_size(bytes: &[u8]) -> usize {
 /// The same with extended headers.
 fn extended_chunk_size(bytes: &[u8]) -> usize {
     match read_chunk_head_ext(bytes) {
-        Read::Value(head) => (head.length as usize).saturating_add(32),
+        Read::Value(head) => front_first(40, (head.length as usize).saturating_add(32), bytes),
         Read::NeedMore => 32,
         Read::BadMagic(_) => 16,
     }

@@ -44,8 +44,8 @@ fn ask<K>(connection: &mut Connection<K>, option: u32) -> Result<(), NoMemory>
 impl<K> Handle<K> {
     /// Whether this option may be asked, or why not.
     fn may_ask(&self, option: u32) -> Result<(), OptFault>
-        ensures ok { OnOk result (MayAsk option self.now.known) }
-        ensures refused { IfErr result (λ fault. (fault ≢ OutOfMemory) × RefusesOption option self.now.known fault) }
+        ensures ok { OnOk result (MayAsk option self.now.machine.known) }
+        ensures refused { IfErr result (λ fault. (fault ≢ OutOfMemory) × RefusesOption option self.now.machine.known fault) }
     {
         match self.state() {
             State::OptMode => {
@@ -62,11 +62,11 @@ impl<K> Handle<K> {
     /// Asks this option.
     fn opt(&mut self, option: u32) -> Result<(), OptFault>
         requires { is_call option ≡ true }
-        ensures ok { OnOk result (self.new ≡ step self.old (Opt option)) }
-        ensures allowed { OnOk result (MayAsk option self.old.known) }
-        ensures refused { IfErr result (λ fault. RefusesOption option self.old.known fault) }
-        ensures err { OnErr result (self.new ≡ self.old) }
-        ensures stands { ForEach self.old (AddsOnOk result (Opt option) self.new) }
+        ensures ok { OnOk result (self.new.machine ≡ step self.old.machine (Opt option)) }
+        ensures allowed { OnOk result (MayAsk option self.old.machine.known) }
+        ensures refused { IfErr result (λ fault. RefusesOption option self.old.machine.known fault) }
+        ensures err { OnErr result (self.new.machine ≡ self.old.machine) }
+        ensures stands { ForEach self.old.machine (AddsOnOk result (Opt option) self.new.machine) }
     {
         self.may_ask(option)?;
         ask(&mut self.connection, option)?;
@@ -75,44 +75,44 @@ impl<K> Handle<K> {
 
     /// Asks which exports the server has, which `listed` then tells (libnbd, nbd_opt_list).
     pub fn opt_list(&mut self) -> Result<(), OptFault>
-        ensures ok { OnOk result (self.new ≡ step self.old (Opt opt_list)) }
-        ensures allowed { OnOk result (MayAsk opt_list self.old.known) }
-        ensures refused { IfErr result (λ fault. RefusesOption opt_list self.old.known fault) }
-        ensures err { OnErr result (self.new ≡ self.old) }
-        ensures stands { ForEach self.old (AddsOnOk result (Opt opt_list) self.new) }
+        ensures ok { OnOk result (self.new.machine ≡ step self.old.machine (Opt opt_list)) }
+        ensures allowed { OnOk result (MayAsk opt_list self.old.machine.known) }
+        ensures refused { IfErr result (λ fault. RefusesOption opt_list self.old.machine.known fault) }
+        ensures err { OnErr result (self.new.machine ≡ self.old.machine) }
+        ensures stands { ForEach self.old.machine (AddsOnOk result (Opt opt_list) self.new.machine) }
     {
         self.opt(LIST)
     }
 
     /// Asks what the export of this name is, which `info` then tells (libnbd, nbd_opt_info).
     pub fn opt_info(&mut self) -> Result<(), OptFault>
-        ensures ok { OnOk result (self.new ≡ step self.old (Opt opt_info)) }
-        ensures allowed { OnOk result (MayAsk opt_info self.old.known) }
-        ensures refused { IfErr result (λ fault. RefusesOption opt_info self.old.known fault) }
-        ensures err { OnErr result (self.new ≡ self.old) }
-        ensures stands { ForEach self.old (AddsOnOk result (Opt opt_info) self.new) }
+        ensures ok { OnOk result (self.new.machine ≡ step self.old.machine (Opt opt_info)) }
+        ensures allowed { OnOk result (MayAsk opt_info self.old.machine.known) }
+        ensures refused { IfErr result (λ fault. RefusesOption opt_info self.old.machine.known fault) }
+        ensures err { OnErr result (self.new.machine ≡ self.old.machine) }
+        ensures stands { ForEach self.old.machine (AddsOnOk result (Opt opt_info) self.new.machine) }
     {
         self.opt(INFO)
     }
 
     /// Asks for the meta contexts that were added. The answer replaces those that are agreed (libnbd, nbd_opt_set_meta_context).
     pub fn opt_set_meta_context(&mut self) -> Result<(), OptFault>
-        ensures ok { OnOk result (self.new ≡ step self.old (Opt opt_set_meta_context)) }
-        ensures allowed { OnOk result (MayAsk opt_set_meta_context self.old.known) }
-        ensures refused { IfErr result (λ fault. RefusesOption opt_set_meta_context self.old.known fault) }
-        ensures err { OnErr result (self.new ≡ self.old) }
-        ensures stands { ForEach self.old (AddsOnOk result (Opt opt_set_meta_context) self.new) }
+        ensures ok { OnOk result (self.new.machine ≡ step self.old.machine (Opt opt_set_meta_context)) }
+        ensures allowed { OnOk result (MayAsk opt_set_meta_context self.old.machine.known) }
+        ensures refused { IfErr result (λ fault. RefusesOption opt_set_meta_context self.old.machine.known fault) }
+        ensures err { OnErr result (self.new.machine ≡ self.old.machine) }
+        ensures stands { ForEach self.old.machine (AddsOnOk result (Opt opt_set_meta_context) self.new.machine) }
     {
         self.opt(SET_META_CONTEXT)
     }
 
     /// Asks for the export of this name: where the server acknowledges, commands may be issued (libnbd, nbd_opt_go).
     pub fn opt_go(&mut self) -> Result<(), OptFault>
-        ensures ok { OnOk result (self.new ≡ step self.old (Opt opt_go)) }
-        ensures allowed { OnOk result (MayAsk opt_go self.old.known) }
-        ensures refused { IfErr result (λ fault. RefusesOption opt_go self.old.known fault) }
-        ensures err { OnErr result (self.new ≡ self.old) }
-        ensures stands { ForEach self.old (AddsOnOk result (Opt opt_go) self.new) }
+        ensures ok { OnOk result (self.new.machine ≡ step self.old.machine (Opt opt_go)) }
+        ensures allowed { OnOk result (MayAsk opt_go self.old.machine.known) }
+        ensures refused { IfErr result (λ fault. RefusesOption opt_go self.old.machine.known fault) }
+        ensures err { OnErr result (self.new.machine ≡ self.old.machine) }
+        ensures stands { ForEach self.old.machine (AddsOnOk result (Opt opt_go) self.new.machine) }
     {
         self.opt(GO)
     }
@@ -120,13 +120,13 @@ impl<K> Handle<K> {
     /// Gives negotiation up: ABORT is queued, and of what arrives from then on 65,536 bytes are passed over (libnbd,
     /// nbd_opt_abort). It takes no memory.
     pub fn opt_abort(&mut self) -> Result<(), OptFault>
-        ensures ok { OnOk result (self.new ≡ step self.old Abort) }
-        ensures allowed { OnOk result (state_now self.old.known ≡ state.OptMode) }
+        ensures ok { OnOk result (self.new.machine ≡ step self.old.machine Abort) }
+        ensures allowed { OnOk result (state_now self.old.machine.known ≡ state.OptMode) }
 
         // It is refused exactly in the other states, and then nothing has changed.
-        ensures refused { IfErr result (λ fault. (state_now self.old.known ≢ state.OptMode) × (fault ≡ OptFault.State (state_now self.old.known))) }
-        ensures err { OnErr result (self.new ≡ self.old) }
-        ensures stands { ForEach self.old (AddsOnOk result Abort self.new) }
+        ensures refused { IfErr result (λ fault. (state_now self.old.machine.known ≢ state.OptMode) × (fault ≡ OptFault.State (state_now self.old.machine.known))) }
+        ensures err { OnErr result (self.new.machine ≡ self.old.machine) }
+        ensures stands { ForEach self.old.machine (AddsOnOk result Abort self.new.machine) }
     {
         match self.state() {
             State::OptMode => {
@@ -140,16 +140,16 @@ impl<K> Handle<K> {
 
     /// The last answer to an option that the caller asked. None where none is answered yet.
     pub fn opt_answer(&self) -> Option<OptAnswer>
-        ensures value { result ≡ self.now.known.talk.answer }
-        ensures told { ForEach self.now (λ history. result ≡ opt_answer_after history) }
+        ensures value { result ≡ self.now.machine.known.talk.answer }
+        ensures told { ForEach self.now.machine (λ history. result ≡ opt_answer_after history) }
     {
         self.connection.talk.answer()
     }
 
     /// The exports that the last acknowledged LIST told.
     pub fn listed(&self) -> &Listing
-        ensures value { result.now ≡ self.now.known.talk.listing }
-        ensures told { ForEach self.now (λ history. result.now ≡ listed_after history) }
+        ensures value { result.now ≡ self.now.machine.known.talk.listing }
+        ensures told { ForEach self.now.machine (λ history. result.now ≡ listed_after history) }
     {
         self.connection.talk.listed()
     }

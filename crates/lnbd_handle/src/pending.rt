@@ -1,25 +1,26 @@
-//! The bytes that arrived and are no whole record yet. Of a reply with data its head is held, and apart from it the data that
-//! came so far, in a buffer with room for each read in flight: once it is full it becomes the command's own. So they are copied
-//! once, and holding them takes no memory. What the bytes mean is not known here.
+//! The bytes that arrived and are no whole record yet. Of a reply that brings data to a read all that stands before the data is held, and
+//! apart from it the data that came so far, in a buffer with room for each read in flight: once it is full it becomes the command's own. So
+//! they are copied once, and holding them takes no memory. What the bytes mean is not known here.
 
 ghost use Rattle.std.specs.Prelude.{◌≡◌, ◌≤◌, ◌<◌, ◌+◌, ◌++◌, [], true, false, length, take, vec_len, IfOk, IsOk, OnOk, OnErr};
 ghost use Rattle.lnbd_records.specs.Transmission.{simple_head_size};
 ghost use Rattle.lnbd_structured.specs.Placed.{written};
 ghost use Rattle.lnbd_handle.specs.Held.{data_in, held_in};
-ghost use Rattle.lnbd_handle.specs.Room.{IsKept};
+ghost use Rattle.lnbd_handle.specs.Room.{IsKept, longest_front};
 
 use lnbd_model::NoMemory;
 use std::alloc::Global;
 
-/// The size of the head of a simple reply (NBD protocol, "Simple reply message"), for which there is always room.
-pub(crate) const SIMPLE_HEAD: usize = 16;
+/// How many bytes stand before the data of a reply at most, for which there is always room: the head of an extended chunk (NBD protocol,
+/// "Extended reply chunk message") and the place of its data.
+const LONGEST_FRONT: usize = 40;
 
 /// Bytes in two parts, one behind the other.
 #[derive(Drop)]
 pub(crate) struct Pending {
     /// The front of a record.
     pub(crate) head: Vec<u8>,
-    /// A buffer that begins with data behind the head of a reply.
+    /// A buffer that begins with data of a reply.
     pub(crate) content: Vec<u8>,
     /// How many data came, in bytes.
     pub(crate) came: usize,
@@ -33,7 +34,7 @@ impl Pending {
         ensures kept { IfOk result IsKept }
     {
         Ok(Pending {
-            head: Vec::with_capacity(alloc, SIMPLE_HEAD)?,
+            head: Vec::with_capacity(alloc, LONGEST_FRONT)?,
             content: Vec::new(alloc),
             came: 0,
         })
@@ -96,7 +97,7 @@ impl Pending {
 
     /// Holds more data, for which there is room.
     pub(crate) fn put(&mut self, more: &[u8])
-        requires whole { length self.old.head.items ≡ simple_head_size }
+        requires whole { simple_head_size ≤ length self.old.head.items }
         requires fits { self.old.came + length more.now ≤ vec_len self.old.content }
         requires kept { IsKept self.old }
         ensures head { self.new.head ≡ self.old.head }
@@ -110,10 +111,11 @@ impl Pending {
         self.came += more.len();
     }
 
-    /// Holds the head of a simple reply, and apart from it some of its data, where nothing is held. It takes no memory.
+    /// Holds what stands before the data of a reply, and apart from it some of the data, where nothing is held. It takes no memory.
     pub(crate) fn hold_apart(&mut self, head: &[u8], more: &[u8]) -> Result<(), NoMemory>
         requires empty { held_in self.old ≡ [] }
-        requires whole { length head.now ≡ simple_head_size }
+        requires whole { simple_head_size ≤ length head.now }
+        requires short { length head.now ≤ longest_front }
         requires fits { length more.now ≤ vec_len self.old.content }
         requires kept { IsKept self.old }
         ensures held { held_in self.new ≡ head.now ++ more.now }

@@ -21,11 +21,11 @@ impl<K> Handle<K> {
     /// Adds a meta context to those that SET_META_CONTEXT asks for, before the start or in opt mode (libnbd,
     /// nbd_add_meta_context).
     pub fn add_meta_context(&mut self, name: Text) -> Result<(), SetFault>
-        ensures ok { OnOk result (self.new ≡ step self.old (Set (Context name))) }
-        ensures allowed { OnOk result (MayAdd self.old.known) }
-        ensures refused { IfErr result (λ fault. RefusesContext self.old.known fault) }
-        ensures err { OnErr result (self.new ≡ self.old) }
-        ensures stands { ForEach self.old (AddsOnOk result (Set (Context name)) self.new) }
+        ensures ok { OnOk result (self.new.machine ≡ step self.old.machine (Set (Context name))) }
+        ensures allowed { OnOk result (MayAdd self.old.machine.known) }
+        ensures refused { IfErr result (λ fault. RefusesContext self.old.machine.known fault) }
+        ensures err { OnErr result (self.new.machine ≡ self.old.machine) }
+        ensures stands { ForEach self.old.machine (AddsOnOk result (Set (Context name)) self.new.machine) }
     {
         let state = self.state();
         if !may_name(state) {
@@ -40,13 +40,13 @@ impl<K> Handle<K> {
 
     /// Sets whether the caller decides which option comes next, before the start (libnbd, nbd_set_opt_mode).
     pub fn set_opt_mode(&mut self, on: bool) -> Result<(), SetFault>
-        ensures ok { OnOk result (self.new ≡ step self.old (Set (OptMode on))) }
-        ensures allowed { OnOk result (self.old.known.stage ≡ Created) }
+        ensures ok { OnOk result (self.new.machine ≡ step self.old.machine (Set (OptMode on))) }
+        ensures allowed { OnOk result (self.old.machine.known.stage ≡ Created) }
 
         // It is refused exactly in the other states, and then nothing has changed.
-        ensures refused { IfErr result (λ fault. (self.old.known.stage ≢ Created) × (fault ≡ SetFault.State (state_now self.old.known))) }
-        ensures err { OnErr result (self.new ≡ self.old) }
-        ensures stands { ForEach self.old (AddsOnOk result (Set (OptMode on)) self.new) }
+        ensures refused { IfErr result (λ fault. (self.old.machine.known.stage ≢ Created) × (fault ≡ SetFault.State (state_now self.old.machine.known))) }
+        ensures err { OnErr result (self.new.machine ≡ self.old.machine) }
+        ensures stands { ForEach self.old.machine (AddsOnOk result (Set (OptMode on)) self.new.machine) }
     {
         let state = self.state();
         match self.connection.stage {
@@ -60,13 +60,13 @@ impl<K> Handle<K> {
 
     /// Sets whether structured replies are asked for, before the start (libnbd, nbd_set_request_structured_replies).
     pub fn set_request_structured_replies(&mut self, on: bool) -> Result<(), SetFault>
-        ensures ok { OnOk result (self.new ≡ step self.old (Set (Structured on))) }
-        ensures allowed { OnOk result (self.old.known.stage ≡ Created) }
+        ensures ok { OnOk result (self.new.machine ≡ step self.old.machine (Set (Structured on))) }
+        ensures allowed { OnOk result (self.old.machine.known.stage ≡ Created) }
 
         // It is refused exactly in the other states, and then nothing has changed.
-        ensures refused { IfErr result (λ fault. (self.old.known.stage ≢ Created) × (fault ≡ SetFault.State (state_now self.old.known))) }
-        ensures err { OnErr result (self.new ≡ self.old) }
-        ensures stands { ForEach self.old (AddsOnOk result (Set (Structured on)) self.new) }
+        ensures refused { IfErr result (λ fault. (self.old.machine.known.stage ≢ Created) × (fault ≡ SetFault.State (state_now self.old.machine.known))) }
+        ensures err { OnErr result (self.new.machine ≡ self.old.machine) }
+        ensures stands { ForEach self.old.machine (AddsOnOk result (Set (Structured on)) self.new.machine) }
     {
         let state = self.state();
         match self.connection.stage {
@@ -81,13 +81,13 @@ impl<K> Handle<K> {
     /// Sets whether extended headers are asked for, and with them structured replies, before the start (NBD protocol,
     /// "NBD_OPT_EXTENDED_HEADERS").
     pub fn set_request_extended_headers(&mut self, on: bool) -> Result<(), SetFault>
-        ensures ok { OnOk result (self.new ≡ step self.old (Set (Extended on))) }
-        ensures allowed { OnOk result (self.old.known.stage ≡ Created) }
+        ensures ok { OnOk result (self.new.machine ≡ step self.old.machine (Set (Extended on))) }
+        ensures allowed { OnOk result (self.old.machine.known.stage ≡ Created) }
 
         // It is refused exactly in the other states, and then nothing has changed.
-        ensures refused { IfErr result (λ fault. (self.old.known.stage ≢ Created) × (fault ≡ SetFault.State (state_now self.old.known))) }
-        ensures err { OnErr result (self.new ≡ self.old) }
-        ensures stands { ForEach self.old (AddsOnOk result (Set (Extended on)) self.new) }
+        ensures refused { IfErr result (λ fault. (self.old.machine.known.stage ≢ Created) × (fault ≡ SetFault.State (state_now self.old.machine.known))) }
+        ensures err { OnErr result (self.new.machine ≡ self.old.machine) }
+        ensures stands { ForEach self.old.machine (AddsOnOk result (Set (Extended on)) self.new.machine) }
     {
         let state = self.state();
         match self.connection.stage {

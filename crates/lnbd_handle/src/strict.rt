@@ -46,13 +46,13 @@ fn unknown_bits(bits: u32) -> u32
 impl<K> Handle<K> {
     /// Sets which rules refuse a command, in any state (libnbd, nbd_set_strict_mode).
     pub fn set_strict_mode(&mut self, bits: u32) -> Result<(), StrictFault>
-        ensures ok { OnOk result (self.new ≡ step self.old (StrictMode bits)) }
+        ensures ok { OnOk result (self.new.machine ≡ step self.old.machine (StrictMode bits)) }
         ensures allowed { OnOk result (unknown_bits bits ≡ 0) }
 
         // It is refused exactly where bits are set that mean nothing, and then nothing has changed.
         ensures refused { IfErr result (λ fault. (unknown_bits bits ≢ 0) × (fault ≡ StrictFault.Unknown (unknown_bits bits))) }
-        ensures err { OnErr result (self.new ≡ self.old) }
-        ensures stands { ForEach self.old (AddsOnOk result (StrictMode bits) self.new) }
+        ensures err { OnErr result (self.new.machine ≡ self.old.machine) }
+        ensures stands { ForEach self.old.machine (AddsOnOk result (StrictMode bits) self.new.machine) }
     {
         let unknown = unknown_bits(bits);
         if unknown != 0 {
@@ -64,8 +64,8 @@ impl<K> Handle<K> {
 
     /// Which rules refuse a command (libnbd, nbd_get_strict_mode).
     pub fn strict_mode(&self) -> u32
-        ensures value { result ≡ self.now.known.strict }
-        ensures told { ForEach self.now (λ history. result ≡ strict_after history) }
+        ensures value { result ≡ self.now.machine.known.strict }
+        ensures told { ForEach self.now.machine (λ history. result ≡ strict_after history) }
     {
         self.connection.strict
     }

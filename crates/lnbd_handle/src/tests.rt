@@ -274,6 +274,20 @@ fn data_comes_in_pieces(rt: HostRuntime) -> Result<(), Fail> {
 }
 
 #[test]
+fn the_place_leaves_the_last_byte_out(rt: HostRuntime) -> Result<(), Fail> {
+    let mut session = Session::reading(&rt, rt.alloc(), 1, &[0xff; 4], KEEP)?;
+    assert_eq!(rt; session.handle.place().len(), 0);
+    assert!(rt; session.feed(&head(1)));
+    assert_eq!(rt; session.handle.place().len(), 3);
+    assert!(rt; session.feed(b"abc"));
+    assert_eq!(rt; session.handle.place().len(), 0);
+    assert!(rt; session.feed(b"d"));
+    assert!(rt; session.came_to(1, 0, b"abcd"));
+    assert_eq!(rt; session.close(), (1, 1));
+    Ok(())
+}
+
+#[test]
 fn a_death_fails_all_that_were_left(rt: HostRuntime) -> Result<(), Fail> {
     let mut session = Session::reading(&rt, rt.alloc(), 1, &[0xff; 512], KEEP)?;
     for cookie in 2..6 {

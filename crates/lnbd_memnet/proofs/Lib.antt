@@ -5,3 +5,4 @@ pub mod Apart
 pub mod Rules
 pub mod Hosting
 pub mod Lives
+pub mod Wanted

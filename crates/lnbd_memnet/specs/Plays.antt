@@ -5,6 +5,7 @@ use Rattle.lnbd_link.specs.declared.wires.Accepted.TheVariants as accepted
 use Rattle.lnbd_link.specs.declared.wires.Want.{Want}
 use Rattle.lnbd_link.specs.Call.{Call, Connect, Listen, Accept, Read, Write, Pause, Shut, ReadTold, Moved, Unready, Ended, ReadFault, WriteTold, Sent, Full, WriteFault}
 use Rattle.lnbd_link.specs.Count.{raised_by}
+use Rattle.lnbd_records.specs.Numbers.{IsBytes}
 use Rattle.lnbd_export.specs.Export.{Export}
 use Rattle.lnbd_server.specs.declared.stage.Stage.{Stage}
 use Rattle.lnbd_server.specs.Session.{Session, Takes, Answers, is_closed, is_strayed}
@@ -89,9 +90,10 @@ pub record Reads (before : Network) (n room : ℕ) (answer : ReadTold) (after : 
 
 -- Writes.
 
--- so much of what is offered moves, and the session takes it
+-- so much of what is offered moves, each number of it a byte, and the session takes it
 pub record Delivers (step : Step) (offered : ℕ) (hosted : Hosted) (before : Link) (bytes : List ℕ) (after : Link) (end : Hosted) : Type 0 where
   pub size : length bytes ≡ min step.most offered
+  pub are : IsBytes bytes
   pub session : Session
   pub export : Export
   pub takes : Takes before.session hosted.export bytes session export

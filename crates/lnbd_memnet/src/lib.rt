@@ -13,6 +13,6 @@ mod tests;
 mod wires;
 
 pub use hosted::Served;
-pub use laws::links_are_sessions;
+pub use laws::{links_are_sessions, none_is_shut_out};
 pub use schedule::{Schedule, Step};
 pub use wires::ServedWires;

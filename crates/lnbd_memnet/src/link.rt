@@ -4,6 +4,7 @@
 ghost use Rattle.std.specs.Prelude.{◌≡◌, ◌<◌, ◌≤◌, ◌||◌, ℕ, List, length, take, IfOk, OnOk, true};
 ghost use Rattle.lnbd_link.specs.Answers.{IfMoved, IfSent, ReadFailed, WriteFailed};
 ghost use Rattle.lnbd_link.specs.Call.{read_told, write_told};
+ghost use Rattle.lnbd_records.specs.Numbers.{IsBytes};
 ghost use Rattle.lnbd_memnet.specs.Network.{new_link};
 ghost use Rattle.lnbd_memnet.specs.Plays.{has_to_answer, Readies, share, told, given, GivesIf, DeliversIf};
 
@@ -84,10 +85,21 @@ impl Link {
         self.write_due = false;
         let n = step.most.min(from.len());
         let (part, _) = from.split_at(n);
+        are_bytes(part);
         match self.session.take(part, &mut hosted.export) {
             Ok(()) | Err(TakeFault::Closed) => Ok(Took::Bytes(n)),
             Err(TakeFault::NoMemory { .. }) => Err(NoMemory),
         }
+    }
+}
+
+/// Each of these is below 256: what the type says of one is said of all. The loop does nothing, and is not
+/// in what LLVM makes of it.
+fn are_bytes(bytes: &[u8])
+    ensures { IsBytes bytes.now }
+{
+    for byte in bytes {
+        let _ = *byte;
     }
 }
 

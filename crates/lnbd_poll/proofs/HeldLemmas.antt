@@ -1,5 +1,5 @@
 -- Handles that are held: what a pause waits for, and how they are closed.
-use Rattle.std.proofs.Common.{arith, ◌≡◌, ◌==◌, ◌<◌, ◌≤◌, ◌+◌, ℕ, zero, suc, add-one, List, [], ◌∷◌, ◌++◌, All, length, take, get_or, slice_set, Option, Some, None, refl, sym, ◌∙◌, ap, subst, append_assoc}
+use Rattle.std.proofs.Common.{arith, ◌≡◌, ◌==◌, ◌<◌, ◌≤◌, ◌+◌, ℕ, zero, suc, add-one, List, [], ◌∷◌, ◌++◌, All, length, take, drop, get_or, slice_set, Option, Some, None, refl, sym, ◌∙◌, ap, subst, append_assoc}
 use Rattle.std.specs.Prelude.{◌↔◌, IsSome, slice_get}
 use Rattle.std.proofs.lemmas.Bool.{false≢true}
 use Rattle.std.proofs.lemmas.List.{append-nil}
@@ -12,10 +12,11 @@ use Rattle.lnbd_standing.proofs.Standing.{stands_right}
 use Rattle.lnbd_commands.specs.declared.close.Closed.{Closed}
 use Rattle.lnbd_handle.specs.Histories.{ForEach, Closes}
 use Rattle.lnbd_link.specs.declared.wires.Want.{Want}
-use Rattle.lnbd_poll.specs.declared.held.Held.{Held}
+use Rattle.lnbd_handle.specs.Placing.{Handled}
+use Rattle.lnbd_poll.specs.declared.held.Held.{Held as Kept}
 use Rattle.lnbd_poll.specs.Seen.{Seen, IsAt}
 use Rattle.lnbd_poll.specs.Lends.{with_handle}
-use Rattle.lnbd_poll.specs.Held.{AllClose, AreAt, want_now, want_of, wants_after, wants_now, with_want}
+use Rattle.lnbd_poll.specs.Held.{Held, all_held, seen_held, AllClose, AreAt, want_now, want_of, wants_after, wants_now, with_want}
 
 -- Wants.
 
@@ -55,14 +56,48 @@ module _ {K : Type 0} where
 -- Indices.
 
 module _ {K : Type 0} where
-  pub set_handle : (i : ℕ) (xs : List (Held K)) (x : Held K) (handle : Machine K) → i < length xs → x ≡ get_or xs i x → slice_set xs i (record x { handle = handle }) ≡ with_handle xs i handle
+  pub set_handle : (i : ℕ) (xs : List (Kept K)) (x : Kept K) (handle : Handled K) → i < length xs → x ≡ get_or xs i x → all_held (slice_set xs i (record x { handle = handle })) ≡ with_handle (all_held xs) i handle.machine
   set_handle i [] x handle within is = absurd (omega (arith, within))
-  set_handle zero (y ∷ ys) x handle within is = ap (λ (h : Held K). record h { handle = handle } ∷ ys) is
-  set_handle (suc i) (y ∷ ys) x handle within is = ap (λ (l : List (Held K)). y ∷ l) (set_handle i ys x handle (omega (arith, within)) is)
+  set_handle zero (y ∷ ys) x handle within is = ap (λ (h : Kept K). seen_held (record h { handle = handle }) ∷ all_held ys) is
+  set_handle (suc i) (y ∷ ys) x handle within is = ap (λ (l : List (Held K)). seen_held y ∷ l) (set_handle i ys x handle (omega (arith, within)) is)
 
-  pub get_here : (i : ℕ) (xs : List (Held K)) (x : Held K) → i < length xs → x ≡ get_or xs i x → slice_get xs i ≡ Some x
+  pub set_held : (i : ℕ) (xs : List (Kept K)) (x : Kept K) → all_held (slice_set xs i x) ≡ slice_set (all_held xs) i (seen_held x)
+  set_held i [] x = refl
+  set_held zero (y ∷ ys) x = refl
+  set_held (suc i) (y ∷ ys) x = ap (λ (l : List (Held K)). seen_held y ∷ l) (set_held i ys x)
+
+  pub held_length : (xs : List (Kept K)) → length (all_held xs) ≡ length xs
+  held_length [] = refl
+  held_length (x ∷ xs) = let same = held_length xs in omega (arith, same)
+
+  held_append : (xs ys : List (Kept K)) → all_held (xs ++ ys) ≡ all_held xs ++ all_held ys
+  held_append [] ys = refl
+  held_append (x ∷ xs) ys = ap (λ (l : List (Held K)). seen_held x ∷ l) (held_append xs ys)
+
+  held_take : (i : ℕ) (xs : List (Kept K)) → all_held (take i xs) ≡ take i (all_held xs)
+  held_take zero xs = refl
+  held_take (suc i) [] = refl
+  held_take (suc i) (x ∷ xs) = ap (λ (l : List (Held K)). seen_held x ∷ l) (held_take i xs)
+
+  held_drop : (i : ℕ) (xs : List (Kept K)) → all_held (drop i xs) ≡ drop i (all_held xs)
+  held_drop zero xs = refl
+  held_drop (suc i) [] = refl
+  held_drop (suc i) (x ∷ xs) = held_drop i xs
+
+  pub held_added : (xs now : List (Kept K)) (x : Kept K) → now ≡ xs ++ x ∷ [] → all_held now ≡ all_held xs ++ seen_held x ∷ []
+  held_added xs now x is = ap all_held is ∙ held_append xs (x ∷ [])
+
+  pub held_without : (i j : ℕ) (xs now : List (Kept K)) → now ≡ take i xs ++ drop j xs → all_held now ≡ take i (all_held xs) ++ drop j (all_held xs)
+  held_without i j xs now is = ap all_held is ∙ held_append (take i xs) (drop j xs) ∙ ap (λ (l : List (Held K)). l ++ all_held (drop j xs)) (held_take i xs) ∙ ap (λ (l : List (Held K)). take i (all_held xs) ++ l) (held_drop j xs)
+
+  pub held_here : (i : ℕ) (xs : List (Kept K)) (x : Kept K) → x ≡ get_or xs i x → seen_held x ≡ get_or (all_held xs) i (seen_held x)
+  held_here i [] x is = refl
+  held_here zero (y ∷ ys) x is = ap seen_held is
+  held_here (suc i) (y ∷ ys) x is = held_here i ys x is
+
+  pub get_here : (i : ℕ) (xs : List (Kept K)) (x : Kept K) → i < length xs → x ≡ get_or xs i x → slice_get (all_held xs) i ≡ Some (seen_held x)
   get_here i [] x within is = absurd (omega (arith, within))
-  get_here zero (y ∷ ys) x within is = ap Some (sym is)
+  get_here zero (y ∷ ys) x within is = ap (λ (h : Kept K). Some (seen_held h)) (sym is)
   get_here (suc i) (y ∷ ys) x within is = get_here i ys x (omega (arith, within)) is
 
 -- Closing.

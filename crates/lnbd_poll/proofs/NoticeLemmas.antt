@@ -1,7 +1,7 @@
 -- One read and one write of a handle.
-use Rattle.std.proofs.Common.{arith, ◌≡◌, ◌==◌, ◌<◌, ◌≤◌, ℕ, Bool, true, false, not, List, [], ◌∷◌, length, take, drop, Option, refl, sym, ◌∙◌, ap, subst}
+use Rattle.std.proofs.Common.{arith, ◌≡◌, ◌==◌, ◌<◌, ◌≤◌, ℕ, zero, suc, Bool, true, false, not, List, [], ◌∷◌, ◌++◌, length, take, drop, Option, refl, sym, ◌∙◌, ap, subst}
 use Rattle.std.proofs.lemmas.Bool.{false≢true}
-use Rattle.std.proofs.lemmas.List.{length-take-le, drop_all, take_all}
+use Rattle.std.proofs.lemmas.List.{append-nil, length-take-le, take-append-le, drop_all, take_all}
 use Rattle.lnbd_callbacks.specs.Calls.{Call}
 use Rattle.lnbd_history.specs.Events.{Answer, Event, History, Arrived, End, LinkFailed, Wrote}
 use Rattle.lnbd_history.specs.Answers.{out_after}
@@ -10,6 +10,7 @@ use Rattle.lnbd_machine.specs.Now.{direction_now, out_now}
 use Rattle.lnbd_standing.specs.Standing.{StandsFor}
 use Rattle.lnbd_standing.proofs.Standing.{stands_right}
 use Rattle.lnbd_handle.specs.Histories.{ForEach, Adds as AddsEvent, AddsAnswered}
+use Rattle.lnbd_handle.specs.Placing.{AddsSilently, place_size}
 use Rattle.lnbd_link.specs.Call as wire
 use Rattle.lnbd_link.specs.Call.{Read, Write, ReadTold, WriteTold, Moved, Unready, Ended, ReadFault, Sent, Full, WriteFault, read_told, write_told}
 use Rattle.lnbd_link.specs.Part.{Adds}
@@ -19,7 +20,7 @@ use Rattle.lnbd_link.proofs.Parts.{grows_none}
 use Rattle.lnbd_poll.specs.declared.noticed.Noticed.{Noticed}
 use Rattle.lnbd_poll.specs.declared.noticed.Noticed.TheVariants as noticed
 use Rattle.lnbd_poll.specs.Seen.{Seen, IsAt, Goes, Follows, inbox_room, is_empty}
-use Rattle.lnbd_poll.specs.Notices.{Arrives, Hears, ReadsIf, ReadsOn, ReadsOnce, Sends, WritesIf, WritesOnce, is_reading, is_waiting}
+use Rattle.lnbd_poll.specs.Notices.{Arrives, Hears, ReadsIf, ReadsOn, ReadsOnce, Sends, WritesIf, WritesOnce, is_reading, is_waiting, room_after, room_of}
 use Rattle.lnbd_poll.specs.Steps.{Becomes}
 
 module _ {K World : Type 0} (steps : World → List (Call K) → World → Type 0) (unread : List ℕ) (old new : Machine K) (first end : World) where
@@ -43,6 +44,17 @@ module _ {K World : Type 0} (steps : World → List (Call K) → World → Type 
       let adds' = subst (λ (b : List ℕ). ForEach old (AddsAnswered steps (Arrived (take n b)) new first end)) same adds in
       let within' = subst (λ (b : List ℕ). n ≤ length b) same within in
       subst (λ (l : List ℕ). Becomes unread old new l (λ before after. Arrives steps bytes noticed.NoMemory before after first end)) (sym left_is) (λ seen stands was. let f = follow (Arrived (take n bytes)) (drop n bytes) adds' seen stands was in (f.0, (n, within', f.1), f.2))
+
+-- What came straight into the place.
+pub placed_all : {K World : Type 0} (steps : World → List (Call K) → World → Type 0) (old new : Machine K) (world : World) (n : ℕ) (place : List ℕ) → steps world [] world → 0 < n → n ≤ length place → ForEach old (AddsSilently (Arrived (take n place) []) new)
+    → Becomes [] old new [] (λ before after. Hears steps (Moved (take n place)) (noticed.Moved n) before after world world)
+placed_all steps old new world n place none some within adds seen stands was =
+    let a = adds seen.history stands in
+    let size : length (take n place) ≡ n = length-take-le n place within in (
+      record { link = seen.link; history = Arrived (take n place) [] ∷ seen.history; unread = [] },
+      (omega (arith, size, some), (sym size, ([], record { is = refl; plays = record { calls = []; told = a.1 ∙ sym (append-nil _); world = none } }))),
+      record { link = refl; stands = a.0; unread = refl },
+    )
 
 -- What a read answered.
 module _ {K World : Type 0} (steps : World → List (Call K) → World → Type 0) (old new : Machine K) (left : List ℕ) (world world' : World) where
@@ -96,20 +108,47 @@ module _ {K World : Type 0} (steps : World → List (Call K) → World → Type 
           at = subst (λ (n : ℕ). IsAt n new left b.0) at.link b.2;
         }
 
-    pub read_made : (told told' : Option (List wire.Call)) (unread : List ℕ) (answer : ReadTold) → is_empty unread ≡ true → Adds told told' (Read link inbox_room answer)
+    pub read_made : (told told' : Option (List wire.Call)) (unread : List ℕ) (answer : ReadTold) → is_empty unread ≡ true → Adds told told' (Read link (room_of (place_size old)) answer)
         → Becomes [] old new left (λ before after. Hears steps answer notice before after world world')
         → Goes told told' (λ seen. IsAt link old unread seen) (λ seen. IsAt link new left seen) (λ before calls after. ReadsOnce steps notice before world calls after world')
     read_made told told' (byte ∷ bytes) answer none adds becomes seen at = absurd (false≢true none)
     read_made told told' [] answer none adds becomes seen at =
         let b = becomes seen at.stands at.unread in
+        let room : room_of (place_size old) ≡ room_after seen.history = ap (λ m. room_of (place_size m)) at.stands.same in
         record {
-          calls = Read seen.link inbox_room answer ∷ [];
+          calls = Read seen.link (room_after seen.history) answer ∷ [];
           after = b.0;
-          grown = subst (λ (n : ℕ). Adds told told' (Read n inbox_room answer)) (sym at.link) adds;
-          leads = subst (λ (r : Bool). ReadsIf steps r notice seen world (Read seen.link inbox_room answer ∷ []) b.0 world') (sym (reading_is seen [] false at reads))
-              (subst (λ (u : List ℕ). ReadsOn steps u notice seen world (Read seen.link inbox_room answer ∷ []) b.0 world') (sym at.unread) (answer, refl, b.1));
+          grown = subst (λ (n : ℕ). Adds told told' (Read n (room_after seen.history) answer)) (sym at.link) (subst (λ (r : ℕ). Adds told told' (Read link r answer)) room adds);
+          leads = subst (λ (r : Bool). ReadsIf steps r notice seen world (Read seen.link (room_after seen.history) answer ∷ []) b.0 world') (sym (reading_is seen [] false at reads))
+              (subst (λ (u : List ℕ). ReadsOn steps u notice seen world (Read seen.link (room_after seen.history) answer ∷ []) b.0 world') (sym at.unread) (answer, refl, b.1));
           at = subst (λ (n : ℕ). IsAt n new left b.0) at.link b.2;
         }
+
+    -- the same where the handle was found without a place
+    pub read_after : (found : Machine K) (told between told' : Option (List wire.Call)) (unread : List ℕ) (answer : ReadTold) → found ≡ old → place_size old ≡ 0 → between ≡ told → is_empty unread ≡ true → Adds between told' (Read link inbox_room answer)
+        → Becomes [] found new left (λ before after. Hears steps answer notice before after world world')
+        → Goes told told' (λ seen. IsAt link old unread seen) (λ seen. IsAt link new left seen) (λ before calls after. ReadsOnce steps notice before world calls after world')
+    read_after found told between told' unread answer same none is empty adds becomes =
+        read_made told told' unread answer empty
+        (subst (λ (t : Option (List wire.Call)). Adds t told' (Read link (room_of (place_size old)) answer)) is (subst (λ (n : ℕ). Adds between told' (Read link (room_of n) answer)) (sym none) adds))
+        (subst (λ (m : Machine K). Becomes [] m new left (λ before after. Hears steps answer notice before after world world')) same becomes)
+
+-- A read into the place, which leaves the inbox as it was.
+pub read_there : {K World : Type 0} (steps : World → List (Call K) → World → Type 0) (link : ℕ) (old new found : Machine K) (world world' : World) (notice : Noticed) (reads : (direction_now old.known == 0) ≡ false) (told told' : Option (List wire.Call)) (unread : List ℕ) (answer : ReadTold)
+    → found ≡ old → is_empty unread ≡ true → Adds told told' (Read link (room_of (place_size old)) answer) → Becomes [] found new [] (λ before after. Hears steps answer notice before after world world')
+    → Goes told told' (λ seen. IsAt link old unread seen) (λ seen. IsAt link new unread seen) (λ before calls after. ReadsOnce steps notice before world calls after world')
+read_there {K} steps link old new found world world' notice reads told told' (byte ∷ bytes) answer same empty adds becomes = absurd (false≢true empty)
+read_there {K} steps link old new found world world' notice reads told told' [] answer same empty adds becomes =
+    read_made steps link old new [] world world' notice reads told told' [] answer refl adds (subst (λ (m : Machine K). Becomes [] m new [] (λ before after. Hears steps answer notice before after world world')) same becomes)
+
+-- The place.
+
+pub room_is : (n : ℕ) → 0 < n → room_of n ≡ n
+room_is zero some = absurd (omega (arith, some))
+room_is (suc n) some = refl
+
+pub place_written : (xs w : List ℕ) → length w ≡ length xs → take (length xs) (w ++ drop (length w) xs) ≡ w
+place_written xs w same = ap (λ (n : ℕ). take n (w ++ drop (length w) xs)) (sym same) ∙ take-append-le (length w) w (drop (length w) xs) (omega arith) ∙ take_all (length w) w (omega arith)
 
 -- Writes.
 

@@ -20,12 +20,11 @@ use Rattle.lnbd_poll.specs.declared.noticed.Noticed.{Noticed}
 use Rattle.lnbd_poll.specs.declared.noticed.Noticed.TheVariants as noticed
 use Rattle.lnbd_poll.specs.declared.noticed.Turn.{Turn}
 use Rattle.lnbd_poll.specs.declared.noticed.Turn.TheVariants as turn
-use Rattle.lnbd_poll.specs.declared.held.Held.{Held}
-use Rattle.lnbd_poll.specs.Seen.{Seen, IsAt, Went, Goes, inbox_room}
-use Rattle.lnbd_poll.specs.Notices.{Sends, Hears, ReadsIf, ReadsOn, ReadsOnce, WritesIf, WritesOnce, is_reading, is_waiting}
+use Rattle.lnbd_poll.specs.Seen.{Seen, IsAt, Went, Goes}
+use Rattle.lnbd_poll.specs.Notices.{Sends, room_after, Hears, ReadsIf, ReadsOn, ReadsOnce, WritesIf, WritesOnce, is_reading, is_waiting}
 use Rattle.lnbd_poll.specs.Turns.{Blames, Ending, Whole, Short, Told, Turns, All_took, Takes, Runs_short, TurnsOne, WritesAll, Stops, Goes_on, WritesTold, is_lost, is_moved, is_short, moved_by, together, turn_of, with_moved}
 use Rattle.lnbd_poll.specs.Turned.{TurnsShort, TurnsWhole}
-use Rattle.lnbd_poll.specs.Held.{AreAt}
+use Rattle.lnbd_poll.specs.Held.{Held, AreAt}
 use Rattle.lnbd_poll.proofs.AloneLemmas.{each_took}
 use Rattle.lnbd_poll.proofs.StillLemmas.{waits_where_full}
 use Rattle.lnbd_poll.specs.Steps.{HasWritten, TookEnough, TookPart, TookShort, both}
@@ -99,7 +98,7 @@ module _ {K World : Type 0} (steps : World → List (Call K) → World → Type 
   read_on_fault (byte ∷ bytes) notice before after world world' calls r e = no_fault calls [] r.0 refl e
   read_on_fault [] notice before after world world' calls r e = go r.0 r.1 r.2
     where
-      go : (told : ReadTold) → calls ≡ Read before.link inbox_room told ∷ [] → Hears steps told notice before after world world' → notice ≡ noticed.LinkFailed
+      go : (told : ReadTold) → calls ≡ Read before.link (room_after before.history) told ∷ [] → Hears steps told notice before after world world' → notice ≡ noticed.LinkFailed
       go (Moved bytes) is h = no_fault calls _ is refl e
       go Unready is h = no_fault calls _ is refl e
       go Ended is h = no_fault calls _ is refl e
@@ -297,9 +296,9 @@ module _ {K World : Type 0} (steps : World → List (Call K) → World → Type 
 
   module _ (a b c : Option (List wire.Call)) (f g h : ℕ) (told : Turn) (before : List (Seen K)) (world half world' : World) (all : List (Held K)) (i : ℕ) (x y : Held K) (p : Passing a b f g told before world all i half)
       (within : i < length all) (x_is : x ≡ get_or all i x) (l : f ≤ g) (m : g ≤ h) where
-    pub passing_on : (part both_of : Turn) → both_of ≡ both told part → Goes b c (λ seen. IsHere x seen) (λ seen. IsHere y seen) (λ before calls after. TookEnough steps g h part before half calls after world')
+    passing_set : (part both_of : Turn) → both_of ≡ both told part → Goes b c (λ seen. IsHere x seen) (λ seen. IsHere y seen) (λ before calls after. TookEnough steps g h part before half calls after world')
         → Passing a c f h both_of before world (slice_set all i y) (i + 1) world'
-    passing_on part both_of is goes = go p.left refl
+    passing_set part both_of is goes = go p.left refl
       where
         go : (left : List (Seen K)) → p.left ≡ left → Passing a c f h both_of before world (slice_set all i y) (i + 1) world'
         go [] none =
@@ -332,9 +331,9 @@ module _ {K World : Type 0} (steps : World → List (Call K) → World → Type 
                   subst (λ (e : Ending). Turns steps before world ((p.calls ++ w.calls) ++ d) ((p.done ++ w.after ∷ []) ++ after) v e) (with_assoc p.moved t.moved ending) two;
             }
 
-    pub passing_short : Goes b c (λ seen. IsHere x seen) (λ seen. IsHere y seen) (λ before calls after. TookShort steps g h before half calls after world')
+    short_set : Goes b c (λ seen. IsHere x seen) (λ seen. IsHere y seen) (λ before calls after. TookShort steps g h before half calls after world')
         → Went a c (λ seen. AreAt (slice_set all i y) seen) (λ calls after. TurnsShort steps f h before world calls after world')
-    passing_short goes = go p.left refl
+    short_set goes = go p.left refl
       where
         go : (left : List (Seen K)) → p.left ≡ left → Went a c (λ seen. AreAt (slice_set all i y) seen) (λ calls after. TurnsShort steps f h before world calls after world')
         go [] none =
@@ -359,6 +358,16 @@ module _ {K World : Type 0} (steps : World → List (Call K) → World → Type 
               };
               at = subst (λ (n : ℕ). AreAt (slice_set all n y) (p.done ++ w.after ∷ ss)) p.count (at_set p.done s w.after ss all y at w.at);
             }
+
+    -- the handles as they are then
+    module _ (now : List (Held K)) (now_is : now ≡ slice_set all i y) where
+      pub passing_on : (part both_of : Turn) → both_of ≡ both told part → Goes b c (λ seen. IsHere x seen) (λ seen. IsHere y seen) (λ before calls after. TookEnough steps g h part before half calls after world')
+          → Passing a c f h both_of before world now (i + 1) world'
+      passing_on part both_of is goes = subst (λ (l : List (Held K)). Passing a c f h both_of before world l (i + 1) world') (sym now_is) (passing_set part both_of is goes)
+
+      pub passing_short : Goes b c (λ seen. IsHere x seen) (λ seen. IsHere y seen) (λ before calls after. TookShort steps g h before half calls after world')
+          → Went a c (λ seen. AreAt now seen) (λ calls after. TurnsShort steps f h before world calls after world')
+      passing_short goes = subst (λ (l : List (Held K)). Went a c (λ seen. AreAt l seen) (λ calls after. TurnsShort steps f h before world calls after world')) (sym now_is) (short_set goes)
 
   pub passing_end : (a b : Option (List wire.Call)) (f g : ℕ) (told : Turn) (before : List (Seen K)) (world world' : World) (all : List (Held K)) (i : ℕ) → length all ≤ i → Passing a b f g told before world all i world'
       → Went a b (λ seen. AreAt all seen) (λ calls after. TurnsWhole steps f g told before world calls after world')

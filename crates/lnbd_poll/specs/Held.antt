@@ -1,5 +1,5 @@
 -- Handles that are held with their links.
-use Rattle.std.specs.Prelude.{◌≡◌, ◌||◌, ◌==◌, not, ℕ, Bool, true, false, List, [], ◌∷◌, Option, Some, None, if◌then◌else◌}
+use Rattle.std.specs.Prelude.{◌≡◌, ◌||◌, ◌==◌, not, ℕ, Bool, true, false, List, [], ◌∷◌, map, Option, Some, None, if◌then◌else◌}
 use Rattle.lnbd_callbacks.specs.Calls.{Call}
 use Rattle.lnbd_model.specs.declared.state.State.{State}
 use Rattle.lnbd_model.specs.declared.state.State.TheVariants as state
@@ -10,8 +10,20 @@ use Rattle.lnbd_machine.specs.Now.{state_now, in_flight_now, direction_now}
 use Rattle.lnbd_commands.specs.declared.close.Closed.{Closed}
 use Rattle.lnbd_handle.specs.Histories.{Closes}
 use Rattle.lnbd_link.specs.declared.wires.Want.{Want}
-use Rattle.lnbd_poll.specs.declared.held.Held.{Held}
+use Rattle.lnbd_poll.specs.declared.held.Held.{Held as Kept}
 use Rattle.lnbd_poll.specs.Seen.{Seen, IsAt}
+
+-- A handle with the number of its link, and the bytes that were read from the link and not taken. What stands in the handle's place is not seen here.
+pub record Held (K : Type 0) : Type 0 where
+  pub link : ℕ
+  pub handle : Machine K
+  pub inbox : List ℕ
+
+abbrev pub seen_held : {K : Type 0} → Kept K → Held K
+seen_held held = record { link = held.link; handle = held.handle.machine; inbox = held.inbox }
+
+abbrev pub all_held : {K : Type 0} → List (Kept K) → List (Held K)
+all_held kept = map seen_held kept
 
 -- Each handle stands with its link where the list says.
 abbrev pub AreAt : {K : Type 0} → List (Held K) → List (Seen K) → Type 0

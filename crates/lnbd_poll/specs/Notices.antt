@@ -1,13 +1,24 @@
 -- What one read and one write do, by what the wires answered.
-use Rattle.std.specs.Prelude.{◌≡◌, ◌≤◌, ◌<◌, ◌==◌, ℕ, Bool, true, false, not, List, [], ◌∷◌, length, take, drop}
+use Rattle.std.specs.Prelude.{◌≡◌, ◌≤◌, ◌<◌, ◌==◌, ℕ, zero, suc, Bool, true, false, not, List, [], ◌∷◌, length, take, drop}
 use Rattle.lnbd_callbacks.specs.Calls.{Call}
 use Rattle.lnbd_history.specs.Events.{Answer, History, Arrived, End, LinkFailed, Wrote}
 use Rattle.lnbd_history.specs.Answers.{direction_after, out_after}
+use Rattle.lnbd_machine.specs.Machine.{machine}
+use Rattle.lnbd_handle.specs.Placing.{place_size}
 use Rattle.lnbd_link.specs.Call as wire
 use Rattle.lnbd_link.specs.Call.{Read, Write, ReadTold, WriteTold, Moved, Unready, Ended, ReadFault, Sent, Full, WriteFault}
 use Rattle.lnbd_poll.specs.declared.noticed.Noticed.{Noticed}
 use Rattle.lnbd_poll.specs.declared.noticed.Noticed.TheVariants as noticed
 use Rattle.lnbd_poll.specs.Seen.{Seen, Follows, Stays, inbox_room}
+
+-- how many bytes a read takes at most: as many as the handle's place has, or where it has none as an inbox
+abbrev pub room_of : (place : ℕ) → ℕ
+room_of zero = inbox_room
+room_of (suc n) = suc n
+
+-- the same of a handle, whose place has the data that are still to come of a reply to READ, the last one left out
+abbrev pub room_after : {K : Type 0} → History K → ℕ
+room_after history = room_of (place_size (machine history))
 
 module _ {K World : Type 0} (steps : World → List (Call K) → World → Type 0) where
   -- These bytes arrive: all of them, or where memory runs out the first of them, and the others are left unread.
@@ -26,9 +37,9 @@ module _ {K World : Type 0} (steps : World → List (Call K) → World → Type 
   Hears Ended notice before after world world' = (notice ≡ noticed.Ended) × ((answers : List Answer) × Follows steps (End answers) [] before after world world')
   Hears ReadFault notice before after world world' = (notice ≡ noticed.LinkFailed) × ((answers : List Answer) × Follows steps (LinkFailed answers) [] before after world world')
 
-  -- Unread bytes arrive before more are read. Where there are none, one read is made, of as many bytes as an inbox has room for.
+  -- Unread bytes arrive before more are read. Where there are none, one read is made, into the place of a reply's data where the handle has one, or else into the inbox.
   abbrev pub ReadsOn : (unread : List ℕ) → Noticed → (before : Seen K) → (world : World) → List wire.Call → (after : Seen K) → (world' : World) → Type 0
-  ReadsOn [] notice before world calls after world' = (told : ReadTold) × (calls ≡ Read before.link inbox_room told ∷ []) × Hears told notice before after world world'
+  ReadsOn [] notice before world calls after world' = (told : ReadTold) × (calls ≡ Read before.link (room_after before.history) told ∷ []) × Hears told notice before after world world'
   ReadsOn (byte ∷ bytes) notice before world calls after world' = (calls ≡ []) × Arrives (byte ∷ bytes) notice before after world world'
 
   -- A handle that doesn't read is left alone.

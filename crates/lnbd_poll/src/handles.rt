@@ -1,8 +1,9 @@
 //! Several handles with their links, in turns.
 
-ghost use Rattle.std.specs.Prelude.{◌≡◌, ◌<◌, ◌≤◌, ◌+◌, ◌++◌, ◌∷◌, List, [], Some, IfOk, IfErr, OnErr, OnOk, ◌==◌, All, length, take, drop, slice_get, vec_len, vec_capacity};
+ghost use Rattle.std.specs.Prelude.{◌≡◌, ◌<◌, ◌≤◌, ◌+◌, ◌++◌, ◌∷◌, ℕ, List, [], Some, IfOk, IfErr, OnErr, OnOk, ◌==◌, All, length, take, drop, slice_get, vec_len, vec_capacity};
 ghost use Rattle.std.specs.Option.{option_map};
 ghost use Rattle.std.specs.Borrow.{sem};
+ghost use Rattle.lnbd_machine.specs.Machine.{Machine};
 ghost use Rattle.lnbd_link.specs.Call.{Pause};
 ghost use Rattle.lnbd_link.specs.Contents.{Keeps};
 ghost use Rattle.lnbd_link.specs.Count.{Rises};
@@ -32,11 +33,11 @@ pub struct Handles<K> {
 
 impl<K> Model for Handles<K> {
     ghost use Rattle.std.specs.Prelude.{◌≡◌, ◌≤◌, List, vec_len, vec_capacity};
-    ghost use Rattle.lnbd_poll.specs.declared.held.Held.{Held as One};
+    ghost use Rattle.lnbd_poll.specs.Held.{Held as One, all_held};
 
     ghost Value = { List (One K) };
 
-    ghost view = { λ a. a.all.items };
+    ghost view = { λ a. all_held a.all.items };
 
     ghost invariant = { λ a. (vec_len a.closed ≡ 0) × (vec_len a.all ≤ vec_capacity a.closed) × (vec_len a.all ≤ vec_capacity a.wants) };
 }
@@ -101,7 +102,7 @@ impl<K> Handles<K> {
     pub fn add(&mut self, link: u32, handle: Handle<K>) -> Result<usize, Handle<K>>
         requires { length self.old < max_held }
         ensures ok { IfOk result (λ index. index ≡ length self.old) }
-        ensures added { OnOk result (self.new ≡ self.old ++ record { link = link; handle = handle; inbox = [] } ∷ []) }
+        ensures added { OnOk result (self.new ≡ self.old ++ record { link = link; handle = handle.machine; inbox = [] } ∷ []) }
         ensures err { IfErr result (λ back. back ≡ handle) }
         ensures unchanged { OnErr result (self.new ≡ self.old) }
     {
@@ -122,7 +123,7 @@ impl<K> Handles<K> {
     /// The handle of this index.
     pub fn get(&self, index: usize) -> &Handle<K>
         requires { index < length self.now }
-        ensures { option_map (λ held. held.handle) (slice_get self.now index) ≡ Some result.now }
+        ensures { option_map (λ held. held.handle) (slice_get self.now index) ≡ Some result.now.machine }
     {
         &self.all[index].handle
     }
@@ -131,7 +132,7 @@ impl<K> Handles<K> {
     pub fn get_mut(&mut self, index: usize) -> &mut Handle<K>
         requires { index < length self.old }
         ensures* writes_back { sem 𝓛 (lends_handle K.row self.entry index result) }
-        ensures value { option_map (λ held. held.handle) (slice_get self.old index) ≡ Some result.now }
+        ensures value { option_map (λ held. held.handle) (slice_get self.old index) ≡ Some result.now.machine }
     {
         let held = &mut self.all[index];
         &mut held.handle
@@ -141,7 +142,7 @@ impl<K> Handles<K> {
     /// link and not taken is gone.
     pub fn take(&mut self, index: usize) -> (u32, Handle<K>)
         requires { index < length self.old }
-        ensures value { option_map (λ held. (held.link, held.handle)) (slice_get self.old index) ≡ Some result }
+        ensures value { option_map {U = ℕ × Machine K} (λ held. (held.link, held.handle)) (slice_get self.old index) ≡ Some (result.0, result.1.machine) }
         ensures others { self.new ≡ take index self.old ++ drop (index + 1) self.old }
     {
         let Held {

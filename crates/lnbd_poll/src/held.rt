@@ -9,7 +9,7 @@ ghost use Rattle.lnbd_link.specs.Contents.{Keeps};
 ghost use Rattle.lnbd_poll.specs.Seen.{Goes, IsAt, Seen};
 ghost use Rattle.lnbd_poll.specs.Turns.{Blames, Told, WritesTold, is_lost, is_moved};
 ghost use Rattle.lnbd_poll.specs.Turned.{TurnsShort, TurnsWhole};
-ghost use Rattle.lnbd_poll.specs.Held.{AllClose, AreAt, is_on_its_way, want_now, wants_now, with_want};
+ghost use Rattle.lnbd_poll.specs.Held.{AllClose, AreAt, all_held, is_on_its_way, seen_held, want_now, wants_now, with_want};
 ghost use Rattle.lnbd_poll.specs.Steps.{HasWritten, TookEnough, TookShort};
 
 use crate::inbox::Inbox;
@@ -29,8 +29,8 @@ pub struct Held<K> {
 
 /// Tells the handle where its link failed.
 fn tell<K: Caller>(handle: &mut Handle<K>, noticed: Noticed, world: &mut K::World)
-    ensures told { (history : History K) → StandsFor max_unretired history handle.old → (after : History K) × Told K.steps (is_lost noticed) history world.old after world.new × StandsFor max_unretired after handle.new }
-    ensures same { is_moved noticed ≡ true → handle.new ≡ handle.old }
+    ensures told { (history : History K) → StandsFor max_unretired history handle.old.machine → (after : History K) × Told K.steps (is_lost noticed) history world.old after world.new × StandsFor max_unretired after handle.new.machine }
+    ensures same { is_moved noticed ≡ true → handle.new.machine ≡ handle.old.machine }
 {
     if !noticed.is_lost() {
         return;
@@ -45,8 +45,8 @@ fn write_once<K: Caller, W: Wires>(
     link: u32,
     world: &mut K::World,
 ) -> Noticed
-    ensures writes { Goes (W.told wires.old) (W.told wires.new) (λ history. StandsFor max_unretired history handle.old) (λ history. StandsFor max_unretired history handle.new) (λ before calls after. WritesTold K.steps link result before world.old calls after world.new × Blames calls (W.faults wires.old) (W.faults wires.new)) }
-    ensures less { is_moved result ≡ true → total handle.new.known.waits < total handle.old.known.waits }
+    ensures writes { Goes (W.told wires.old) (W.told wires.new) (λ history. StandsFor max_unretired history handle.old.machine) (λ history. StandsFor max_unretired history handle.new.machine) (λ before calls after. WritesTold K.steps link result before world.old calls after world.new × Blames calls (W.faults wires.old) (W.faults wires.new)) }
+    ensures less { is_moved result ≡ true → total handle.new.machine.known.waits < total handle.old.machine.known.waits }
     ensures contents { Keeps (W.contents wires.old) (W.contents wires.new) }
     ensures faults { W.faults wires.old ≤ W.faults wires.new }
     ensures idles { W.idles wires.old ≤ W.idles wires.new }
@@ -63,7 +63,7 @@ fn write_all<K: Caller, W: Wires>(
     link: u32,
     world: &mut K::World,
 ) -> Turn
-    ensures writes { Goes (W.told wires.old) (W.told wires.new) (λ history. StandsFor max_unretired history handle.old) (λ history. StandsFor max_unretired history handle.new) (λ before calls after. HasWritten K.steps link (W.faults wires.old) (W.faults wires.new) result before world.old calls after world.new) }
+    ensures writes { Goes (W.told wires.old) (W.told wires.new) (λ history. StandsFor max_unretired history handle.old.machine) (λ history. StandsFor max_unretired history handle.new.machine) (λ before calls after. HasWritten K.steps link (W.faults wires.old) (W.faults wires.new) result before world.old calls after world.new) }
     ensures contents { Keeps (W.contents wires.old) (W.contents wires.new) }
     ensures faults { W.faults wires.old ≤ W.faults wires.new }
     ensures idles { W.idles wires.old ≤ W.idles wires.new }
@@ -85,8 +85,8 @@ impl<K: Caller> Held<K> {
         wires: &mut W,
         world: &mut K::World,
     ) -> Result<Turn, NoMemory>
-        ensures ok { IfOk result (λ told. Goes (W.told wires.old) (W.told wires.new) (λ seen. IsAt self.old.link self.old.handle self.old.inbox seen) (λ seen. IsAt self.new.link self.new.handle self.new.inbox seen) (λ before calls after. TookEnough K.steps (W.faults wires.old) (W.faults wires.new) told before world.old calls after world.new)) }
-        ensures short { OnErr result (Goes (W.told wires.old) (W.told wires.new) (λ seen. IsAt self.old.link self.old.handle self.old.inbox seen) (λ seen. IsAt self.new.link self.new.handle self.new.inbox seen) (λ before calls after. TookShort K.steps (W.faults wires.old) (W.faults wires.new) before world.old calls after world.new)) }
+        ensures ok { IfOk result (λ told. Goes (W.told wires.old) (W.told wires.new) (λ seen. IsAt self.old.link self.old.handle.machine self.old.inbox seen) (λ seen. IsAt self.new.link self.new.handle.machine self.new.inbox seen) (λ before calls after. TookEnough K.steps (W.faults wires.old) (W.faults wires.new) told before world.old calls after world.new)) }
+        ensures short { OnErr result (Goes (W.told wires.old) (W.told wires.new) (λ seen. IsAt self.old.link self.old.handle.machine self.old.inbox seen) (λ seen. IsAt self.new.link self.new.handle.machine self.new.inbox seen) (λ before calls after. TookShort K.steps (W.faults wires.old) (W.faults wires.new) before world.old calls after world.new)) }
         ensures contents { Keeps (W.contents wires.old) (W.contents wires.new) }
         ensures faults { W.faults wires.old ≤ W.faults wires.new }
         ensures idles { W.idles wires.old ≤ W.idles wires.new }
@@ -106,8 +106,8 @@ pub(crate) fn turn_all<K: Caller, W: Wires>(
     wires: &mut W,
     world: &mut K::World,
 ) -> Result<Turn, NoMemory>
-    ensures ok { IfOk result (λ told. Goes (W.told wires.old) (W.told wires.new) (λ seen. AreAt all.old.items seen) (λ seen. AreAt all.new.items seen) (λ before calls after. TurnsWhole K.steps (W.faults wires.old) (W.faults wires.new) told before world.old calls after world.new)) }
-    ensures short { OnErr result (Goes (W.told wires.old) (W.told wires.new) (λ seen. AreAt all.old.items seen) (λ seen. AreAt all.new.items seen) (λ before calls after. TurnsShort K.steps (W.faults wires.old) (W.faults wires.new) before world.old calls after world.new)) }
+    ensures ok { IfOk result (λ told. Goes (W.told wires.old) (W.told wires.new) (λ seen. AreAt (all_held all.old.items) seen) (λ seen. AreAt (all_held all.new.items) seen) (λ before calls after. TurnsWhole K.steps (W.faults wires.old) (W.faults wires.new) told before world.old calls after world.new)) }
+    ensures short { OnErr result (Goes (W.told wires.old) (W.told wires.new) (λ seen. AreAt (all_held all.old.items) seen) (λ seen. AreAt (all_held all.new.items) seen) (λ before calls after. TurnsShort K.steps (W.faults wires.old) (W.faults wires.new) before world.old calls after world.new)) }
     ensures len { vec_len all.new ≡ vec_len all.old }
     ensures contents { Keeps (W.contents wires.old) (W.contents wires.new) }
     ensures faults { W.faults wires.old ≤ W.faults wires.new }
@@ -132,7 +132,7 @@ pub(crate) fn close_all<K: Caller>(
 ) -> Vec<Closed>
     requires empty { vec_len closed ≡ 0 }
     requires room { vec_len all ≤ vec_capacity closed }
-    ensures closes { (seen : List (Seen K)) → AreAt all.items seen → AllClose K.steps seen result.items world.old world.new }
+    ensures closes { (seen : List (Seen K)) → AreAt (all_held all.items) seen → AllClose K.steps seen result.items world.old world.new }
     ensures count { vec_len result ≡ vec_len all }
     ensures equal { All (λ closed. closed.opened ≡ closed.freed) result.items }
 {
@@ -152,7 +152,7 @@ pub(crate) fn close_all<K: Caller>(
 impl<K> Held<K> {
     /// What a pause is to wait for, where the handle waits for its link.
     fn want(&self) -> Option<Want>
-        ensures { result ≡ want_now self.now }
+        ensures { result ≡ want_now (seen_held self.now) }
     {
         let direction = self.handle.direction();
         let wants = is_on_its_way(self.handle.state())
@@ -192,7 +192,7 @@ fn push_want(wants: &mut Vec<Want>, want: Option<Want>)
 /// Lists what a pause is to wait for.
 pub(crate) fn want_all<K>(wants: &mut Vec<Want>, all: &Vec<Held<K>>)
     requires { vec_len all.now ≤ vec_capacity wants.old }
-    ensures items { wants.new.items ≡ wants_now all.now.items }
+    ensures items { wants.new.items ≡ wants_now (all_held all.now.items) }
     ensures room { vec_capacity wants.new ≡ vec_capacity wants.old }
 {
     wants.clear();

@@ -12,7 +12,7 @@ pub use handles::Handles;
 pub use held::Held;
 pub use inbox::Inbox;
 pub use noticed::{Noticed, Turn};
-pub use notify::{notify_read, notify_write};
+pub use notify::{notify_read, notify_write, read_placed};
 
 #[cfg(test)]
 mod tests;

@@ -18,6 +18,8 @@ mod option_tests;
 #[cfg(test)]
 mod overheard;
 #[cfg(test)]
+mod selftest_tests;
+#[cfg(test)]
 mod serve_tests;
 #[cfg(test)]
 mod session;

@@ -4,10 +4,10 @@ use crate::session::{SESSION, Session, Told, play_all};
 use crate::tests::{CONNECT, GO, HANDSHAKE, HELLO, SETTLE};
 use std::test::Fail;
 
-static SEVERAL: [Session<'static>; 3] = [
+static SEVERAL: [Session<'static>; 4] = [
     Session {
         shows: "each handle has its own link's bytes, and a breach on one leaves the other ready",
-        uncut: true,
+        by_lines: 6,
         reads: &[
             HELLO,
             GO,
@@ -22,6 +22,8 @@ static SEVERAL: [Session<'static>; 3] = [
             HELLO,
             GO,
             Told::Bytes("67446698 00000000 0000000000000001 22"),
+            // Two for the turns in which the other handle is answered, by one read or by two.
+            Told::Nothing,
             Told::Nothing,
         ],
         talk: &[
@@ -49,6 +51,46 @@ static SEVERAL: [Session<'static>; 3] = [
             HANDSHAKE,
             HANDSHAKE,
             "25609513 0000 0000 0000000000000001 0000000000000000 00000001",
+            "25609513 0000 0000 0000000000000001 0000000000000000 00000001",
+        ],
+        ..SESSION
+    },
+    Session {
+        shows: "a reply to a command of another link breaks the protocol on its own alone",
+        reads: &[
+            HELLO,
+            GO,
+            // As many turns as the other handle negotiates.
+            Told::Nothing,
+            Told::Nothing,
+            Told::Bytes("67446698 00000000 0000000000000001 11"),
+        ],
+        second: &[
+            HELLO,
+            GO,
+            // One turn, in which the reply comes to the wrong link, or a part of it.
+            Told::Nothing,
+            Told::Bytes("67446698 00000000 0000000000000001 22"),
+        ],
+        talk: &[
+            CONNECT,
+            SETTLE,
+            ("handle 1", "ok"),
+            CONNECT,
+            SETTLE,
+            ("pread 1 0", "cookie 1"),
+            SETTLE,
+            ("done 1", "done 1 22*1"),
+            ("state", "ready"),
+            ("handle 0", "ok"),
+            ("state", "dead broke UnknownCookie"),
+        ],
+        last: "opened 1 freed 1",
+        err: "lnbd: peer broke UnknownCookie\n",
+        status: 4,
+        written: &[
+            HANDSHAKE,
+            HANDSHAKE,
             "25609513 0000 0000 0000000000000001 0000000000000000 00000001",
         ],
         ..SESSION

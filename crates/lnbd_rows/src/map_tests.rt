@@ -90,7 +90,7 @@ const MAP: Session<'static> = Session {
     ..SESSION
 };
 
-static TOLD: [Session<'static>; 7] = [
+static TOLD: [Session<'static>; 8] = [
     Session {
         shows: "a map",
         last: "         0        4096    0  data\n      4096        8192    3  hole,zero\n     12288        4096    0  data",
@@ -135,6 +135,28 @@ static TOLD: [Session<'static>; 7] = [
             ASKED,
             FROM_0,
             DISC,
+        ],
+        ..MAP
+    },
+    Session {
+        shows: "the largest export is asked for by 128 MiB, until its server ends",
+        reads: &[
+            HELLO,
+            AGREED,
+            Told::Bytes(
+                "0003e889045565a9 00000007 00000003 0000000c 0000 7fffffffffffffff 0001 \
+                 0003e889045565a9 00000007 00000001 00000000",
+            ),
+            Told::Bytes("668e33ef 0001 0005 0000000000000001 0000000c 00000001 ffffffff 00000003"),
+        ],
+        err: "lnbd: peer broke Ended\n",
+        status: 4,
+        written: &[
+            OPTIONS,
+            CONTEXT,
+            ASKED,
+            "25609513 0000 0007 0000000000000001 0000000000000000 08000000",
+            "25609513 0000 0007 0000000000000002 0000000008000000 08000000",
         ],
         ..MAP
     },

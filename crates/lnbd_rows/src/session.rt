@@ -29,6 +29,8 @@ pub struct Session<'a> {
     pub shows: &'a str,
     /// Whether it shows this only where each read of the first link comes as it stands there; else it is played with each cut too.
     pub uncut: bool,
+    /// Which of the first link's reads the lines `read` of the script take, one each, from this one on.
+    pub by_lines: usize,
     pub words: &'a [&'a str],
     /// Whether the connect fails.
     pub unreachable: bool,
@@ -45,6 +47,8 @@ pub struct Session<'a> {
     pub output_fails_at: Option<usize>,
     /// How many bytes the output takes.
     pub output_room: usize,
+    /// How many calls of the wires and bytes over them may come.
+    pub wires_room: usize,
     /// The lines of the script, each with its answer; with none where the run ended before.
     pub talk: &'a [(&'a str, &'a str)],
     /// The last line, which no line of the script asks for.
@@ -61,6 +65,7 @@ pub struct Session<'a> {
 pub const SESSION: Session<'static> = Session {
     shows: "",
     uncut: false,
+    by_lines: usize::MAX,
     words: &["nbdcalls"],
     unreachable: false,
     reads: &[],
@@ -70,6 +75,7 @@ pub const SESSION: Session<'static> = Session {
     input_fails_at: None,
     output_fails_at: None,
     output_room: 4096,
+    wires_room: 4096,
     talk: &[],
     last: "",
     err: "",
@@ -201,16 +207,74 @@ fn push_line(text: &mut String, line: &str) -> Result<(), Fail> {
     Ok(())
 }
 
-/// The script, and all that is to be printed.
-fn texts(alloc: Global, session: &Session) -> Result<(String, String), Fail> {
-    let mut script = String::new(alloc);
-    let mut answers = String::new(alloc);
-    for (line, answer) in session.talk {
-        push_line(&mut script, line)?;
-        push_line(&mut answers, answer)?;
+/// A read that comes in two parts: which one it is, and of how many bytes the parts are.
+#[derive(Clone, Copy)]
+struct Parted {
+    read: usize,
+    front: usize,
+    back: usize,
+}
+
+/// Which read is cut behind so many of the bytes that come together, if one is.
+fn cut_read(alloc: Global, all: &[Told], cut: usize) -> Result<Option<Parted>, Fail> {
+    let mut front = cut;
+    for (read, told) in all.iter().enumerate() {
+        if let Told::Bytes(text) = told {
+            let count = bytes_of(alloc, text)?.len();
+            if front < count {
+                let back = count - front;
+                return Ok(Some(Parted { read, front, back }));
+            }
+            front -= count;
+        }
     }
-    push_line(&mut answers, session.last)?;
-    Ok((script, answers))
+    Ok(None)
+}
+
+/// The script, and all that is to be printed.
+#[derive(Drop)]
+struct Texts {
+    script: String,
+    answers: String,
+}
+
+impl Texts {
+    fn push(&mut self, line: &str, answer: &str) -> Result<(), Fail> {
+        push_line(&mut self.script, line)?;
+        push_line(&mut self.answers, answer)
+    }
+
+    /// Two lines `read`, of which each takes a part.
+    fn push_parts(&mut self, alloc: Global, parted: Parted) -> Result<(), Fail> {
+        self.push(
+            "read",
+            format!(in alloc; "moved {}", parted.front)?.as_str(),
+        )?;
+        self.push("read", format!(in alloc; "moved {}", parted.back)?.as_str())
+    }
+}
+
+/// The texts of a session, whose first link's reads are cut behind so many bytes.
+fn texts_of(alloc: Global, session: &Session, cut: usize) -> Result<Texts, Fail> {
+    let parted = cut_read(alloc, session.reads, cut)?;
+    let mut texts = Texts {
+        script: String::new(alloc),
+        answers: String::new(alloc),
+    };
+    let mut read = session.by_lines;
+    for (line, answer) in session.talk {
+        match parted {
+            Some(parted) if *line == "read" && parted.read == read && 0 < parted.front => {
+                texts.push_parts(alloc, parted)?;
+            }
+            _ => texts.push(line, answer)?,
+        }
+        if *line == "read" {
+            read = read.saturating_add(1);
+        }
+    }
+    push_line(&mut texts.answers, session.last)?;
+    Ok(texts)
 }
 
 pub fn words_of(alloc: Global, words: &[&str]) -> Result<Vec<String>, Fail> {
@@ -225,13 +289,13 @@ pub fn words_of(alloc: Global, words: &[&str]) -> Result<Vec<String>, Fail> {
 fn play(rt: &impl Abort, alloc: Global, session: &Session, cut: usize) -> Result<(), Fail> {
     let shows = session.shows;
     let words = words_of(alloc, session.words)?;
-    let (script, answers) = texts(alloc, session)?;
+    let Texts { script, answers } = texts_of(alloc, session, cut)?;
     let links = vec![in alloc;
         first_link(alloc, session, cut)?,
         second_link(alloc, session)?,
     ]?;
     let mut wires = Overheard {
-        wires: ListWires::new(alloc, links, 4096, session.pause.max(1))?,
+        wires: ListWires::new(alloc, links, session.wires_room, session.pause.max(1))?,
         written: Vec::new(alloc),
     };
     let mut input = ListSource::new(script.into_bytes(), session.input_fails_at);

@@ -21,7 +21,7 @@ pub(crate) const CONNECT: (&str, &str) = ("connect tcp localhost 10809", "connec
 
 pub(crate) const SETTLE: (&str, &str) = ("settle", "settled");
 
-static READS: [Session<'static>; 4] = [
+static READS: [Session<'static>; 5] = [
     Session {
         shows: "a read and the end",
         reads: &[
@@ -60,6 +60,32 @@ static READS: [Session<'static>; 4] = [
         ],
         last: "opened 1 freed 1",
         written: &[HANDSHAKE],
+        ..SESSION
+    },
+    Session {
+        shows: "what a head announces is read straight into its place, but for the last byte",
+        uncut: true,
+        wires_room: 262_144,
+        reads: &[
+            HELLO,
+            GO,
+            Told::Bytes("67446698 00000000 0000000000000001 ab*200000"),
+        ],
+        talk: &[
+            CONNECT,
+            SETTLE,
+            ("pread 200000 0", "cookie 1"),
+            ("write", "moved 28"),
+            ("read", "moved 65536"),
+            ("read", "moved 134479"),
+            ("read", "moved 1"),
+            ("done 1", "done 200000 ab*200000"),
+        ],
+        last: "opened 1 freed 1",
+        written: &[
+            HANDSHAKE,
+            "25609513 0000 0000 0000000000000001 0000000000000000 00030d40",
+        ],
         ..SESSION
     },
     Session {
@@ -133,7 +159,7 @@ fn reads_are_answered_by_their_cookies(rt: HostRuntime) -> Result<(), Fail> {
     play_all(&rt, rt.alloc(), &READS)
 }
 
-static COMMANDS: [Session<'static>; 5] = [
+static COMMANDS: [Session<'static>; 6] = [
     Session {
         shows: "each command is written with its flags, and each reply goes to its own",
         reads: &[
@@ -184,7 +210,7 @@ static COMMANDS: [Session<'static>; 5] = [
     },
     Session {
         shows: "a fill goes out as its bytes, behind the head of its write",
-        uncut: true,
+        by_lines: 2,
         reads: &[HELLO, GO, Told::Bytes("67446698 00000000 0000000000000001")],
         talk: &[
             CONNECT,
@@ -221,13 +247,35 @@ static COMMANDS: [Session<'static>; 5] = [
             SETTLE,
             ("pwrite fill:aa:512 0", "refused unsupported read-only"),
             ("flush", "refused unsupported flush"),
+            ("block-status 512 0", "refused unsupported context"),
             ("pread 131072 0", "refused too-big 65536"),
             ("pread 512 1", "refused align 512"),
             ("pread 512 0 1", "refused bad-flags 1"),
             ("disconnect", "ok"),
             ("pread 1 0", "refused closing"),
         ],
-        last: "opened 7 freed 7",
+        last: "opened 9 freed 9",
+        written: &[HANDSHAKE],
+        ..SESSION
+    },
+    Session {
+        shows: "blocks of which one is no power of two count for nothing",
+        reads: &[
+            HELLO,
+            // READ_ONLY, and blocks of 512, 3,000 and 65,536 bytes.
+            Told::Bytes(
+                "0003e889045565a9 00000007 00000003 0000000c 0000 0000000000100000 0003 \
+                 0003e889045565a9 00000007 00000003 0000000e 0003 00000200 00000bb8 00010000 \
+                 0003e889045565a9 00000007 00000001 00000000",
+            ),
+        ],
+        talk: &[
+            CONNECT,
+            SETTLE,
+            ("info", "info 1048576 3 - - - false\nend"),
+            ("pread 1 1", "cookie 1"),
+        ],
+        last: "opened 1 freed 1",
         written: &[HANDSHAKE],
         ..SESSION
     },
@@ -384,7 +432,7 @@ static HANDSHAKES: [Session<'static>; 4] = [
     },
     Session {
         shows: "where GO is not known the export is asked by its name",
-        uncut: true,
+        by_lines: 0,
         reads: &[
             Told::Bytes("4e42444d41474943 49484156454f5054 0001"),
             // UNSUP, then the size, the flags and 124 zero bytes in two reads.
@@ -416,7 +464,7 @@ static HANDSHAKES: [Session<'static>; 4] = [
     },
     Session {
         shows: "a server that wants TLS ends the handshake",
-        uncut: true,
+        by_lines: 0,
         reads: &[
             Told::Bytes("4e42444d41474943 49484156454f5054 0001"),
             Told::Bytes("0003e889045565a9 00000007 80000005 00000000"),

@@ -7,7 +7,8 @@ use Rattle.lnbd_history.specs.Events.{Issue, Refuse}
 use Rattle.lnbd_history.specs.Laws.{HasItsBytes}
 use Rattle.lnbd_history.specs.Refusals.{refusal_after}
 use Rattle.lnbd_machine.specs.Does.{Does}
-use Rattle.lnbd_machine.specs.Machine.{Machine, step}
+use Rattle.lnbd_handle.specs.Placing.{Handled}
+use Rattle.lnbd_machine.specs.Machine.{step}
 use Rattle.lnbd_machine.specs.Now.{refusal_now}
 use Rattle.lnbd_handle.specs.declared.issue.IssueFault.{IssueFault}
 use Rattle.lnbd_handle.specs.declared.issue.IssueFault.TheVariants as fault
@@ -30,7 +31,7 @@ use Rattle.lnbd_script.proofs.LineLemmas.{quiet, same_at}
 use Rattle.lnbd_script.proofs.SeenLemmas.{add, add_with}
 use Rattle.lnbd_script.proofs.TurnLemmas.{answers_at}
 
-abbrev after_issue : Session → Machine Keeper → Heeded → Session
+abbrev after_issue : Session → Handled Keeper → Heeded → Session
 after_issue old handle heeded = record { handle = handle; link = old.link; heeded = heeded; first = old.first }
 
 -- so many bytes go out as a write says
@@ -57,19 +58,19 @@ same_world seen old heeded at same = record {
   freed = same.freed ∙ at.freed;
 }
 
-issued_at : (seen : Seen) (old : Session) (handle : Machine Keeper) (heeded : Heeded) (command : Command Keeper) (cookie : ℕ) → IsWorld joined old.heeded heeded → IsAt seen old → HasItsBytes command → refusal_now 1024 old.handle.known command ≡ None → handle ≡ step old.handle (Issue command) → cookie ≡ handle.known.issued
+issued_at : (seen : Seen) (old : Session) (handle : Handled Keeper) (heeded : Heeded) (command : Command Keeper) (cookie : ℕ) → IsWorld joined old.heeded heeded → IsAt seen old → HasItsBytes command → refusal_now 1024 old.handle.machine.known command ≡ None → handle.machine ≡ step old.handle.machine (Issue command) → cookie ≡ handle.machine.known.issued
     → (x : Seen) × Issues (refusal_after 1024 seen.history command) command seen [] x (Ok (told.Cookie cookie)) × IsAt x (after_issue old handle heeded)
 issued_at seen old handle heeded command cookie joins at bytes may is number =
     let right = answers_at seen old at in
     let may' : refusal_after 1024 seen.history command ≡ None = sym (right.refusal 1024 command) ∙ may in
-    let on = add_with seen old (after_issue old handle heeded) heeded handle heeded (Issue command) at (may, bytes) refl (record { tally = joins.tally; hears = joins.hears; heard = joins.heard; freed = joins.freed }) (quiet old.handle handle heeded (Issue command) is refl) refl in
+    let on = add_with seen old (after_issue old handle heeded) heeded handle heeded (Issue command) at (may, bytes) refl (record { tally = joins.tally; hears = joins.hears; heard = joins.heard; freed = joins.freed }) (quiet old.handle.machine handle.machine heeded (Issue command) is refl) refl in
     let number' = number ∙ (answers_at (adding (Issue command) seen) (after_issue old handle heeded) on).issued in (
       adding (Issue command) seen,
       subst (λ (w : Option Why). Issues w command seen [] (adding (Issue command) seen) (Ok (told.Cookie cookie))) (sym may') (refl, refl, ap (λ (n : ℕ). Ok (told.Cookie n)) number'),
       on,
     )
 
-refused_at : (seen : Seen) (old : Session) (handle : Machine Keeper) (heeded : Heeded) (command : Command Keeper) (why : Why) → IsAt seen old → refusal_now 1024 old.handle.known command ≡ Some why → Does Heeds (Refuse command why) old.handle handle old.heeded heeded
+refused_at : (seen : Seen) (old : Session) (handle : Handled Keeper) (heeded : Heeded) (command : Command Keeper) (why : Why) → IsAt seen old → refusal_now 1024 old.handle.machine.known command ≡ Some why → Does Heeds (Refuse command why) old.handle.machine handle.machine old.heeded heeded
     → (x : Seen) × Issues (refusal_after 1024 seen.history command) command seen [] x (Ok (told.Refused why)) × IsAt x (after_issue old handle heeded)
 refused_at seen old handle heeded command why at may does =
     let right = answers_at seen old at in
@@ -87,7 +88,7 @@ issues_ok : (command : Command Keeper) (old new : Session) (heeded : Heeded) (an
     → IfOk (issue_told answer) (λ tells. Issued_as command old (after_issue old new.handle heeded) tells)
 issues_ok command old new heeded (Ok cookie) bytes h joins = λ seen at. issued_at seen old new.handle heeded command cookie (subst (λ (w : Heeded). IsWorld joined w heeded) h.world joins) at bytes h.accepted h.made h.cookie
 issues_ok command old new heeded (Err (fault.Refused why buf)) bytes h joins = λ seen at.
-    refused_at seen old new.handle heeded command why at h.faults.0 (subst (λ (w : Heeded). Does Heeds (Refuse command why) old.handle new.handle old.heeded w) (sym joins) h.faults.2)
+    refused_at seen old new.handle heeded command why at h.faults.0 (subst (λ (w : Heeded). Does Heeds (Refuse command why) old.handle.machine new.handle.machine old.heeded w) (sym joins) h.faults.2)
 issues_ok command old new heeded (Err (fault.NoMemory buf first done)) bytes h joins = tt
 
 -- the session after an answer

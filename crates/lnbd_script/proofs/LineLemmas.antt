@@ -19,6 +19,7 @@ use Rattle.lnbd_history.specs.Laws.{may_name}
 use Rattle.lnbd_history.specs.Refusals.{by_state}
 use Rattle.lnbd_history.specs.Strict.{unknown_bits}
 use Rattle.lnbd_machine.specs.Does.{Does}
+use Rattle.lnbd_handle.specs.Placing.{Handled}
 use Rattle.lnbd_machine.specs.Machine.{Machine, step, calls}
 use Rattle.lnbd_machine.specs.Now.{direction_now, state_now, out_now, completed_now}
 use Rattle.lnbd_standing.specs.Standing.{May, is_result}
@@ -59,11 +60,11 @@ use Rattle.lnbd_script.specs.Turns.{is_reading, is_waiting}
 use Rattle.lnbd_script.specs.Lines.{Adds, AddsContext, AsksFor, Hears, TellsHeard, hearing, Connects, ConnectsTo, Disconnects, Does as Line_does, LineEnd, ReadsOn, Sets, SetsStrict, WritesOn, asking, connected, has_all_contexts, is_created, is_opt_mode, is_structured, lacks_structured, named_if, setting_of, taking, told_link}
 use Rattle.lnbd_script.specs.Steps.{Becomes, ReadsOnce, ReadsOnceShort, Takes_option, WritesOnce, halted, option_told}
 use Rattle.lnbd_script.proofs.SeenLemmas.{add, follow, is_plain, met_by}
-use Rattle.lnbd_script.proofs.TurnLemmas.{answers_at, waits_false, waits_true}
+use Rattle.lnbd_script.proofs.TurnLemmas.{answers_at, found_at, waits_false, waits_true}
 
 -- a session whose handle is as before
-pub same_at : (seen : Seen) (old : Session) (handle : Machine Keeper) → IsAt seen old → handle ≡ old.handle → IsAt seen (record { handle = handle; link = old.link; heeded = old.heeded; first = old.first })
-same_at seen old handle at is = subst (λ (m : Machine Keeper). IsAt seen (record { handle = m; link = old.link; heeded = old.heeded; first = old.first })) (sym is) at
+pub same_at : (seen : Seen) (old : Session) (handle : Handled Keeper) → IsAt seen old → handle.machine ≡ old.handle.machine → IsAt seen (record { handle = handle; link = old.link; heeded = old.heeded; first = old.first })
+same_at = found_at
 
 -- a call on the handle that calls no callback
 pub quiet : (old handle : Machine Keeper) (heeded : Heeded) (happening : Happening Keeper) → handle ≡ step old happening → calls old happening ≡ [] → Does Heeds happening old handle heeded heeded
@@ -74,16 +75,16 @@ quiet old handle heeded happening is none = record { machine = is; world = subst
 take_take : (n : ℕ) (out : List ℕ) → n ≤ length out → take n out ≡ take (length (take n out)) out
 take_take n out h = ap (λ (k : ℕ). take k out) (sym (length-take-le n out h))
 
-pub counted : (seen : Seen) (old new : Session) (handle : Machine Keeper) (n : ℕ) → IsAt seen old → n ≤ length (out_now old.handle.known) → handle ≡ step old.handle (Wrote n)
-    → new ≡ record { handle = handle; link = old.link; heeded = old.heeded; first = or_first old.first (or_first None (met_by handle old.heeded)) }
-    → 0 < n → (x : Seen) × ((0 < length (take n (out_now old.handle.known))) × (take n (out_now old.handle.known) ≡ take (length (take n (out_now old.handle.known))) (out_after seen.history)) × Follows (Wrote (length (take n (out_now old.handle.known)))) None seen x) × IsAt x new
+pub counted : (seen : Seen) (old new : Session) (handle : Handled Keeper) (n : ℕ) → IsAt seen old → n ≤ length (out_now old.handle.machine.known) → handle.machine ≡ step old.handle.machine (Wrote n)
+    → new ≡ record { handle = handle; link = old.link; heeded = old.heeded; first = or_first old.first (or_first None (met_by handle.machine old.heeded)) }
+    → 0 < n → (x : Seen) × ((0 < length (take n (out_now old.handle.machine.known))) × (take n (out_now old.handle.machine.known) ≡ take (length (take n (out_now old.handle.machine.known))) (out_after seen.history)) × Follows (Wrote (length (take n (out_now old.handle.machine.known)))) None seen x) × IsAt x new
 counted seen old new handle n at within is new_is some =
-    let size : length (take n (out_now old.handle.known)) ≡ n = length-take-le n (out_now old.handle.known) within in
-    let f = follow seen old new handle old.heeded (Wrote n) None at within refl (quiet old.handle handle old.heeded (Wrote n) is refl) new_is in (
+    let size : length (take n (out_now old.handle.machine.known)) ≡ n = length-take-le n (out_now old.handle.machine.known) within in
+    let f = follow seen old new handle old.heeded (Wrote n) None at within refl (quiet old.handle.machine handle.machine old.heeded (Wrote n) is refl) new_is in (
       f.0,
       (
         omega (arith, size, some),
-        take_take n (out_now old.handle.known) within ∙ ap (λ (o : List ℕ). take (length (take n (out_now old.handle.known))) o) (answers_at seen old at).out,
+        take_take n (out_now old.handle.machine.known) within ∙ ap (λ (o : List ℕ). take (length (take n (out_now old.handle.machine.known))) o) (answers_at seen old at).out,
         subst (λ (k : ℕ). Follows (Wrote k) None seen f.0) (sym size) f.1,
       ),
       f.2,
@@ -123,10 +124,10 @@ created_is (state.Dead cause) e = absurd (false≢true e)
 pub at_start : (m : Machine Keeper) → is_created (state_now m.known) ≡ true → state_now m.known ≡ state.Created
 at_start m e = created_is (state_now m.known) e
 
-pub started : (seen : Seen) (old : Session) (handle : Machine Keeper) (link : ℕ) → IsAt seen old → state_now old.handle.known ≡ state.Created → handle ≡ step old.handle Start
+pub started : (seen : Seen) (old : Session) (handle : Handled Keeper) (link : ℕ) → IsAt seen old → state_now old.handle.machine.known ≡ state.Created → handle.machine ≡ step old.handle.machine Start
     → (x : Seen) × (x ≡ connected (Some link) seen) × IsAt x (record { handle = handle; link = Some link; heeded = old.heeded; first = old.first })
 started seen old handle link at created is =
-    let on = add seen old (record { handle = handle; link = old.link; heeded = old.heeded; first = old.first }) handle old.heeded Start at (is_stage_created old.handle created) refl (quiet old.handle handle old.heeded Start is refl) refl in (
+    let on = add seen old (record { handle = handle; link = old.link; heeded = old.heeded; first = old.first }) handle old.heeded Start at (is_stage_created old.handle.machine created) refl (quiet old.handle.machine handle.machine old.heeded Start is refl) refl in (
       connected (Some link) seen,
       refl,
       record { stands = on.stands; link = refl; first = on.first; answered = on.answered; tally = on.tally; shown = on.shown; heard = on.heard; freed = on.freed },
@@ -173,17 +174,17 @@ heard_taken seen old tells heeded at hears told' same freed none =
 
 -- A name, and the end.
 
-pub named : (seen : Seen) (old : Session) (handle : Machine Keeper) (name given : List ℕ) → IsAt seen old → given ≡ name → may_name (state_now old.handle.known) ≡ true → handle ≡ step old.handle (Set (Name given))
+pub named : (seen : Seen) (old : Session) (handle : Handled Keeper) (name given : List ℕ) → IsAt seen old → given ≡ name → may_name (state_now old.handle.machine.known) ≡ true → handle.machine ≡ step old.handle.machine (Set (Name given))
     → (x : Seen) × Sets (may_name (state_after seen.history)) (Name name) seen [] x (Ok told.Done) × IsAt x (record { handle = handle; link = old.link; heeded = old.heeded; first = old.first })
 named seen old handle name given at same may is =
     let may' : may_name (state_after seen.history) ≡ true = ap may_name (sym (answers_at seen old at).state) ∙ may in
-    let is' : handle ≡ step old.handle (Set (Name name)) = is ∙ ap (λ (t : List ℕ). step old.handle (Set (Name t))) same in (
+    let is' : handle.machine ≡ step old.handle.machine (Set (Name name)) = is ∙ ap (λ (t : List ℕ). step old.handle.machine (Set (Name t))) same in (
       adding (Set (Name name)) seen,
       subst (λ (b : Bool). Sets b (Name name) seen [] (adding (Set (Name name)) seen) (Ok told.Done)) (sym may') (refl, refl, refl),
-      add seen old _ handle old.heeded (Set (Name name)) at may refl (quiet old.handle handle old.heeded (Set (Name name)) is' refl) refl,
+      add seen old _ handle old.heeded (Set (Name name)) at may refl (quiet old.handle.machine handle.machine old.heeded (Set (Name name)) is' refl) refl,
     )
 
-pub not_named : (seen : Seen) (old : Session) (handle : Machine Keeper) (name : List ℕ) (s : State) → IsAt seen old → may_name (state_now old.handle.known) ≡ false → s ≡ state_now old.handle.known → handle ≡ old.handle
+pub not_named : (seen : Seen) (old : Session) (handle : Handled Keeper) (name : List ℕ) (s : State) → IsAt seen old → may_name (state_now old.handle.machine.known) ≡ false → s ≡ state_now old.handle.machine.known → handle.machine ≡ old.handle.machine
     → (x : Seen) × Sets (may_name (state_after seen.history)) (Name name) seen [] x (Ok (told.RefusedState s)) × IsAt x (record { handle = handle; link = old.link; heeded = old.heeded; first = old.first })
 not_named seen old handle name s at may is same =
     let right = answers_at seen old at in
@@ -195,23 +196,23 @@ not_named seen old handle name s at may is same =
 
 -- A meta context.
 
-pub context_added : (seen : Seen) (old : Session) (handle : Machine Keeper) (name given : List ℕ) → IsAt seen old → given ≡ name → MayAdd old.handle.known → handle ≡ step old.handle (Set (Context given))
+pub context_added : (seen : Seen) (old : Session) (handle : Handled Keeper) (name given : List ℕ) → IsAt seen old → given ≡ name → MayAdd old.handle.machine.known → handle.machine ≡ step old.handle.machine (Set (Context given))
     → (x : Seen) × AddsContext (may_name (state_after seen.history)) (has_all_contexts seen.history) name seen [] x (Ok told.Done) × IsAt x (record { handle = handle; link = old.link; heeded = old.heeded; first = old.first })
 context_added seen old handle name given at same may is =
     let right = answers_at seen old at in
     let named : may_name (state_after seen.history) ≡ true = ap may_name (sym right.state) ∙ may.0 in
-    let room : has_all_contexts seen.history ≡ false = ap (λ (w : List (List ℕ)). length w == max_contexts) (sym right.wanted) ∙ not_all (length old.handle.known.talk.wanted) may.1 in
-    let is' : handle ≡ step old.handle (Set (Context name)) = is ∙ ap (λ (t : List ℕ). step old.handle (Set (Context t))) same in (
+    let room : has_all_contexts seen.history ≡ false = ap (λ (w : List (List ℕ)). length w == max_contexts) (sym right.wanted) ∙ not_all (length old.handle.machine.known.talk.wanted) may.1 in
+    let is' : handle.machine ≡ step old.handle.machine (Set (Context name)) = is ∙ ap (λ (t : List ℕ). step old.handle.machine (Set (Context t))) same in (
       adding (Set (Context name)) seen,
       subst (λ (b : Bool). AddsContext b (has_all_contexts seen.history) name seen [] (adding (Set (Context name)) seen) (Ok told.Done)) (sym named)
           (subst (λ (b : Bool). AddsContext true b name seen [] (adding (Set (Context name)) seen) (Ok told.Done)) (sym room) (refl, refl, refl)),
-      add seen old _ handle old.heeded (Set (Context name)) at may refl (quiet old.handle handle old.heeded (Set (Context name)) is' refl) refl,
+      add seen old _ handle old.heeded (Set (Context name)) at may refl (quiet old.handle.machine handle.machine old.heeded (Set (Context name)) is' refl) refl,
     )
   where
     not_all : (n : ℕ) → n < max_contexts → (n == max_contexts) ≡ false
     not_all n less = ne_eqb n max_contexts (λ same. absurd (omega (arith, same, less)))
 
-pub context_refused : (seen : Seen) (old : Session) (handle : Machine Keeper) (name : List ℕ) (s : State) → IsAt seen old → may_name (state_now old.handle.known) ≡ false → s ≡ state_now old.handle.known → handle ≡ old.handle
+pub context_refused : (seen : Seen) (old : Session) (handle : Handled Keeper) (name : List ℕ) (s : State) → IsAt seen old → may_name (state_now old.handle.machine.known) ≡ false → s ≡ state_now old.handle.machine.known → handle.machine ≡ old.handle.machine
     → (x : Seen) × AddsContext (may_name (state_after seen.history)) (has_all_contexts seen.history) name seen [] x (Ok (told.RefusedState s)) × IsAt x (record { handle = handle; link = old.link; heeded = old.heeded; first = old.first })
 context_refused seen old handle name s at may is same =
     let right = answers_at seen old at in
@@ -221,7 +222,7 @@ context_refused seen old handle name s at may is same =
       same_at seen old handle at same,
     )
 
-pub context_too_many : (seen : Seen) (old : Session) (handle : Machine Keeper) (name : List ℕ) (most : ℕ) → IsAt seen old → may_name (state_now old.handle.known) ≡ true → length old.handle.known.talk.wanted ≡ max_contexts → most ≡ max_contexts → handle ≡ old.handle
+pub context_too_many : (seen : Seen) (old : Session) (handle : Handled Keeper) (name : List ℕ) (most : ℕ) → IsAt seen old → may_name (state_now old.handle.machine.known) ≡ true → length old.handle.machine.known.talk.wanted ≡ max_contexts → most ≡ max_contexts → handle.machine ≡ old.handle.machine
     → (x : Seen) × AddsContext (may_name (state_after seen.history)) (has_all_contexts seen.history) name seen [] x (Ok (told.RefusedContext most)) × IsAt x (record { handle = handle; link = old.link; heeded = old.heeded; first = old.first })
 context_too_many seen old handle name most at may full is same =
     let right = answers_at seen old at in
@@ -246,20 +247,20 @@ may_switch switch.Structured on m e = e
 may_switch switch.Extended on m e = e
 may_switch switch.OptMode on m e = e
 
-pub switch_set : (seen : Seen) (old : Session) (handle : Machine Keeper) (switch : Switch) (on : Bool) → IsAt seen old → old.handle.known.stage ≡ stage.Created → handle ≡ step old.handle (Set (setting_of switch on))
+pub switch_set : (seen : Seen) (old : Session) (handle : Handled Keeper) (switch : Switch) (on : Bool) → IsAt seen old → old.handle.machine.known.stage ≡ stage.Created → handle.machine ≡ step old.handle.machine (Set (setting_of switch on))
     → (x : Seen) × Sets (is_created (state_after seen.history)) (setting_of switch on) seen [] x (Ok told.Done) × IsAt x (record { handle = handle; link = old.link; heeded = old.heeded; first = old.first })
 switch_set seen old handle switch on at created is =
-    let yes : is_created (state_after seen.history) ≡ true = ap is_created (sym (answers_at seen old at).state) ∙ stage_is_created old.handle created in (
+    let yes : is_created (state_after seen.history) ≡ true = ap is_created (sym (answers_at seen old at).state) ∙ stage_is_created old.handle.machine created in (
       adding (Set (setting_of switch on)) seen,
       subst (λ (b : Bool). Sets b (setting_of switch on) seen [] (adding (Set (setting_of switch on)) seen) (Ok told.Done)) (sym yes) (refl, refl, refl),
-      add seen old _ handle old.heeded (Set (setting_of switch on)) at (may_switch switch on old.handle (at_start old.handle (stage_is_created old.handle created))) refl (quiet old.handle handle old.heeded (Set (setting_of switch on)) is refl) refl,
+      add seen old _ handle old.heeded (Set (setting_of switch on)) at (may_switch switch on old.handle.machine (at_start old.handle.machine (stage_is_created old.handle.machine created))) refl (quiet old.handle.machine handle.machine old.heeded (Set (setting_of switch on)) is refl) refl,
     )
 
-pub switch_not_set : (seen : Seen) (old : Session) (handle : Machine Keeper) (switch : Switch) (on : Bool) (s : State) → IsAt seen old → (old.handle.known.stage ≢ stage.Created) → s ≡ state_now old.handle.known → handle ≡ old.handle
+pub switch_not_set : (seen : Seen) (old : Session) (handle : Handled Keeper) (switch : Switch) (on : Bool) (s : State) → IsAt seen old → (old.handle.machine.known.stage ≢ stage.Created) → s ≡ state_now old.handle.machine.known → handle.machine ≡ old.handle.machine
     → (x : Seen) × Sets (is_created (state_after seen.history)) (setting_of switch on) seen [] x (Ok (told.RefusedState s)) × IsAt x (record { handle = handle; link = old.link; heeded = old.heeded; first = old.first })
 switch_not_set seen old handle switch on s at other is same =
     let right = answers_at seen old at in
-    let no : is_created (state_after seen.history) ≡ false = ap is_created (sym right.state) ∙ stage_not_created old.handle other in (
+    let no : is_created (state_after seen.history) ≡ false = ap is_created (sym right.state) ∙ stage_not_created old.handle.machine other in (
       seen,
       subst (λ (b : Bool). Sets b (setting_of switch on) seen [] seen (Ok (told.RefusedState s))) (sym no) (refl, refl, ap (λ (t : State). Ok (told.RefusedState t)) (is ∙ right.state)),
       same_at seen old handle at same,
@@ -297,7 +298,7 @@ not_opt_mode state.Closing other = refl
 not_opt_mode state.Closed other = refl
 not_opt_mode (state.Dead cause) other = refl
 
-lacks_after : (option : Asked_option) (seen : Seen) (old : Session) → IsAt seen old → lacks_structured option old.handle.known.talk.structured ≡ lacks_structured option (is_structured seen.history)
+lacks_after : (option : Asked_option) (seen : Seen) (old : Session) → IsAt seen old → lacks_structured option old.handle.machine.known.talk.structured ≡ lacks_structured option (is_structured seen.history)
 lacks_after option seen old at = ap (λ (on : Bool). lacks_structured option on) (answers_at seen old at).structured
 
 -- what asking for an option comes to
@@ -309,18 +310,18 @@ asks_by option may lacks seen after end mode lack asks =
     subst (λ (b : Bool). AsksFor b (lacks_structured option (is_structured seen.history)) option seen [] after end) (sym mode)
     (subst (λ (b : Bool). AsksFor may b option seen [] after end) (sym lack) asks)
 
-pub option_ok : (option : Asked_option) (old : Session) (handle : Machine Keeper) (answer : Result (Unit {0}) OptFault) → Takes_option option answer old.handle handle
+pub option_ok : (option : Asked_option) (old : Session) (handle : Handled Keeper) (answer : Result (Unit {0}) OptFault) → Takes_option option answer old.handle.machine handle.machine
     → IfOk (option_told answer) (λ tells. Becomes old (record { handle = handle; link = old.link; heeded = old.heeded; first = old.first }) (λ before after. Asks_option option before after (Ok tells)))
 option_ok option old handle (Ok done) (mode, lack, is) = λ seen at.
     let yes : is_opt_mode (state_after seen.history) ≡ true = ap is_opt_mode (sym (answers_at seen old at).state) ∙ ap is_opt_mode mode in (
       adding (asking option) seen,
       asks_by option true false seen (adding (asking option) seen) (Ok told.Done) yes (sym (lacks_after option seen old at) ∙ lack) (refl, refl, refl),
-      add seen old _ handle old.heeded (asking option) at (may_ask option old.handle mode lack) (asking_is_plain option) (quiet old.handle handle old.heeded (asking option) is (asking_is_quiet option old.handle)) refl,
+      add seen old _ handle old.heeded (asking option) at (may_ask option old.handle.machine mode lack) (asking_is_plain option) (quiet old.handle.machine handle.machine old.heeded (asking option) is (asking_is_quiet option old.handle.machine)) refl,
     )
 option_ok option old handle (Err opt.NoMemory) same = tt
 option_ok option old handle (Err (opt.State now)) (other, is, same) = λ seen at.
     let right = answers_at seen old at in
-    let no : is_opt_mode (state_after seen.history) ≡ false = ap is_opt_mode (sym right.state) ∙ not_opt_mode (state_now old.handle.known) other in (
+    let no : is_opt_mode (state_after seen.history) ≡ false = ap is_opt_mode (sym right.state) ∙ not_opt_mode (state_now old.handle.machine.known) other in (
       seen,
       asks_by option false (lacks_structured option (is_structured seen.history)) seen seen (Ok (told.RefusedState now)) no refl (refl, refl, ap (λ (t : State). Ok (told.RefusedState t)) (is ∙ right.state)),
       same_at seen old handle at same,
@@ -332,26 +333,26 @@ option_ok option old handle (Err opt.NotStructured) (mode, lack, same) = λ seen
       same_at seen old handle at same,
     )
 
-pub option_lacks : (option : Asked_option) (old : Session) (handle : Machine Keeper) (answer : Result (Unit {0}) OptFault) → Takes_option option answer old.handle handle
+pub option_lacks : (option : Asked_option) (old : Session) (handle : Handled Keeper) (answer : Result (Unit {0}) OptFault) → Takes_option option answer old.handle.machine handle.machine
     → OnErr (option_told answer) (Becomes old (record { handle = handle; link = old.link; heeded = old.heeded; first = old.first }) (λ before after. after ≡ before))
 option_lacks option old handle (Ok done) took = tt
 option_lacks option old handle (Err opt.NoMemory) same = λ seen at. (seen, refl, same_at seen old handle at same)
 option_lacks option old handle (Err (opt.State now)) took = tt
 option_lacks option old handle (Err opt.NotStructured) took = tt
 
-pub strict_set : (seen : Seen) (old : Session) (handle : Machine Keeper) (bits : ℕ) → IsAt seen old → unknown_bits bits ≡ 0 → handle ≡ step old.handle (StrictMode bits)
+pub strict_set : (seen : Seen) (old : Session) (handle : Handled Keeper) (bits : ℕ) → IsAt seen old → unknown_bits bits ≡ 0 → handle.machine ≡ step old.handle.machine (StrictMode bits)
     → (x : Seen) × SetsStrict (unknown_bits bits) bits seen [] x (Ok told.Done) × IsAt x (record { handle = handle; link = old.link; heeded = old.heeded; first = old.first })
 strict_set seen old handle bits at known is = (
   adding (StrictMode bits) seen,
   subst (λ (u : ℕ). SetsStrict u bits seen [] (adding (StrictMode bits) seen) (Ok told.Done)) (sym known) (refl, refl, refl),
-  add seen old _ handle old.heeded (StrictMode bits) at known refl (quiet old.handle handle old.heeded (StrictMode bits) is refl) refl,
+  add seen old _ handle old.heeded (StrictMode bits) at known refl (quiet old.handle.machine handle.machine old.heeded (StrictMode bits) is refl) refl,
 )
 
 strict_refused : (unknown bits : ℕ) (seen : Seen) → unknown ≢ 0 → SetsStrict unknown bits seen [] seen (Ok (told.RefusedStrict unknown))
 strict_refused zero bits seen some = absurd (some refl)
 strict_refused (suc unknown) bits seen some = (refl, refl, refl)
 
-pub strict_not_set : (seen : Seen) (old : Session) (handle : Machine Keeper) (bits told' : ℕ) → IsAt seen old → unknown_bits bits ≢ 0 → told' ≡ unknown_bits bits → handle ≡ old.handle
+pub strict_not_set : (seen : Seen) (old : Session) (handle : Handled Keeper) (bits told' : ℕ) → IsAt seen old → unknown_bits bits ≢ 0 → told' ≡ unknown_bits bits → handle.machine ≡ old.handle.machine
     → (x : Seen) × SetsStrict (unknown_bits bits) bits seen [] x (Ok (told.RefusedStrict told')) × IsAt x (record { handle = handle; link = old.link; heeded = old.heeded; first = old.first })
 strict_not_set seen old handle bits told' at some is same = (
   seen,
@@ -359,17 +360,17 @@ strict_not_set seen old handle bits told' at some is same = (
   same_at seen old handle at same,
 )
 
-pub disconnected : (seen : Seen) (old : Session) (handle : Machine Keeper) → IsAt seen old → state_now old.handle.known ≡ state.Ready → handle ≡ step old.handle Disconnect
+pub disconnected : (seen : Seen) (old : Session) (handle : Handled Keeper) → IsAt seen old → state_now old.handle.machine.known ≡ state.Ready → handle.machine ≡ step old.handle.machine Disconnect
     → (x : Seen) × Disconnects (by_state (state_after seen.history) None) seen [] x (Ok told.Done) × IsAt x (record { handle = handle; link = old.link; heeded = old.heeded; first = old.first })
 disconnected seen old handle at ready is =
-    let may : by_state (state_now old.handle.known) None ≡ None = ap (λ (s : State). by_state s None) ready in
+    let may : by_state (state_now old.handle.machine.known) None ≡ None = ap (λ (s : State). by_state s None) ready in
     let why : by_state (state_after seen.history) None ≡ None = ap (λ (s : State). by_state s None) (sym (answers_at seen old at).state) ∙ may in (
       adding Disconnect seen,
       subst (λ (w : Option Why). Disconnects w seen [] (adding Disconnect seen) (Ok told.Done)) (sym why) (refl, refl, refl),
-      add seen old _ handle old.heeded Disconnect at may refl (quiet old.handle handle old.heeded Disconnect is refl) refl,
+      add seen old _ handle old.heeded Disconnect at may refl (quiet old.handle.machine handle.machine old.heeded Disconnect is refl) refl,
     )
 
-pub not_disconnected : (seen : Seen) (old : Session) (handle : Machine Keeper) (why : Why) → IsAt seen old → by_state (state_now old.handle.known) None ≡ Some why → handle ≡ old.handle
+pub not_disconnected : (seen : Seen) (old : Session) (handle : Handled Keeper) (why : Why) → IsAt seen old → by_state (state_now old.handle.machine.known) None ≡ Some why → handle.machine ≡ old.handle.machine
     → (x : Seen) × Disconnects (by_state (state_after seen.history) None) seen [] x (Ok (told.Refused why)) × IsAt x (record { handle = handle; link = old.link; heeded = old.heeded; first = old.first })
 not_disconnected seen old handle why at refused same =
     let why' : by_state (state_after seen.history) None ≡ Some why = ap (λ (s : State). by_state s None) (sym (answers_at seen old at).state) ∙ refused in (
@@ -380,14 +381,14 @@ not_disconnected seen old handle why at refused same =
 
 -- A result.
 
-taken : (seen : Seen) (old : Session) (handle : Machine Keeper) (cookie : ℕ) (answer : Completed) → IsAt seen old → answer ≡ completed_now old.handle.known cookie → handle ≡ completing answer cookie old.handle
+taken : (seen : Seen) (old : Session) (handle : Handled Keeper) (cookie : ℕ) (answer : Completed) → IsAt seen old → answer ≡ completed_now old.handle.machine.known cookie → handle.machine ≡ completing answer cookie old.handle.machine
     → IsAt (taking answer cookie seen) (record { handle = handle; link = old.link; heeded = old.heeded; first = old.first })
-taken seen old handle cookie (completed.Done bytes) at is done = add seen old _ handle old.heeded (Retire cookie) at (ap is_result (sym is)) refl (quiet old.handle handle old.heeded (Retire cookie) done refl) refl
-taken seen old handle cookie (completed.Failed error bytes) at is done = add seen old _ handle old.heeded (Retire cookie) at (ap is_result (sym is)) refl (quiet old.handle handle old.heeded (Retire cookie) done refl) refl
+taken seen old handle cookie (completed.Done bytes) at is done = add seen old _ handle old.heeded (Retire cookie) at (ap is_result (sym is)) refl (quiet old.handle.machine handle.machine old.heeded (Retire cookie) done refl) refl
+taken seen old handle cookie (completed.Failed error bytes) at is done = add seen old _ handle old.heeded (Retire cookie) at (ap is_result (sym is)) refl (quiet old.handle.machine handle.machine old.heeded (Retire cookie) done refl) refl
 taken seen old handle cookie completed.NotYet at is done = same_at seen old handle at done
 taken seen old handle cookie completed.NoSuchCookie at is done = same_at seen old handle at done
 
-pub result_taken : (seen : Seen) (old : Session) (handle : Machine Keeper) (cookie : ℕ) (answer : Completed) → IsAt seen old → answer ≡ completed_now old.handle.known cookie → handle ≡ completing answer cookie old.handle
+pub result_taken : (seen : Seen) (old : Session) (handle : Handled Keeper) (cookie : ℕ) (answer : Completed) → IsAt seen old → answer ≡ completed_now old.handle.machine.known cookie → handle.machine ≡ completing answer cookie old.handle.machine
     → (x : Seen) × Adds (taking (completed_after seen.history cookie) cookie seen) [] x (Ok (told.Result answer)) (told.Result (completed_after seen.history cookie)) × IsAt x (record { handle = handle; link = old.link; heeded = old.heeded; first = old.first })
 result_taken seen old handle cookie answer at is done =
     let same : answer ≡ completed_after seen.history cookie = is ∙ (answers_at seen old at).completed cookie in (
@@ -398,10 +399,10 @@ result_taken seen old handle cookie answer at is done =
 
 -- Connects.
 
-pub connect_refused : (seen : Seen) (old : Session) (to : Target) (calls : Option (List Call)) (s : State) → IsAt seen old → s ≡ state_now old.handle.known → is_created s ≡ false
+pub connect_refused : (seen : Seen) (old : Session) (to : Target) (calls : Option (List Call)) (s : State) → IsAt seen old → s ≡ state_now old.handle.machine.known → is_created s ≡ false
     → Went calls calls old (λ own after. Connects (is_created (state_after seen.history)) to seen own after (Ok (told.RefusedState s)))
 connect_refused seen old to calls s at is off =
-    let not_created : is_created (state_now old.handle.known) ≡ false = ap is_created (sym is) ∙ off in
+    let not_created : is_created (state_now old.handle.machine.known) ≡ false = ap is_created (sym is) ∙ off in
     let right = answers_at seen old at in
     let no : is_created (state_after seen.history) ≡ false = ap is_created (sym right.state) ∙ not_created in
     record {
@@ -412,7 +413,7 @@ connect_refused seen old to calls s at is off =
       at = at;
     }
 
-pub connect_answered : (seen : Seen) (old new : Session) (to : Target) (before after : Option (List Call)) (link : Option ℕ) → IsAt seen old → state_now old.handle.known ≡ state.Created → Grows_by before after (Connect to link)
+pub connect_answered : (seen : Seen) (old new : Session) (to : Target) (before after : Option (List Call)) (link : Option ℕ) → IsAt seen old → state_now old.handle.machine.known ≡ state.Created → Grows_by before after (Connect to link)
     → ((x : Seen) × (x ≡ connected link seen) × IsAt x new)
     → Went before after new (λ own later. Connects (is_created (state_after seen.history)) to seen own later (Ok (told_link link)))
 connect_answered seen old new to before after link at created grown reached =
@@ -435,18 +436,18 @@ is_named old new name (Err fault) created ok refused = absurd (false≢true (sym
 pub still_created : (old new : Machine Keeper) (name : List ℕ) → state_now old.known ≡ state.Created → new ≡ step old (Set (Name name)) → is_created (state_now new.known) ≡ true
 still_created old new name created is = ap (λ (m : Machine Keeper). is_created (state_now m.known)) is ∙ stage_is_created (step old (Set (Name name))) (is_stage_created old created)
 
-pub named_before : (seen : Seen) (old : Session) (handle : Machine Keeper) (name : List ℕ) → IsAt seen old → state_now old.handle.known ≡ state.Created → handle ≡ step old.handle (Set (Name name))
+pub named_before : (seen : Seen) (old : Session) (handle : Handled Keeper) (name : List ℕ) → IsAt seen old → state_now old.handle.machine.known ≡ state.Created → handle.machine ≡ step old.handle.machine (Set (Name name))
     → (x : Seen) × (x ≡ adding (Set (Name name)) seen) × IsAt x (record { handle = handle; link = old.link; heeded = old.heeded; first = old.first })
 named_before seen old handle name at created is = (
   adding (Set (Name name)) seen,
   refl,
-  add seen old _ handle old.heeded (Set (Name name)) at (ap may_name created) refl (quiet old.handle handle old.heeded (Set (Name name)) is refl) refl,
+  add seen old _ handle old.heeded (Set (Name name)) at (ap may_name created) refl (quiet old.handle.machine handle.machine old.heeded (Set (Name name)) is refl) refl,
 )
 
-pub uri_refused : (seen : Seen) (old : Session) (place : Place) (calls : Option (List Call)) (s : State) → IsAt seen old → s ≡ state_now old.handle.known → is_created s ≡ false
+pub uri_refused : (seen : Seen) (old : Session) (place : Place) (calls : Option (List Call)) (s : State) → IsAt seen old → s ≡ state_now old.handle.machine.known → is_created s ≡ false
     → Went calls calls old (λ own after. Line_does (line.ConnectUri place) seen own after (Ok (told.RefusedState s)))
 uri_refused seen old place calls s at is off =
-    let not_created : is_created (state_now old.handle.known) ≡ false = ap is_created (sym is) ∙ off in
+    let not_created : is_created (state_now old.handle.machine.known) ≡ false = ap is_created (sym is) ∙ off in
     let right = answers_at seen old at in
     let no : is_created (state_after seen.history) ≡ false = ap is_created (sym right.state) ∙ not_created in
     record {
@@ -457,7 +458,7 @@ uri_refused seen old place calls s at is off =
       at = at;
     }
 
-pub uri_answered : (seen : Seen) (old new : Session) (place : Place) (name : List ℕ) (before after : Option (List Call)) (link : Option ℕ) → IsAt seen old → state_now old.handle.known ≡ state.Created → name ≡ place.name
+pub uri_answered : (seen : Seen) (old new : Session) (place : Place) (name : List ℕ) (before after : Option (List Call)) (link : Option ℕ) → IsAt seen old → state_now old.handle.machine.known ≡ state.Created → name ≡ place.name
     → Grows_by before after (Connect place.to link) → ((x : Seen) × (x ≡ connected link (named_if link name seen)) × IsAt x new)
     → Went before after new (λ own later. ConnectsTo (is_created (state_after seen.history)) place seen own later (Ok (told_link link)))
 uri_answered seen old new place name before after link at created same grown reached =
@@ -542,11 +543,11 @@ pub write_unlinked : (seen : Seen) (old : Session) (calls : Option (List Call)) 
     → Went calls calls old (λ own after. WritesOn (is_waiting seen.history) seen.link seen own after (Ok (told.Moved moved.Idle)))
 write_unlinked seen old calls at none = record { calls = []; after = seen; grown = grows_none calls; leads = writes_none (is_waiting seen.history) seen.link seen (sym at.link ∙ none); at = at }
 
-pub write_nothing : (seen : Seen) (old : Session) (calls : Option (List Call)) → IsAt seen old → (direction_now old.handle.known == 3) ≡ false
+pub write_nothing : (seen : Seen) (old : Session) (calls : Option (List Call)) → IsAt seen old → (direction_now old.handle.machine.known == 3) ≡ false
     → Went calls calls old (λ own after. WritesOn (is_waiting seen.history) seen.link seen own after (Ok (told.Moved moved.Idle)))
 write_nothing seen old calls at none = record { calls = []; after = seen; grown = grows_none calls; leads = writes_off (is_waiting seen.history) seen.link seen (waits_false seen old at none); at = at }
 
-pub write_on : (seen : Seen) (old new : Session) (before after : Option (List Call)) (link : ℕ) (m : Transfer) → IsAt seen old → old.link ≡ Some link → (direction_now old.handle.known == 3) ≡ true
+pub write_on : (seen : Seen) (old new : Session) (before after : Option (List Call)) (link : ℕ) (m : Transfer) → IsAt seen old → old.link ≡ Some link → (direction_now old.handle.machine.known == 3) ≡ true
     → Goes before after old new (λ s calls later. WritesOnce link m s calls later)
     → Went before after new (λ calls later. WritesOn (is_waiting seen.history) seen.link seen calls later (Ok (told.Moved m)))
 write_on seen old new before after link m at linked some goes =

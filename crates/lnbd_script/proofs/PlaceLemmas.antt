@@ -5,7 +5,9 @@ use Rattle.lnbd_history.specs.Events.{Close}
 use Rattle.lnbd_history.specs.Entries.{frees, notes}
 use Rattle.lnbd_history.specs.History.{asked, reading}
 use Rattle.lnbd_history.specs.Laws.{is_closed}
+use Rattle.lnbd_handle.specs.Placing.{Handled}
 use Rattle.lnbd_machine.specs.Machine.{Machine, calls, created, step}
+use Rattle.lnbd_standing.specs.Standing.{StandsFor}
 use Rattle.lnbd_standing.proofs.Standing.{closing_right, created_right, stands_calls}
 use Rattle.lnbd_link.specs.Call.{Call}
 use Rattle.lnbd_link.specs.Part.{Grows}
@@ -37,10 +39,10 @@ pub held_again : (after : Seen) (session : Session) → IsAt after session → I
 held_again after session at = record { stands = at.stands; link = at.link; first = refl; answered = at.answered; tally = at.tally; shown = at.shown; heard = at.heard; freed = at.freed }
 
 -- A handle that was just created stands at the beginning.
-pub begins : (handle : Machine Keeper) (heeded : Heeded) → handle ≡ created → tally_of heeded ≡ no_tally → string_bytes heeded.heard ≡ [] → heeded.freed ≡ 0
+pub begins : (handle : Handled Keeper) (heeded : Heeded) → handle.machine ≡ created → tally_of heeded ≡ no_tally → string_bytes heeded.heard ≡ [] → heeded.freed ≡ 0
     → IsAt (seen_of unused None) (record { handle = handle; link = None; heeded = heeded; first = None })
-begins handle heeded is tally heard freed = subst (λ (h : Machine Keeper). IsAt (seen_of unused None) (record { handle = h; link = None; heeded = heeded; first = None })) (sym is)
-    (record { stands = created_right 1024; link = refl; first = refl; answered = λ k d h. absurd (omega (arith, h)); tally = tally; shown = omega arith; heard = λ e. heard; freed = freed })
+begins handle heeded is tally heard freed =
+    (record { stands = subst (λ (h : Machine Keeper). StandsFor 1024 [] h) (sym is) (created_right 1024); link = refl; first = refl; answered = λ k d h. absurd (omega (arith, h)); tally = tally; shown = omega arith; heard = λ e. heard; freed = freed })
 
 pub made : (held : Held) (old : Place) (session : Session) → is_used old ≡ false → IsHeld held old → IsAt (seen_of unused None) session → IsHeld held (place.Open session)
 made held place.Unused session none is at = subst (λ (h : Held). IsHeld h (place.Open session)) (sym is) (held_again (seen_of unused None) session at)
@@ -50,17 +52,17 @@ made held (place.Over over) session none is at = absurd (false≢true (sym none)
 -- Closing.
 
 -- What the callbacks counted is how many were admitted.
-pub over_is : (held : Held) (session : Session) (over : Over) (heeded : Heeded) (noted : ℕ) → IsAt (seen_of held session.first) session → Heeds session.heeded (calls session.handle Close) heeded
-    → over.opened ≡ (step session.handle Close).known.admitted → noted ≡ (step session.handle Close).known.freed → over.opened ≡ noted → noted ≤ 18446744073709551615 → over.freed ≡ heeded.freed
+pub over_is : (held : Held) (session : Session) (over : Over) (heeded : Heeded) (noted : ℕ) → IsAt (seen_of held session.first) session → Heeds session.heeded (calls session.handle.machine Close) heeded
+    → over.opened ≡ (step session.handle.machine Close).known.admitted → noted ≡ (step session.handle.machine Close).known.freed → over.opened ≡ noted → noted ≤ 18446744073709551615 → over.freed ≡ heeded.freed
     → IsOver (closed_held held) over
 over_is held session over heeded noted at heeds opened told equal fits freed =
-    let right = closing_right 1024 held.history session.handle at.stands in
-    let more = stands_calls 1024 held.history session.handle Close at.stands tt in
+    let right = closing_right 1024 held.history session.handle.machine at.stands in
+    let more = stands_calls 1024 held.history session.handle.machine Close at.stands tt in
     let all : over.opened ≡ (asked held.history).admitted = opened ∙ right.admitted in
     let entries = (reading (Close ∷ held.history)).known.entries in
     let frees_are : frees (notes entries) ≡ noted = sym right.freed ∙ sym told in
     let count : heeded.freed ≡ freed_by 0 (callbacks_of (Close ∷ held.history))
-    = heeds.freed ∙ ap (λ (n : ℕ). freed_by n (calls session.handle Close)) at.freed ∙ sym (freed_on 0 (callbacks_of held.history) (calls session.handle Close)) ∙ ap (freed_by 0) (sym more) in
+    = heeds.freed ∙ ap (λ (n : ℕ). freed_by n (calls session.handle.machine Close)) at.freed ∙ sym (freed_on 0 (callbacks_of held.history) (calls session.handle.machine Close)) ∙ ap (freed_by 0) (sym more) in
     record { closed = refl; link = refl; opened = all; freed = freed ∙ count ∙ freed_is entries (omega (arith, frees_are, fits)) ∙ frees_are ∙ sym equal ∙ all }
 
 pub shut_is : (held : Held) (session : Session) (a b : Option (List Call)) → IsAt (seen_of held session.first) session → Grows a b (shut_calls session.link) → Grows a b (shut_calls held.link)

@@ -237,8 +237,8 @@ want_some : (link : Option ℕ) (held : Held) (first : Option Event) (session : 
 want_some None held first session at = refl
 want_some (Some link) held first session at =
     let right = answers_at (seen_of held first) session at in
-    ap (λ (s : State). want_of link s (in_flight_now session.handle.known) (direction_now session.handle.known)) right.state
-    ∙ ap (λ (n : ℕ). want_of link (state_after held.history) n (direction_now session.handle.known)) right.in_flight
+    ap (λ (s : State). want_of link s (in_flight_now session.handle.machine.known) (direction_now session.handle.machine.known)) right.state
+    ∙ ap (λ (n : ℕ). want_of link (state_after held.history) n (direction_now session.handle.machine.known)) right.in_flight
     ∙ ap (λ (n : ℕ). want_of link (state_after held.history) (in_flight_after held.history) n) right.direction
 
 want_place : (held : Held) (p : Place) → IsHeld held p → want_now p ≡ want_if held.link held.history

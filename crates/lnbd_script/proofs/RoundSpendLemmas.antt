@@ -32,7 +32,7 @@ left_of (held ∷ others) = left_on held + left_of others
 -- the same, of the handles as they are
 abbrev budget_on : Place → ℕ
 budget_on place.Unused = left_on unused
-budget_on (place.Open session) = budget session.handle
+budget_on (place.Open session) = budget session.handle.machine
 budget_on (place.Over over) = 0
 
 abbrev pub budget_of : List Place → ℕ

@@ -15,6 +15,7 @@ use Rattle.lnbd_history.specs.declared.kinds.OptAnswer.{OptAnswer}
 use Rattle.lnbd_history.specs.declared.kinds.OptAnswer.TheVariants as answer
 use Rattle.lnbd_history.specs.Laws.{is_closed}
 use Rattle.lnbd_machine.specs.Does.{Does}
+use Rattle.lnbd_handle.specs.Placing.{Handled}
 use Rattle.lnbd_machine.specs.Machine.{Machine, calls}
 use Rattle.lnbd_machine.specs.Now.{state_now}
 use Rattle.lnbd_standing.specs.Standing.{StandsFor, May}
@@ -85,13 +86,13 @@ record Happened (seen : Seen) (happening : Happening Keeper) (handle : Machine K
   freed : heeded.freed ≡ freed_by 0 (callbacks_of (happening ∷ seen.history))
 
 -- A command that is issued joined the callbacks' world before.
-happened : (seen : Seen) (old : Session) (before : Heeded) (handle : Machine Keeper) (heeded : Heeded) (happening : Happening Keeper) → IsAt seen old → May 1024 old.handle happening → is_closed (happening ∷ seen.history) ≡ false
-    → IsWorld (λ t. with_command happening t) old.heeded before → Does Heeds happening old.handle handle before heeded → Happened seen happening handle heeded
+happened : (seen : Seen) (old : Session) (before : Heeded) (handle : Machine Keeper) (heeded : Heeded) (happening : Happening Keeper) → IsAt seen old → May 1024 old.handle.machine happening → is_closed (happening ∷ seen.history) ≡ false
+    → IsWorld (λ t. with_command happening t) old.heeded before → Does Heeds happening old.handle.machine handle before heeded → Happened seen happening handle heeded
 happened seen old before handle heeded happening at may going joins does =
-    let on = goes_on 1024 seen.history old.handle happening at.stands may in
-    let more = stands_calls 1024 seen.history old.handle happening at.stands may in
+    let on = goes_on 1024 seen.history old.handle.machine happening at.stands may in
+    let more = stands_calls 1024 seen.history old.handle.machine happening at.stands may in
     let cs = callbacks_of seen.history in
-    let own = calls old.handle happening in
+    let own = calls old.handle.machine happening in
     let size : length (callbacks_of (happening ∷ seen.history)) ≡ length cs + length own = ap (λ (l : List (Call Keeper)). length l) more ∙ length-append cs own in
     let latest : drop (length cs) (callbacks_of (happening ∷ seen.history)) ≡ own
     = ap (λ (l : List (Call Keeper)). drop (length cs) l) more ∙ drop-append-le (length cs) cs own (omega arith) ∙ ap (λ (l : List (Call Keeper)). l ++ own) (drop-length cs) in
@@ -115,14 +116,14 @@ met_is seen happening handle heeded now =
     ∙ ap (λ (t : Tally). met_of t.faulty (state_after (happening ∷ seen.history)) (opt_answer_after (happening ∷ seen.history)) t.error) now.tally
 
 -- by a call on the wires, after which the session notes what it met
-pub follow : (seen : Seen) (old new : Session) (handle : Machine Keeper) (heeded : Heeded) (happening : Happening Keeper) (fault : Option Event)
-    → IsAt seen old → May 1024 old.handle happening → is_plain happening ≡ true → Does Heeds happening old.handle handle old.heeded heeded
-    → new ≡ record { handle = handle; link = old.link; heeded = heeded; first = or_first old.first (or_first fault (met_by handle heeded)) }
+pub follow : (seen : Seen) (old new : Session) (handle : Handled Keeper) (heeded : Heeded) (happening : Happening Keeper) (fault : Option Event)
+    → IsAt seen old → May 1024 old.handle.machine happening → is_plain happening ≡ true → Does Heeds happening old.handle.machine handle.machine old.heeded heeded
+    → new ≡ record { handle = handle; link = old.link; heeded = heeded; first = or_first old.first (or_first fault (met_by handle.machine heeded)) }
     → (after : Seen) × Follows happening fault seen after × IsAt after new
 follow seen old new handle heeded happening fault at may plain does is =
-    let now = happened seen old old.heeded handle heeded happening at may (plain_goes_on happening seen.history plain) (plain_world happening old.heeded plain) does in
-    let first = ap (λ (f : Option Event). or_first f (or_first fault (met_by handle heeded))) at.first
-    ∙ ap (λ (m : Option Event). or_first seen.first (or_first fault m)) (met_is seen happening handle heeded now) in (
+    let now = happened seen old old.heeded handle.machine heeded happening at may (plain_goes_on happening seen.history plain) (plain_world happening old.heeded plain) does in
+    let first = ap (λ (f : Option Event). or_first f (or_first fault (met_by handle.machine heeded))) at.first
+    ∙ ap (λ (m : Option Event). or_first seen.first (or_first fault m)) (met_is seen happening handle.machine heeded now) in (
       noting fault happening seen,
       record { is = refl; answered = now.answered },
       subst (λ (s : Session). IsAt (noting fault happening seen) s) (sym is)
@@ -130,18 +131,18 @@ follow seen old new handle heeded happening fault at may plain does is =
     )
 
 -- by a call on the handle alone
-pub add_with : (seen : Seen) (old new : Session) (before : Heeded) (handle : Machine Keeper) (heeded : Heeded) (happening : Happening Keeper)
-    → IsAt seen old → May 1024 old.handle happening → is_closed (happening ∷ seen.history) ≡ false → IsWorld (λ t. with_command happening t) old.heeded before → Does Heeds happening old.handle handle before heeded
+pub add_with : (seen : Seen) (old new : Session) (before : Heeded) (handle : Handled Keeper) (heeded : Heeded) (happening : Happening Keeper)
+    → IsAt seen old → May 1024 old.handle.machine happening → is_closed (happening ∷ seen.history) ≡ false → IsWorld (λ t. with_command happening t) old.heeded before → Does Heeds happening old.handle.machine handle.machine before heeded
     → new ≡ record { handle = handle; link = old.link; heeded = heeded; first = old.first }
     → IsAt (adding happening seen) new
 add_with seen old new before handle heeded happening at may going joins does is =
-    let now = happened seen old before handle heeded happening at may going joins does in
+    let now = happened seen old before handle.machine heeded happening at may going joins does in
     subst (λ (s : Session). IsAt (adding happening seen) s) (sym is)
     (record { stands = now.stands; link = at.link; first = at.first; answered = now.answered; tally = now.tally; shown = now.shown; heard = now.heard; freed = now.freed })
 
 -- the same where no command is issued
-pub add : (seen : Seen) (old new : Session) (handle : Machine Keeper) (heeded : Heeded) (happening : Happening Keeper)
-    → IsAt seen old → May 1024 old.handle happening → is_plain happening ≡ true → Does Heeds happening old.handle handle old.heeded heeded
+pub add : (seen : Seen) (old new : Session) (handle : Handled Keeper) (heeded : Heeded) (happening : Happening Keeper)
+    → IsAt seen old → May 1024 old.handle.machine happening → is_plain happening ≡ true → Does Heeds happening old.handle.machine handle.machine old.heeded heeded
     → new ≡ record { handle = handle; link = old.link; heeded = heeded; first = old.first }
     → IsAt (adding happening seen) new
 add seen old new handle heeded happening at may plain does is =

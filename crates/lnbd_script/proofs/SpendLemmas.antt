@@ -3,7 +3,7 @@ use Rattle.std.proofs.Common.{◌≡◌, ◌<◌, ◌≤◌, ◌==◌, ◌||◌,
 use Rattle.std.proofs.lemmas.Bool.{false≢true}
 use Rattle.std.proofs.lemmas.List.Folds.{list_any-append}
 use Rattle.std.specs.List.{list_any}
-use Rattle.lnbd_history.specs.Events.{Event as Happening, Arrived, End, LinkFailed, Wrote}
+use Rattle.lnbd_history.specs.Events.{Event as Happening, Arrived, End, LinkFailed, Wrote, History}
 use Rattle.lnbd_history.specs.Answers.{direction_of, is_living, out_after}
 use Rattle.lnbd_history.specs.Laws.{is_closed}
 use Rattle.lnbd_machine.specs.Machine.{Machine, machine}
@@ -107,18 +107,18 @@ writes_spend link seen calls after (Takes_some _ _ _ bytes middle other waits w 
 
 -- A turn.
 
-told_moves : (link : ℕ) (told : ReadTold) → list_any stirs (read_call link told ∷ []) ≡ is_moving told
+told_moves : (link : ℕ) (history : History Keeper) (told : ReadTold) → list_any stirs (read_call link history told ∷ []) ≡ is_moving told
 unfolding is_moving
-told_moves link (Moved bytes) = refl
-told_moves link Unready = refl
-told_moves link Ended = refl
-told_moves link ReadFault = refl
+told_moves link history (Moved bytes) = refl
+told_moves link history Unready = refl
+told_moves link history Ended = refl
+told_moves link history ReadFault = refl
 
 reads_if : (b : Bool) (link : ℕ) (before after : Seen) (calls : List Call) → Standing before → is_reading before.history ≡ b → ReadsIf b link before calls after → Spends before after (list_any stirs calls)
 reads_if false link before after calls standing reading r =
     subst (λ (s : Seen). Spends before s (list_any stirs calls)) (sym r.1) (spends_none before (list_any stirs calls) (ap (list_any stirs) r.0) standing)
 reads_if true link before after calls standing reading r =
-    subst (λ (b : Bool). Spends before after b) (sym (ap (list_any stirs) r.1 ∙ told_moves link r.0)) (read_spends before after r.0 standing reading r.2)
+    subst (λ (b : Bool). Spends before after b) (sym (ap (list_any stirs) r.1 ∙ told_moves link before.history r.0)) (read_spends before after r.0 standing reading r.2)
 
 pub turn_spends : (link : ℕ) (before after : Seen) (calls : List Call) → Turns link before calls after → Standing before → Spends before after (list_any stirs calls)
 turn_spends link before after calls t standing =
@@ -136,5 +136,5 @@ turn_spends link before after calls t standing =
 pub stands_at : (seen : Seen) (session : Session) → IsAt seen session → Standing seen
 stands_at seen session at = subst (λ (m : Machine Keeper). StandsFor 1024 seen.history m) at.stands.same at.stands
 
-pub left_at : (seen : Seen) (session : Session) → IsAt seen session → budget session.handle ≡ left seen
+pub left_at : (seen : Seen) (session : Session) → IsAt seen session → budget session.handle.machine ≡ left seen
 left_at seen session at = ap budget at.stands.same

@@ -17,6 +17,11 @@ use Rattle.lnbd_link.specs.declared.wires.Took.{Took}
 use Rattle.lnbd_link.specs.declared.wires.Took.TheVariants as took
 use Rattle.lnbd_link.specs.Count.{Rises}
 use Rattle.lnbd_link.proofs.Parts.{grows_none, grows_on, rises_earlier, rises_later}
+use Rattle.lnbd_machine.specs.Machine.{Machine}
+use Rattle.lnbd_standing.specs.Standing.{StandsFor}
+use Rattle.lnbd_handle.specs.Placing.{Handled, place_size}
+use Rattle.lnbd_poll.specs.Notices.{room_after, room_of}
+use Rattle.lnbd_script.specs.declared.keeper.Keeper.{Keeper}
 use Rattle.lnbd_script.specs.declared.event.Event.{Event}
 use Rattle.lnbd_script.specs.declared.session.Session.{Session}
 use Rattle.lnbd_script.specs.declared.told.Moved.{Moved as Transfer}
@@ -28,8 +33,8 @@ use Rattle.lnbd_script.specs.Lines.{told_read, told_write}
 use Rattle.lnbd_script.specs.Steps.{Becomes, ReadsOnce, ReadsOnceShort, WritesOnce, TurnsOnce, got_moved, took_moved, is_busy_now, is_bytes, is_stirring}
 
 -- What a session's handle answers is what the history says.
-pub answers_at : (seen : Seen) (session : Session) → IsAt seen session → AnswersAs seen.history session.handle
-answers_at seen session at = stands_right 1024 seen.history session.handle at.stands
+pub answers_at : (seen : Seen) (session : Session) → IsAt seen session → AnswersAs seen.history session.handle.machine
+answers_at seen session at = stands_right 1024 seen.history session.handle.machine at.stands
 
 -- Counts.
 
@@ -77,38 +82,73 @@ took_is (took.Bytes n) from h = ap (λ (k : ℕ). told.Moved (moved.Bytes k)) (s
 took_is took.NotReady from h = refl
 took_is took.Failed from h = refl
 
-pub read_went : (old new : Option (List Call)) (session after : Session) (link n : ℕ) (g : Got) (into : List ℕ)
-    → n ≡ 65536 → length into ≡ n → Adds old new (Read link n (read_told g into)) → IfMoved g (λ k. (0 < k) × (k ≤ n))
-    → Becomes session after (λ before later. Reads before (read_told g into) later)
-    → Goes old new session after (λ before calls later. ReadsOnce link (got_moved g) before calls later)
-read_went old new session after link n g into is size grown count becomes seen at =
-    let b = becomes seen at in
-    let count' = subst (λ (m : ℕ). IfMoved g (λ k. (0 < k) × (k ≤ m))) (sym size) count in
-    record {
-      calls = read_call link (read_told g into) ∷ [];
-      after = b.0;
-      grown = subst (λ (m : ℕ). Adds old new (Read link m (read_told g into))) is grown;
-      leads = record { read = read_told g into; calls_are = refl; reads = b.1; tells = got_is g into count' };
-      at = b.2;
-    }
+-- a session whose handle is as before, whatever stands in its place
+pub found_at : (seen : Seen) (old : Session) (handle : Handled Keeper) → IsAt seen old → handle.machine ≡ old.handle.machine → IsAt seen (record { handle = handle; link = old.link; heeded = old.heeded; first = old.first })
+found_at seen old handle at is = record {
+  stands = subst (λ (m : Machine Keeper). StandsFor 1024 seen.history m) (sym is) at.stands;
+  link = at.link;
+  first = at.first;
+  answered = at.answered;
+  tally = at.tally;
+  shown = at.shown;
+  heard = at.heard;
+  freed = at.freed;
+}
 
-pub read_went_short : (old new : Option (List Call)) (session after : Session) (link n : ℕ) (g : Got) (into : List ℕ)
-    → n ≡ 65536 → Adds old new (Read link n (read_told g into))
-    → Becomes session after (λ before later. ReadsShort before (read_told g into) later)
-    → Goes old new session after (λ before calls later. ReadsOnceShort link before calls later)
-read_went_short old new session after link n g into is grown becomes seen at =
-    let b = becomes seen at in
+module _ (old between new : Option (List Call)) (session after : Session) (handle : Handled Keeper) (link n : ℕ) (g : Got) (into : List ℕ) (same : handle.machine ≡ session.handle.machine) where
+  abbrev found : Session
+  found = record { handle = handle; link = session.link; heeded = session.heeded; first = session.first }
+
+  -- into the buffer, where the handle has no place
+  module _ (none : place_size session.handle.machine ≡ 0) (still : between ≡ old) (is : n ≡ 65536) (grown : Adds between new (Read link n (read_told g into))) where
+    grown_by : (seen : Seen) → IsAt seen session → Adds old new (read_call link seen.history (read_told g into))
+    grown_by seen at =
+        let room : n ≡ room_after seen.history = is ∙ sym (ap (λ m. room_of (place_size m)) (sym at.stands.same) ∙ ap room_of none) in
+        subst (λ (t : Option (List Call)). Adds t new (read_call link seen.history (read_told g into))) still (subst (λ (m : ℕ). Adds between new (Read link m (read_told g into))) room grown)
+
+    pub read_went : length into ≡ n → IfMoved g (λ k. (0 < k) × (k ≤ n)) → Becomes found after (λ before later. Reads before (read_told g into) later)
+        → Goes old new session after (λ before calls later. ReadsOnce link (got_moved g) before calls later)
+    read_went size count becomes seen at =
+        let b = becomes seen (found_at seen session handle at same) in
+        let count' = subst (λ (m : ℕ). IfMoved g (λ k. (0 < k) × (k ≤ m))) (sym size) count in
+        record {
+          calls = read_call link seen.history (read_told g into) ∷ [];
+          after = b.0;
+          grown = grown_by seen at;
+          leads = record { read = read_told g into; calls_are = refl; reads = b.1; tells = got_is g into count' };
+          at = b.2;
+        }
+
+    pub read_went_short : Becomes found after (λ before later. ReadsShort before (read_told g into) later)
+        → Goes old new session after (λ before calls later. ReadsOnceShort link before calls later)
+    read_went_short becomes seen at =
+        let b = becomes seen (found_at seen session handle at same) in
+        record {
+          calls = read_call link seen.history (read_told g into) ∷ [];
+          after = b.0;
+          grown = grown_by seen at;
+          leads = record { read = read_told g into; calls_are = refl; reads = b.1 };
+          at = b.2;
+        }
+
+-- into the place
+pub read_there : (old new : Option (List Call)) (session after : Session) (handle : Handled Keeper) (link : ℕ) (g : Got) → handle.machine ≡ session.handle.machine
+    → Adds old new (Read link (room_of (place_size session.handle.machine)) (read_told g handle.place)) → IfMoved g (λ k. (0 < k) × (k ≤ length handle.place))
+    → Becomes (record { handle = handle; link = session.link; heeded = session.heeded; first = session.first }) after (λ before later. Reads before (read_told g handle.place) later)
+    → Goes old new session after (λ before calls later. ReadsOnce link (got_moved g) before calls later)
+read_there old new session after handle link g same grown count becomes seen at =
+    let b = becomes seen (found_at seen session handle at same) in
     record {
-      calls = read_call link (read_told g into) ∷ [];
+      calls = read_call link seen.history (read_told g handle.place) ∷ [];
       after = b.0;
-      grown = subst (λ (m : ℕ). Adds old new (Read link m (read_told g into))) is grown;
-      leads = record { read = read_told g into; calls_are = refl; reads = b.1 };
+      grown = subst (λ (m : ℕ). Adds old new (Read link m (read_told g handle.place))) (ap (λ m. room_of (place_size m)) at.stands.same) grown;
+      leads = record { read = read_told g handle.place; calls_are = refl; reads = b.1; tells = got_is g handle.place count };
       at = b.2;
     }
 
 pub write_went : (old new : Option (List Call)) (session after : Session) (link : ℕ) (t : Took) (out : List ℕ)
-    → out ≡ out_now session.handle.known → Adds old new (Write link (length out) (write_told t out)) → IfSent t (λ k. (0 < k) × (k ≤ length out))
-    → Becomes session after (λ before later. Writes before (write_told t (out_now session.handle.known)) later)
+    → out ≡ out_now session.handle.machine.known → Adds old new (Write link (length out) (write_told t out)) → IfSent t (λ k. (0 < k) × (k ≤ length out))
+    → Becomes session after (λ before later. Writes before (write_told t (out_now session.handle.machine.known)) later)
     → Goes old new session after (λ before calls later. WritesOnce link (took_moved t) before calls later)
 write_went old new session after link t out is grown count becomes seen at =
     let b = becomes seen at in
@@ -127,10 +167,10 @@ write_went old new session after link t out is grown count becomes seen at =
     }
 
 -- Bytes wait exactly where the handle's direction says so.
-pub waits_true : (seen : Seen) (session : Session) → IsAt seen session → (direction_now session.handle.known == 3) ≡ true → is_waiting seen.history ≡ true
+pub waits_true : (seen : Seen) (session : Session) → IsAt seen session → (direction_now session.handle.machine.known == 3) ≡ true → is_waiting seen.history ≡ true
 waits_true seen session at h = ap (λ (d : ℕ). d == 3) (sym (answers_at seen session at).direction) ∙ h
 
-pub waits_false : (seen : Seen) (session : Session) → IsAt seen session → (direction_now session.handle.known == 3) ≡ false → is_waiting seen.history ≡ false
+pub waits_false : (seen : Seen) (session : Session) → IsAt seen session → (direction_now session.handle.machine.known == 3) ≡ false → is_waiting seen.history ≡ false
 waits_false seen session at h = ap (λ (d : ℕ). d == 3) (sym (answers_at seen session at).direction) ∙ h
 
 -- The writes of a turn so far: whatever the others do goes on from here.
@@ -170,7 +210,7 @@ own_stirs link m before middle own some once = go once.write once.calls_are once
     go Full is tells = let same : m ≡ moved.NotReady = cc tells in absurd (false≢true (ap is_bytes (sym same) ∙ some))
     go WriteFault is tells = let same : m ≡ moved.Failed = cc tells in absurd (false≢true (ap is_bytes (sym same) ∙ some))
 
-pub writing_on : (a b c : Option (List Call)) (session session' : Session) (link : ℕ) (m : Transfer) (stirred : Bool) (seen : Seen) → is_bytes m ≡ true → Writing a b session link stirred seen → (direction_now session.handle.known == 3) ≡ true
+pub writing_on : (a b c : Option (List Call)) (session session' : Session) (link : ℕ) (m : Transfer) (stirred : Bool) (seen : Seen) → is_bytes m ≡ true → Writing a b session link stirred seen → (direction_now session.handle.machine.known == 3) ≡ true
     → Goes b c session session' (λ before calls after. WritesOnce link m before calls after) → Writing a c session' link true seen
 writing_on a b c session session' link m stirred seen bytes w some goes =
     let went = goes w.now w.at in
@@ -185,7 +225,7 @@ writing_on a b c session session' link m stirred seen bytes w some goes =
           (w.goes_on (went.calls ++ x) after (takes_some link m w.now went.after after went.calls x bytes waiting went.leads r));
     }
 
-pub writing_done : (a b : Option (List Call)) (session : Session) (link : ℕ) (stirred : Bool) (seen : Seen) → Writing a b session link stirred seen → (direction_now session.handle.known == 3) ≡ false
+pub writing_done : (a b : Option (List Call)) (session : Session) (link : ℕ) (stirred : Bool) (seen : Seen) → Writing a b session link stirred seen → (direction_now session.handle.machine.known == 3) ≡ false
     → Went a b session (λ calls after. WritesAll link seen calls after × (stirred ≡ list_any stirs calls))
 writing_done a b session link stirred seen w none = record {
   calls = w.calls;
@@ -212,7 +252,7 @@ takes_none link m seen after own waiting none once = go m once.write none once.c
         (Fails seen own after waiting is writes, ap is_stirring same ∙ sym (ap (list_any stirs) is))
 
 pub writing_ends : (a b c : Option (List Call)) (session session' : Session) (link : ℕ) (m : Transfer) (stirred both : Bool) (seen : Seen) → is_bytes m ≡ false → both ≡ (stirred || is_stirring m)
-    → Writing a b session link stirred seen → (direction_now session.handle.known == 3) ≡ true → Goes b c session session' (λ before calls after. WritesOnce link m before calls after)
+    → Writing a b session link stirred seen → (direction_now session.handle.machine.known == 3) ≡ true → Goes b c session session' (λ before calls after. WritesOnce link m before calls after)
     → Went a c session' (λ calls after. WritesAll link seen calls after × (both ≡ list_any stirs calls))
 writing_ends a b c session session' link m stirred both seen none is w some goes =
     let went = goes w.now w.at in
@@ -227,19 +267,19 @@ writing_ends a b c session session' link m stirred both seen none is w some goes
 
 -- One turn.
 
-reads_true : (seen : Seen) (session : Session) → IsAt seen session → (direction_now session.handle.known == 0) ≡ false → is_reading seen.history ≡ true
+reads_true : (seen : Seen) (session : Session) → IsAt seen session → (direction_now session.handle.machine.known == 0) ≡ false → is_reading seen.history ≡ true
 reads_true seen session at h = ap not (ap (λ (d : ℕ). d == 0) (sym (answers_at seen session at).direction) ∙ h)
 
-reads_false : (seen : Seen) (session : Session) → IsAt seen session → (direction_now session.handle.known == 0) ≡ true → is_reading seen.history ≡ false
+reads_false : (seen : Seen) (session : Session) → IsAt seen session → (direction_now session.handle.machine.known == 0) ≡ true → is_reading seen.history ≡ false
 reads_false seen session at h = ap not (ap (λ (d : ℕ). d == 0) (sym (answers_at seen session at).direction) ∙ h)
 
-pub is_reading_true : (seen : Seen) (session : Session) → IsAt seen session → (direction_now session.handle.known == 0) ≡ false → is_reading seen.history ≡ true
+pub is_reading_true : (seen : Seen) (session : Session) → IsAt seen session → (direction_now session.handle.machine.known == 0) ≡ false → is_reading seen.history ≡ true
 is_reading_true seen session at h = reads_true seen session at h
 
-pub is_reading_false : (seen : Seen) (session : Session) → IsAt seen session → (direction_now session.handle.known == 0) ≡ true → is_reading seen.history ≡ false
+pub is_reading_false : (seen : Seen) (session : Session) → IsAt seen session → (direction_now session.handle.machine.known == 0) ≡ true → is_reading seen.history ≡ false
 is_reading_false seen session at h = reads_false seen session at h
 
-pub turned_unread : (a b : Option (List Call)) (session session' : Session) (link : ℕ) (wrote : Bool) → (direction_now session'.handle.known == 0) ≡ true
+pub turned_unread : (a b : Option (List Call)) (session session' : Session) (link : ℕ) (wrote : Bool) → (direction_now session'.handle.machine.known == 0) ≡ true
     → Goes a b session session' (λ before calls after. WritesAll link before calls after × (wrote ≡ list_any stirs calls))
     → Goes a b session session' (λ before calls after. TurnsOnce link wrote before calls after)
 turned_unread a b session session' link wrote none goes seen at =
@@ -265,7 +305,7 @@ turned_unread a b session session' link wrote none goes seen at =
 read_stirs : (link : ℕ) (m : Transfer) (before after : Seen) (own : List Call) → ReadsOnce link m before own after → is_stirring m ≡ list_any stirs own
 read_stirs link m before after own once = go m once.read once.calls_are once.tells
   where
-    go : (m : Transfer) (read : ReadTold) → own ≡ read_call link read ∷ [] → told.Moved m ≡ told_read read → is_stirring m ≡ list_any stirs own
+    go : (m : Transfer) (read : ReadTold) → own ≡ read_call link before.history read ∷ [] → told.Moved m ≡ told_read read → is_stirring m ≡ list_any stirs own
     go m (Moved bytes) is tells =
         let same : m ≡ moved.Bytes (length bytes) = cc tells in
         ap is_stirring same ∙ sym (ap (list_any stirs) is)
@@ -279,7 +319,7 @@ read_stirs link m before after own once = go m once.read once.calls_are once.tel
         let same : m ≡ moved.Failed = cc tells in
         ap is_stirring same ∙ sym (ap (list_any stirs) is)
 
-pub turned : (a b c : Option (List Call)) (session middle session' : Session) (link : ℕ) (wrote both : Bool) (m : Transfer) → (direction_now middle.handle.known == 0) ≡ false → both ≡ (wrote || is_stirring m)
+pub turned : (a b c : Option (List Call)) (session middle session' : Session) (link : ℕ) (wrote both : Bool) (m : Transfer) → (direction_now middle.handle.machine.known == 0) ≡ false → both ≡ (wrote || is_stirring m)
     → Goes a b session middle (λ before calls after. WritesAll link before calls after × (wrote ≡ list_any stirs calls))
     → Goes b c middle session' (λ before calls after. ReadsOnce link m before calls after)
     → Goes a c session session' (λ before calls after. TurnsOnce link both before calls after)
@@ -304,7 +344,7 @@ turned a b c session middle session' link wrote both m reads is goes then seen a
       at = second.at;
     }
 
-pub turned_short : (a b c : Option (List Call)) (session middle session' : Session) (link : ℕ) (wrote : Bool) → (direction_now middle.handle.known == 0) ≡ false
+pub turned_short : (a b c : Option (List Call)) (session middle session' : Session) (link : ℕ) (wrote : Bool) → (direction_now middle.handle.machine.known == 0) ≡ false
     → Goes a b session middle (λ before calls after. WritesAll link before calls after × (wrote ≡ list_any stirs calls))
     → Goes b c middle session' (λ before calls after. ReadsOnceShort link before calls after)
     → Goes a c session session' (λ before calls after. TurnsShort link before calls after)
@@ -329,9 +369,9 @@ turned_short a b c session middle session' link wrote reads goes then seen at =
 
 -- Turn after turn.
 
-pub busy_is : (seen : Seen) (session : Session) → IsAt seen session → is_busy_now session.handle ≡ is_busy seen.history
+pub busy_is : (seen : Seen) (session : Session) → IsAt seen session → is_busy_now session.handle.machine ≡ is_busy seen.history
 busy_is seen session at =
     let right = answers_at seen session at in
-    ap (λ s. is_negotiating s || (not (in_flight_now session.handle.known == 0) || (direction_now session.handle.known == 3))) right.state
-    ∙ ap (λ (n : ℕ). is_negotiating (state_after seen.history) || (not (n == 0) || (direction_now session.handle.known == 3))) right.in_flight
+    ap (λ s. is_negotiating s || (not (in_flight_now session.handle.machine.known == 0) || (direction_now session.handle.machine.known == 3))) right.state
+    ∙ ap (λ (n : ℕ). is_negotiating (state_after seen.history) || (not (n == 0) || (direction_now session.handle.machine.known == 3))) right.in_flight
     ∙ ap (λ (d : ℕ). is_negotiating (state_after seen.history) || (not (in_flight_after seen.history == 0) || (d == 3))) right.direction

@@ -132,7 +132,7 @@ told_write WriteFault = told.Moved moved.Failed
 -- One read, where the handle has a link and reads.
 abbrev pub ReadsOn : Bool → Option ℕ → Seen → List Call → Seen → LineEnd → Type 0
 ReadsOn true (Some link) before calls after end =
-    (read : ReadTold) × (calls ≡ read_call link read ∷ []) × (((end ≡ Ok (told_read read)) × Reads before read after) ⊎ ((end ≡ Err halt.NoMemory) × ReadsShort before read after))
+    (read : ReadTold) × (calls ≡ read_call link before.history read ∷ []) × (((end ≡ Ok (told_read read)) × Reads before read after) ⊎ ((end ≡ Err halt.NoMemory) × ReadsShort before read after))
 ReadsOn true None before calls after end = Stays before calls after end (told.Moved moved.Idle)
 ReadsOn false link before calls after end = Stays before calls after end (told.Moved moved.Idle)
 

@@ -122,7 +122,7 @@ adding happening seen = record { history = happening ∷ seen.history; shown = s
 
 -- The session of a script stands where the script does.
 pub record IsAt (seen : Seen) (session : Session) : Type 0 where
-  pub stands : StandsFor max_unretired seen.history session.handle
+  pub stands : StandsFor max_unretired seen.history session.handle.machine
   pub link : session.link ≡ seen.link
   pub first : session.first ≡ seen.first
   pub answered : All IsAnswered (callbacks_of seen.history)
@@ -163,4 +163,4 @@ pub record Blames (first first' : Option Event) (faults faults' : ℕ) : Type 0 
 
 -- what the session notes where a call failed or not
 abbrev pub met_now : Session → Option Event
-met_now session = met_of session.heeded.faulty (state_now session.handle.known) session.handle.known.talk.answer session.heeded.error
+met_now session = met_of session.heeded.faulty (state_now session.handle.machine.known) session.handle.machine.known.talk.answer session.heeded.error

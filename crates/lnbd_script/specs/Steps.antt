@@ -82,11 +82,11 @@ Joins (Err fault) old new = new ≡ old
 
 -- what the handle's call says of its answer to an issue
 pub record Answered (command : Command Keeper) (old new : Session) (answer : Result ℕ (IssueFault Keeper)) : Type 0 where
-  pub cookie : IfOk answer (λ cookie. cookie ≡ new.handle.known.issued)
-  pub accepted : OnOk answer (refusal_now max_unretired old.handle.known command ≡ None)
-  pub made : OnOk answer (new.handle ≡ step old.handle (Issue command))
+  pub cookie : IfOk answer (λ cookie. cookie ≡ new.handle.machine.known.issued)
+  pub accepted : OnOk answer (refusal_now max_unretired old.handle.machine.known command ≡ None)
+  pub made : OnOk answer (new.handle.machine ≡ step old.handle.machine (Issue command))
   pub world : OnOk answer (new.heeded ≡ old.heeded)
-  pub faults : IfErr answer (λ fault. Faults Heeds command fault old.handle new.handle old.heeded new.heeded)
+  pub faults : IfErr answer (λ fault. Faults Heeds command fault old.handle.machine new.handle.machine old.heeded new.heeded)
   pub same : new ≡ record old { handle = new.handle; heeded = new.heeded }
 
 -- a command was issued with callbacks that answer so, or refused, and so much is told of it
@@ -143,13 +143,13 @@ is_stirring moved.Failed = true
 -- one read, which moved so much
 pub record ReadsOnce (link : ℕ) (moved : Moved) (before : Seen) (calls : List Call) (after : Seen) : Type 0 where
   pub read : ReadTold
-  pub calls_are : calls ≡ read_call link read ∷ []
+  pub calls_are : calls ≡ read_call link before.history read ∷ []
   pub reads : Reads before read after
   pub tells : told.Moved moved ≡ told_read read
 
 pub record ReadsOnceShort (link : ℕ) (before : Seen) (calls : List Call) (after : Seen) : Type 0 where
   pub read : ReadTold
-  pub calls_are : calls ≡ read_call link read ∷ []
+  pub calls_are : calls ≡ read_call link before.history read ∷ []
   pub reads : ReadsShort before read after
 
 pub record WritesOnce (link : ℕ) (moved : Moved) (before : Seen) (calls : List Call) (after : Seen) : Type 0 where
@@ -169,11 +169,11 @@ is_busy_now now = is_negotiating (state_now now.known) || (not (in_flight_now no
 -- what a session with this link has to do, and waits for
 abbrev pub is_busy_linked : Option ℕ → Session → Bool
 is_busy_linked None session = false
-is_busy_linked (Some link) session = is_busy_now session.handle
+is_busy_linked (Some link) session = is_busy_now session.handle.machine
 
 abbrev pub want_linked : Option ℕ → Session → Option Want
 want_linked None session = None
-want_linked (Some link) session = want_of link (state_now session.handle.known) (in_flight_now session.handle.known) (direction_now session.handle.known)
+want_linked (Some link) session = want_of link (state_now session.handle.machine.known) (in_flight_now session.handle.machine.known) (direction_now session.handle.machine.known)
 
 -- the line that closes the handle, and lines that make no call on the wires
 abbrev pub is_close : Line → Bool

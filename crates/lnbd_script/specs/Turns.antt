@@ -5,6 +5,7 @@ use Rattle.lnbd_model.specs.declared.state.State.TheVariants as state
 use Rattle.lnbd_history.specs.Events.{Answer, History, Arrived, End, LinkFailed, Wrote}
 use Rattle.lnbd_history.specs.Answers.{state_after, in_flight_after, out_after, direction_after}
 use Rattle.lnbd_link.specs.Call.{Call, Connect, Listen, Accept, Read, Write, Pause, Shut, ReadTold, WriteTold, Moved, Unready, Ended, ReadFault, Sent, Full, WriteFault}
+use Rattle.lnbd_poll.specs.Notices.{room_after}
 use Rattle.lnbd_script.specs.declared.event.Event.TheVariants.{Link}
 use Rattle.lnbd_script.specs.declared.keeper.Keeper.{Keeper}
 use Rattle.lnbd_script.specs.Seen.{Seen, Follows}
@@ -38,9 +39,9 @@ is_busy history = is_negotiating (state_after history) || (not (in_flight_after 
 abbrev pub Loses : Seen → Seen → Type 0
 Loses before after = (answers : List Answer) × Follows (LinkFailed answers) (Some Link) before after
 
--- a read of at most 65,536 bytes that answers so
-abbrev pub read_call : ℕ → ReadTold → Call
-read_call link told = Read link 65536 told
+-- a read, into the place of a reply's data where the handle has one, else of at most 65,536 bytes, that answers so
+abbrev pub read_call : ℕ → History Keeper → ReadTold → Call
+read_call link history told = Read link (room_after history) told
 
 -- A read's bytes arrive; where the peer ended or the link failed the handle is told.
 abbrev pub Reads : Seen → ReadTold → Seen → Type 0
@@ -86,7 +87,7 @@ pub data WritesAll (link : ℕ) : Seen → List Call → Seen → Type 0 where
 -- Then it reads once, where the handle reads.
 abbrev pub ReadsIf : Bool → ℕ → Seen → List Call → Seen → Type 0
 ReadsIf false link before calls after = (calls ≡ []) × (after ≡ before)
-ReadsIf true link before calls after = (told : ReadTold) × (calls ≡ read_call link told ∷ []) × Reads before told after
+ReadsIf true link before calls after = (told : ReadTold) × (calls ≡ read_call link before.history told ∷ []) × Reads before told after
 
 pub record Turns (link : ℕ) (before : Seen) (calls : List Call) (after : Seen) : Type 0 where
   pub middle : Seen
@@ -104,7 +105,7 @@ pub record TurnsShort (link : ℕ) (before : Seen) (calls : List Call) (after : 
   pub told : ReadTold
   pub reading : is_reading middle.history ≡ true
   pub reads : ReadsShort middle told after
-  pub calls_are : calls ≡ written ++ read_call link told ∷ []
+  pub calls_are : calls ≡ written ++ read_call link middle.history told ∷ []
 
 -- In a call something happened: bytes moved, the peer ended, or the link failed.
 abbrev pub stirs : Call → Bool

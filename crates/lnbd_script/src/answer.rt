@@ -33,10 +33,10 @@ use std::mem::replace;
 
 /// Turns a setting of a handle on or off.
 fn turn(handle: &mut Handle<Keeper>, switch: Switch, on: bool) -> Result<(), SetFault>
-    ensures ok { OnOk result (handle.new ≡ step handle.old (Set (setting_of switch on))) }
-    ensures allowed { OnOk result (handle.old.known.stage ≡ Created) }
-    ensures refused { IfErr result (λ fault. (handle.old.known.stage ≢ Created) × (fault ≡ SetFault.State (state_now handle.old.known))) }
-    ensures err { OnErr result (handle.new ≡ handle.old) }
+    ensures ok { OnOk result (handle.new.machine ≡ step handle.old.machine (Set (setting_of switch on))) }
+    ensures allowed { OnOk result (handle.old.machine.known.stage ≡ Created) }
+    ensures refused { IfErr result (λ fault. (handle.old.machine.known.stage ≢ Created) × (fault ≡ SetFault.State (state_now handle.old.machine.known))) }
+    ensures err { OnErr result (handle.new.machine ≡ handle.old.machine) }
 {
     match switch {
         Switch::Structured => handle.set_request_structured_replies(on),
@@ -47,7 +47,7 @@ fn turn(handle: &mut Handle<Keeper>, switch: Switch, on: bool) -> Result<(), Set
 
 /// Hands an option to a handle.
 fn opt(handle: &mut Handle<Keeper>, option: Opt) -> Result<(), OptFault>
-    ensures takes { Takes_option option result handle.old handle.new }
+    ensures takes { Takes_option option result handle.old.machine handle.new.machine }
 {
     match option {
         Opt::List => handle.opt_list(),
@@ -61,7 +61,7 @@ fn opt(handle: &mut Handle<Keeper>, option: Opt) -> Result<(), OptFault>
 impl Session {
     /// Starts the handle on its new link.
     fn start(&mut self, link: u32)
-        requires created { is_created (state_now self.old.handle.known) ≡ true }
+        requires created { is_created (state_now self.old.handle.machine.known) ≡ true }
         ensures started { Becomes self.old self.new (λ before after. after ≡ connected (Some link) before) }
         ensures first { self.new.first ≡ self.old.first }
     {
@@ -71,9 +71,9 @@ impl Session {
 
     /// Sets the export's name, before the start.
     fn take_name(&mut self, name: Text)
-        requires created { is_created (state_now self.old.handle.known) ≡ true }
+        requires created { is_created (state_now self.old.handle.machine.known) ≡ true }
         ensures named { Becomes self.old self.new (λ before after. after ≡ adding (Set (Name name)) before) }
-        ensures created { is_created (state_now self.new.handle.known) ≡ true }
+        ensures created { is_created (state_now self.new.handle.machine.known) ≡ true }
         ensures first { self.new.first ≡ self.old.first }
     {
         let _ = self.handle.set_export_name(name);
@@ -81,7 +81,7 @@ impl Session {
 
     /// Sets the export's name, and starts the handle on its new link.
     fn start_as(&mut self, link: u32, name: Text)
-        requires created { is_created (state_now self.old.handle.known) ≡ true }
+        requires created { is_created (state_now self.old.handle.machine.known) ≡ true }
         ensures started { Becomes self.old self.new (λ before after. after ≡ connected (Some link) (adding (Set (Name name)) before)) }
         ensures first { self.new.first ≡ self.old.first }
     {
@@ -226,7 +226,7 @@ fn is_created(state: State) -> bool
 
 /// Connects, and starts the handle on the link that it is given.
 fn dial<W: Wires>(session: &mut Session, wires: &mut W, to: &Target) -> Linked
-    requires created { is_created (state_now session.old.handle.known) ≡ true }
+    requires created { is_created (state_now session.old.handle.machine.known) ≡ true }
     ensures told { Goes (W.told wires.old) (W.told wires.new) session.old session.new (λ before calls after. Connects (is_created (state_after before.history)) to.now before calls after (Ok (linked_told result))) }
     ensures counts { Counts session.old.first session.new.first (W.faults wires.old) (W.faults wires.new) (W.idles wires.old) (W.idles wires.new) }
 {
@@ -256,7 +256,7 @@ fn connect<W: Wires>(session: &mut Session, wires: &mut W, to: &Target) -> Linke
 
 /// Connects by an address whose export has this name, and starts the handle on the link that it is given.
 fn dial_to<W: Wires>(session: &mut Session, wires: &mut W, place: &Place, name: Text) -> Linked
-    requires created { is_created (state_now session.old.handle.known) ≡ true }
+    requires created { is_created (state_now session.old.handle.machine.known) ≡ true }
     requires named { name ≡ place.now.name }
     ensures told { Goes (W.told wires.old) (W.told wires.new) session.old session.new (λ before calls after. ConnectsTo (is_created (state_after before.history)) place.now before calls after (Ok (linked_told result))) }
     ensures counts { Counts session.old.first session.new.first (W.faults wires.old) (W.faults wires.new) (W.idles wires.old) (W.idles wires.new) }

@@ -47,7 +47,7 @@ fn is_on_its_way(state: State) -> bool
 impl Session {
     /// What a pause is to wait for on the link, if on anything.
     fn want(&self, link: u32) -> Option<Want>
-        ensures { result ≡ want_of link (state_now self.now.handle.known) (in_flight_now self.now.handle.known) (direction_now self.now.handle.known) }
+        ensures { result ≡ want_of link (state_now self.now.handle.machine.known) (in_flight_now self.now.handle.machine.known) (direction_now self.now.handle.machine.known) }
     {
         let direction = self.handle.direction();
         let wants = is_on_its_way(self.handle.state())

@@ -28,10 +28,11 @@ use Rattle.lnbd_memnet.specs.declared.schedule.Step.{Step as Turn_of}
 use Rattle.lnbd_memnet.specs.Network.{Network, offers, link_in, export_in}
 use Rattle.lnbd_memnet.specs.Plays.{Plays, WritesIf, DeliversIf}
 use Rattle.lnbd_memnet.specs.Wires.{Played, None_yet, Then, Begins}
-use Rattle.lnbd_served.specs.Lawful.{SaysWell, SpeaksWell}
+use Rattle.lnbd_spoken.specs.Speaking.{SaysWell, SpeaksWell}
 use Rattle.lnbd_served.specs.Steps.{Taken, Took, Has}
 use Rattle.lnbd_served.specs.Follows.{Follows}
-use Rattle.lnbd_served.specs.Served.{IsServable, place_of, ServedIsHonest}
+use Rattle.lnbd_served.specs.Served.{IsServable, place_of, DrivenServedIsHonest, ServedIsHonest}
+use Rattle.lnbd_spoken.proofs.Driving.{driven_speak_well}
 use Rattle.lnbd_served.proofs.Servers.{servers_are_honest}
 use Rattle.lnbd_served.proofs.Items.{Greets, AreFair, IsSound, IsOver}
 use Rattle.lnbd_served.proofs.Linking.{full_said}
@@ -290,3 +291,6 @@ served_is_honest calls network place came there servable speaks =
     at_first : IsServable (export_in came.first.exports place).export
     at_first = same_servable (export_in came.first.exports place).export (export_in network.exports place).export
         (face_back (export_in network.exports place).export (export_in came.first.exports place).export (played_face came.first calls network came.played place)) servable
+
+pub driven_served_is_honest : {K : Type 0} → DrivenServedIsHonest K
+driven_served_is_honest calls network place came there servable driven = served_is_honest calls network place came there servable (λ link. driven_speak_well link calls (driven link))

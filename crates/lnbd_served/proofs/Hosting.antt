@@ -38,7 +38,7 @@ use Rattle.lnbd_server.specs.declared.stage.Offers.{Offers}
 use Rattle.lnbd_server.specs.declared.stage.Stage.TheVariants.{Strayed}
 use Rattle.lnbd_server.specs.Client.{max_client}
 use Rattle.lnbd_server.specs.Session.{State, rules, is_closed, Dialogue, MakesReply, with_export, after_bytes, past_limit}
-use Rattle.lnbd_served.specs.Lawful.{AllMaySay}
+use Rattle.lnbd_spoken.specs.Speaking.{AllMaySay}
 use Rattle.lnbd_served.specs.Steps.{Taken, Step, Took, Gave, Has, after, AllRight}
 use Rattle.lnbd_served.proofs.Settling.{Reading, feed_settles}
 use Rattle.lnbd_served.proofs.Items.{Said, Greets, Answers, Names, Replies_to, encode, IsMade, AreMade, IsSound, Knows, Expects, Awaits, IsOver}

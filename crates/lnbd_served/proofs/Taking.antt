@@ -5,7 +5,8 @@ use Rattle.std.specs.Option.{option_map}
 use Rattle.std.proofs.lemmas.Bool.{cases_eq, eq-eqb, ne_eqb}
 use Rattle.lnbd_model.specs.declared.kind.Kind.{Kind}
 use Rattle.lnbd_model.specs.declared.kind.Kind.TheVariants as kind
-use Rattle.lnbd_records.specs.Numbers.{IsBytes}
+use Rattle.lnbd_records.specs.Flags.{flag_no_zeroes}
+use Rattle.lnbd_records.specs.Numbers.{IsBytes, has_bit}
 use Rattle.lnbd_stream.specs.Stream.{Held, settle, take_byte, feed, things, trace, shown_by}
 use Rattle.lnbd_stream.specs.Grammar.{each_byte}
 use Rattle.lnbd_stream.specs.Laws.{IsPart}
@@ -32,7 +33,7 @@ use Rattle.lnbd_server.specs.Client as server
 use Rattle.lnbd_server.specs.Options.{option_answer}
 use Rattle.lnbd_server.specs.Session.{State, rules, entering, answering, asking, is_closed}
 use Rattle.lnbd_served.specs.Grammars.{is_greeted, as_heard}
-use Rattle.lnbd_served.specs.Lawful.{IsNext, MaySay, AllMaySay}
+use Rattle.lnbd_spoken.specs.Speaking.{IsNext, MaySay, AllMaySay}
 use Rattle.lnbd_served.specs.Steps.{Taken, Step, Took, Gave, Has, after, AllRight}
 use Rattle.lnbd_served.specs.Follows.{IsSame}
 use Rattle.lnbd_served.proofs.Effects.{effect_alike}
@@ -397,10 +398,19 @@ module _ (start : Export) (servable : IsServable start) (truly : TellsTruly star
   enters was all state known (Flags flags) steps open_ greeted zeroes waits q may first small sized = record {
     all = all;
     steps = steps;
-    opened = inr (refl, refl, refl, λ g. may);
+    opened = inr (refl, refl, refl, λ g. offered q.stands);
     quiet_ = quiet all state.waiting state.out known (Flags flags) may q;
     waits = waits;
   }
+    where
+      -- the hello that was heard is the session's, which offers NO_ZEROES
+      three : (phase known.heard.turns ≡ phase.Greeting) ⊎ (known.heard.flags ≡ 3) → has_bit flag_no_zeroes flags ≡ true
+      three (inl greeting) = let bad : phase.Greeting ≡ phase.OptMode = sym greeting ∙ waiting_opt start.name (length start.bytes) all link known may.1 in cc
+      three (inr is) = may.2 (ap (has_bit flag_no_zeroes) is)
+
+      offered : IsAt all state.out known → has_bit flag_no_zeroes flags ≡ true
+      offered (inl over) = absurd (dead_open all known over may.0)
+      offered (inr s) = three s.awaits.flags
   enters was all state known (Wishes wish) steps open_ greeted zeroes waits q may first small sized = enters_wish was all state known wish steps (zeroes first) waits q may (greeted ∙ first) small
   enters was all state known (Orders order) steps open_ greeted zeroes waits q may first small sized = go (kind_of order.type) refl may.2 small sized
     where

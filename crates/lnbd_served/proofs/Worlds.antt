@@ -22,7 +22,7 @@ use Rattle.lnbd_memnet.specs.declared.schedule.Step.{Step as Turn}
 use Rattle.lnbd_memnet.specs.Network.{Network, offers, no_link, no_export, link_in, export_in, new_link}
 use Rattle.lnbd_memnet.specs.Schedule.{step_at}
 use Rattle.lnbd_memnet.specs.Plays.{Plays, has_to_answer, Readies, has_ended, share, told, given, GivesIf, ReadsIf, DeliversIf, WritesIf, due_at, all_due, shut_at}
-use Rattle.lnbd_served.specs.Lawful.{SaysWell, SpeaksFrom}
+use Rattle.lnbd_spoken.specs.Speaking.{SaysWell, SpeaksFrom}
 use Rattle.lnbd_served.specs.Steps.{Taken, Step, Took, Gave, Has, after, AllRight}
 use Rattle.lnbd_served.proofs.Items.{IsOver}
 use Rattle.lnbd_served.specs.Served.{IsServable}
@@ -349,7 +349,7 @@ module _ (place : ℕ) (start : Export) (servable : IsServable start) (truly : T
   delivers_to was l true step offered hosted before (Sent bytes) after_ end both is right t well d =
       let may = well refl in
       let takes = d.takes in
-      let x : Wrote start l servable truly was d.session.dialogue d.export (after_write bytes both) = wrote start l servable truly was before.session.offers before.session.came before.session.dialogue hosted.export bytes d.session.dialogue d.export both is right t.tie may.0 may.1 takes.fed in
+      let x : Wrote start l servable truly was d.session.dialogue d.export (after_write bytes both) = wrote start l servable truly was before.session.offers before.session.came before.session.dialogue hosted.export bytes d.session.dialogue d.export both is right t.tie d.are may takes.fed in
       record {
         all = x.all;
         is = ap (λ (h : Hosted). h.export) d.holds ∙ x.steps.is;

@@ -1,5 +1,4 @@
 pub mod Grammars
 pub mod Steps
 pub mod Follows
-pub mod Lawful
 pub mod Served

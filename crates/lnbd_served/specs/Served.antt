@@ -7,7 +7,8 @@ use Rattle.lnbd_export.specs.Export.{Export, size}
 use Rattle.lnbd_memnet.specs.declared.hosted.Hosted.{Hosted}
 use Rattle.lnbd_memnet.specs.Network.{Network, export_in}
 use Rattle.lnbd_memnet.specs.Wires.{Came}
-use Rattle.lnbd_served.specs.Lawful.{SpeaksWell}
+use Rattle.lnbd_spoken.specs.Driven.{IsDriven}
+use Rattle.lnbd_spoken.specs.Speaking.{SpeaksWell}
 
 -- An export whose size and texts fit the wire: each that the code has.
 pub record IsServable (export : Export) : Type 0 where
@@ -23,3 +24,8 @@ place_of hosted = record { to = hosted.at; name = hosted.export.name }
 abbrev pub ServedIsHonest : Type 0
 ServedIsHonest = (calls : List Call) (network : Network) (place : ℕ) → Came calls network → place < length network.exports → IsServable (export_in network.exports place).export →
     ((link : ℕ) → SpeaksWell link calls) → IsHonest (place_of (export_in network.exports place)) (export_in network.exports place).start calls (export_in network.exports place).export.bytes
+
+-- So it is where each link is driven by one handle.
+abbrev pub DrivenServedIsHonest : Type 0 → Type 0
+DrivenServedIsHonest K = (calls : List Call) (network : Network) (place : ℕ) → Came calls network → place < length network.exports → IsServable (export_in network.exports place).export →
+    ((link : ℕ) → IsDriven K link calls) → IsHonest (place_of (export_in network.exports place)) (export_in network.exports place).start calls (export_in network.exports place).export.bytes

@@ -3,7 +3,8 @@
 ghost use Rattle.std.specs.Prelude.{◌≡◌, ◌<◌, ℕ, length};
 ghost use Rattle.lnbd_asked.specs.Honest.{IsHonest};
 ghost use Rattle.lnbd_memnet.specs.Network.{export_in};
-ghost use Rattle.lnbd_served.specs.Lawful.{SpeaksWell};
+ghost use Rattle.lnbd_spoken.specs.Driven.{IsDriven};
+ghost use Rattle.lnbd_spoken.specs.Speaking.{SpeaksWell};
 ghost use Rattle.lnbd_served.specs.Served.{IsServable, place_of};
 
 use lnbd_memnet::ServedWires;
@@ -14,6 +15,16 @@ use lnbd_memnet::ServedWires;
 pub fn tell_honestly(wires: &ServedWires, index: usize)
     requires { index < length wires.now.network.exports }
     ensures { wires.now.shorts ≡ 0 → IsServable (export_in wires.now.network.exports index).export → ((link : ℕ) → SpeaksWell link wires.now.calls) →
+        IsHonest (place_of (export_in wires.now.network.exports index)) (export_in wires.now.network.exports index).start wires.now.calls (export_in wires.now.network.exports index).export.bytes }
+{
+    wires.came();
+    let _ = index;
+}
+
+/// So it is while memory lasts and one handle drives each link, or drove it until it was closed or given up.
+pub fn tell_honestly_driven<K>(wires: &ServedWires, index: usize)
+    requires { index < length wires.now.network.exports }
+    ensures { wires.now.shorts ≡ 0 → IsServable (export_in wires.now.network.exports index).export → ((link : ℕ) → IsDriven K link wires.now.calls) →
         IsHonest (place_of (export_in wires.now.network.exports index)) (export_in wires.now.network.exports index).start wires.now.calls (export_in wires.now.network.exports index).export.bytes }
 {
     wires.came();

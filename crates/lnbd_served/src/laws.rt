@@ -2,7 +2,7 @@
 
 ghost use Rattle.lnbd_served.specs.Follows.{ServersAreHonest};
 ghost use Rattle.lnbd_served.specs.Grammars.{HeardAsRead};
-ghost use Rattle.lnbd_served.specs.Served.{ServedIsHonest};
+ghost use Rattle.lnbd_served.specs.Served.{DrivenServedIsHonest, ServedIsHonest};
 
 /// A session that is open hears what a transcript reads of its client, thing by thing and by the same
 /// bytes, unless it hears that they are no client's.
@@ -20,4 +20,10 @@ pub fn servers_are_honest()
 /// schedule cuts and picks.
 pub fn served_is_honest()
     ensures { ServedIsHonest }
+{}
+
+/// Where each link is driven by one handle, the server of each export is honest, whatever the schedule
+/// cuts and picks.
+pub fn driven_served_is_honest<K>()
+    ensures { DrivenServedIsHonest K }
 {}

@@ -5,5 +5,5 @@
 mod honesty;
 mod laws;
 
-pub use honesty::tell_honestly;
-pub use laws::{heard_as_read, served_is_honest, servers_are_honest};
+pub use honesty::{tell_honestly, tell_honestly_driven};
+pub use laws::{driven_served_is_honest, heard_as_read, served_is_honest, servers_are_honest};

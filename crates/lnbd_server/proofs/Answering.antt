@@ -1,8 +1,7 @@
 -- Answers to options, by the pieces of which they are made.
-use Rattle.std.proofs.Common.{◌≡◌, ℕ, ◌+◌, List, [], ◌∷◌, ◌++◌, length, replicate, Bool, true, false, not, refl, ap, sym, subst, ◌∙◌, append_assoc, append-nil, bytes_eq, Option, Some, None, ◌==◌}
+use Rattle.std.proofs.Common.{◌≡◌, ℕ, List, [], ◌∷◌, ◌++◌, replicate, Bool, true, false, refl, ap, sym, ◌∙◌, append-nil, bytes_eq, Some, None}
 use Rattle.lnbd_records.specs.Handshake.{export_name_reply, padding}
 use Rattle.lnbd_records.specs.Numbers.{number, row}
-use Rattle.lnbd_records.specs.Options.{opt_export_name, opt_set_meta_context}
 use Rattle.lnbd_records.proofs.NumberLaws.{row-append}
 use Rattle.lnbd_records.specs.Requests.{Asked, asked_of, asks_texts}
 use Rattle.lnbd_options.specs.Answers.{request_of}
@@ -13,7 +12,7 @@ use Rattle.lnbd_options.specs.declared.asked.Request.{Request}
 use Rattle.lnbd_server.specs.declared.stage.Offers.{Offers}
 use Rattle.lnbd_server.specs.declared.stage.Stage.{Stage}
 use Rattle.lnbd_server.specs.declared.stage.Stage.TheVariants.{Haggling, Serving, Strayed}
-use Rattle.lnbd_server.specs.Options.{Reply, put_reply, put_replies, Answer, going, refused, acknowledged, err_invalid, err_unknown, without_allocation, flags_of, information, contexts, has_allocation, name_answer, info_answer, meta_answer, invalid_answer, stage_after, answer_of, option_answer, wish_of}
+use Rattle.lnbd_server.specs.Options.{Reply, put_reply, put_replies, Answer, going, refused, err_invalid, err_unknown, without_allocation, flags_of, information, contexts, has_allocation, name_answer, info_answer, meta_answer, invalid_answer, stage_after, answer_of, option_answer, wish_of}
 
 pub one_reply : (option : ℕ) (r : Reply) (none bytes : List ℕ) → none ≡ [] → bytes ≡ none ++ put_reply option r → bytes ≡ put_replies option (r ∷ [])
 one_reply option r none bytes empty e = e ∙ ap (λ (xs : List ℕ). xs ++ put_reply option r) empty ∙ sym (append-nil (put_reply option r))

@@ -1,8 +1,8 @@
 -- Worked examples: what a client's bytes say, and what they do to a session and its export.
-use Rattle.std.proofs.Common.{◌≡◌, ℕ, Bool, true, false, List, [], ◌∷◌, ◌++◌, Option, Some, None, refl}
+use Rattle.std.proofs.Common.{◌≡◌, ℕ, true, false, List, [], ◌∷◌, ◌++◌, Some, None, refl}
 use Rattle.lnbd_model.specs.declared.kind.Kind.TheVariants.{Read, Write}
-use Rattle.lnbd_records.specs.Numbers.{number_at, row}
-use Rattle.lnbd_stream.specs.Stream.{Held, fresh, feed}
+use Rattle.lnbd_records.specs.Numbers.{number_at}
+use Rattle.lnbd_stream.specs.Stream.{fresh, feed}
 use Rattle.lnbd_stream.specs.Grammar.{once, wants, each_byte}
 use Rattle.lnbd_export.specs.Export.{Export}
 use Rattle.lnbd_export.specs.declared.request.Replies.TheVariants.{Simple}
@@ -10,7 +10,7 @@ use Rattle.lnbd_export.specs.declared.request.Request.{Request}
 use Rattle.lnbd_server.specs.declared.stage.Offers.{Offers}
 use Rattle.lnbd_server.specs.declared.stage.Stage.{Stage}
 use Rattle.lnbd_server.specs.declared.stage.Stage.TheVariants.{Serving, Ended}
-use Rattle.lnbd_server.specs.Client.{Said, Flags, OptionRequest, Asks, heard, stray, says_flags, says_option, says_request, says_asked}
+use Rattle.lnbd_server.specs.Client.{Flags, OptionRequest, Asks, heard, stray, says_flags, says_option, says_request, says_asked}
 use Rattle.lnbd_server.specs.Session.{State, rules}
 
 two_flags : says_flags (0 ∷ 0 ∷ 0 ∷ 3 ∷ []) ≡ heard 4 (Flags 3)

@@ -1,7 +1,7 @@
 -- Chunks in the form that is agreed, by the pieces in which they are put.
-use Rattle.std.proofs.Common.{◌≡◌, ◌≢◌, ℕ, ◌+◌, List, [], ◌∷◌, ◌++◌, length, Bool, true, false, ◌==◌, refl, ap, sym, ◌∙◌, arith, append-nil, length-append}
+use Rattle.std.proofs.Common.{◌≡◌, ◌≢◌, ℕ, List, [], ◌∷◌, ◌++◌, length, true, false, ◌==◌, refl, ap, sym, ◌∙◌}
 use Rattle.lnbd_records.specs.Numbers.{number, row}
-use Rattle.lnbd_records.specs.Transmission.{chunk_head, extended_chunk_head, simple_reply, offset_data, error_head, reply_type_offset_data}
+use Rattle.lnbd_records.specs.Transmission.{offset_data, error_head, reply_type_offset_data}
 use Rattle.lnbd_records.proofs.NumberLaws.{row-one, row-push}
 use Rattle.byteorder.specs.Endian.{big_bytes}
 use Rattle.lnbd_export.specs.Requests.{is_extended}

@@ -1,6 +1,7 @@
 pub mod Says
 pub mod Steps
 pub mod Puts
+pub mod Outboxes
 pub mod Example
 pub mod Frames
 pub mod Takes

@@ -1,8 +1,7 @@
 -- Option replies put one behind another.
-use Rattle.std.proofs.Common.{◌≡◌, ℕ, ◌+◌, List, [], ◌∷◌, ◌++◌, length, Bool, true, false, refl, ap, sym, subst, ◌∙◌, arith, append_assoc, append-nil, length-append, cond}
-use Rattle.std.specs.List.{flat_map}
+use Rattle.std.proofs.Common.{◌≡◌, ℕ, ◌+◌, List, [], ◌∷◌, ◌++◌, length, Bool, refl, ap, sym, ◌∙◌, arith, append_assoc, append-nil, length-append}
 use Rattle.lnbd_records.specs.Handshake.{option_reply_head}
-use Rattle.lnbd_records.specs.Numbers.{number, row}
+use Rattle.lnbd_records.specs.Numbers.{row}
 use Rattle.lnbd_export.specs.Export.{Export, size}
 use Rattle.lnbd_export.specs.declared.request.Replies.{Replies}
 use Rattle.lnbd_server.specs.Options.{Reply, put_reply, put_replies, size_told, blocks_told, acknowledged, told_if, flags_of, information}

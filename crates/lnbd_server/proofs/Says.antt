@@ -1,16 +1,16 @@
 -- What a client's bytes say stays, whatever follows, and no thing is said by fewer bytes than it has.
-use Rattle.std.proofs.Common.{◌≡◌, ◌⊎◌, inl, inr, zero, suc, ℕ, ◌+◌, ◌-◌, ◌≤◌, ◌<◌, Bool, true, false, not, ◌&&◌, List, [], ◌∷◌, ◌++◌, length, take, drop, nat_le, Option, Some, None, refl, ap, sym, subst, ◌∙◌, arith, if◌then◌else◌, ◌==◌}
+use Rattle.std.proofs.Common.{◌≡◌, ◌⊎◌, inl, inr, ℕ, ◌+◌, ◌≤◌, Bool, true, false, List, [], ◌∷◌, ◌++◌, length, take, drop, nat_le, Some, None, refl, ap, sym, subst, ◌∙◌, arith, ◌==◌}
 use Rattle.std.proofs.lemmas.List.{length-drop, length-take, drop-append-le, take-append-le, take-append-drop, drop-take, take-take}
 use Rattle.byteorder.specs.Endian.{big_from, big_number}
 use Rattle.byteorder.specs.Numbers.{big_from-take}
 use Rattle.lnbd_records.specs.Handshake.{option_magic}
 use Rattle.lnbd_records.specs.Numbers.{number_at}
 use Rattle.lnbd_records.specs.Transmission.{request_magic, extended_request_magic}
-use Rattle.lnbd_stream.specs.Grammar.{once, wants, each_byte, Kept, Fits}
-use Rattle.lnbd_stream.proofs.Grammar.{once_there, once_less, once_some, wants_true, wants_false, wants_is, kept_same, kept_none, kept_once, kept_wants, kept_each_byte, part_more, fits_some, fits_once, fits_wants, each_byte_none, once_none}
+use Rattle.lnbd_stream.specs.Grammar.{each_byte, Kept, Fits}
+use Rattle.lnbd_stream.proofs.Grammar.{once_there, once_some, wants_true, wants_is, kept_same, kept_once, kept_wants, kept_each_byte, part_more, fits_some, fits_once, fits_wants, each_byte_none, once_none}
 use Rattle.lnbd_server.specs.declared.stage.Stage.{Stage}
 use Rattle.lnbd_server.specs.declared.stage.Stage.TheVariants.{Greeting, Haggling, Serving, Ended, Strayed}
-use Rattle.lnbd_server.specs.Client.{Said, Flags, OptionRequest, Heard, heard, stray, are_client_flags, says_flags, says_option, says_asked, says_request, says_extended, says, data_size, lacks_data, asks_of, max_option_request, request_head_size}
+use Rattle.lnbd_server.specs.Client.{Flags, OptionRequest, Heard, heard, stray, are_client_flags, says_flags, says_option, says_asked, says_request, says_extended, says, data_size, asks_of, max_option_request}
 
 number_more : (width : ℕ) (bytes more : List ℕ) → width ≤ length bytes → big_number width (bytes ++ more) ≡ big_number width bytes
 number_more width bytes more h = sym (big_from-take 0 width width (bytes ++ more) (omega arith)) ∙ ap (big_from 0 width) (take-append-le width bytes more h) ∙ big_from-take 0 width width bytes (omega arith)

@@ -1,11 +1,11 @@
 -- One step of a dialogue: what was seen of some bytes is what they say.
-use Rattle.std.proofs.Common.{◌≡◌, ℕ, ◌+◌, ◌-◌, ◌≤◌, ◌<◌, Bool, true, false, List, [], ◌∷◌, ◌++◌, length, take, drop, Option, Some, None, refl, ap, sym, subst, ◌∙◌, arith, append-nil, length-append, inl, inr}
+use Rattle.std.proofs.Common.{◌≡◌, ℕ, ◌+◌, ◌-◌, ◌≤◌, ◌<◌, Bool, true, List, [], ◌∷◌, ◌++◌, length, take, drop, Option, Some, None, refl, ap, sym, subst, ◌∙◌, arith, append-nil, length-append, inl, inr}
 use Rattle.std.proofs.lemmas.Bool.{cases_lt}
 use Rattle.std.proofs.lemmas.List.{length-take, take-append-drop, take_all, take-append-le}
 use Rattle.std.proofs.Math.Seq.{take-append-add}
-use Rattle.lnbd_stream.specs.Stream.{Rules, Held, fresh, settle, feed}
-use Rattle.lnbd_stream.specs.Laws.{Steady, Front}
-use Rattle.lnbd_stream.specs.Grammar.{each_byte, Sized}
+use Rattle.lnbd_stream.specs.Stream.{Held, fresh, settle, feed}
+use Rattle.lnbd_stream.specs.Laws.{Steady}
+use Rattle.lnbd_stream.specs.Grammar.{each_byte}
 use Rattle.lnbd_stream.proofs.Stream.{feed-append, feed_none, feed_found, feed_front, front_of_size}
 use Rattle.lnbd_export.specs.Export.{Export}
 use Rattle.lnbd_export.specs.Requests.{is_extended}

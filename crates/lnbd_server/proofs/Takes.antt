@@ -1,8 +1,8 @@
 -- Bytes taken step by step, within the limit and past it.
-use Rattle.std.proofs.Common.{◌≡◌, ℕ, ◌+◌, ◌-◌, ◌≤◌, ◌<◌, Bool, true, false, List, [], ◌∷◌, ◌++◌, length, take, drop, nat_le, Option, Some, None, refl, ap, sym, subst, ◌∙◌, arith}
+use Rattle.std.proofs.Common.{◌≡◌, ℕ, ◌+◌, ◌-◌, ◌≤◌, ◌<◌, Bool, true, false, List, [], ◌∷◌, length, take, drop, nat_le, None, refl, ap, sym, ◌∙◌, arith}
 use Rattle.std.proofs.lemmas.Bool.Decides.{nat_tests}
 use Rattle.std.proofs.lemmas.List.{take-append-drop, length-take}
-use Rattle.lnbd_stream.specs.Stream.{Rules, Held, fresh, feed}
+use Rattle.lnbd_stream.specs.Stream.{Held, fresh, feed}
 use Rattle.lnbd_stream.specs.Grammar.{each_byte}
 use Rattle.lnbd_stream.proofs.Stream.{feed-append, feed_take}
 use Rattle.lnbd_export.specs.Export.{Export}

@@ -1,6 +1,6 @@
 -- What the bytes of a client say: its handshake flags, then option requests, and then requests, one after another: the protocol's
 -- "Newstyle negotiation", "Option haggling" and "Transmission phase". Which of them is read, the stage of the session says.
-use Rattle.std.specs.Prelude.{ℕ, ◌+◌, Bool, true, false, not, ◌&&◌, ◌||◌, List, take, drop, length, Option, Some, None, if◌then◌else◌, ◌==◌, nat_le}
+use Rattle.std.specs.Prelude.{ℕ, ◌+◌, Bool, true, false, not, ◌&&◌, ◌||◌, List, take, drop, Option, Some, None, if◌then◌else◌, ◌==◌, nat_le}
 use Rattle.lnbd_model.specs.declared.kind.Kind.{Kind}
 use Rattle.lnbd_model.specs.declared.kind.Kind.TheVariants.{Read, Write, Flush, Trim, Cache, Zero, BlockStatus}
 use Rattle.lnbd_records.specs.Flags.{flag_fixed_newstyle, flag_no_zeroes, cmd_flag_payload_len}

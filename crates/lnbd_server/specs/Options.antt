@@ -1,5 +1,5 @@
 -- How a server answers options: the protocol's "Option types" and "Option reply types".
-use Rattle.std.specs.Prelude.{ℕ, ◌+◌, Bool, true, false, not, ◌||◌, List, [], ◌∷◌, ◌++◌, length, replicate, codes, Option, Some, None, if◌then◌else◌, ◌==◌, bytes_eq}
+use Rattle.std.specs.Prelude.{ℕ, ◌+◌, Bool, false, not, ◌||◌, List, [], ◌∷◌, ◌++◌, length, replicate, codes, Option, Some, None, if◌then◌else◌, ◌==◌, bytes_eq}
 use Rattle.std.specs.List.{flat_map}
 use Rattle.lnbd_records.specs.Flags.{flag_read_only, flag_send_flush, flag_send_fua, flag_send_trim, flag_send_write_zeroes, flag_send_df, flag_send_cache}
 use Rattle.lnbd_records.specs.Handshake.{option_reply_head, export_name_reply, padding}

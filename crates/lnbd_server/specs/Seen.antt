@@ -3,7 +3,7 @@ use Rattle.std.specs.Prelude.{◌≡◌, ℕ, ◌+◌, ◌≤◌, List, length, 
 use Rattle.lnbd_model.specs.declared.kind.Kind.TheVariants.{Write}
 use Rattle.lnbd_server.specs.declared.client.Seen.{Seen}
 use Rattle.lnbd_server.specs.declared.client.Seen.TheVariants as seen
-use Rattle.lnbd_server.specs.Client.{Said, Flags, OptionRequest, Asks, Disconnect, Heard, heard, stray}
+use Rattle.lnbd_server.specs.Client.{Flags, OptionRequest, Asks, Disconnect, Heard, heard, stray}
 
 abbrev pub heard_of : Seen → List ℕ → Option Heard
 heard_of seen.Nothing bytes = None

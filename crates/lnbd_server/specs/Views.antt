@@ -1,5 +1,4 @@
 -- What the code's values stand for.
-use Rattle.std.specs.Prelude.{ℕ, List}
 use Rattle.lnbd_server.specs.declared.options.Answer.{Answer}
 use Rattle.lnbd_server.specs.Options.{Answer as Answered}
 

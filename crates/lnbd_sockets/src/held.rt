@@ -1,5 +1,5 @@
 //! A socket, and whether its next call may find something. The system tells only of changes, so a socket is
-//! waited for where its last call found nothing and no event came since.
+//! waited for where its last call found nothing more and no event came since; and no call is made of it meanwhile.
 
 ghost use Rattle.std.specs.Prelude.{◌<◌, ◌≤◌, length};
 ghost use Rattle.lnbd_link.specs.Answers.{IfMoved, IfSent};
@@ -19,6 +19,12 @@ pub struct Held {
     // That there may be bytes, a peer or an end to be had, and that bytes may be taken.
     may_read: bool,
     may_write: bool,
+    // Whether the peer's end was told: behind a read that finds less than it has room for it is still to be found.
+    has_ended: bool,
+    // Whether the last write was taken in part, so that another at once would find no room.
+    is_full: bool,
+    // Whether a call was answered from what is known, and the poll has told nothing since.
+    is_stale: bool,
     // Whether the poll tells of writing too, beside reading.
     tells_writing: bool,
 }
@@ -33,6 +39,9 @@ impl Held {
             socket,
             may_read: true,
             may_write: true,
+            has_ended: false,
+            is_full: false,
+            is_stale: false,
             tells_writing: false,
         })
     }
@@ -41,8 +50,17 @@ impl Held {
         requires { 0 < length into.old }
         ensures { IfMoved result (λ n. (0 < n) × (n ≤ length into.old)) }
     {
+        if !self.may_read {
+            self.is_stale = true;
+            return Got::NotReady;
+        }
+        let room = into.len();
         let got = self.socket.read(into);
-        self.may_read = !matches!(got, Got::NotReady);
+        self.may_read = match got {
+            Got::Bytes(n) => n == room || self.has_ended,
+            Got::NotReady => false,
+            Got::End | Got::Failed => true,
+        };
         got
     }
 
@@ -50,13 +68,22 @@ impl Held {
         requires { 0 < length from.now }
         ensures { IfSent result (λ n. (0 < n) × (n ≤ length from.now)) }
     {
+        if self.is_full {
+            self.is_full = false;
+            return Took::NotReady;
+        }
         let took = self.socket.write(from);
-        self.may_write = !matches!(took, Took::NotReady);
+        self.is_full = matches!(took, Took::Bytes(n) if n < from.len());
+        self.may_write = !self.is_full && !matches!(took, Took::NotReady);
         took
     }
 
     /// A link from a peer that waits. The error's kind is `WouldBlock` where none does.
     pub fn accept(&mut self) -> io::Result<Socket> {
+        if !self.may_read {
+            self.is_stale = true;
+            return Err(io::Error::from(ErrorKind::WouldBlock));
+        }
         let accepted = self.socket.accept();
         if let Err(error) = &accepted {
             self.may_read = !matches!(error.kind(), ErrorKind::WouldBlock);
@@ -67,6 +94,27 @@ impl Held {
     /// Closes the socket, of which the poll then tells no more.
     pub fn shut(&mut self) {
         self.socket = Socket::Shut;
+        self.doubt();
+    }
+
+    /// Nothing is known of it any more, so that its next calls are made.
+    pub fn doubt(&mut self) {
+        self.may_read = true;
+        self.may_write = true;
+        self.is_full = false;
+    }
+
+    /// Whether the poll is to be asked before its next read: what was known has been given as an answer once.
+    pub fn is_stale(&self) -> bool {
+        self.is_stale && !self.may_read
+    }
+
+    /// The poll was asked. Where it told nothing, nothing is known any more.
+    pub fn refresh(&mut self, was_told: bool) {
+        self.is_stale = false;
+        if !was_told {
+            self.doubt();
+        }
     }
 
     /// What the system tells of it.
@@ -77,6 +125,10 @@ impl Held {
         }
         if failed || event.is_writable() || event.is_write_closed() {
             self.may_write = true;
+            self.is_full = false;
+        }
+        if failed || event.is_read_closed() {
+            self.has_ended = true;
         }
     }
 
@@ -86,6 +138,7 @@ impl Held {
     /// no reply, and would else never wait at all.
     pub fn is_due(&self, direction: u32) -> bool {
         match direction {
+            _ if self.socket.fd().is_none() => false,
             1 => self.may_read,
             2 => self.may_write,
             3 => self.may_write && self.may_read,

@@ -14,6 +14,7 @@ use std::fs::Files;
 use std::io;
 use std::io::ErrorKind;
 use std::net::{Net, TcpListener, TcpStream};
+use std::time::Duration;
 
 /// Links over TCP and Unix sockets. A link's number is that of its place, and no place is used twice.
 #[derive(Drop)]
@@ -73,6 +74,12 @@ impl<'a, R: Net<Listener = TcpListener, Stream = TcpStream> + Files> Wires for S
     }
 
     fn accept(&mut self, listener: u32) -> Accepted {
+        look(
+            &mut self.poll,
+            &mut self.events,
+            &mut self.sockets,
+            listener,
+        );
         let accepted = accepted(&self.poll, &mut self.sockets, listener);
         if let Accepted::Failed = accepted {
             self.faults = raised(self.faults, 1);
@@ -81,6 +88,7 @@ impl<'a, R: Net<Listener = TcpListener, Stream = TcpStream> + Files> Wires for S
     }
 
     fn read(&mut self, link: u32, into: &mut [u8]) -> Got {
+        look(&mut self.poll, &mut self.events, &mut self.sockets, link);
         let got = match self.sockets.get_mut(link as usize) {
             Some(held) => held.read(into),
             None => Got::Failed,
@@ -106,7 +114,7 @@ impl<'a, R: Net<Listener = TcpListener, Stream = TcpStream> + Files> Wires for S
     // that ended.
     fn pause(&mut self, wants: &[Want]) {
         if is_waited(&self.poll, &mut self.sockets, wants) {
-            wait(&mut self.poll, &mut self.events, &mut self.sockets);
+            wait(&mut self.poll, &mut self.events, &mut self.sockets, None);
         }
         self.idles = raised(self.idles, 1);
     }
@@ -141,10 +149,23 @@ fn is_waited(poll: &Poll, sockets: &mut Vec<Held>, wants: &[Want]) -> bool {
     listens && !due
 }
 
-// Waits for an event, and tells each socket of its own.
-fn wait(poll: &mut Poll, events: &mut Events, sockets: &mut Vec<Held>) {
-    if poll.poll(events, None).is_err() {
-        return;
+// Asks the poll without waiting where a call of this socket was answered from what is known, and nothing was told since. So each
+// is looked at at its second call at the latest, and all of them by one call of the system.
+fn look(poll: &mut Poll, events: &mut Events, sockets: &mut Vec<Held>, number: u32) {
+    let is_stale = match sockets.get(number as usize) {
+        Some(held) => held.is_stale(),
+        None => false,
+    };
+    if is_stale {
+        wait(poll, events, sockets, Some(Duration::ZERO));
+    }
+}
+
+// Waits for an event, so long at most, and tells each socket of its own. Where that fails, each socket's next call is made.
+fn wait(poll: &mut Poll, events: &mut Events, sockets: &mut Vec<Held>, most: Option<Duration>) {
+    let told = poll.poll(events, most);
+    for held in sockets.iter_mut() {
+        held.refresh(told.is_ok());
     }
     for event in events.iter() {
         if let Some(held) = sockets.get_mut(event.token().0) {

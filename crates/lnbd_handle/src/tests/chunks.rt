@@ -57,13 +57,30 @@ impl Session {
 
     /// Starts with structured replies.
     fn structured(rt: &impl Abort, alloc: Global) -> Result<Session, Fail> {
+        Session::chunked(rt, alloc, false)
+    }
+
+    /// The same, or with extended headers.
+    fn chunked(rt: &impl Abort, alloc: Global, extended: bool) -> Result<Session, Fail> {
+        let (request, ack) = if extended {
+            (EXTENDED_REQUEST, EXTENDED_ACK)
+        } else {
+            (STRUCTURED_REQUEST, STRUCTURED_ACK)
+        };
         let mut session = Session::new(alloc)?;
-        assert_eq!(rt; session.handle.set_request_structured_replies(true), Ok(()));
+        assert_eq!(rt;
+            session.handle.set_request_structured_replies(!extended),
+            Ok(())
+        );
+        assert_eq!(rt;
+            session.handle.set_request_extended_headers(extended),
+            Ok(())
+        );
         assert!(rt; session.handle.start().is_ok());
         assert!(rt; session.feed(&HELLO));
         assert!(rt; session.writes(b"\0\0\0\x03"));
-        assert!(rt; session.writes(&STRUCTURED_REQUEST));
-        assert!(rt; session.feed(&STRUCTURED_ACK));
+        assert!(rt; session.writes(&request));
+        assert!(rt; session.feed(&ack));
         assert!(rt; session.writes(&GO_REQUEST));
         assert!(rt; session.feed(&GO));
         assert_eq!(rt; session.handle.state(), State::Ready);
@@ -156,6 +173,41 @@ fn a_read_with_a_gap_fails(rt: HostRuntime) -> Result<(), Fail> {
     assert!(rt; session.came_to(1, 71, &[0; 16]));
     assert_eq!(rt; session.handle.state(), State::Ready);
     assert_eq!(rt; session.close(), (2, 2));
+    Ok(())
+}
+
+// A read of four bytes: all at once; its end and then its beginning; its end and then all, which is over what was told.
+#[test]
+fn data_of_chunks_come_byte_by_byte(rt: HostRuntime) -> Result<(), Fail> {
+    let lines: [(bool, &[u8], u32, &[u8]); 3] = [
+        (
+            true,
+            b"\x6e\x8a\x27\x8c\0\x01\0\x01\0\0\0\0\0\0\0\x01\0\0\0\0\0\0\0\0\0\0\0\0\0\0\0\x0c\0\0\0\0\0\0\0\0abcd",
+            0,
+            b"abcd",
+        ),
+        (
+            false,
+            b"\x66\x8e\x33\xef\0\0\0\x01\0\0\0\0\0\0\0\x01\0\0\0\x0a\0\0\0\0\0\0\0\x02cd\
+\x66\x8e\x33\xef\0\x01\0\x01\0\0\0\0\0\0\0\x01\0\0\0\x0a\0\0\0\0\0\0\0\0ab",
+            0,
+            b"abcd",
+        ),
+        (
+            false,
+            b"\x66\x8e\x33\xef\0\0\0\x01\0\0\0\0\0\0\0\x01\0\0\0\x0a\0\0\0\0\0\0\0\x02cd\
+\x66\x8e\x33\xef\0\x01\0\x01\0\0\0\0\0\0\0\x01\0\0\0\x0c\0\0\0\0\0\0\0\0abcd",
+            71,
+            &[0; 4],
+        ),
+    ];
+    for (extended, chunks, error, bytes) in lines {
+        let mut session = Session::chunked(&rt, rt.alloc(), extended)?;
+        assert_eq!(rt; session.pread_structured(4, 0), 1);
+        assert!(rt; session.feed_by_byte(chunks));
+        assert!(rt; session.came_to(1, error, bytes));
+        assert_eq!(rt; session.close(), (2, 2));
+    }
     Ok(())
 }
 

@@ -5,7 +5,7 @@ use Rattle.lnbd_ask.proofs.acts.tell_entry.Goals as goal
 
 pub returns-in-Ok : goal.returns-in-Ok
 returns-in-Ok g c =
-    told_of (entry_after c.args.listed.now) c.in-Ok.entry c.args.handles.now c.get-handle.result.now c.get-handle.ensures
+    told_of (entry_after c.args.listed.now) c.in-Ok.entry c.args.handles.now c.get-handle.result.now.machine c.get-handle.ensures
     (λ seen stands. c.in-Ok.ensures ∙ entry_is c.args.listed.now _ _ _ _ (c.opt_answer.ensures.told seen.history stands) (c.info.ensures.told seen.history stands))
 
 pub returns-in-Err : goal.returns-in-Err

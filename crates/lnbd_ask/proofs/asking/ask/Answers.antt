@@ -25,7 +25,7 @@ pub returns-in-None-clause-asks : goal.returns-in-None-clause-asks
 returns-in-None-clause-asks g c =
     ask_ok c.args.world.now.context c.args.offset c.args.size _ _ _ _ c.args.handles.now c.issue.new.handles c.settle.new.handles c.issue.new.world c.settle.new.world c.in_default.ensures.ok c.settle.result c.in_default-settle.is c.settle.ensures.waits
     (ap (λ (w : Survey). w.context) c.in_default.ensures.world ∙ c.clear.ensures.context) (ap (λ (w : Survey). w.told.items) c.in_default.ensures.world ∙ c.clear.ensures.told) (ap (λ (w : Survey). w.error) c.in_default.ensures.world ∙ c.clear.ensures.error)
-    c.if-world.false c.state.result c.stop_of.result (λ seen at. c.state.ensures.told seen.history (at_handle c.settle.new.handles c.get.result.now seen c.get.ensures at)) c.stop_of.ensures c.in-None.is
+    c.if-world.false c.state.result c.stop_of.result (λ seen at. c.state.ensures.told seen.history (at_handle c.settle.new.handles c.get.result.now.machine seen c.get.ensures at)) c.stop_of.ensures c.in-None.is
 
 pub returns-in-None-clause-context : goal.returns-in-None-clause-context
 returns-in-None-clause-context g c =
@@ -36,4 +36,4 @@ pub returns-in-Some-clause-asks : goal.returns-in-Some-clause-asks
 returns-in-Some-clause-asks g c =
     ask_fails c.args.world.now.context c.args.offset c.args.size _ _ _ _ c.args.handles.now c.issue.new.handles c.settle.new.handles c.issue.new.world c.settle.new.world c.in_default.ensures.ok c.settle.result c.in_default-settle.is c.settle.ensures.waits
     (ap (λ (w : Survey). w.context) c.in_default.ensures.world ∙ c.clear.ensures.context) (ap (λ (w : Survey). w.told.items) c.in_default.ensures.world ∙ c.clear.ensures.told) (ap (λ (w : Survey). w.error) c.in_default.ensures.world ∙ c.clear.ensures.error)
-    c.if-world.false c.state.result c.stop_of.result (λ seen at. c.state.ensures.told seen.history (at_handle c.settle.new.handles c.get.result.now seen c.get.ensures at)) c.stop_of.ensures c.in-Some.stop c.in-Some.is
+    c.if-world.false c.state.result c.stop_of.result (λ seen at. c.state.ensures.told seen.history (at_handle c.settle.new.handles c.get.result.now.machine seen c.get.ensures at)) c.stop_of.ensures c.in-Some.stop c.in-Some.is

@@ -5,11 +5,11 @@ use Rattle.lnbd_ask.proofs.EndLemmas.{collected_none, collected_on, held_begins}
 use Rattle.lnbd_ask.proofs.collecting.collect_on.Goals as goal
 
 pub converse-told-requires-clause-begins : goal.converse-told-requires-clause-begins
-converse-told-requires-clause-begins g c = (c.args.link, held_begins _ _ c.args.link c.args.handle _ _ c.new-handles.ensures c.in-Ok.ensures.added c.requires.stands)
+converse-told-requires-clause-begins g c = (c.args.link, held_begins _ _ c.args.link c.args.handle.machine _ _ c.new-handles.ensures c.in-Ok.ensures.added c.requires.stands)
 
 pub returns-in-Ok-clause-collects : goal.returns-in-Ok-clause-collects
 returns-in-Ok-clause-collects g c =
-    collected_on Passes c.args.place.now _ _ _ c.args.link c.converse-told.result (c.converse-told.ensures.converses c.args.link (held_begins _ _ c.args.link c.args.handle _ _ c.new-handles.ensures c.in-Ok.ensures.added c.requires.stands)) c.hang_up.ensures.told
+    collected_on Passes c.args.place.now _ _ _ c.args.link c.converse-told.result (c.converse-told.ensures.converses c.args.link (held_begins _ _ c.args.link c.args.handle.machine _ _ c.new-handles.ensures c.in-Ok.ensures.added c.requires.stands)) c.hang_up.ensures.told
 
 pub returns-in-Ok-clause-contents : goal.returns-in-Ok-clause-contents
 returns-in-Ok-clause-contents g c = keeps_on _ _ _ c.converse-told.ensures.contents c.hang_up.ensures.contents

@@ -10,7 +10,7 @@ pub returns-clause-discusses : goal.returns-clause-discusses
 returns-clause-discusses g c =
     discuss_parts c.args.world.now.context c.learn-learned.new.map.items _ _ _ _ _ _ c.args.handles.now c.learn-learned.new.handles c.part.new.handles c.settle-written.new.handles _ _ c.learn-learned.result c.end_of.result c.settle-written.result c.state.result c.is_end_parting.result
     c.is_end_parting.ensures c.if-not-is_end_parting.false c.learn-learned.ensures.faults c.settle-written.ensures.faults c.learn-learned.ensures.learns c.part.ensures c.settle-written.ensures.waits
-    (λ seen at. c.state.ensures.told seen.history (at_handle c.settle-written.new.handles c.get.result.now seen c.get.ensures at)) c.end_of.ensures
+    (λ seen at. c.state.ensures.told seen.history (at_handle c.settle-written.new.handles c.get.result.now.machine seen c.get.ensures at)) c.end_of.ensures
 
 pub returns-then-not-is_end_parting-clause-discusses : goal.returns-then-not-is_end_parting-clause-discusses
 returns-then-not-is_end_parting-clause-discusses g c =

@@ -1,6 +1,14 @@
-use Rattle.lnbd_cli.proofs.CopyLemmas.{copied_by}
+use Rattle.lnbd_cli.proofs.CopyLemmas.{asked_by, copied_by, done_by}
 use Rattle.lnbd_cli.proofs.copying.copy.Goals as goal
 
 pub returns-in-Ok-clause-copies : goal.returns-in-Ok-clause-copies
 returns-in-Ok-clause-copies g c two =
-    copied_by c.new.result c.args.what.from c.args.what.to c.args.what.options (g.W.Wires.told c.args.wires.now) (g.W.Wires.told c.run.new.wires) c.new.ensures.what (c.in-Ok.ensures.copies c.new.ensures.begun) two
+    copied_by c.new.result c.args.what.from c.args.what.to c.args.what.options (g.W.Wires.told c.args.wires.now) (g.W.Wires.told c.run.new.wires) c.new.ensures.what c.in-Ok.ensures.copies two
+
+pub returns-in-Ok-clause-once : goal.returns-in-Ok-clause-once
+returns-in-Ok-clause-once g c two =
+    asked_by c.new.result c.args.what.from c.args.what.to c.args.what.options (g.W.Wires.told c.args.wires.now) (g.W.Wires.told c.run.new.wires) c.new.ensures.what c.in-Ok.ensures.asks two
+
+pub returns-in-Ok-clause-done : goal.returns-in-Ok-clause-done
+returns-in-Ok-clause-done g c two =
+    done_by c.new.result c.args.what.from c.args.what.to c.args.what.options (g.W.Wires.told c.args.wires.now) (g.W.Wires.told c.run.new.wires) c.new.ensures.what c.in-Ok.ensures.done two

@@ -5,4 +5,6 @@ pub returns-in-Ok-copy-clause-ends : goal.returns-in-Ok-copy-clause-ends
 returns-in-Ok-copy-clause-ends g c = record {
   asked = record { wish = c.in-Ok.wish; transfer = c.in-Some.what; asks = c.in-Ok.ensures.asked; is = sym c.in-Some.ensures };
   copied = c.in-Ok-copy.ensures.copies;
+  once = c.in-Ok-copy.ensures.once;
+  done = c.in-Ok-copy.ensures.done;
 }

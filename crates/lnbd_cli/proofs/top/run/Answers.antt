@@ -5,6 +5,7 @@ use Rattle.lnbd_cli.specs.Runs.{Prints}
 use Rattle.lnbd_cli.proofs.RunLemmas.{bad, bad_end, cut, known, line_of, memory_line, only_input, only_output, only_silent, played, short, waited}
 use Rattle.lnbd_cli.proofs.ServeLemmas.{not_both}
 use Rattle.lnbd_cli.proofs.CopyLemmas.{no_info_copies, no_serve_copies}
+use Rattle.lnbd_cli.proofs.TrialLemmas.{no_copy_tests, no_info_tests, no_serve_tests}
 use Rattle.lnbd_cli.proofs.top.run.Goals as goal
 
 pub returns-clause-played : goal.returns-clause-played
@@ -125,40 +126,40 @@ pub run_serve-requires : goal.run_serve-requires
 run_serve-requires g c = c.names_serve.ensures.yes c.if-names_serve.true
 
 pub returns-then-names_copy-clause-played : goal.returns-then-names_copy-clause-played
-returns-then-names_copy-clause-played g c other = absurd (other (inr (inr (c.names_copy.ensures.yes c.if-names_copy.true))))
+returns-then-names_copy-clause-played g c other = absurd (other (inr (inr (inl (c.names_copy.ensures.yes c.if-names_copy.true)))))
 
 pub returns-then-names_copy-clause-waited : goal.returns-then-names_copy-clause-waited
-returns-then-names_copy-clause-waited g c other = absurd (other (inr (inr (c.names_copy.ensures.yes c.if-names_copy.true))))
+returns-then-names_copy-clause-waited g c other = absurd (other (inr (inr (inl (c.names_copy.ensures.yes c.if-names_copy.true)))))
 
 pub returns-then-names_copy-clause-cut : goal.returns-then-names_copy-clause-cut
-returns-then-names_copy-clause-cut g c other = absurd (other (inr (inr (c.names_copy.ensures.yes c.if-names_copy.true))))
+returns-then-names_copy-clause-cut g c other = absurd (other (inr (inr (inl (c.names_copy.ensures.yes c.if-names_copy.true)))))
 
 pub returns-then-names_copy-clause-short : goal.returns-then-names_copy-clause-short
-returns-then-names_copy-clause-short g c other = absurd (other (inr (inr (c.names_copy.ensures.yes c.if-names_copy.true))))
+returns-then-names_copy-clause-short g c other = absurd (other (inr (inr (inl (c.names_copy.ensures.yes c.if-names_copy.true)))))
 
 pub returns-then-names_copy-clause-bad : goal.returns-then-names_copy-clause-bad
-returns-then-names_copy-clause-bad g c other = absurd (other (inr (inr (c.names_copy.ensures.yes c.if-names_copy.true))))
+returns-then-names_copy-clause-bad g c other = absurd (other (inr (inr (inl (c.names_copy.ensures.yes c.if-names_copy.true)))))
 
 pub returns-then-names_copy-clause-bad_alone : goal.returns-then-names_copy-clause-bad_alone
-returns-then-names_copy-clause-bad_alone g c other = absurd (other (inr (inr (c.names_copy.ensures.yes c.if-names_copy.true))))
+returns-then-names_copy-clause-bad_alone g c other = absurd (other (inr (inr (inl (c.names_copy.ensures.yes c.if-names_copy.true)))))
 
 pub returns-then-names_copy-clause-bad_script : goal.returns-then-names_copy-clause-bad_script
-returns-then-names_copy-clause-bad_script g c other = absurd (other (inr (inr (c.names_copy.ensures.yes c.if-names_copy.true))))
+returns-then-names_copy-clause-bad_script g c other = absurd (other (inr (inr (inl (c.names_copy.ensures.yes c.if-names_copy.true)))))
 
 pub returns-then-names_copy-clause-silent_line : goal.returns-then-names_copy-clause-silent_line
-returns-then-names_copy-clause-silent_line g c other = absurd (other (inr (inr (c.names_copy.ensures.yes c.if-names_copy.true))))
+returns-then-names_copy-clause-silent_line g c other = absurd (other (inr (inr (inl (c.names_copy.ensures.yes c.if-names_copy.true)))))
 
 pub returns-then-names_copy-clause-output_line : goal.returns-then-names_copy-clause-output_line
-returns-then-names_copy-clause-output_line g c other = absurd (other (inr (inr (c.names_copy.ensures.yes c.if-names_copy.true))))
+returns-then-names_copy-clause-output_line g c other = absurd (other (inr (inr (inl (c.names_copy.ensures.yes c.if-names_copy.true)))))
 
 pub returns-then-names_copy-clause-memory_line : goal.returns-then-names_copy-clause-memory_line
-returns-then-names_copy-clause-memory_line g c other = absurd (other (inr (inr (c.names_copy.ensures.yes c.if-names_copy.true))))
+returns-then-names_copy-clause-memory_line g c other = absurd (other (inr (inr (inl (c.names_copy.ensures.yes c.if-names_copy.true)))))
 
 pub returns-then-names_copy-clause-known : goal.returns-then-names_copy-clause-known
-returns-then-names_copy-clause-known g c other = absurd (other (inr (inr (c.names_copy.ensures.yes c.if-names_copy.true))))
+returns-then-names_copy-clause-known g c other = absurd (other (inr (inr (inl (c.names_copy.ensures.yes c.if-names_copy.true)))))
 
 pub returns-then-names_copy-clause-complete : goal.returns-then-names_copy-clause-complete
-returns-then-names_copy-clause-complete g c other = absurd (other (inr (inr (c.names_copy.ensures.yes c.if-names_copy.true))))
+returns-then-names_copy-clause-complete g c other = absurd (other (inr (inr (inl (c.names_copy.ensures.yes c.if-names_copy.true)))))
 
 pub returns-then-names_info-clause-copy : goal.returns-then-names_info-clause-copy
 returns-then-names_info-clause-copy g c copies = absurd (no_info_copies c.args.words.now (c.names_info.ensures.yes c.if-names_info.true) copies)
@@ -186,3 +187,87 @@ returns-then-names_serve-clause-copy_complete g c copies = absurd (no_serve_copi
 
 pub run_copy-requires : goal.run_copy-requires
 run_copy-requires g c = c.names_copy.ensures.yes c.if-names_copy.true
+
+pub returns-then-names_selftest-clause-played : goal.returns-then-names_selftest-clause-played
+returns-then-names_selftest-clause-played g c other = absurd (other (inr (inr (inr (c.names_selftest.ensures.yes c.if-names_selftest.true)))))
+
+pub returns-then-names_selftest-clause-waited : goal.returns-then-names_selftest-clause-waited
+returns-then-names_selftest-clause-waited g c other = absurd (other (inr (inr (inr (c.names_selftest.ensures.yes c.if-names_selftest.true)))))
+
+pub returns-then-names_selftest-clause-cut : goal.returns-then-names_selftest-clause-cut
+returns-then-names_selftest-clause-cut g c other = absurd (other (inr (inr (inr (c.names_selftest.ensures.yes c.if-names_selftest.true)))))
+
+pub returns-then-names_selftest-clause-short : goal.returns-then-names_selftest-clause-short
+returns-then-names_selftest-clause-short g c other = absurd (other (inr (inr (inr (c.names_selftest.ensures.yes c.if-names_selftest.true)))))
+
+pub returns-then-names_selftest-clause-bad : goal.returns-then-names_selftest-clause-bad
+returns-then-names_selftest-clause-bad g c other = absurd (other (inr (inr (inr (c.names_selftest.ensures.yes c.if-names_selftest.true)))))
+
+pub returns-then-names_selftest-clause-bad_alone : goal.returns-then-names_selftest-clause-bad_alone
+returns-then-names_selftest-clause-bad_alone g c other = absurd (other (inr (inr (inr (c.names_selftest.ensures.yes c.if-names_selftest.true)))))
+
+pub returns-then-names_selftest-clause-bad_script : goal.returns-then-names_selftest-clause-bad_script
+returns-then-names_selftest-clause-bad_script g c other = absurd (other (inr (inr (inr (c.names_selftest.ensures.yes c.if-names_selftest.true)))))
+
+pub returns-then-names_selftest-clause-silent_line : goal.returns-then-names_selftest-clause-silent_line
+returns-then-names_selftest-clause-silent_line g c other = absurd (other (inr (inr (inr (c.names_selftest.ensures.yes c.if-names_selftest.true)))))
+
+pub returns-then-names_selftest-clause-output_line : goal.returns-then-names_selftest-clause-output_line
+returns-then-names_selftest-clause-output_line g c other = absurd (other (inr (inr (inr (c.names_selftest.ensures.yes c.if-names_selftest.true)))))
+
+pub returns-then-names_selftest-clause-memory_line : goal.returns-then-names_selftest-clause-memory_line
+returns-then-names_selftest-clause-memory_line g c other = absurd (other (inr (inr (inr (c.names_selftest.ensures.yes c.if-names_selftest.true)))))
+
+pub returns-then-names_selftest-clause-known : goal.returns-then-names_selftest-clause-known
+returns-then-names_selftest-clause-known g c other = absurd (other (inr (inr (inr (c.names_selftest.ensures.yes c.if-names_selftest.true)))))
+
+pub returns-then-names_selftest-clause-complete : goal.returns-then-names_selftest-clause-complete
+returns-then-names_selftest-clause-complete g c other = absurd (other (inr (inr (inr (c.names_selftest.ensures.yes c.if-names_selftest.true)))))
+
+pub returns-then-names_info-clause-selftest : goal.returns-then-names_info-clause-selftest
+returns-then-names_info-clause-selftest g c tests = absurd (no_info_tests c.args.words.now (c.names_info.ensures.yes c.if-names_info.true) tests)
+
+pub returns-then-names_info-clause-selftest_known : goal.returns-then-names_info-clause-selftest_known
+returns-then-names_info-clause-selftest_known g c tests = absurd (no_info_tests c.args.words.now (c.names_info.ensures.yes c.if-names_info.true) tests)
+
+pub returns-then-names_info-clause-selftest_wires : goal.returns-then-names_info-clause-selftest_wires
+returns-then-names_info-clause-selftest_wires g c tests = absurd (no_info_tests c.args.words.now (c.names_info.ensures.yes c.if-names_info.true) tests)
+
+pub returns-then-names_info-clause-selftest_complete : goal.returns-then-names_info-clause-selftest_complete
+returns-then-names_info-clause-selftest_complete g c tests = absurd (no_info_tests c.args.words.now (c.names_info.ensures.yes c.if-names_info.true) tests)
+
+pub returns-then-names_info-clause-selftest_refuses : goal.returns-then-names_info-clause-selftest_refuses
+returns-then-names_info-clause-selftest_refuses g c tests = absurd (no_info_tests c.args.words.now (c.names_info.ensures.yes c.if-names_info.true) tests)
+
+pub returns-then-names_serve-clause-selftest : goal.returns-then-names_serve-clause-selftest
+returns-then-names_serve-clause-selftest g c tests = absurd (no_serve_tests c.args.words.now (c.names_serve.ensures.yes c.if-names_serve.true) tests)
+
+pub returns-then-names_serve-clause-selftest_known : goal.returns-then-names_serve-clause-selftest_known
+returns-then-names_serve-clause-selftest_known g c tests = absurd (no_serve_tests c.args.words.now (c.names_serve.ensures.yes c.if-names_serve.true) tests)
+
+pub returns-then-names_serve-clause-selftest_wires : goal.returns-then-names_serve-clause-selftest_wires
+returns-then-names_serve-clause-selftest_wires g c tests = absurd (no_serve_tests c.args.words.now (c.names_serve.ensures.yes c.if-names_serve.true) tests)
+
+pub returns-then-names_serve-clause-selftest_complete : goal.returns-then-names_serve-clause-selftest_complete
+returns-then-names_serve-clause-selftest_complete g c tests = absurd (no_serve_tests c.args.words.now (c.names_serve.ensures.yes c.if-names_serve.true) tests)
+
+pub returns-then-names_serve-clause-selftest_refuses : goal.returns-then-names_serve-clause-selftest_refuses
+returns-then-names_serve-clause-selftest_refuses g c tests = absurd (no_serve_tests c.args.words.now (c.names_serve.ensures.yes c.if-names_serve.true) tests)
+
+pub returns-then-names_copy-clause-selftest : goal.returns-then-names_copy-clause-selftest
+returns-then-names_copy-clause-selftest g c tests = absurd (no_copy_tests c.args.words.now (c.names_copy.ensures.yes c.if-names_copy.true) tests)
+
+pub returns-then-names_copy-clause-selftest_known : goal.returns-then-names_copy-clause-selftest_known
+returns-then-names_copy-clause-selftest_known g c tests = absurd (no_copy_tests c.args.words.now (c.names_copy.ensures.yes c.if-names_copy.true) tests)
+
+pub returns-then-names_copy-clause-selftest_wires : goal.returns-then-names_copy-clause-selftest_wires
+returns-then-names_copy-clause-selftest_wires g c tests = absurd (no_copy_tests c.args.words.now (c.names_copy.ensures.yes c.if-names_copy.true) tests)
+
+pub returns-then-names_copy-clause-selftest_complete : goal.returns-then-names_copy-clause-selftest_complete
+returns-then-names_copy-clause-selftest_complete g c tests = absurd (no_copy_tests c.args.words.now (c.names_copy.ensures.yes c.if-names_copy.true) tests)
+
+pub returns-then-names_copy-clause-selftest_refuses : goal.returns-then-names_copy-clause-selftest_refuses
+returns-then-names_copy-clause-selftest_refuses g c tests = absurd (no_copy_tests c.args.words.now (c.names_copy.ensures.yes c.if-names_copy.true) tests)
+
+pub run_selftest-requires : goal.run_selftest-requires
+run_selftest-requires g c = c.names_selftest.ensures.yes c.if-names_selftest.true

@@ -1,6 +1,7 @@
-use Rattle.std.proofs.Common.{refl}
-use Rattle.lnbd_copy.proofs.AgreeLemmas.{tells}
+use Rattle.lnbd_copy.proofs.AgreeLemmas.{quiet_at, tells}
 use Rattle.lnbd_copy.proofs.agreeing.info_of.Goals as goal
 
 pub returns-then-info-lt-SIZE_END-clause-tells : goal.returns-then-info-lt-SIZE_END-clause-tells
-returns-then-info-lt-SIZE_END-clause-tells c = tells c.get-handle.result.now c.in-Some.info.now (c.if-not-is_quiet.ensures.ready refl) (c.if-not-is_quiet.ensures.quiet refl) c.in-Some.ensures.told c.args.index c.args.handles.now c.get-handle.ensures
+returns-then-info-lt-SIZE_END-clause-tells c =
+    let quiet = quiet_at c.args.handles.now c.args.index c.get.result.now.machine c.requires.quiet c.get.ensures in
+    tells c.get.result.now.machine c.in-Some.info.now quiet.ready quiet.quiet c.in-Some.ensures.told c.args.index c.args.handles.now c.get.ensures

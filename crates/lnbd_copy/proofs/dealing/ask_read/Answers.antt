@@ -4,4 +4,4 @@ use Rattle.lnbd_copy.proofs.dealing.ask_read.Goals as goal
 
 pub returns-in-Ok-clause-asked : goal.returns-in-Ok-clause-asked
 returns-in-Ok-clause-asked c =
-    is_asked _ (read_room _ c.args.offset _ (omega (arith, c.ranges.offset.fits))) c.get_mut.result.now c.aio_pread-answer.new.self (subst (λ (n : ℕ). n < 2 ^ 64) c.in-Ok.ensures.cookie c.told.ensures.small) c.in-Ok.ensures.stands c.args.index c.args.handles.now c.get_mut.ensures.value
+    is_asked _ (read_room _ c.args.offset _ (omega (arith, c.ranges.offset.fits))) c.get_mut.result.now.machine c.aio_pread-answer.new.self.machine (subst (λ (n : ℕ). n < 2 ^ 64) c.in-Ok.ensures.cookie c.told.ensures.small) c.in-Ok.ensures.stands c.args.index c.args.handles.now c.get_mut.ensures.value

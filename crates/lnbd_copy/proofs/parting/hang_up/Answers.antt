@@ -3,4 +3,4 @@ use Rattle.lnbd_copy.proofs.PartLemmas.{leaves_one}
 use Rattle.lnbd_copy.proofs.parting.hang_up.Goals as goal
 
 pub returns-clause-leaves : goal.returns-clause-leaves
-returns-clause-leaves g c = leaves_one _ _ _ _ _ _ c.args.index c.take-link.result c.take-link.ensures.value c.take-link.ensures.others (calls_filed _ _ _ c.close.ensures.world) c.shut.ensures.told
+returns-clause-leaves g c = leaves_one _ _ _ _ _ _ c.args.index (c.take-link.result.0, c.take-link.result.1.machine) c.take-link.ensures.value c.take-link.ensures.others (calls_filed _ _ _ c.close.ensures.world) c.shut.ensures.told

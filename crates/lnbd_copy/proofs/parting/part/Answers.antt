@@ -5,7 +5,7 @@ use Rattle.lnbd_copy.proofs.parting.part.Goals as goal
 
 pub handles-preserved : goal.handles-preserved
 handles-preserved c = record {
-  count = length_with c.handles.handles c.handles.index c.aio_disconnect.new.self ∙ c.handles.invariant.count;
+  count = length_with c.handles.handles c.handles.index c.aio_disconnect.new.self.machine ∙ c.handles.invariant.count;
   keeps = λ how sides now. keeps_on how sides now now now _ _ _ (c.handles.invariant.keeps how sides now)
-      (parts_or_not how sides now c.handles.index c.handles.handles _ c.aio_disconnect.new.self c.aio_disconnect.result c.get_mut.ensures.value c.aio_disconnect.ensures.stands);
+      (parts_or_not how sides now c.handles.index c.handles.handles _ c.aio_disconnect.new.self.machine c.aio_disconnect.result c.get_mut.ensures.value c.aio_disconnect.ensures.stands);
 }

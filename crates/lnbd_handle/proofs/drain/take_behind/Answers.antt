@@ -33,7 +33,7 @@ loop-used-preserved g c =
       places = subst (λ k. HasPlaces k.stage k.talk.phase k.talk.structured k.talk.extended k.commands.rows c.hold.new.pending) (sym same) (record {
         kept = c.in-More.ensures.kept;
         fits = subst (λ n. ReadsFit n c.loop-used.connection.commands.rows) (sym c.in-More.ensures.room) p.fits;
-        split = λ simply. c.in-More.ensures.split (within_lacks c.loop-used.connection c.loop-used.pending c.announced_in-announced.result c.deref.result.now c.split_at-in-loop-used.result.0.now c.lacking.result c.deref.ensures.value simply p.kept (p.split simply) c.announced_in-announced.ensures.brings
+        split = λ simply. c.in-More.ensures.split (p.split simply) (within_lacks c.loop-used.connection c.loop-used.pending c.announced_in-announced.result c.deref.result.now c.split_at-in-loop-used.result.0.now c.lacking.result c.deref.ensures.value simply p.kept (p.split simply) c.announced_in-announced.ensures.brings
             (λ whole. c.announced_in-announced.ensures.all (data_in c.loop-used.pending) simply whole (subst (λ h. ShowsNothing (state_of c.loop-used.connection) (h ++ data_in c.loop-used.pending)) (sym c.deref.ensures.value) c.loop-used.invariant.partial)) c.lacking.ensures.data c.lacking.ensures.head
             (omega (arith, ap length c.split_at-in-loop-used.ensures.front, length-take c.min-most.result c.split_at.result.1.now, c.min-most.ensures)));
         ordered = p.ordered;

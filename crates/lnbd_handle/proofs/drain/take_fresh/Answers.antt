@@ -1,7 +1,7 @@
-use Rattle.std.proofs.Common.{◌≡◌, ◌≤◌, [], true, drop, take, sym, subst, ◌∙◌}
+use Rattle.std.proofs.Common.{◌≡◌, ◌≤◌, [], true, length, drop, take, ap, sym, subst, ◌∙◌, arith, length-append}
 use Rattle.std.specs.Prelude.{vec_len}
 use Rattle.lnbd_model.specs.Kind.{is_read}
-use Rattle.lnbd_handle.specs.Held.{held_in}
+use Rattle.lnbd_handle.specs.Held.{data_in, held_in}
 use Rattle.lnbd_handle.specs.Runs.{Runs}
 use Rattle.lnbd_handle.specs.Seen.{machine_of}
 use Rattle.lnbd_handle.specs.Turns.{arriving}
@@ -34,3 +34,7 @@ returns-then-is_err-clause-memory g c calm =
     absurd (not_err c.hold_rest.result
     (c.hold_rest.ensures.memory (λ speaking. (runs_calm g.K.Caller.steps (take c.drain-taken.result.used c.args.bytes.now) (machine_of c.args.connection.now []) (machine_of c.drain-taken.new.connection []) c.args.world.now c.drain-taken.new.world c.drain-taken.ensures.drained.so_far calm speaking).0))
     (sym c.if-is_err.ensures.value))
+
+-- what holds nothing has no head
+pub returns-then-taken-clause-split : goal.returns-then-taken-clause-split
+returns-then-taken-clause-split g c simply = omega (arith, ap length c.requires.fresh, length-append c.args.pending.now.head.items (data_in c.args.pending.now))

@@ -3,7 +3,7 @@ use Rattle.lnbd_script.proofs.LineLemmas.{at_start, connect_answered}
 use Rattle.lnbd_script.proofs.answer.dial.Goals as goal
 
 pub returns-in-Ok-clause-told : goal.returns-in-Ok-clause-told
-returns-in-Ok-clause-told g c seen at = connect_answered seen c.args.session.now _ c.args.to.now _ _ (Some c.in-Ok.link) at (at_start c.args.session.now.handle c.requires.created) c.in-Ok.ensures.told (c.start.ensures.started seen at)
+returns-in-Ok-clause-told g c seen at = connect_answered seen c.args.session.now _ c.args.to.now _ _ (Some c.in-Ok.link) at (at_start c.args.session.now.handle.machine c.requires.created) c.in-Ok.ensures.told (c.start.ensures.started seen at)
 
 pub returns-in-Err-clause-told : goal.returns-in-Err-clause-told
-returns-in-Err-clause-told g c seen at = connect_answered seen c.args.session.now _ c.args.to.now _ _ None at (at_start c.args.session.now.handle c.requires.created) c.in-Err.ensures.told (c.blame.ensures.noted seen at)
+returns-in-Err-clause-told g c seen at = connect_answered seen c.args.session.now _ c.args.to.now _ _ None at (at_start c.args.session.now.handle.machine c.requires.created) c.in-Err.ensures.told (c.blame.ensures.noted seen at)

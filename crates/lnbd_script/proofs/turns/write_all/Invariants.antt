@@ -12,4 +12,4 @@ invariant-writing g l = record {
 }
 
 abbrev pub decreases-writing : goal.decreases-writing
-decreases-writing g l = total l.session.handle.known.waits
+decreases-writing g l = total l.session.handle.machine.known.waits

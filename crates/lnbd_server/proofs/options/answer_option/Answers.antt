@@ -1,4 +1,4 @@
-use Rattle.std.proofs.Common.{◌≡◌, Option, Some, None, Err, sym, subst}
+use Rattle.std.proofs.Common.{◌≡◌, Option, Err, sym, subst}
 use Rattle.std.specs.Prelude.{IfOk}
 use Rattle.lnbd_records.specs.Requests.{asked_of}
 use Rattle.lnbd_options.specs.Answers.{AskedAs}

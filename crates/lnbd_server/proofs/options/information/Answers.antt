@@ -1,6 +1,3 @@
-use Rattle.std.proofs.Common.{ℕ, List, ◌++◌, ap, ◌∙◌}
-use Rattle.lnbd_export.specs.Export.{size}
-use Rattle.lnbd_server.specs.Options.{put_reply, size_told, blocks_told, acknowledged, told_if, flags_of}
 use Rattle.lnbd_server.proofs.Puts.{informed_as}
 use Rattle.lnbd_server.proofs.options.information.Goals as goal
 

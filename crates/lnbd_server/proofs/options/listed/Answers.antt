@@ -1,4 +1,4 @@
-use Rattle.std.proofs.Common.{◌≡◌, ℕ, List, [], ◌∷◌, ◌++◌, ◌<◌, ◌+◌, ◌^◌, length, ap, sym, ◌∙◌, arith, length-append}
+use Rattle.std.proofs.Common.{◌≡◌, ℕ, List, [], ◌∷◌, ◌++◌, ◌+◌, length, ap, ◌∙◌, arith, length-append}
 use Rattle.lnbd_records.specs.Numbers.{number, row, counted}
 use Rattle.lnbd_records.proofs.NumberLaws.{length-row}
 use Rattle.lnbd_server.specs.Options.{put_reply, export_told, acknowledged, listing}

@@ -1,4 +1,4 @@
-use Rattle.std.proofs.Common.{◌≡◌, ℕ, List, ◌++◌, Bool, replicate, sym, ap, ◌∙◌, append-nil}
+use Rattle.std.proofs.Common.{ℕ, ◌++◌, Bool, replicate, sym, ap, ◌∙◌, append-nil}
 use Rattle.lnbd_records.specs.Handshake.{padding}
 use Rattle.lnbd_server.proofs.options.push_padding.Goals as goal
 

@@ -1,4 +1,4 @@
-use Rattle.std.proofs.Common.{◌≡◌, ℕ, List, [], ◌∷◌, ◌++◌, ◌+◌, ◌<◌, ◌^◌, length, sym, subst, ap, ◌∙◌, append-nil, arith}
+use Rattle.std.proofs.Common.{◌≡◌, ℕ, List, [], ◌∷◌, ◌++◌, length, subst, ap, ◌∙◌, append-nil, arith}
 use Rattle.std.specs.Prelude.{OnOk}
 use Rattle.lnbd_records.specs.Numbers.{number, row}
 use Rattle.lnbd_records.proofs.NumberLaws.{length-row}

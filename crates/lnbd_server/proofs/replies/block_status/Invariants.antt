@@ -1,4 +1,4 @@
-use Rattle.std.proofs.Common.{◌≡◌, ◌+◌, ◌*◌, ◌++◌, length, take}
+use Rattle.std.proofs.Common.{◌≡◌, ◌+◌, ◌*◌, length, take}
 use Rattle.lnbd_records.specs.Numbers.{row}
 use Rattle.lnbd_records.specs.Transmission.{block_status}
 use Rattle.lnbd_server.proofs.replies.block_status.Given as goal

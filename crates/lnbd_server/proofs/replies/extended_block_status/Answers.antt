@@ -1,4 +1,4 @@
-use Rattle.std.proofs.Common.{◌≡◌, ℕ, ◌+◌, List, [], ◌∷◌, ◌++◌, length, ap, ◌∙◌, arith, length-append}
+use Rattle.std.proofs.Common.{◌≡◌, ℕ, List, [], ◌∷◌, ◌++◌, length, ap, ◌∙◌, arith}
 use Rattle.lnbd_records.specs.Numbers.{number, row}
 use Rattle.lnbd_records.proofs.NumberLaws.{length-row}
 use Rattle.lnbd_options.proofs.PutLemmas.{more}

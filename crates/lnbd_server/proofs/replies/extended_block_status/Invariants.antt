@@ -1,4 +1,4 @@
-use Rattle.std.proofs.Common.{◌≡◌, ◌+◌, ◌*◌, ◌++◌, ◌∷◌, length, take, flat_map}
+use Rattle.std.proofs.Common.{◌≡◌, ◌+◌, ◌*◌, ◌∷◌, length, take, flat_map}
 use Rattle.lnbd_records.specs.Numbers.{number, row}
 use Rattle.lnbd_records.specs.Transmission.{extended_descriptor}
 use Rattle.lnbd_server.proofs.replies.extended_block_status.Given as goal

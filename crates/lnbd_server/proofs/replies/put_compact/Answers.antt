@@ -1,4 +1,4 @@
-use Rattle.std.proofs.Common.{◌≡◌, ℕ, List, ◌++◌, length, sym, subst, ap, ◌∙◌, length-append}
+use Rattle.std.proofs.Common.{◌≡◌, ℕ, List, ◌++◌, sym, subst, ap, ◌∙◌, length-append}
 use Rattle.std.specs.Prelude.{OnOk}
 use Rattle.lnbd_records.specs.Numbers.{row}
 use Rattle.lnbd_records.specs.Transmission.{chunk_head}

@@ -1,7 +1,5 @@
 use Rattle.std.proofs.Common.{◌≡◌, ℕ, List, ◌++◌, subst, ap, ◌∙◌, append-nil}
 use Rattle.std.specs.Prelude.{OnOk}
-use Rattle.lnbd_records.specs.Numbers.{row}
-use Rattle.lnbd_records.specs.Transmission.{simple_reply}
 use Rattle.lnbd_server.proofs.replies.put_plain.Goals as goal
 
 pub returns-clause-ok : goal.returns-clause-ok

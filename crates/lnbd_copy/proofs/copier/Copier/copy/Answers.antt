@@ -1,8 +1,8 @@
-use Rattle.std.proofs.Common.{◌≡◌, List, Option, ap, sym, subst, ◌∙◌}
+use Rattle.std.proofs.Common.{List, Option, ap, sym, subst, ◌∙◌}
 use Rattle.lnbd_link.specs.Call.{Call}
 use Rattle.lnbd_copy.specs.Copier.{IsOnItsWay, Seen}
 use Rattle.lnbd_copy.proofs.CauseLemmas.{goes_as, goes_then}
-use Rattle.lnbd_copy.proofs.EndLemmas.{all_then, moved_on, rested, still_on}
+use Rattle.lnbd_copy.proofs.EndLemmas.{all_then, finished_on, moved_on, rested, still_on}
 use Rattle.lnbd_copy.proofs.copier.Copier.copy.Goals as goal
 use Rattle.lnbd_copy.proofs.copier.Copier.copy.Goals.{in-Moved, in-Still+in_ok-rest-in-Still}
 
@@ -15,10 +15,9 @@ turns-preserved g c =
       | in-Moved w ↦ record {
         start = ap (λ (s : Seen). s.start) w.self-is ∙ ap (λ (s : Seen). s.start) turn.kept ∙ was.start;
         kept = all_then c.args.self.now c.turns.self c.turn.new.self c.match-branch-3.self was.kept turn.kept w.self-is;
-        on = λ none.
-            subst (λ (s : Seen). IsOnItsWay start (g.W.Wires.told c.match-branch-3.wires) s) (sym w.self-is)
+        on = subst (λ (s : Seen). IsOnItsWay start (g.W.Wires.told c.match-branch-3.wires) s) (sym w.self-is)
             (subst (λ (t : Option (List Call)). IsOnItsWay start t c.turn.new.self) (sym (ap g.W.Wires.told w.wires-is))
-            (moved_on start _ c.turn.new.self c.in_ok-turn.field-0 _ w.in-Moved.is (turn.turns start (was.on none))));
+            (moved_on start _ c.turn.new.self c.in_ok-turn.field-0 _ w.in-Moved.is (turn.turns start was.on)));
         counts = goes_as _ _ _ _ _ _ _ _ _ (ap g.W.Wires.faults w.wires-is) (ap g.W.Wires.idles w.wires-is) (ap g.W.Wires.contents w.wires-is) (goes_then _ _ _ _ _ _ _ _ _ was.counts turn.counts);
       }
       | in-Still+in_ok-rest-in-Still w ↦
@@ -26,11 +25,16 @@ turns-preserved g c =
           record {
             start = ap (λ (s : Seen). s.start) w.self-is ∙ ap (λ (s : Seen). s.start) rest.kept ∙ ap (λ (s : Seen). s.start) turn.kept ∙ was.start;
             kept = all_then c.args.self.now c.turns.self w.rest.new.self c.match-branch-3.self was.kept (rested c.turns.self c.turn.new.self w.rest.new.self turn.kept rest.kept) w.self-is;
-            on = λ none.
-                subst (λ (s : Seen). IsOnItsWay start (g.W.Wires.told c.match-branch-3.wires) s) (sym w.self-is)
+            on = subst (λ (s : Seen). IsOnItsWay start (g.W.Wires.told c.match-branch-3.wires) s) (sym w.self-is)
                 (subst (λ (t : Option (List Call)). IsOnItsWay start t w.rest.new.self) (sym (ap g.W.Wires.told w.wires-is))
-                (rest.on start (still_on start _ c.turn.new.self c.in_ok-turn.field-0 w.in-Still.is (turn.turns start (was.on none)))));
+                (rest.on start (still_on start _ c.turn.new.self c.in_ok-turn.field-0 w.in-Still.is (turn.turns start was.on))));
             counts = goes_as _ _ _ _ _ _ _ _ _ (ap g.W.Wires.faults w.wires-is) (ap g.W.Wires.idles w.wires-is) (ap g.W.Wires.contents w.wires-is)
                 (goes_then _ _ _ _ _ _ _ _ _ was.counts (goes_then _ _ _ _ _ _ _ _ _ turn.counts rest.counts));
           }
     ]
+
+pub turn-requires-clause-going : goal.turn-requires-clause-going
+turn-requires-clause-going g c = record { start = g.W.Wires.told c.args.wires.now; on = c.turns.invariant.on }
+
+pub returns-in-Finished-clause-done : goal.returns-in-Finished-clause-done
+returns-in-Finished-clause-done g c = finished_on _ _ _ _ _ c.in-Finished.is (c.in_ok-turn.ensures.turns (g.W.Wires.told c.args.wires.now) c.turns.invariant.on)

@@ -1,4 +1,4 @@
-use Rattle.std.proofs.Common.{◌≡◌, ◌+◌, ap, sym, subst, ◌∙◌, length, arith, ℕ}
+use Rattle.std.proofs.Common.{◌+◌, length, arith}
 use Rattle.lnbd_copy.proofs.CauseLemmas.{goes_then}
 use Rattle.lnbd_copy.proofs.CopierLemmas.{destination_more, kept_then}
 use Rattle.lnbd_copy.proofs.SideLemmas.{behind_source}

@@ -1,4 +1,4 @@
-use Rattle.std.proofs.Common.{◌≡◌, ◌+◌, ap, sym, subst, ◌∙◌, length, arith, ℕ}
+use Rattle.std.proofs.Common.{◌+◌, ap, ◌∙◌, arith, ℕ}
 use Rattle.lnbd_copy.specs.Way.{is_source}
 use Rattle.lnbd_copy.proofs.CauseLemmas.{goes_then}
 use Rattle.lnbd_copy.proofs.CopierLemmas.{kept_then, source_more}

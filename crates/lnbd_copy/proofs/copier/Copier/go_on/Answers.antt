@@ -1,6 +1,6 @@
 use Rattle.std.proofs.Common.{refl, ap, sym, ◌∙◌}
 use Rattle.lnbd_copy.specs.Copier.{Seen}
-use Rattle.lnbd_copy.proofs.EndLemmas.{finished}
+use Rattle.lnbd_copy.proofs.EndLemmas.{finished, has_job, way_asks}
 use Rattle.lnbd_copy.proofs.copier.Copier.go_on.Goals as goal
 
 pub returns-then-is_finished-clause-turns : goal.returns-then-is_finished-clause-turns
@@ -11,3 +11,16 @@ returns-then-is_finished-clause-turns g c start on =
 
 pub returns-clause-turns : goal.returns-clause-turns
 returns-clause-turns g c start on = c.progress_of.ensures start _ _ (c.part-parted.ensures.on start (c.in_ok-acted.ensures.on start _ (c.in_ok-moved.ensures.on start on)))
+
+pub act-requires : goal.act-requires
+act-requires g c = has_job c.requires.going.start _ _ (c.in_ok-moved.ensures.on c.requires.going.start c.requires.going.on)
+
+pub returns-then-is_finished-clause-asks : goal.returns-then-is_finished-clause-asks
+returns-then-is_finished-clause-asks g c start on two =
+    let left = c.part-parted.ensures.on start (c.in_ok-acted.ensures.on start _ (c.in_ok-moved.ensures.on start on)) in
+    way_asks _ start _ (sym (ap (λ (s : Seen). s.board.error) c.self.view_is) ∙ c.in_ok-check_answers.ensures.well) left two
+
+pub returns-clause-asks : goal.returns-clause-asks
+returns-clause-asks g c start on two =
+    let left = c.part-parted.ensures.on start (c.in_ok-acted.ensures.on start _ (c.in_ok-moved.ensures.on start on)) in
+    way_asks _ start _ (sym (ap (λ (s : Seen). s.board.error) c.self.view_is) ∙ c.in_ok-check_answers.ensures.well) left two

@@ -1,25 +1,35 @@
-use Rattle.std.proofs.Common.{ap, Result, Ok, Err, IfOk, OnOk}
-use Rattle.lnbd_copy.specs.Agreed.{AreAgreed}
-use Rattle.lnbd_copy.specs.Copier.{HasMet, Seen}
-use Rattle.lnbd_copy.specs.declared.terms.Terms.{Terms}
+use Rattle.std.proofs.Common.{◌∙◌, ap, sym, subst, arith, length}
+use Rattle.lnbd_copy.specs.Agreed.{AreQuiet}
+use Rattle.lnbd_copy.specs.Copier.{Seen}
 use Rattle.lnbd_copy.proofs.CopierLemmas.{always_on_ok, if_ok_leads, meets, two_meet}
 use Rattle.lnbd_copy.proofs.copier.Copier.meet.Goals as goal
 
 pub returns-clause-met : goal.returns-clause-met
-returns-clause-met g c none =
+returns-clause-met g c =
     if_ok_leads c.agree.result
     (λ terms agreed. meets c.args.self.now c.dial_source.new.self c.settle.new.self c.dial_destination.new.self c.settle-2.new.self _ _ _ _ _ c.self-2.inside.options c.self-2.inside.handles terms
     c.in_ok-dial_source.ensures.kept c.in_ok-settle.ensures.kept c.in_ok-dial_destination.ensures.kept c.in_ok-settle-2.ensures.kept c.in_ok-dial_source.ensures.board c.in_ok-dial_destination.ensures.board
     (ap (λ (s : Seen). s.options) c.self-2.view_is) (ap (λ (s : Seen). s.held) c.self-2.view_is)
-    c.in_ok-dial_source.ensures.dials c.in_ok-settle.ensures.goes c.in_ok-dial_destination.ensures.dials c.in_ok-settle-2.ensures.goes none agreed)
+    c.in_ok-dial_source.ensures.dials c.in_ok-settle.ensures.goes c.in_ok-dial_destination.ensures.dials c.in_ok-settle-2.ensures.goes c.requires.begun agreed)
     c.agree.ensures.agrees
 
 pub returns-clause-many : goal.returns-clause-many
 returns-clause-many g c = if_ok_leads c.agree.result (λ terms agreed. agreed.some) c.agree.ensures.agrees
 
 pub returns-clause-two : goal.returns-clause-two
-returns-clause-two g c none =
+returns-clause-two g c =
     always_on_ok c.agree.result
     (two_meet c.args.self.now c.dial_source.new.self c.settle.new.self c.dial_destination.new.self c.settle-2.new.self _ _ _ _ _
     c.in_ok-dial_source.ensures.kept c.in_ok-settle.ensures.kept c.in_ok-dial_source.ensures.board c.in_ok-dial_destination.ensures.board
-    c.in_ok-dial_source.ensures.dials c.in_ok-settle.ensures.goes c.in_ok-dial_destination.ensures.dials c.in_ok-settle-2.ensures.goes none)
+    c.in_ok-dial_source.ensures.dials c.in_ok-settle.ensures.goes c.in_ok-dial_destination.ensures.dials c.in_ok-settle-2.ensures.goes c.requires.begun)
+
+pub agree-requires-clause-both : goal.agree-requires-clause-both
+agree-requires-clause-both g c =
+    let two = ap (λ (s : Seen). length s.held) c.self-2.view_is
+    ∙ two_meet c.args.self.now c.dial_source.new.self c.settle.new.self c.dial_destination.new.self c.settle-2.new.self _ _ _ _ _
+    c.in_ok-dial_source.ensures.kept c.in_ok-settle.ensures.kept c.in_ok-dial_source.ensures.board c.in_ok-dial_destination.ensures.board
+    c.in_ok-dial_source.ensures.dials c.in_ok-settle.ensures.goes c.in_ok-dial_destination.ensures.dials c.in_ok-settle-2.ensures.goes c.requires.begun in
+    omega (arith, two)
+
+pub agree-requires-clause-quiet : goal.agree-requires-clause-quiet
+agree-requires-clause-quiet g c = subst (λ (s : Seen). AreQuiet s.held) (sym c.self-2.view_is) c.in_ok-settle-2.ensures.quiet

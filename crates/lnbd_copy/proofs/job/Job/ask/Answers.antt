@@ -1,4 +1,4 @@
-use Rattle.std.proofs.Common.{true, false, refl, ap, sym, subst, ◌∙◌}
+use Rattle.std.proofs.Common.{true, refl, ap, sym, subst, ◌∙◌}
 use Rattle.lnbd_copy.specs.Job.{Acts, Seen}
 use Rattle.lnbd_copy.proofs.JobLemmas.{acts_asked}
 use Rattle.lnbd_copy.proofs.job.Job.ask.Goals as goal

@@ -8,4 +8,4 @@ returns-clause-acts c =
     let was : Seen = record { terms = c.self.inside.terms; windows = c.self.inside.windows; asked = c.self.inside.asked; phase = c.self.inside.phase } in
     let new : Seen = record { terms = c.self.inside.terms; windows = c.begin.new.windows; asked = c.self.inside.asked; phase = c.self.inside.phase } in
     subst (λ (j : Seen). Acts j new c.args.board.now c.begin.new.board c.args.handles.now c.begin.new.handles) c.self.view_is
-    (acts_begun was new c.begin.new.windows c.args.board.now.how c.self.inside.bindings c.args.board.now c.begin.new.board c.args.handles.now c.begin.new.handles (ap (λ (j : Seen). j.phase) c.self.view_is ∙ c.requires.copying) (c.requires.how ∙ sym (ap (λ (j : Seen). j.terms.how) c.self.view_is)) c.self.invariant.sides_ refl c.in_ok-begun.ensures.begins)
+    (acts_begun was new c.begin.new.windows c.args.board.now.how c.self.inside.bindings c.args.board.now c.begin.new.board c.args.handles.now c.begin.new.handles (ap (λ (j : Seen). j.phase) c.self.view_is ∙ c.requires.copying) (c.requires.how ∙ sym (ap (λ (j : Seen). j.terms.how) c.self.view_is)) c.self.invariant.bound refl c.in_ok-begun.ensures.begins)

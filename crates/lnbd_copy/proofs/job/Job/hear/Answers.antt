@@ -14,4 +14,4 @@ returns-clause-acts c = λ held.
     subst (λ (told : List Extent). (blank : ℕ → Bool) (slices : List Slice) → windows.IsPlanned c.self.inside.windows blank slices → windows.IsPlanned c.hear.new.self (λ p. blank p || windows.zero_heard (windows.wanted c.self.inside.windows) told p) slices)
     c.told.ensures c.in_ok-hear.ensures.planned in
     subst (λ (j : Seen). Acts j new c.args.board.now c.args.board.now held held) c.self.view_is
-    (acts_heard was new c.hear.new.self c.args.board.now held (ap (λ (j : Seen). j.phase) c.self.view_is ∙ c.requires) (ap (λ (j : Seen). j.asked) c.self.view_is ∙ c.has_come.ensures.asked c.if-not-has_come.false) (c.has_come.ensures.mapped c.if-not-has_come.false) refl c.hear.ensures.cells hears)
+    (acts_heard was new c.hear.new.self c.args.board.now held (ap (λ (j : Seen). j.phase) c.self.view_is ∙ c.requires) (ap (λ (j : Seen). j.asked) c.self.view_is ∙ c.has_come.ensures.asked c.if-not-has_come.false) (c.has_come.ensures.mapped c.if-not-has_come.false) refl c.hear.ensures.cells c.hear.ensures.size hears)

@@ -1,4 +1,4 @@
-use Rattle.std.proofs.Common.{◌≡◌, ◌<◌, ◌+◌, ◌-◌, ◌||◌, ℕ, Bool, List, subst, arith}
+use Rattle.std.proofs.Common.{◌≡◌, ◌<◌, ◌≤◌, ◌+◌, ◌-◌, ◌||◌, ℕ, Bool, List, subst, arith}
 use Rattle.lnbd_plan.specs.declared.grid.Slice.{Slice}
 use Rattle.lnbd_copy.specs.Windows.{Seen, IsPlanned, wanted, zero_heard}
 use Rattle.lnbd_copy.proofs.WindowLemmas.{window_kept, hear_wholly}
@@ -20,6 +20,10 @@ returns-clause-planned c =
     let was : Seen = record { plan = c.self.inside.plan; size = c.self.inside.size; at = c.self.inside.at; zero = c.self.inside.zero } in
     let now : Seen = record { plan = c.window.new.self; size = c.self.inside.size; at = c.self.inside.at + c.passed.result; zero = c.new.result } in
     let left : c.self.inside.at < c.end_of-end.result = omega arith in
+    let ahead = c.self.invariant.ahead in
+    let order = c.end_of-end.ensures.order in
+    let most = c.passed.ensures in
+    let fits : c.self.inside.start + (c.self.inside.at + c.passed.result - c.self.inside.start) ≤ c.self.inside.size = omega arith in
     subst (λ (w : Seen). (blank : ℕ → Bool) (slices : List Slice) → IsPlanned w blank slices → IsPlanned now (λ p. blank p || zero_heard (wanted w) c.args.told.now p) slices) c.self.view_is
     (hear_wholly was c.self.inside.start c.end_of-end.result c.args.told.now c.deref.result.now c.in_ok-joined.joined.items c.hold_zeroes.new.zero c.self.invariant.begins c.end_of-end.ensures.end left c.deref.ensures.value c.in_ok-joined.ensures
-    c.in_ok-reached.ensures.held now (c.self.inside.at + c.passed.result - c.self.inside.start) c.in_ok-window.ensures.ok c.new.ensures)
+    c.in_ok-reached.ensures.held now (c.self.inside.at + c.passed.result - c.self.inside.start) c.in_ok-window.ensures.ok fits c.new.ensures)

@@ -12,5 +12,8 @@ invariant_of-self-2 c =
 
 pub returns-clause-planned : goal.returns-clause-planned
 returns-clause-planned c = λ blank slices planned.
+    let ahead = c.self.invariant.ahead in
+    let inside = c.self.invariant.inside in
+    let fits : c.self.inside.start + (c.self.inside.size - c.self.inside.start) ≤ c.self.inside.size = omega arith in
     let was = subst (λ (w : Seen). IsPlanned w blank slices) (sym c.self.view_is) planned in
-    window_planned _ _ blank slices c.self.inside.start (c.self.inside.size - c.self.inside.start) c.self.inside.zero was c.self.invariant.begins c.in_ok-window.ensures.ok was.under_way was.under_way
+    window_planned _ _ blank slices c.self.inside.start (c.self.inside.size - c.self.inside.start) c.self.inside.zero was c.self.invariant.begins c.in_ok-window.ensures.ok fits was.under_way was.under_way

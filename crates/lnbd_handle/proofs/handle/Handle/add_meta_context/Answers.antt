@@ -8,4 +8,4 @@ use Rattle.lnbd_handle.proofs.handle.Handle.add_meta_context.Goals as goal
 pub returns-clause-stands : goal.returns-clause-stands
 returns-clause-stands g c =
     let new = machine_of (record c.self.inside.connection { talk = c.add_context.new.self }) (held_in c.self.inside.pending) in
-    adds (Set (Context c.args.name)) c.args.self.now new (λ history. refl) (search rules) (search rules)
+    adds (Set (Context c.args.name)) c.args.self.now.machine new (λ history. refl) (search rules) (search rules)

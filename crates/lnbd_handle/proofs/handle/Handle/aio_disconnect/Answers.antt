@@ -7,4 +7,4 @@ use Rattle.lnbd_handle.proofs.handle.Handle.aio_disconnect.Goals as goal
 
 pub returns-clause-stands : goal.returns-clause-stands
 returns-clause-stands g c =
-    adds Disconnect c.args.self.now (machine_of c.say_goodbye.new.connection (held_in c.self.inside.pending)) (λ history. refl) (search rules) (search rules)
+    adds Disconnect c.args.self.now.machine (machine_of c.say_goodbye.new.connection (held_in c.self.inside.pending)) (λ history. refl) (search rules) (search rules)

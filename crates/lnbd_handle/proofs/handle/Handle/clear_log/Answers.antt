@@ -6,6 +6,7 @@ use Rattle.lnbd_commands.specs.Commands.{Commands}
 use Rattle.lnbd_handle.specs.Held.{held_in}
 use Rattle.lnbd_handle.specs.Seen.{IsSound, machine_of, state_of}
 use Rattle.lnbd_handle.proofs.PlacesLemmas.{PlacesAt}
+use Rattle.lnbd_handle.proofs.PlacingLemmas.{same_machine}
 use Rattle.lnbd_handle.proofs.handle.Handle.clear_log.Goals as goal
 
 pub invariant_of-self : goal.invariant_of-self
@@ -18,4 +19,4 @@ invariant_of-self g c =
 pub returns-clause-step : goal.returns-clause-step
 returns-clause-step g c =
     ap (λ (m : Commands g.row.K.Denot). machine_of (record c.self.inside.connection { commands = m }) (held_in c.self.inside.pending)) c.clear_log.ensures
-    ∙ ap (λ (m : Machine g.row.K.Denot). step m ClearLog) c.self.view_is
+    ∙ ap (λ (m : Machine g.row.K.Denot). step m ClearLog) (same_machine c.self.view_is)

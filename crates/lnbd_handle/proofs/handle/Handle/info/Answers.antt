@@ -4,4 +4,4 @@ use Rattle.lnbd_handle.proofs.HistoryLemmas.{info_told}
 use Rattle.lnbd_handle.proofs.handle.Handle.info.Goals as goal
 
 pub returns-clause-told : goal.returns-clause-told
-returns-clause-told g c = info_told c.args.self.now (option_copied c.info.result) (search rules)
+returns-clause-told g c = info_told c.args.self.now.machine (option_copied c.info.result) (search rules)

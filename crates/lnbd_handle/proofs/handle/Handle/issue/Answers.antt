@@ -9,6 +9,7 @@ use Rattle.lnbd_handle.proofs.IssueLemmas.{faults_partial, issued_partial, same_
 use Rattle.lnbd_handle.proofs.HistoryLemmas.{adds_fault, issue_adds}
 use Rattle.lnbd_handle.proofs.HeadLemmas.{ok_of}
 use Rattle.lnbd_handle.proofs.PlacesLemmas.{places_as, places_fault, places_grown, places_issued}
+use Rattle.lnbd_handle.proofs.PlacingLemmas.{same_machine}
 use Rattle.lnbd_handle.proofs.handle.Handle.issue.Goals as goal
 use Rattle.lnbd_handle.proofs.handle.Handle.issue.Goals.{in-Ok, in-Err}
 
@@ -48,13 +49,13 @@ invariant_of-self-then-is_err g c = (
 
 pub returns-in-Some-clause-faults : goal.returns-in-Some-clause-faults
 returns-in-Some-clause-faults g c =
-    subst (λ (m : Machine g.row.K.Denot). Faults g.K.Caller.steps (command_of c.args.asked) c.refuse.result m (machine_of c.refuse.new.connection (held_in c.self.inside.pending)) c.args.world.now c.refuse.new.world) c.self.view_is
+    subst (λ (m : Machine g.row.K.Denot). Faults g.K.Caller.steps (command_of c.args.asked) c.refuse.result m (machine_of c.refuse.new.connection (held_in c.self.inside.pending)) c.args.world.now c.refuse.new.world) (same_machine c.self.view_is)
     (c.refuse.ensures.faults (held_in c.self.inside.pending))
 
 pub returns-in-Some-clause-fault_stands : goal.returns-in-Some-clause-fault_stands
 returns-in-Some-clause-fault_stands g c =
-    adds_fault g.K.Caller.steps c.args.self.now (machine_of c.refuse.new.connection (held_in c.self.inside.pending)) c.args.world.now c.refuse.new.world (command_of c.args.asked) c.refuse.result (returns-in-Some-clause-faults g c)
+    adds_fault g.K.Caller.steps c.args.self.now.machine (machine_of c.refuse.new.connection (held_in c.self.inside.pending)) c.args.world.now c.refuse.new.world (command_of c.args.asked) c.refuse.result (returns-in-Some-clause-faults g c)
 
 pub returns-clause-stands : goal.returns-clause-stands
 returns-clause-stands g c =
-    issue_adds (command_of c.args.asked) c.args.self.now (machine_of c.issue.new.connection (held_in c.room_for.new.pending)) c.match-issue.result c.requires.write (search rules) (search rules)
+    issue_adds (command_of c.args.asked) c.args.self.now.machine (machine_of c.issue.new.connection (held_in c.room_for.new.pending)) c.match-issue.result c.requires.write (search rules) (search rules)

@@ -12,13 +12,14 @@ use Rattle.lnbd_handle.proofs.EndLemmas.{partial_none, runs_finish}
 use Rattle.lnbd_handle.proofs.HistoryLemmas.{adds_answered}
 use Rattle.lnbd_handle.proofs.PlacesLemmas.{places_ended}
 use Rattle.lnbd_handle.proofs.RoomLemmas.{kill_lasting}
+use Rattle.lnbd_handle.proofs.PlacingLemmas.{same_machine}
 use Rattle.lnbd_handle.proofs.handle.Handle.link_failed.Goals as goal
 
 pub returns-in-Open-clause-answered : goal.returns-in-Open-clause-answered
 returns-in-Open-clause-answered g c =
     let old = machine_of c.self.inside.connection (held_in c.self.inside.pending) in
     let new = machine_of c.die.new.connection (held_in c.clear.new.self) in
-    subst (λ m. Answered g.K.Caller.steps LinkFailed m new c.args.world.now c.die.new.world) c.self.view_is
+    subst (λ m. Answered g.K.Caller.steps LinkFailed m new c.args.world.now c.die.new.world) (same_machine c.self.view_is)
     (answered g.K.Caller.steps LinkFailed (failed_at c.self.inside.connection.stage) old new c.args.world.now c.die.new.world (λ answers. refl)
     (runs_finish g.K.Caller.steps (kill cause.LinkFailed) (failed_at c.self.inside.connection.stage) old new c.args.world.now c.die.new.world
     (λ answers made. ap (λ s. failed_at s (under old answers made)) c.in-Open.is) c.clear.ensures.empty c.die.ensures.acts))
@@ -27,7 +28,7 @@ pub returns-in-Disconnecting-clause-answered : goal.returns-in-Disconnecting-cla
 returns-in-Disconnecting-clause-answered g c =
     let old = machine_of c.self.inside.connection (held_in c.self.inside.pending) in
     let new = machine_of c.die-in-Disconnecting.new.connection (held_in c.clear-in-Disconnecting.new.self) in
-    subst (λ m. Answered g.K.Caller.steps LinkFailed m new c.args.world.now c.die-in-Disconnecting.new.world) c.self.view_is
+    subst (λ m. Answered g.K.Caller.steps LinkFailed m new c.args.world.now c.die-in-Disconnecting.new.world) (same_machine c.self.view_is)
     (answered g.K.Caller.steps LinkFailed (failed_at c.self.inside.connection.stage) old new c.args.world.now c.die-in-Disconnecting.new.world (λ answers. refl)
     (runs_finish g.K.Caller.steps (kill cause.LinkFailed) (failed_at c.self.inside.connection.stage) old new c.args.world.now c.die-in-Disconnecting.new.world
     (λ answers made. ap (λ s. failed_at s (under old answers made)) c.in-Disconnecting.is) c.clear-in-Disconnecting.ensures.empty c.die-in-Disconnecting.ensures.acts))
@@ -36,34 +37,34 @@ pub returns-in-Aborting-clause-answered : goal.returns-in-Aborting-clause-answer
 returns-in-Aborting-clause-answered g c =
     let old = machine_of c.self.inside.connection (held_in c.self.inside.pending) in
     let new = machine_of c.die-in-Aborting.new.connection (held_in c.clear-in-Aborting.new.self) in
-    subst (λ m. Answered g.K.Caller.steps LinkFailed m new c.args.world.now c.die-in-Aborting.new.world) c.self.view_is
+    subst (λ m. Answered g.K.Caller.steps LinkFailed m new c.args.world.now c.die-in-Aborting.new.world) (same_machine c.self.view_is)
     (answered g.K.Caller.steps LinkFailed (failed_at c.self.inside.connection.stage) old new c.args.world.now c.die-in-Aborting.new.world (λ answers. refl)
     (runs_finish g.K.Caller.steps (kill cause.LinkFailed) (failed_at c.self.inside.connection.stage) old new c.args.world.now c.die-in-Aborting.new.world
     (λ answers made. ap (λ s. failed_at s (under old answers made)) c.in-Aborting.is) c.clear-in-Aborting.ensures.empty c.die-in-Aborting.ensures.acts))
 
 pub returns-in-Open-clause-stands : goal.returns-in-Open-clause-stands
 returns-in-Open-clause-stands g c =
-    adds_answered g.K.Caller.steps c.args.self.now (machine_of c.die.new.connection (held_in c.clear.new.self)) c.args.world.now c.die.new.world LinkFailed (λ answers history. refl) (λ answers. tt) (returns-in-Open-clause-answered g c)
+    adds_answered g.K.Caller.steps c.args.self.now.machine (machine_of c.die.new.connection (held_in c.clear.new.self)) c.args.world.now c.die.new.world LinkFailed (λ answers history. refl) (λ answers. tt) (returns-in-Open-clause-answered g c)
 
 pub returns-in-Disconnecting-clause-stands : goal.returns-in-Disconnecting-clause-stands
 returns-in-Disconnecting-clause-stands g c =
-    adds_answered g.K.Caller.steps c.args.self.now (machine_of c.die-in-Disconnecting.new.connection (held_in c.clear-in-Disconnecting.new.self)) c.args.world.now c.die-in-Disconnecting.new.world LinkFailed (λ answers history. refl) (λ answers. tt) (returns-in-Disconnecting-clause-answered g c)
+    adds_answered g.K.Caller.steps c.args.self.now.machine (machine_of c.die-in-Disconnecting.new.connection (held_in c.clear-in-Disconnecting.new.self)) c.args.world.now c.die-in-Disconnecting.new.world LinkFailed (λ answers history. refl) (λ answers. tt) (returns-in-Disconnecting-clause-answered g c)
 
 pub returns-in-Aborting-clause-stands : goal.returns-in-Aborting-clause-stands
 returns-in-Aborting-clause-stands g c =
-    adds_answered g.K.Caller.steps c.args.self.now (machine_of c.die-in-Aborting.new.connection (held_in c.clear-in-Aborting.new.self)) c.args.world.now c.die-in-Aborting.new.world LinkFailed (λ answers history. refl) (λ answers. tt) (returns-in-Aborting-clause-answered g c)
+    adds_answered g.K.Caller.steps c.args.self.now.machine (machine_of c.die-in-Aborting.new.connection (held_in c.clear-in-Aborting.new.self)) c.args.world.now c.die-in-Aborting.new.world LinkFailed (λ answers history. refl) (λ answers. tt) (returns-in-Aborting-clause-answered g c)
 
 pub returns-in-Created-clause-stands : goal.returns-in-Created-clause-stands
 returns-in-Created-clause-stands g c =
-    adds_answered g.K.Caller.steps c.args.self.now c.args.self.now c.args.world.now c.args.world.now LinkFailed (λ answers history. refl) (λ answers. tt) (search rules)
+    adds_answered g.K.Caller.steps c.args.self.now.machine c.args.self.now.machine c.args.world.now c.args.world.now LinkFailed (λ answers history. refl) (λ answers. tt) (search rules)
 
 pub returns-in-Closed-clause-stands : goal.returns-in-Closed-clause-stands
 returns-in-Closed-clause-stands g c =
-    adds_answered g.K.Caller.steps c.args.self.now c.args.self.now c.args.world.now c.args.world.now LinkFailed (λ answers history. refl) (λ answers. tt) (search rules)
+    adds_answered g.K.Caller.steps c.args.self.now.machine c.args.self.now.machine c.args.world.now c.args.world.now LinkFailed (λ answers history. refl) (λ answers. tt) (search rules)
 
 pub returns-in-Dead-clause-stands : goal.returns-in-Dead-clause-stands
 returns-in-Dead-clause-stands g c =
-    adds_answered g.K.Caller.steps c.args.self.now c.args.self.now c.args.world.now c.args.world.now LinkFailed (λ answers history. refl) (λ answers. tt) (search rules)
+    adds_answered g.K.Caller.steps c.args.self.now.machine c.args.self.now.machine c.args.world.now c.args.world.now LinkFailed (λ answers history. refl) (λ answers. tt) (search rules)
 
 pub invariant_of-self : goal.invariant_of-self
 invariant_of-self g c = (

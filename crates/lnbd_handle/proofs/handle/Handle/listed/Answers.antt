@@ -3,4 +3,4 @@ use Rattle.lnbd_handle.proofs.OptionLemmas.{listed_told}
 use Rattle.lnbd_handle.proofs.handle.Handle.listed.Goals as goal
 
 pub returns-clause-told : goal.returns-clause-told
-returns-clause-told g c = listed_told c.args.self.now c.listed.result.now (search rules)
+returns-clause-told g c = listed_told c.args.self.now.machine c.listed.result.now (search rules)

@@ -19,4 +19,4 @@ invariant_of-self g c = (
 
 pub returns-in-OptMode-clause-stands : goal.returns-in-OptMode-clause-stands
 returns-in-OptMode-clause-stands g c =
-    adds Abort c.args.self.now (machine_of c.abort.new.connection (held_in c.clear.new.self)) (λ history. refl) (search rules) (search rules)
+    adds Abort c.args.self.now.machine (machine_of c.abort.new.connection (held_in c.clear.new.self)) (λ history. refl) (search rules) (search rules)

@@ -3,4 +3,4 @@ use Rattle.lnbd_handle.proofs.OptionLemmas.{opt_answer_told}
 use Rattle.lnbd_handle.proofs.handle.Handle.opt_answer.Goals as goal
 
 pub returns-clause-told : goal.returns-clause-told
-returns-clause-told g c = opt_answer_told c.args.self.now c.answer.result (search rules)
+returns-clause-told g c = opt_answer_told c.args.self.now.machine c.answer.result (search rules)

@@ -8,4 +8,4 @@ use Rattle.lnbd_handle.proofs.handle.Handle.set_export_name.Goals as goal
 pub returns-clause-stands : goal.returns-clause-stands
 returns-clause-stands g c =
     let new = machine_of (record c.self.inside.connection { talk = c.set_name.new.self }) (held_in c.self.inside.pending) in
-    adds (Set (Name c.args.name)) c.args.self.now new (λ history. refl) (search rules) (search rules)
+    adds (Set (Name c.args.name)) c.args.self.now.machine new (λ history. refl) (search rules) (search rules)

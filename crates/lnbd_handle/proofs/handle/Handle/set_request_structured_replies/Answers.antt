@@ -8,4 +8,4 @@ use Rattle.lnbd_handle.proofs.handle.Handle.set_request_structured_replies.Goals
 pub returns-in-Created-clause-stands : goal.returns-in-Created-clause-stands
 returns-in-Created-clause-stands g c =
     let new = machine_of (record c.self.inside.connection { talk = c.set_structured.new.self }) (held_in c.self.inside.pending) in
-    adds (Set (Structured c.args.on)) c.args.self.now new (λ history. refl) (search rules) (search rules)
+    adds (Set (Structured c.args.on)) c.args.self.now.machine new (λ history. refl) (search rules) (search rules)

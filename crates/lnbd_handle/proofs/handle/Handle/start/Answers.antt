@@ -20,4 +20,4 @@ invariant_of-self g c =
 pub returns-in-Created-clause-stands : goal.returns-in-Created-clause-stands
 returns-in-Created-clause-stands g c =
     let new = machine_of (record c.self.inside.connection { stage = Open }) (held_in c.self.inside.pending) in
-    adds Start c.args.self.now new (λ history. refl) (search rules) (search rules)
+    adds Start c.args.self.now.machine new (λ history. refl) (search rules) (search rules)

@@ -19,4 +19,4 @@ invariant_of-self g c = (
 
 pub returns-clause-stands : goal.returns-clause-stands
 returns-clause-stands g c =
-    adds (Wrote c.args.n) c.args.self.now (machine_of c.count_written.new.connection (held_in c.self.inside.pending)) (λ history. refl) (search rules) (search rules)
+    adds (Wrote c.args.n) c.args.self.now.machine (machine_of c.count_written.new.connection (held_in c.self.inside.pending)) (λ history. refl) (search rules) (search rules)

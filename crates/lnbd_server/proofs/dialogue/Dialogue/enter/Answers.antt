@@ -1,4 +1,4 @@
-use Rattle.std.proofs.Common.{List, ℕ, ap, ◌∙◌}
+use Rattle.std.proofs.Common.{ap, ◌∙◌}
 use Rattle.lnbd_export.specs.Requests.{is_extended}
 use Rattle.lnbd_server.specs.Session.{Dialogue}
 use Rattle.lnbd_server.specs.declared.stage.Stage.TheVariants.{Haggling, Ended, Strayed}

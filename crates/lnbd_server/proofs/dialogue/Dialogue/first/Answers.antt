@@ -1,4 +1,3 @@
-use Rattle.std.proofs.Common.{ℕ}
 use Rattle.lnbd_server.proofs.Steps.{first_none, first_some, first_count}
 use Rattle.lnbd_server.proofs.dialogue.Dialogue.first.Goals as goal
 

@@ -1,7 +1,7 @@
 use Rattle.std.proofs.Common.{◌≡◌, ◌<◌, ◌≤◌, ◌+◌, ◌-◌, ◌++◌, ℕ, Bool, cond, List, Some, None, true, length, ap, sym, subst, ◌∙◌, arith}
 use Rattle.lnbd_export.specs.Requests.{is_extended}
 use Rattle.lnbd_server.specs.Client.{Heard, says}
-use Rattle.lnbd_server.specs.Seen.{heard_of, used_of, IsThere}
+use Rattle.lnbd_server.specs.Seen.{heard_of, used_of}
 use Rattle.lnbd_server.specs.Session.{Dialogue, state_of, entering}
 use Rattle.lnbd_server.proofs.Steps.{further_none, further_some, further_count}
 use Rattle.lnbd_server.proofs.dialogue.Dialogue.further.Goals as goal

@@ -4,7 +4,7 @@ use Rattle.lnbd_records.specs.Handshake.{hello}
 use Rattle.lnbd_records.specs.Numbers.{row}
 use Rattle.lnbd_export.specs.declared.request.Replies.TheVariants.{Simple}
 use Rattle.lnbd_export.specs.declared.request.Request.{Request}
-use Rattle.lnbd_server.specs.Session.{Dialogue, begun}
+use Rattle.lnbd_server.specs.Session.{begun}
 use Rattle.lnbd_server.specs.declared.stage.Stage.TheVariants.{Greeting}
 use Rattle.lnbd_server.proofs.Says.{empty_none}
 use Rattle.lnbd_server.proofs.dialogue.Dialogue.new.Goals as goal

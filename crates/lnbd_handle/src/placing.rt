@@ -1,0 +1,66 @@
+//! The place of the data that are still to come of a reply to READ. A reader that receives them straight into it spares a copy:
+//! they are held there as if they had been handed in. What the bytes mean is not known here.
+
+ghost use Rattle.std.specs.Prelude.{◌≡◌, ◌≤◌, ◌+◌, [], length, take, true, vec_len};
+ghost use Rattle.std.specs.Borrow.{sem};
+ghost use Rattle.lnbd_history.specs.Answers.{is_living};
+ghost use Rattle.lnbd_history.specs.Events.{Arrived};
+ghost use Rattle.lnbd_machine.specs.Laws.{IsPartial};
+ghost use Rattle.lnbd_machine.specs.Machine.{calls, step};
+ghost use Rattle.lnbd_handle.specs.Held.{held_in};
+ghost use Rattle.lnbd_handle.specs.Histories.{ForEach};
+ghost use Rattle.lnbd_handle.specs.Placing.{AddsSilently, place_size};
+ghost use Rattle.lnbd_handle.specs.Room.{HasPlaces};
+ghost use Rattle.lnbd_handle.specs.Seen.{machine_of};
+
+use crate::connection::Connection;
+use crate::handle::Handle;
+use crate::heads::announced_in;
+use crate::pending::Pending;
+use lnbd_arrivals::Carrier;
+
+/// How many bytes the place has.
+fn place_size<K>(connection: &Connection<K>, pending: &Pending) -> usize
+    requires partial { IsPartial (machine_of connection.now (held_in pending.now)) }
+    requires places { HasPlaces connection.now.stage connection.now.talk.phase connection.now.talk.structured connection.now.talk.extended connection.now.commands.rows pending.now }
+    ensures size { result ≡ place_size (machine_of connection.now (held_in pending.now)) }
+    ensures fits { pending.now.came + result ≤ vec_len pending.now.content }
+{
+    match announced_in(connection, &pending.head) {
+        Some(announced) => match announced.carrier {
+            Carrier::Reply => announced
+                .size
+                .saturating_sub(pending.came)
+                .saturating_sub(1),
+            Carrier::Chunk { .. } => 0,
+        },
+        None => 0,
+    }
+}
+
+impl<K> Handle<K> {
+    ghost use Rattle.lnbd_handle.specs.Lends.{lends_place};
+
+    /// The place of the data that are still to come: where the bytes that arrived end within the data of a reply to READ, those
+    /// that it lacks, the last one left out, which comes by `arrive`; else nothing. It takes no memory and changes no answer.
+    pub fn place(&mut self) -> &mut [u8]
+        ensures* writes_back { sem 𝓛 (lends_place K.row self.entry result) }
+        ensures value { result.now ≡ self.old.place }
+        ensures size { length self.old.place ≡ place_size self.old.machine }
+    {
+        let size = place_size(&self.connection, &self.pending);
+        let from = self.pending.came;
+        let pending = &mut self.pending;
+        pending.content.slice_mut(from..from + size)
+    }
+
+    /// So many bytes of the place, as they now stand, have arrived. No callback is called, and it takes no memory.
+    pub fn placed(&mut self, n: usize)
+        requires { n ≤ length self.old.place }
+        ensures step { self.new.machine ≡ step self.old.machine (Arrived (take n self.old.place) []) }
+        ensures silent { calls self.old.machine (Arrived (take n self.old.place) []) ≡ [] }
+        ensures stands { is_living self.old.machine.known.stage ≡ true → ForEach self.old.machine (AddsSilently (Arrived (take n self.old.place) []) self.new.machine) }
+    {
+        self.pending.came += n;
+    }
+}

@@ -1,0 +1,2 @@
+pub mod RehearsedLemmas
+pub mod SumLemmas

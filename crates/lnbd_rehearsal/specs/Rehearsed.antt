@@ -1,0 +1,54 @@
+-- A copy that was rehearsed: the two exports that it was between, and what they hold afterwards.
+use Rattle.std.specs.Prelude.{◌≡◌, ◌<◌, ◌∷◌, ℕ, List, [], Some, false, codes, get_or, length, replicate}
+use Rattle.lnbd_model.specs.declared.target.Place.{Place}
+use Rattle.lnbd_model.specs.declared.target.Target.TheVariants.{Unix}
+use Rattle.lnbd_link.specs.Contents.{Stored}
+use Rattle.lnbd_plan.specs.declared.summary.Summary.{Summary}
+use Rattle.lnbd_course.specs.Copied.{Copied}
+use Rattle.lnbd_export.specs.Export.{Export}
+use Rattle.lnbd_export.specs.Generated.{byte_at}
+use Rattle.lnbd_memnet.specs.Wires.{Came, Served, contents_of}
+use Rattle.lnbd_rehearsal.specs.Sums.{sums_of}
+
+abbrev pub source_name : List ℕ
+source_name = codes "source"
+
+abbrev pub destination_name : List ℕ
+destination_name = codes "destination"
+
+-- the export of this name, at the socket that is called so
+abbrev pub place_of : List ℕ → Place
+place_of name = record { to = Unix name; name = name }
+
+-- The export from which is copied, at the socket that is called as it is: at first it holds the bytes that the seed gives.
+pub record IsSource (seed n : ℕ) (stored : Stored) : Type 0 where
+  pub at : stored.at ≡ Unix source_name
+  pub name : stored.name ≡ source_name
+  pub size : length stored.start ≡ n
+  pub bytes : (p : ℕ) → p < n → get_or stored.start p 0 ≡ byte_at seed p
+
+-- The export to which is copied, likewise: at first it holds as many bytes 0xff.
+pub record IsDestination (n : ℕ) (stored : Stored) : Type 0 where
+  pub at : stored.at ≡ Unix destination_name
+  pub name : stored.name ≡ destination_name
+  pub bytes : stored.start ≡ replicate n 255
+
+-- These two stand behind the wires, which tell all that was called, and by that nbdcopy copied from one to the other; the source is as it was, the
+-- destination holds the same, and the sums are those of the source's blocks.
+pub record HasRehearsed (seed n : ℕ) (summary : Summary) (wires : Served) : Type 0 where
+  pub source : Stored
+  pub destination : Stored
+  pub contents : contents_of wires ≡ Some (source ∷ destination ∷ [])
+  pub from : IsSource seed n source
+  pub to : IsDestination n destination
+  pub shorts : wires.shorts ≡ 0
+  pub came : Came wires.calls wires.network
+  pub copied : Copied (place_of source_name) (place_of destination_name) false wires.calls
+  pub kept : source.now ≡ source.start
+  pub equal : destination.now ≡ source.start
+  pub sums : summary ≡ sums_of seed source.start
+
+-- An export that holds so many bytes 0xff.
+pub record IsNoise (n : ℕ) (export : Export) : Type 0 where
+  pub name : export.name ≡ destination_name
+  pub bytes : export.bytes ≡ replicate n 255

@@ -1,0 +1,93 @@
+//! The copy between the two exports, and the comparison that ends it.
+
+ghost use Rattle.std.specs.Prelude.{◌≡◌, ◌≤◌, IfOk, OnOk, false, length, true};
+ghost use Rattle.lnbd_link.specs.Contents.{Keeps};
+ghost use Rattle.lnbd_course.specs.Copied.{Copies};
+ghost use Rattle.lnbd_memnet.specs.Network.{export_in};
+ghost use Rattle.lnbd_memnet.specs.Wires.{contents_of, told_by};
+ghost use Rattle.lnbd_rehearsal.specs.Rehearsed.{HasRehearsed, destination_name, place_of, source_name};
+ghost use Rattle.lnbd_rehearsal.specs.Sums.{sums_of};
+
+use crate::exports::{destination, from, source, to};
+use crate::sums::{is_same, sums_of};
+use lnbd_copy::Copier;
+use lnbd_memnet::{Schedule, ServedWires};
+use lnbd_model::NoMemory;
+use lnbd_plan::{CopyOptions, Summary};
+use std::alloc::Global;
+
+/// The most bytes of an export that is copied.
+pub const MOST: u64 = 16_777_216;
+
+/// A copy that was made.
+#[derive(Drop)]
+pub struct Rehearsed {
+    pub summary: Summary,
+    /// The wires over which it was made: behind them the source and then the destination.
+    pub wires: ServedWires,
+}
+
+/// What a copy is asked for where its words name no option.
+const USUAL: CopyOptions = CopyOptions {
+    connections: 4,
+    requests: 64,
+    request_size: 262_144,
+    sparse: 4096,
+    extents: true,
+    allocated: false,
+    destination_is_zero: false,
+    flush: false,
+};
+
+/// The copy over wires that serve both. These servers keep the protocol, tell no error and are never silent, so nothing but
+/// want of memory ends it; no clause says so yet, and every fault counts as that.
+fn copy(alloc: Global, wires: &mut ServedWires) -> Result<Summary, NoMemory>
+    ensures kept { OnOk result (Keeps (contents_of wires.old) (contents_of wires.new)) }
+    ensures copies { OnOk result (Copies (place_of source_name) (place_of destination_name) false (told_by wires.old) (told_by wires.new)) }
+{
+    let from = from(alloc)?;
+    let to = to(alloc)?;
+    match Copier::new(alloc, USUAL, from, to).run(wires) {
+        Ok(summary) => Ok(summary),
+        Err(_) => Err(NoMemory),
+    }
+}
+
+/// Whether all that was called is told, both exports hold these bytes, which the seed gave, and the sums are those of their blocks.
+fn is_right(wires: &ServedWires, seed: u64, bytes: &[u8], summary: Summary) -> bool
+    requires { length bytes.now ≤ 16777216 }
+    ensures shorts { result ≡ true → wires.now.shorts ≡ 0 }
+    ensures two { result ≡ true → length wires.now.network.exports ≡ 2 }
+    ensures first { result ≡ true → (export_in wires.now.network.exports 0).export.bytes ≡ bytes.now }
+    ensures second { result ≡ true → (export_in wires.now.network.exports 1).export.bytes ≡ bytes.now }
+    ensures sums { result ≡ true → summary ≡ sums_of seed bytes.now }
+{
+    wires.shorts() == 0
+        && wires.exports() == 2
+        && wires.bytes(0) == bytes
+        && wires.bytes(1) == bytes
+        && is_same(summary, sums_of(seed, bytes))
+}
+
+/// Copies an export with the contents that the seed gives to one of as many bytes 0xff, as nbdcopy does where no option is
+/// given, over wires in memory that cut what moves, and pick which reply comes first, by the seed. Both then hold what the first
+/// held, and the sums are those of its blocks: that is compared when the copy is over.
+///
+/// # Errors
+///
+/// `NoMemory`, also where the comparison fails.
+pub fn rehearse(alloc: Global, seed: u64, size: u64) -> Result<Rehearsed, NoMemory>
+    requires { size ≤ 16777216 }
+    ensures { IfOk result (λ rehearsed. HasRehearsed seed size rehearsed.summary rehearsed.wires) }
+{
+    let source = source(alloc, seed, size)?;
+    let content = source.export.bytes().to_vec(alloc)?;
+    let exports = vec![in alloc; source, destination(alloc, size)?]?;
+    let mut wires = ServedWires::new(alloc, exports, Schedule::Seeded(seed))?;
+    let summary = copy(alloc, &mut wires)?;
+    if !is_right(&wires, seed, &content, summary) {
+        return Err(NoMemory);
+    }
+    wires.came();
+    Ok(Rehearsed { summary, wires })
+}

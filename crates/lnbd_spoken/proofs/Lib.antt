@@ -1,0 +1,3 @@
+mod Worked
+pub mod Saying
+pub mod Driving
