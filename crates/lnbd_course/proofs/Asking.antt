@@ -15,6 +15,7 @@ use Rattle.lnbd_board.specs.Files as board
 use Rattle.lnbd_tracks.specs.Tracks.{Histories}
 use Rattle.lnbd_course.specs.Course.{Course, Stood, AllHave}
 use Rattle.lnbd_course.specs.Laws.{SourceAsksKeep, DestinationAsksKeep, BoardMovesKeep, OthersKeep}
+use Rattle.lnbd_course.proofs.Counting.{counted_same}
 use Rattle.lnbd_course.proofs.Standing.{quiet_stood, source_asked, destination_asked, with_history, with_here, with_others, with_happens}
 
 none_some : (one : Seen Ticket) → None ≡ Some one → ⊥
@@ -96,7 +97,7 @@ others_keep how has slices now calls seens index seen event c there inward other
     (quiet_stood how has slices seen.link event c.histories (then event c.histories seen.link) (with_happens seen.link event c.histories) now c.stood other none)
 
 unfoldable pub board_moves_keep : BoardMovesKeep
-board_moves_keep how has slices now now' calls seens c earlier keeps = record {
+board_moves_keep how has slices now now' calls seens c earlier same keeps = record {
   histories = c.histories;
   held = c.held;
   drive = c.drive;
@@ -108,5 +109,6 @@ board_moves_keep how has slices now now' calls seens c earlier keeps = record {
     reads = c.stood.reads;
     changes = c.stood.changes;
     stands = λ none. (keeps c.stood.source c.stood.destination).on slices (c.stood.stands (earlier none));
+    counted = counted_same now now' c.stood.source c.stood.destination same c.stood.counted;
   };
 }

@@ -84,7 +84,7 @@ module _ (histories : Histories) where
   gone_out [] = []
   gone_out (r ∷ rs) = cond (is_out r) (r ∷ gone_out rs) (gone_out rs)
 
-  done_out : (xs : List Request) (r : Request) → AllTrack histories xs → IsIn r xs → IsDone r.said.outcome → is_out r ≡ true
+  pub done_out : (xs : List Request) (r : Request) → AllTrack histories xs → IsIn r xs → IsDone r.said.outcome → is_out r ≡ true
   done_out xs r all there d = let o = of_it xs r all there in done_is_written (histories r.link) r.cookie d.bytes (sym o.outcome ∙ d.is)
 
   -- Those that weren't are none of the slices'.
@@ -174,7 +174,7 @@ module _ (how : How) (slices : List Slice) (sources destinations : Histories) (s
   none_left : (a b c d : ℕ) → a + b ≡ 0 → c ≤ a → d ≤ b → c + d ≡ 0
   none_left a b c d e f g = omega (arith, e, f, g)
 
-  out_stands : Stands how slices [] (gone_out sources source) (gone_out destinations destination)
+  pub out_stands : Stands how slices [] (gone_out sources source) (gone_out destinations destination)
   out_stands = record {
     each = λ i l.
         subst (λ (x : List Said). StandsAs how (slice_at slices i) (value_at {V = Row} i []) x (own i (gone_out destinations destination))) (sym (own_out sources i source source_out))

@@ -34,6 +34,7 @@ use Rattle.lnbd_tracks.specs.Tracks.{Histories}
 use Rattle.lnbd_tracks.proofs.Sides.{nothing_tracks}
 use Rattle.lnbd_course.specs.Course.{Course, Stood, AllHave, on_side, beside, with_link}
 use Rattle.lnbd_course.specs.Laws.{NothingIsOnCourse, OpensOnCourse, SettlingKeeps, TurnsKeep, CallsKeep, TakingKeeps}
+use Rattle.lnbd_course.proofs.Counting.{nothing_counted}
 use Rattle.lnbd_course.proofs.Standing.{Same, same_track, event_stood, quiet_stood}
 use Rattle.lnbd_course.proofs.Turning.{steps, Turned, turns_all}
 
@@ -57,7 +58,7 @@ says_nothing = record { requests = λ c. nothing_asked (nat_le c (written {K = T
     nothing_asked false = refl
 
 unfoldable pub nothing_is_on_course : NothingIsOnCourse
-nothing_is_on_course how has now none = record {
+nothing_is_on_course how has now none uncounted = record {
   histories = no_history;
   held = tt;
   drive = record { own = tt; drive = tt; plain = tt };
@@ -69,6 +70,7 @@ nothing_is_on_course how has now none = record {
     reads = same_track (on_side has no_history) (λ link. []) [] (none_on has) nothing_tracks;
     changes = same_track (on_side (beside has) no_history) (λ link. []) [] (none_on (beside has)) nothing_tracks;
     stands = λ e. subst (λ (rows : List (ℕ × Row)). Stands how [] rows [] []) (sym none) (nothing_stands how);
+    counted = nothing_counted how [] now [] [] (nothing_stands how) uncounted;
   };
 }
 
@@ -277,6 +279,7 @@ opens_on_course how has slices now calls seens to link source c new =
         reads = same_track (on_side (with_link link source has) c.histories) (on_side has c.histories) c.stood.source (same_side has c.histories link source u.blank) c.stood.reads;
         changes = same_track (on_side (beside (with_link link source has)) c.histories) (on_side (beside has) c.histories) c.stood.destination (same_beside has c.histories link source u.blank) c.stood.changes;
         stands = c.stood.stands;
+        counted = c.stood.counted;
       };
     }
 
@@ -304,7 +307,7 @@ stands_so how how' source destination s = record {
     none_below n l = omega (arith, l)
 
 unfoldable pub settling_keeps : SettlingKeeps
-settling_keeps how how' has now now' calls seens c none well none' = record {
+settling_keeps how how' has now now' calls seens c none well none' uncounted = record {
   histories = c.histories;
   held = c.held;
   drive = c.drive;
@@ -317,5 +320,6 @@ settling_keeps how how' has now now' calls seens c none well none' = record {
     changes = c.stood.changes;
     stands = λ e. subst (λ (rows : List (ℕ × Row)). Stands how' [] rows c.stood.source c.stood.destination) (sym none')
         (stands_so how how' c.stood.source c.stood.destination (subst (λ (rows : List (ℕ × Row)). Stands how [] rows c.stood.source c.stood.destination) none (c.stood.stands well)));
+    counted = nothing_counted how now.rows now' c.stood.source c.stood.destination (c.stood.stands well) uncounted;
   };
 }

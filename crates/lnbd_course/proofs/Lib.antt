@@ -1,3 +1,4 @@
+pub mod Counting
 pub mod Standing
 pub mod Later
 pub mod Turning
@@ -12,3 +13,5 @@ pub mod Placing
 pub mod Opening
 pub mod Placed
 pub mod Once
+pub mod Tallying
+pub mod Summing

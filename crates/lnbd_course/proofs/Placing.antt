@@ -130,8 +130,8 @@ others_keep_between from to size how has slices now calls seens index seen event
 
 pub board_moves_keep_between : BoardMovesKeepBetween
 unfolding board_moves_keep
-board_moves_keep_between from to size how has slices now now' calls seens b earlier keeps =
-    step_keeps from to size has how how slices slices now now' calls calls seens seens b (board_moves_keep how has slices now now' calls seens b.course earlier keeps)
+board_moves_keep_between from to size how has slices now now' calls seens b earlier same keeps =
+    step_keeps from to size has how how slices slices now now' calls calls seens seens b (board_moves_keep how has slices now now' calls seens b.course earlier same keeps)
     (goes_same calls) (λ n. later_same (b.course.histories n) (b.course.histories n) refl) (λ n apart. (apart, rests_same calls b.course.histories b.course.histories n refl))
 
 -- The beginning.
@@ -153,8 +153,8 @@ nothing_is_of n = record {
 
 pub nothing_is_between : NothingIsBetween
 unfolding nothing_is_on_course
-nothing_is_between from to how has now none = record {
-  course = nothing_is_on_course how has now none;
+nothing_is_between from to how has now none uncounted = record {
+  course = nothing_is_on_course how has now none uncounted;
   placed = record { address = λ n g. absurd (false≢true g); name = λ n g. absurd (false≢true g) };
   parted = λ n apart. nothing_is_of n;
   told = tt;
@@ -162,8 +162,8 @@ nothing_is_between from to how has now none = record {
 
 pub settling_keeps_between : SettlingKeepsBetween
 unfolding settling_keeps
-settling_keeps_between from to size how how' has now now' calls seens b none well none' =
-    step_keeps from to size has how how' [] [] now now' calls calls seens seens b (settling_keeps how how' has now now' calls seens b.course none well none')
+settling_keeps_between from to size how how' has now now' calls seens b none well none' uncounted =
+    step_keeps from to size has how how' [] [] now now' calls calls seens seens b (settling_keeps how how' has now now' calls seens b.course none well none' uncounted)
     (goes_same calls) (λ n. later_same (b.course.histories n) (b.course.histories n) refl) (λ n apart. (apart, rests_same calls b.course.histories b.course.histories n refl))
 
 -- Sizes.

@@ -16,6 +16,7 @@ use Rattle.lnbd_tracks.specs.Tracks.{Histories, AllTrack, Tracks, Happens, Adds,
 use Rattle.lnbd_tracks.proofs.Sides.{issues_track, others_track, source_keeps, destination_keeps}
 use Rattle.lnbd_course.specs.Course.{Stood, on_side, beside}
 use Rattle.lnbd_course.specs.Laws.{AsksSource, AsksDestination}
+use Rattle.lnbd_course.proofs.Counting.{all_alike, calls_same, counted_alike, event_alike}
 
 -- Sides.
 
@@ -64,6 +65,9 @@ module _ (how : How) (has : ℕ → Bool) (slices : List Slice) (link : ℕ) (ev
         reads = k.reads;
         changes = same_track (on_side (beside has) after) (on_side (beside has) before) k.destination2 (side_stays link event before after happens (beside has) (ap not is)) k.changes;
         stands = λ none. (k.keeps none).on slices (s.stands (k.earlier none));
+        counted = counted_alike now now' s.source s.destination k.source2 k.destination2 (calls_same plays.calls now now' plays.world)
+            (event_alike link event (on_side has before) (on_side has after) s.source k.source2 (side_happens link event before after happens has is) other s.reads k.reads)
+            (all_alike (on_side (beside has) before) s.destination k.destination2 s.changes k.changes) s.counted;
       }
 
   destination_event : (now now' : board.Seen) → has link ≡ false → Stood how has slices now before → is_issue event ≡ false → Plays (OneByOne board.Files) event (before link) now now' → Stood how has slices now' after
@@ -76,6 +80,9 @@ module _ (how : How) (has : ℕ → Bool) (slices : List Slice) (link : ℕ) (ev
         reads = same_track (on_side has after) (on_side has before) k.source2 (side_stays link event before after happens has is) k.reads;
         changes = k.changes;
         stands = λ none. (k.keeps none).on slices (s.stands (k.earlier none));
+        counted = counted_alike now now' s.source s.destination k.source2 k.destination2 (calls_same plays.calls now now' plays.world)
+            (all_alike (on_side has before) s.source k.source2 s.reads k.reads)
+            (event_alike link event (on_side (beside has) before) (on_side (beside has) after) s.destination k.destination2 (side_happens link event before after happens (beside has) (ap not is)) other s.changes k.changes) s.counted;
       }
 
   -- whatever happens, but that the handle is asked
@@ -97,6 +104,7 @@ module _ (how : How) (has : ℕ → Bool) (slices : List Slice) (link : ℕ) (ev
         reads = others_track link event (on_side has before) (on_side has after) s.source s.reads other none (side_happens link event before after happens has is);
         changes = same_track (on_side (beside has) after) (on_side (beside has) before) s.destination (side_stays link event before after happens (beside has) (ap not is)) s.changes;
         stands = s.stands;
+        counted = s.counted;
       }
       go false is = record {
         source = s.source;
@@ -104,6 +112,7 @@ module _ (how : How) (has : ℕ → Bool) (slices : List Slice) (link : ℕ) (ev
         reads = same_track (on_side has after) (on_side has before) s.source (side_stays link event before after happens has is) s.reads;
         changes = others_track link event (on_side (beside has) before) (on_side (beside has) after) s.destination s.changes other none (side_happens link event before after happens (beside has) (ap not is));
         stands = s.stands;
+        counted = s.counted;
       }
 
 -- a command that is asked of a side
@@ -118,6 +127,7 @@ module _ (how : How) (has : ℕ → Bool) (slices slices' : List Slice) (link : 
     reads = issues_track link command (on_side has before) (on_side has after) s.source s.reads asks.bytes (side_happens link (Issue command) before after happens has is);
     changes = same_track (on_side (beside has) after) (on_side (beside has) before) s.destination (side_stays link (Issue command) before after happens (beside has) (ap not is)) s.changes;
     stands = λ none. asks.on s.source s.destination link (next has) (s.stands (asks.earlier none));
+    counted = asks.counts s.source s.destination link (next has) s.counted;
   }
 
   pub destination_asked : has link ≡ false → AsksDestination how command slices slices' now now' → Stood how has slices now before → Stood how has slices' now' after
@@ -127,6 +137,7 @@ module _ (how : How) (has : ℕ → Bool) (slices slices' : List Slice) (link : 
     reads = same_track (on_side has after) (on_side has before) s.source (side_stays link (Issue command) before after happens has is) s.reads;
     changes = issues_track link command (on_side (beside has) before) (on_side (beside has) after) s.destination s.changes asks.bytes (side_happens link (Issue command) before after happens (beside has) (ap not is));
     stands = λ none. asks.on s.source s.destination link (next (beside has)) (s.stands (asks.earlier none));
+    counted = asks.counts s.source s.destination link (next (beside has)) s.counted;
   }
 
 -- One link's history is another.

@@ -29,6 +29,7 @@ use Rattle.lnbd_tracks.specs.Mapping.{IsWanted, Maps, IsToldZero, ToldAlike}
 use Rattle.lnbd_tracks.specs.Tracks.{NoneFails, Histories, Happens, is_issue}
 use Rattle.lnbd_tracks.proofs.Mapped.{nothing_maps, not_issued, coming_maps, others_map, asking_maps, hearing_maps, zeroes_stay}
 use Rattle.lnbd_tracks.proofs.Written.{done_is_written}
+use Rattle.lnbd_course.specs.Counted.{CountsSame}
 use Rattle.lnbd_course.specs.Course.{Stood, beside, with_link}
 use Rattle.lnbd_course.specs.Told.{Told, AreOfSource, NothingIsTold, OpeningTells, SettlingTells, TurnsTell, CallsTell, SourceAsksTell, DestinationAsksTell, ExtentsAskTell, BoardMovesTell, OthersTell, HearingTells, FewerTell, WindowsTell, TakingTells, KnownWasTold, SidesAreOfSource}
 use Rattle.lnbd_course.proofs.Asking.{goes_on, source_asks_keep, destination_asks_keep, others_keep, board_moves_keep, then}
@@ -108,8 +109,8 @@ module _ (how : How) (has : ℕ → Bool) (slices : List Slice) (wanted : Option
 
 pub nothing_is_told : NothingIsTold
 unfolding nothing_is_on_course
-nothing_is_told how has now known none unknown = record {
-  course = nothing_is_on_course how has now none;
+nothing_is_told how has now known none uncounted unknown = record {
+  course = nothing_is_on_course how has now none uncounted;
   maps = nothing_maps has now;
   knows = λ p k. absurd (false≢true (sym (unknown p) ∙ k));
 }
@@ -134,8 +135,8 @@ opening_tells how has slices now calls seens wanted known to link source t new =
 
 pub settling_tells : SettlingTells
 unfolding settling_keeps
-settling_tells how how' has now now' calls seens known t none well none' =
-    record { course = settling_keeps how how' has now now' calls seens t.course none well none'; maps = t.maps; knows = t.knows }
+settling_tells how how' has now now' calls seens known t none well none' uncounted =
+    record { course = settling_keeps how how' has now now' calls seens t.course none well none' uncounted; maps = t.maps; knows = t.knows }
 
 -- Turns.
 
@@ -204,15 +205,15 @@ alike_maps has histories (Some range) now now' alike m = record {
 
 pub board_moves_tell : BoardMovesTell
 unfolding board_moves_keep
-board_moves_tell how has slices now now' calls seens wanted known t earlier keeps alike =
-    record { course = board_moves_keep how has slices now now' calls seens t.course earlier keeps; maps = alike_maps has t.course.histories wanted now now' alike t.maps; knows = t.knows }
+board_moves_tell how has slices now now' calls seens wanted known t earlier same keeps alike =
+    record { course = board_moves_keep how has slices now now' calls seens t.course earlier same keeps; maps = alike_maps has t.course.histories wanted now now' alike t.maps; knows = t.knows }
 
 -- Where no extents are waited for, it does not matter what the board was told of them.
-pub unasked_moves_tell : (how : How) (has : ℕ → Bool) (slices : List Slice) (now now' : board.Seen) (calls : List wire.Call) (seens : List (Seen Ticket)) (known : ℕ → Bool) → Told how has slices now calls seens None known → (now'.error ≡ None → now.error ≡ None) →
+pub unasked_moves_tell : (how : How) (has : ℕ → Bool) (slices : List Slice) (now now' : board.Seen) (calls : List wire.Call) (seens : List (Seen Ticket)) (known : ℕ → Bool) → Told how has slices now calls seens None known → (now'.error ≡ None → now.error ≡ None) → CountsSame now now' →
     ((source destination : List sides.Request) → Keeps how now.rows source destination now'.rows source destination) → Told how has slices now' calls seens None known
 unfolding board_moves_keep
-unasked_moves_tell how has slices now now' calls seens known t earlier keeps =
-    record { course = board_moves_keep how has slices now now' calls seens t.course earlier keeps; maps = t.maps; knows = t.knows }
+unasked_moves_tell how has slices now now' calls seens known t earlier same keeps =
+    record { course = board_moves_keep how has slices now now' calls seens t.course earlier same keeps; maps = t.maps; knows = t.knows }
 
 pub others_tell : OthersTell
 unfolding others_keep goes_on

@@ -24,6 +24,7 @@ use Rattle.lnbd_board.specs.Files as board
 use Rattle.lnbd_board.specs.Requests.{Request}
 use Rattle.lnbd_course.specs.Between.{Between, AreSettings, IsSetting, place_of, with_history_on}
 use Rattle.lnbd_course.specs.Copied.{Copied}
+use Rattle.lnbd_course.specs.Counted.{CountsSame, HasNotCounted}
 use Rattle.lnbd_course.specs.Course.{AreOfSides, HaveSizes, IsPlannedWhole, with_link}
 use Rattle.lnbd_course.specs.Laws.{AsksSource, AsksDestination}
 
@@ -31,7 +32,7 @@ use Rattle.lnbd_course.specs.Laws.{AsksSource, AsksDestination}
 
 -- It stands before any call,
 abbrev pub NothingIsBetween : Type 0
-NothingIsBetween = (from to : Place) (how : How) (has : ℕ → Bool) (now : board.Seen) → now.rows ≡ [] → Between from to None how has [] now [] []
+NothingIsBetween = (from to : Place) (how : How) (has : ℕ → Bool) (now : board.Seen) → now.rows ≡ [] → HasNotCounted now → Between from to None how has [] now [] []
 
 -- with a handle of either side that was set up for the side's export, on a link that was just made to the side's address,
 abbrev pub OpensBetween : Type 0
@@ -42,7 +43,7 @@ OpensBetween = (from to : Place) (size : Option ℕ) (how : How) (has : ℕ → 
 -- where another board takes its place, before any slice is begun,
 abbrev pub SettlingKeepsBetween : Type 0
 SettlingKeepsBetween = (from to : Place) (size : Option ℕ) (how how' : How) (has : ℕ → Bool) (now now' : board.Seen) (calls : List wire.Call) (seens : List (Seen Ticket)) →
-    Between from to size how has [] now calls seens → now.rows ≡ [] → now.error ≡ None → now'.rows ≡ [] → Between from to size how' has [] now' calls seens
+    Between from to size how has [] now calls seens → now.rows ≡ [] → now.error ≡ None → now'.rows ≡ [] → HasNotCounted now' → Between from to size how' has [] now' calls seens
 
 -- and where a handle of each side was told its size, and the destination's is no smaller: then the source's is settled.
 abbrev pub AgreeingSettles : Type 0
@@ -79,7 +80,7 @@ DestinationAsksKeepBetween = (from to : Place) (size : Option ℕ) (how : How) (
 -- where the board goes on and nothing is asked,
 abbrev pub BoardMovesKeepBetween : Type 0
 BoardMovesKeepBetween = (from to : Place) (size : Option ℕ) (how : How) (has : ℕ → Bool) (slices : List Slice) (now now' : board.Seen) (calls : List wire.Call) (seens : List (Seen Ticket)) →
-    Between from to size how has slices now calls seens → (now'.error ≡ None → now.error ≡ None) → ((source destination : List Request) → Keeps how now.rows source destination now'.rows source destination) →
+    Between from to size how has slices now calls seens → (now'.error ≡ None → now.error ≡ None) → CountsSame now now' → ((source destination : List Request) → Keeps how now.rows source destination now'.rows source destination) →
     Between from to size how has slices now' calls seens
 
 -- and where a caller does something else with a handle, but that it sets a name.

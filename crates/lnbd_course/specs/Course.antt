@@ -20,6 +20,7 @@ use Rattle.lnbd_board.specs.Holds.{WasToldZero, WasToldSize}
 use Rattle.lnbd_board.specs.Requests.{Request}
 use Rattle.lnbd_board.specs.Rows.{Stands}
 use Rattle.lnbd_tracks.specs.Tracks.{Histories, AllTrack}
+use Rattle.lnbd_course.specs.Counted.{IsCounted}
 
 -- The two sides.
 
@@ -35,13 +36,14 @@ beside has link = not (has link)
 abbrev pub with_link : ℕ → Bool → (ℕ → Bool) → ℕ → Bool
 with_link link source has other = if link == other then source else has other
 
--- What both sides were asked, by the histories of all handles, is what the rows of the board say, if no error was told.
+-- What both sides were asked, by the histories of all handles, is what the rows of the board say, if no error was told; and the board counts its bytes.
 pub record Stood (how : How) (has : ℕ → Bool) (slices : List Slice) (now : board.Seen) (histories : Histories) : Type 0 where
   pub source : List Request
   pub destination : List Request
   pub reads : AllTrack (on_side has histories) source
   pub changes : AllTrack (on_side (beside has) histories) destination
   pub stands : now.error ≡ None → Stands how slices now.rows source destination
+  pub counted : IsCounted now source destination
 
 -- The handles.
 

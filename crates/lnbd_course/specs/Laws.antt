@@ -24,13 +24,14 @@ use Rattle.lnbd_board.specs.Rows.{Stands}
 use Rattle.lnbd_tracks.specs.Laws.{asked_by, is_coming}
 use Rattle.lnbd_tracks.specs.Tracks.{OnlyWritesHaveBytes, is_issue}
 use Rattle.lnbd_course.specs.Copied.{Copied}
+use Rattle.lnbd_course.specs.Counted.{CountsSame, HasNotCounted, IsCounted}
 use Rattle.lnbd_course.specs.Course.{Course, IsFinished, with_link}
 
 -- The beginning.
 
 -- Before any call a copy with an empty board is on its course.
 abbrev pub NothingIsOnCourse : Type 0
-NothingIsOnCourse = (how : How) (has : ℕ → Bool) (now : board.Seen) → now.rows ≡ [] → Course how has [] now [] []
+NothingIsOnCourse = (how : How) (has : ℕ → Bool) (now : board.Seen) → now.rows ≡ [] → HasNotCounted now → Course how has [] now [] []
 
 -- It stays on it with a handle on a link that was just made, of either side.
 abbrev pub OpensOnCourse : Type 0
@@ -40,7 +41,7 @@ OpensOnCourse = (how : How) (has : ℕ → Bool) (slices : List Slice) (now : bo
 -- It stays on it where another board takes its place, of a copy that writes otherwise, before any slice is begun.
 abbrev pub SettlingKeeps : Type 0
 SettlingKeeps = (how how' : How) (has : ℕ → Bool) (now now' : board.Seen) (calls : List wire.Call) (seens : List (Seen Ticket)) →
-    Course how has [] now calls seens → now.rows ≡ [] → now.error ≡ None → now'.rows ≡ [] → Course how' has [] now' calls seens
+    Course how has [] now calls seens → now.rows ≡ [] → now.error ≡ None → now'.rows ≡ [] → HasNotCounted now' → Course how' has [] now' calls seens
 
 -- Turns.
 
@@ -56,17 +57,19 @@ CallsKeep = (how : How) (has : ℕ → Bool) (slices : List Slice) (now : board.
 
 -- Asking.
 
--- With this command asked of the source the invariant of the copy stands, and no error was forgotten.
+-- With this command asked of the source the invariant of the copy stands, the board counts it, and no error was forgotten.
 pub record AsksSource (how : How) (command : commands.Command Ticket) (slices slices' : List Slice) (now now' : board.Seen) : Type 0 where
   pub bytes : OnlyWritesHaveBytes command
   pub earlier : now'.error ≡ None → now.error ≡ None
   pub on : (source destination : List Request) (link cookie : ℕ) → Stands how slices now.rows source destination → Stands how slices' now'.rows (asking link cookie command.done (asked_by command) source) destination
+  pub counts : (source destination : List Request) (link cookie : ℕ) → IsCounted now source destination → IsCounted now' (asking link cookie command.done (asked_by command) source) destination
 
 -- So it is with this command asked of the destination.
 pub record AsksDestination (how : How) (command : commands.Command Ticket) (slices slices' : List Slice) (now now' : board.Seen) : Type 0 where
   pub bytes : OnlyWritesHaveBytes command
   pub earlier : now'.error ≡ None → now.error ≡ None
   pub on : (source destination : List Request) (link cookie : ℕ) → Stands how slices now.rows source destination → Stands how slices' now'.rows source (asking link cookie command.done (asked_by command) destination)
+  pub counts : (source destination : List Request) (link cookie : ℕ) → IsCounted now source destination → IsCounted now' source (asking link cookie command.done (asked_by command) destination)
 
 -- It stays on its course where a handle of the source is asked for that,
 abbrev pub SourceAsksKeep : Type 0
@@ -83,7 +86,7 @@ DestinationAsksKeep = (how : How) (has : ℕ → Bool) (slices slices' : List Sl
 -- It stays on it where the board goes on and nothing is asked,
 abbrev pub BoardMovesKeep : Type 0
 BoardMovesKeep = (how : How) (has : ℕ → Bool) (slices : List Slice) (now now' : board.Seen) (calls : List wire.Call) (seens : List (Seen Ticket)) →
-    Course how has slices now calls seens → (now'.error ≡ None → now.error ≡ None) → ((source destination : List Request) → Keeps how now.rows source destination now'.rows source destination) →
+    Course how has slices now calls seens → (now'.error ≡ None → now.error ≡ None) → CountsSame now now' → ((source destination : List Request) → Keeps how now.rows source destination now'.rows source destination) →
     Course how has slices now' calls seens
 
 -- and where a caller does something else with a handle.

@@ -1,4 +1,5 @@
 pub mod Copied
+pub mod Counted
 pub mod Course
 pub mod Taken
 pub mod Laws
@@ -7,3 +8,4 @@ pub mod Told
 pub mod Between
 pub mod Betweens
 pub mod Asks
+pub mod Counts

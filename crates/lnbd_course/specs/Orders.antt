@@ -13,6 +13,7 @@ use Rattle.lnbd_board.specs.declared.ticket.Ticket.TheVariants as ticket
 use Rattle.lnbd_board.specs.Asks.{Begins, Goes, Keeps}
 use Rattle.lnbd_board.specs.Files as board
 use Rattle.lnbd_board.specs.Requests.{Request}
+use Rattle.lnbd_course.specs.Counted.{CountsFirst, CountsNext}
 use Rattle.lnbd_course.specs.Laws.{AsksSource, AsksDestination}
 use Rattle.lnbd_course.specs.Taken.{without_buffer}
 
@@ -29,11 +30,11 @@ AsksFirst how n (ask.Change one) slices slices' now now' = AsksDestination how (
 -- Where a slice begins, what the board says is to be asked first;
 abbrev pub BeginningAsks : Type 0
 BeginningAsks = (how : How) (slice : Slice) (n : ℕ) (one : Ask) (slices : List Slice) (now now' : board.Seen) → length slices ≡ n → (now'.error ≡ None → now.error ≡ None) →
-    Begins how slice n one now.rows now'.rows → AsksFirst how n one slices (slices ++ slice ∷ []) now now'
+    CountsFirst one now now' → Begins how slice n one now.rows now'.rows → AsksFirst how n one slices (slices ++ slice ∷ []) now now'
 
 -- where a row goes on, the change that it asks for;
 abbrev pub GoingAsks : Type 0
-GoingAsks = (how : How) (n : ℕ) (one : Change) (slices : List Slice) (now now' : board.Seen) → (now'.error ≡ None → now.error ≡ None) → Goes how n (Some one) now.rows now'.rows →
+GoingAsks = (how : How) (n : ℕ) (one : Change) (slices : List Slice) (now now' : board.Seen) → (now'.error ≡ None → now.error ≡ None) → CountsNext one now now' → Goes how n (Some one) now.rows now'.rows →
     AsksDestination how (without_buffer (command_of n one)) slices slices now now'
 
 -- and where it is over, nothing.

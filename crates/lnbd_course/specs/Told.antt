@@ -27,6 +27,7 @@ use Rattle.lnbd_board.specs.Requests.{Request}
 use Rattle.lnbd_tracks.specs.Laws.{is_coming}
 use Rattle.lnbd_tracks.specs.Mapping.{Maps, IsToldZero, HoldsZero, ToldAlike, AsksRange, asks_extents}
 use Rattle.lnbd_tracks.specs.Tracks.{is_issue}
+use Rattle.lnbd_course.specs.Counted.{CountsSame, HasNotCounted}
 use Rattle.lnbd_course.specs.Course.{Course, AreOfSides, with_link}
 use Rattle.lnbd_course.specs.Laws.{AsksSource, AsksDestination}
 
@@ -41,7 +42,7 @@ pub record Told (how : How) (has : ℕ → Bool) (slices : List Slice) (now : bo
 
 -- Before any call nothing is known as zero.
 abbrev pub NothingIsTold : Type 0
-NothingIsTold = (how : How) (has : ℕ → Bool) (now : board.Seen) (known : ℕ → Bool) → now.rows ≡ [] → ((p : ℕ) → known p ≡ false) → Told how has [] now [] [] None known
+NothingIsTold = (how : How) (has : ℕ → Bool) (now : board.Seen) (known : ℕ → Bool) → now.rows ≡ [] → HasNotCounted now → ((p : ℕ) → known p ≡ false) → Told how has [] now [] [] None known
 
 -- What was told stays with a handle on a link that was just made, of either side,
 abbrev pub OpeningTells : Type 0
@@ -51,7 +52,7 @@ OpeningTells = (how : How) (has : ℕ → Bool) (slices : List Slice) (now : boa
 -- and where another board takes its place, before any slice is begun or extents are asked for.
 abbrev pub SettlingTells : Type 0
 SettlingTells = (how how' : How) (has : ℕ → Bool) (now now' : board.Seen) (calls : List wire.Call) (seens : List (Seen Ticket)) (known : ℕ → Bool) →
-    Told how has [] now calls seens None known → now.rows ≡ [] → now.error ≡ None → now'.rows ≡ [] → Told how' has [] now' calls seens None known
+    Told how has [] now calls seens None known → now.rows ≡ [] → now.error ≡ None → now'.rows ≡ [] → HasNotCounted now' → Told how' has [] now' calls seens None known
 
 -- Turns.
 
@@ -88,7 +89,7 @@ ExtentsAskTell = (how : How) (has : ℕ → Bool) (slices slices' : List Slice) 
 -- It stays where the board goes on and nothing is asked,
 abbrev pub BoardMovesTell : Type 0
 BoardMovesTell = (how : How) (has : ℕ → Bool) (slices : List Slice) (now now' : board.Seen) (calls : List wire.Call) (seens : List (Seen Ticket)) (wanted : Option (ℕ × ℕ)) (known : ℕ → Bool) →
-    Told how has slices now calls seens wanted known → (now'.error ≡ None → now.error ≡ None) → ((source destination : List Request) → Keeps how now.rows source destination now'.rows source destination) → ToldAlike now now' →
+    Told how has slices now calls seens wanted known → (now'.error ≡ None → now.error ≡ None) → CountsSame now now' → ((source destination : List Request) → Keeps how now.rows source destination now'.rows source destination) → ToldAlike now now' →
     Told how has slices now' calls seens wanted known
 
 -- and where a caller does something else with a handle.

@@ -1,6 +1,7 @@
 //! Laws of the course of a copy. Each is the contract of a function that does nothing.
 
 ghost use Rattle.lnbd_course.specs.Asks.{EndedAreDone, EndedAsksOnce};
+ghost use Rattle.lnbd_course.specs.Counts.{EndedSums};
 ghost use Rattle.lnbd_course.specs.Laws.{NothingIsOnCourse, OpensOnCourse, SettlingKeeps, TurnsKeep, CallsKeep, SourceAsksKeep, DestinationAsksKeep, BoardMovesKeep, OthersKeep, TakingKeeps, FinishedCopies};
 ghost use Rattle.lnbd_course.specs.Betweens.{NothingIsBetween, OpensBetween, SettlingKeepsBetween, AgreeingSettles, TurnsKeepBetween, CallsKeepBetween, SourceAsksKeepBetween, DestinationAsksKeepBetween, BoardMovesKeepBetween, OthersKeepBetween, TakingKeepsBetween, LinksAreOfSides, EndedCopies};
 ghost use Rattle.lnbd_course.specs.Orders.{BeginningAsks, GoingAsks, OverAsksNothing};
@@ -159,4 +160,9 @@ pub fn ended_copies()
 pub fn ended_asks_once()
     ensures once { EndedAsksOnce }
     ensures done { EndedAreDone }
+{}
+
+/// Where all slices are over, what the board counted is the summary of a copy's calls.
+pub fn ended_sums()
+    ensures { EndedSums }
 {}
