@@ -9,6 +9,7 @@ use Rattle.lnbd_board.specs.declared.ticket.Ticket.{Ticket}
 use Rattle.lnbd_board.specs.Files as board
 use Rattle.lnbd_copy.specs.declared.sides.Sides.{Sides}
 use Rattle.lnbd_copy.specs.declared.terms.Terms.{Terms}
+use Rattle.lnbd_course.specs.Counted.{HasNotCounted}
 use Rattle.lnbd_course.proofs.Placing.{agreeing_settles}
 use Rattle.lnbd_copy.specs.Agreed.{Agrees, AreAgreed, IsWished}
 use Rattle.lnbd_copy.specs.declared.job.Phase.TheVariants.{Copying}
@@ -77,7 +78,7 @@ to_second : (copy : Seen) (how : How) (sides : Sides) (n : ℕ) → n ≡ 1 → 
 to_second copy how sides n is = ap (λ (m : ℕ). place_of (beginning copy None how sides) m) is
 
 begins_on : (copy : Seen) (how : How) (sides : Sides) → HasNotBegun copy → IsOn (beginning copy None how sides) copy.board [] copy.held
-begins_on copy how sides none = subst (λ (held : List (Held Ticket)). IsOn (beginning copy None how sides) copy.board [] held) (sym none.held) (nothing_is_on (beginning copy None how sides) copy.board refl refl refl (λ p. refl) none.rows none.begun)
+begins_on copy how sides none = subst (λ (held : List (Held Ticket)). IsOn (beginning copy None how sides) copy.board [] held) (sym none.held) (nothing_is_on (beginning copy None how sides) copy.board refl refl refl (λ p. refl) none.rows none.begun none.uncounted)
 
 -- The first two handles agreed on the source's size.
 agreed_on : (copy : Seen) (size : ℕ) (how : How) (sides : Sides) (calls : List wire.Call) → Agrees size copy.held → IsOn (beginning copy None how sides) copy.board calls copy.held → IsOn (beginning copy (Some size) how sides) copy.board calls copy.held
@@ -200,9 +201,9 @@ further_kept copy mid sides first now now' held held' a b kept further =
     record { stand = same.stand; filed = same.filed; on = λ size how start s count on. same.on size how start s count on }
 
 -- What is settled begins.
-pub begins_job : (copy : Seen) (start told : Option (List wire.Call)) (terms : Terms) (j : job.Seen) (now : board.Seen) → HasMet copy start told terms → copy.board.error ≡ None → now.rows ≡ [] → now.begun ≡ 0 → now.how ≡ terms.how → j.terms ≡ terms → j.phase ≡ Copying →
+pub begins_job : (copy : Seen) (start told : Option (List wire.Call)) (terms : Terms) (j : job.Seen) (now : board.Seen) → HasMet copy start told terms → copy.board.error ≡ None → now.rows ≡ [] → now.begun ≡ 0 → HasNotCounted now → now.how ≡ terms.how → j.terms ≡ terms → j.phase ≡ Copying →
     ((way : Way) (b : board.Seen) → way.size ≡ Some terms.size → b.how ≡ terms.how → way.how ≡ terms.how → way.sides ≡ terms.sides → way.slices ≡ [] → way.asked ≡ None → job.IsJob j way b) → IsOnItsWay start told (record copy { board = now; job = Some j })
-begins_job copy start told terms j now met well empty new writes same copying is =
+begins_job copy start told terms j now met well empty new uncounted writes same copying is =
     let way = beginning copy (Some terms.size) terms.how terms.sides in
     record {
       stand = met.stand;
@@ -214,6 +215,6 @@ begins_job copy start told terms j now met well empty new writes same copying is
       wished = subst (λ (t : Terms). IsWished copy.options t.how) (sym same) met.wished;
       is = is way now refl writes refl refl refl refl;
       on = told_as start told
-          (λ calls on. subst (λ (p : Bool). IsUnderWay p way now calls copy.held) (sym (ap job.is_parting copying)) (settled way terms.how copy.board now calls copy.held refl refl met.blank.rows well empty new on))
+          (λ calls on. subst (λ (p : Bool). IsUnderWay p way now calls copy.held) (sym (ap job.is_parting copying)) (settled way terms.how copy.board now calls copy.held refl refl met.blank.rows well empty new uncounted on))
           met.on;
     }

@@ -26,6 +26,7 @@ use Rattle.lnbd_tracks.specs.Tracks.{is_issue}
 use Rattle.lnbd_course.specs.Course.{with_link}
 use Rattle.lnbd_course.specs.Between.{AreSettings, Between, IsSetting}
 use Rattle.lnbd_course.specs.Between as between
+use Rattle.lnbd_course.specs.Counted.{HasNotCounted}
 use Rattle.lnbd_course.specs.Told as course
 use Rattle.lnbd_course.proofs.Opening.{opens_between}
 use Rattle.lnbd_course.proofs.Telling.{opening_tells, others_tell}
@@ -36,26 +37,26 @@ use Rattle.lnbd_copy.proofs.StepLemmas.{nothing_stands, settling_stands}
 use Rattle.lnbd_copy.proofs.TurnLemmas.{at_count, none_some, since_on, some_same}
 
 -- Before any call a copy without handles, whose board is empty, is on its way.
-pub nothing_is_on : (way : Way) (now : board.Seen) → way.size ≡ None → way.slices ≡ [] → way.asked ≡ None → ((p : ℕ) → way.zero p ≡ false) → now.rows ≡ [] → now.begun ≡ 0 → IsOn way now [] []
-nothing_is_on way now unsettled none unasked unknown empty new = record {
+pub nothing_is_on : (way : Way) (now : board.Seen) → way.size ≡ None → way.slices ≡ [] → way.asked ≡ None → ((p : ℕ) → way.zero p ≡ false) → now.rows ≡ [] → now.begun ≡ 0 → HasNotCounted now → IsOn way now [] []
+nothing_is_on way now unsettled none unasked unknown empty new uncounted = record {
   has = λ link. false;
   seens = [];
   at = tt;
   sided = λ index seen is. absurd (none_some seen is);
   begun = ap length none ∙ sym new;
-  stands = nothing_stands way (λ link. false) now unsettled none unasked unknown empty;
+  stands = nothing_stands way (λ link. false) now unsettled none unasked unknown empty uncounted;
 }
 
 -- Another board, of a copy that writes otherwise, takes the place of one that is empty, before any slice is begun.
-pub settled : (way : Way) (how : How) (now now' : board.Seen) (calls : List wire.Call) (held : List (Held Ticket)) → way.slices ≡ [] → way.asked ≡ None → now.rows ≡ [] → now.error ≡ None → now'.rows ≡ [] → now'.begun ≡ 0
+pub settled : (way : Way) (how : How) (now now' : board.Seen) (calls : List wire.Call) (held : List (Held Ticket)) → way.slices ≡ [] → way.asked ≡ None → now.rows ≡ [] → now.error ≡ None → now'.rows ≡ [] → now'.begun ≡ 0 → HasNotCounted now'
     → IsOn way now calls held → IsOn (record way { how = how }) now' calls held
-settled way how now now' calls held none unasked empty well empty' new on = record {
+settled way how now now' calls held none unasked empty well empty' new uncounted on = record {
   has = on.has;
   seens = on.seens;
   at = on.at;
   sided = on.sided;
   begun = ap length none ∙ sym new;
-  stands = settling_stands way on.has how now now' calls on.seens none unasked on.stands empty well empty';
+  stands = settling_stands way on.has how now now' calls on.seens none unasked on.stands empty well empty' uncounted;
 }
 
 -- The last of some handles.

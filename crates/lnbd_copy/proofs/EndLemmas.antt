@@ -38,7 +38,7 @@ use Rattle.lnbd_copy.specs.Way.{Filed, Goes, IsLeaving, IsOn, IsUnderWay, Stands
 use Rattle.lnbd_copy.proofs.CopierLemmas.{told_as}
 use Rattle.lnbd_copy.proofs.PartLemmas.{on_leaving}
 
-some_same : (one other : job.Seen) → Some one ≡ Some other → one ≡ other
+pub some_same : (one other : job.Seen) → Some one ≡ Some other → one ≡ other
 some_same one other e = cc
 
 -- A board with what callbacks were told suits a job as it did.
@@ -60,7 +60,7 @@ from_on : (parting : Bool) (way : Way) (now : board.Seen) (calls : List wire.Cal
 from_on true way now calls held on = on_leaving way now calls held on
 from_on false way now calls held on = on
 
-past_copying : (phase : Phase) → job.is_parting phase ≡ true → phase ≢ Copying
+pub past_copying : (phase : Phase) → job.is_parting phase ≡ true → phase ≢ Copying
 past_copying Copying parts = absurd (false≢true parts)
 past_copying Flushing parts = absurd (false≢true parts)
 past_copying Parting parts = λ e. cc
@@ -180,10 +180,10 @@ not_false true e = refl
 not_false false e = absurd (false≢true (sym e))
 
 -- With no handle held, what its handles did stands without them.
-stands_alone : (way : Way) (now : board.Seen) (calls : List wire.Call) → (on : IsLeaving way now calls []) → Stands way on.has now calls []
+pub stands_alone : (way : Way) (now : board.Seen) (calls : List wire.Call) → (on : IsLeaving way now calls []) → Stands way on.has now calls []
 stands_alone way now calls on = subst (λ (seens : List (poll.Seen Ticket)). Stands way on.has now calls seens) (none_left on.seens on.at) on.stands
 
-between_sized : (way : Way) (size : ℕ) (has : ℕ → Bool) (now : board.Seen) (calls : List wire.Call) → way.size ≡ Some size → Stands way has now calls [] → Between way.from way.to (Some size) way.how has way.slices now calls []
+pub between_sized : (way : Way) (size : ℕ) (has : ℕ → Bool) (now : board.Seen) (calls : List wire.Call) → way.size ≡ Some size → Stands way has now calls [] → Between way.from way.to (Some size) way.how has way.slices now calls []
 between_sized way size has now calls settled s = subst (λ (o : Option ℕ). Between way.from way.to o way.how has way.slices now calls []) settled s.between
 
 -- All is planned, as it was told.
@@ -221,7 +221,7 @@ all_taken from to size how has slices now calls (one ∷ more) (seen ∷ others)
     (taking_keeps_between from to size how has slices now calls (seen ∷ others) 0 seen max_unretired one.handle b refl at.0.stands))
 
 -- The slices that were begun, and those still to come, are planned once.
-planned_once : (j : job.Seen) (way : Way) (now : board.Seen) → (is : job.IsJob j way now) → (p : ℕ) → IsPlannedOnce j.windows.plan.cells (told_by 0 is.planned.parts) 0 j.windows.plan.end p (way.slices ++ j.windows.plan.slices)
+pub planned_once : (j : job.Seen) (way : Way) (now : board.Seen) → (is : job.IsJob j way now) → (p : ℕ) → IsPlannedOnce j.windows.plan.cells (told_by 0 is.planned.parts) 0 j.windows.plan.end p (way.slices ++ j.windows.plan.slices)
 planned_once j way now is p =
     subst (λ (l : List Slice). IsPlannedOnce j.windows.plan.cells (told_by 0 is.planned.parts) 0 j.windows.plan.end p l) (sym is.planned.are)
     (subst (λ (n : ℕ). IsPlannedOnce j.windows.plan.cells (told_by 0 is.planned.parts) 0 n p (windows_slices j.windows.plan.cells 0 is.planned.parts)) is.planned.end (all_planned_once j.windows.plan.cells 0 is.planned.parts p))
@@ -290,7 +290,7 @@ same_rest (call ∷ one) two three e = same_rest one two three (cc e)
 same_calls : (one two : List wire.Call) → Some one ≡ Some two → one ≡ two
 same_calls one two e = cc
 
-told_part : {Is : List wire.Call → Type 0} (a b : Option (List wire.Call)) → Told a b Is → (all part : List wire.Call) → b ≡ Some all → Grows a b part → Is part
+pub told_part : {Is : List wire.Call → Type 0} (a b : Option (List wire.Call)) → Told a b Is → (all part : List wire.Call) → b ≡ Some all → Grows a b part → Is part
 told_part {Is} a b told all part is grown =
     let since = told.since all is in
     let grew = grown all is in

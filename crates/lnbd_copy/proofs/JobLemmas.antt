@@ -11,6 +11,7 @@ use Rattle.lnbd_asked.specs.Transcript.{zero_in}
 use Rattle.lnbd_poll.specs.Held.{Held}
 use Rattle.lnbd_poll.specs.Seen as poll
 use Rattle.lnbd_drives.specs.Driving.{with_event}
+use Rattle.lnbd_model.specs.Kind.{is_read, is_write}
 use Rattle.lnbd_plan.specs.declared.cells.Cells.{Cells}
 use Rattle.lnbd_plan.specs.declared.grid.Slice.{Slice}
 use Rattle.lnbd_board.specs.declared.how.How.{How}
@@ -20,7 +21,9 @@ use Rattle.lnbd_board.specs.Files as board
 use Rattle.lnbd_board.specs.Requests.{asking}
 use Rattle.lnbd_board.specs.Rows as rows
 use Rattle.lnbd_board.proofs.Turning.{extents_kept, flush_kept}
+use Rattle.lnbd_course.specs.Counted.{is_zero, up_to_end}
 use Rattle.lnbd_course.specs.Laws.{AsksSource, AsksDestination}
+use Rattle.lnbd_course.proofs.Counting.{bytes_beside}
 use Rattle.lnbd_course.specs.Taken.{without_buffer}
 use Rattle.lnbd_tracks.specs.Laws.{asked_by}
 use Rattle.lnbd_tracks.specs.Mapping.{HoldsZero}
@@ -93,6 +96,11 @@ extents_ask how now now' offset size slices is =
       on = λ source destination link cookie stands.
           subst (λ (b : board.Seen). rows.Stands how slices b.rows (asking link cookie ticket.Extents (asked_by command) source) destination) (sym is)
           ((extents_kept how now.rows source destination link cookie (asked_by command) refl).on slices stands);
+      counts = λ source destination link cookie k. record {
+        read = ap (λ (b : board.Seen). b.read) is ∙ k.read ∙ ap up_to_end (sym (bytes_beside is_read link cookie ticket.Extents (asked_by command) source refl));
+        written = ap (λ (b : board.Seen). b.written) is ∙ k.written;
+        zeroed = ap (λ (b : board.Seen). b.zeroed) is ∙ k.zeroed;
+      };
     }
 
 -- Extents of a range are asked for, of the source's first connection, while none are.
@@ -256,6 +264,11 @@ flush_asks how now now' slices is =
           subst (λ (more : List Slice). rows.Stands how more now'.rows source (asking link cookie ticket.Flush (asked_by command) destination)) (sym (append-nil slices))
           (subst (λ (b : board.Seen). rows.Stands how slices b.rows source (asking link cookie ticket.Flush (asked_by command) destination)) (sym is)
           ((flush_kept how now.rows source destination link cookie (asked_by command) refl).on slices stands));
+      counts = λ source destination link cookie k. record {
+        read = ap (λ (b : board.Seen). b.read) is ∙ k.read;
+        written = ap (λ (b : board.Seen). b.written) is ∙ k.written ∙ ap up_to_end (sym (bytes_beside is_write link cookie ticket.Flush (asked_by command) destination refl));
+        zeroed = ap (λ (b : board.Seen). b.zeroed) is ∙ k.zeroed ∙ ap up_to_end (sym (bytes_beside is_zero link cookie ticket.Flush (asked_by command) destination refl));
+      };
     }
 
 pub acts_flushing : (job job' : Seen) (phase' : Phase) (now now' : board.Seen) (held held' : List (Held Ticket)) → job' ≡ record job { phase = phase' } → IsOver job now → now' ≡ now → IsAsked 1 (flush_of ticket.Flush 0) held held' →

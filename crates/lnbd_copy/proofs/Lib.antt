@@ -13,4 +13,5 @@ pub mod JobLemmas
 pub mod StepLemmas
 pub mod CopierLemmas
 pub mod EndLemmas
+pub mod SummedLemmas
 pub mod AgreeLemmas

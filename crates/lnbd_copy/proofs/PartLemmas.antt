@@ -164,7 +164,7 @@ stood (suc index) (one ∷ others) (seen ∷ all) taken is at =
 filed_stands : (way : Way) (has : ℕ → Bool) (now now' : board.Seen) (calls : List wire.Call) (seens : List (Seen Ticket)) → way.asked ≡ None → Filed now now' → now.rows ≡ [] → Stands way has now calls seens → Stands way has now' calls seens
 filed_stands way has now now' calls seens unasked filed none stands =
     let same : now'.rows ≡ now.rows = filed.none none ∙ sym none in
-    unasked_moves_stand way has now now' calls seens unasked stands filed.error (λ source destination. record {
+    unasked_moves_stand way has now now' calls seens unasked stands filed.error (record { read = filed.read; written = filed.written; zeroed = filed.zeroed }) (λ source destination. record {
       on = λ all kept. subst (λ (r : List (ℕ × Row)). rows.Stands way.how all r source destination) (sym same) kept;
     })
 

@@ -21,6 +21,7 @@ use Rattle.lnbd_board.specs.Files as board
 use Rattle.lnbd_board.specs.Requests.{Request}
 use Rattle.lnbd_tracks.specs.Mapping.{AsksRange, HoldsZero, ToldAlike, asks_extents}
 use Rattle.lnbd_course.specs.Between.{Between, IsSetting}
+use Rattle.lnbd_course.specs.Counted.{CountsSame, HasNotCounted}
 use Rattle.lnbd_course.specs.Told as course
 use Rattle.lnbd_course.specs.Laws.{AsksDestination, AsksSource}
 use Rattle.lnbd_course.proofs.Placing.{board_moves_keep_between, calls_keep_between, destination_asks_keep_between, nothing_is_between, others_keep_between, settling_keeps_between, source_asks_keep_between, taking_keeps_between, turns_keep_between}
@@ -28,20 +29,20 @@ use Rattle.lnbd_course.proofs.Telling.{board_moves_tell, calls_tell, destination
 use Rattle.lnbd_copy.specs.Way.{Stands, Way}
 
 module _ (way : Way) (has : ℕ → Bool) where
-  pub nothing_stands : (now : board.Seen) → way.size ≡ None → way.slices ≡ [] → way.asked ≡ None → ((p : ℕ) → way.zero p ≡ false) → now.rows ≡ [] → Stands way has now [] []
-  nothing_stands now unsettled none unasked unknown empty = record {
-    between = subst (λ (o : Option ℕ). Between way.from way.to o way.how has way.slices now [] []) (sym unsettled) (subst (λ (l : List Slice). Between way.from way.to None way.how has l now [] []) (sym none) (nothing_is_between way.from way.to way.how has now empty));
-    told = subst (λ (o : Option (ℕ × ℕ)). course.Told way.how has way.slices now [] [] o way.zero) (sym unasked) (subst (λ (l : List Slice). course.Told way.how has l now [] [] None way.zero) (sym none) (nothing_is_told way.how has now way.zero empty unknown));
+  pub nothing_stands : (now : board.Seen) → way.size ≡ None → way.slices ≡ [] → way.asked ≡ None → ((p : ℕ) → way.zero p ≡ false) → now.rows ≡ [] → HasNotCounted now → Stands way has now [] []
+  nothing_stands now unsettled none unasked unknown empty uncounted = record {
+    between = subst (λ (o : Option ℕ). Between way.from way.to o way.how has way.slices now [] []) (sym unsettled) (subst (λ (l : List Slice). Between way.from way.to None way.how has l now [] []) (sym none) (nothing_is_between way.from way.to way.how has now empty uncounted));
+    told = subst (λ (o : Option (ℕ × ℕ)). course.Told way.how has way.slices now [] [] o way.zero) (sym unasked) (subst (λ (l : List Slice). course.Told way.how has l now [] [] None way.zero) (sym none) (nothing_is_told way.how has now way.zero empty uncounted unknown));
   }
 
-  pub settling_stands : (how : How) (now now' : board.Seen) (calls : List wire.Call) (seens : List (Seen Ticket)) → way.slices ≡ [] → way.asked ≡ None → Stands way has now calls seens → now.rows ≡ [] → now.error ≡ None → now'.rows ≡ [] →
+  pub settling_stands : (how : How) (now now' : board.Seen) (calls : List wire.Call) (seens : List (Seen Ticket)) → way.slices ≡ [] → way.asked ≡ None → Stands way has now calls seens → now.rows ≡ [] → now.error ≡ None → now'.rows ≡ [] → HasNotCounted now' →
       Stands (record way { how = how }) has now' calls seens
-  settling_stands how now now' calls seens none unasked s empty well empty' = record {
+  settling_stands how now now' calls seens none unasked s empty well empty' uncounted = record {
     between = subst (λ (l : List Slice). Between way.from way.to way.size how has l now' calls seens) (sym none)
-        (settling_keeps_between way.from way.to way.size way.how how has now now' calls seens (subst (λ (l : List Slice). Between way.from way.to way.size way.how has l now calls seens) none s.between) empty well empty');
+        (settling_keeps_between way.from way.to way.size way.how how has now now' calls seens (subst (λ (l : List Slice). Between way.from way.to way.size way.how has l now calls seens) none s.between) empty well empty' uncounted);
     told = subst (λ (o : Option (ℕ × ℕ)). course.Told how has way.slices now' calls seens o way.zero) (sym unasked) (subst (λ (l : List Slice). course.Told how has l now' calls seens None way.zero) (sym none)
         (settling_tells way.how how has now now' calls seens way.zero
-        (subst (λ (o : Option (ℕ × ℕ)). course.Told way.how has [] now calls seens o way.zero) unasked (subst (λ (l : List Slice). course.Told way.how has l now calls seens way.asked way.zero) none s.told)) empty well empty'));
+        (subst (λ (o : Option (ℕ × ℕ)). course.Told way.how has [] now calls seens o way.zero) unasked (subst (λ (l : List Slice). course.Told way.how has l now calls seens way.asked way.zero) none s.told)) empty well empty' uncounted));
   }
 
   pub turns_stand : (now now' : board.Seen) (calls part : List wire.Call) (before after : List (Seen Ticket)) (moved : Option ℕ) → Stands way has now calls before → Turns (OneByOne board.Files) before now part after now' (Whole moved) →
@@ -81,19 +82,19 @@ module _ (way : Way) (has : ℕ → Bool) where
     told = extents_ask_tell way.how has way.slices way.slices now now' calls seens range way.zero index seen command (subst (λ (o : Option (ℕ × ℕ)). course.Told way.how has way.slices now calls seens o way.zero) none s.told) there side spells asks asked blank unmapped;
   }
 
-  pub board_moves_stand : (now now' : board.Seen) (calls : List wire.Call) (seens : List (Seen Ticket)) → Stands way has now calls seens → (now'.error ≡ None → now.error ≡ None) →
+  pub board_moves_stand : (now now' : board.Seen) (calls : List wire.Call) (seens : List (Seen Ticket)) → Stands way has now calls seens → (now'.error ≡ None → now.error ≡ None) → CountsSame now now' →
       ((source destination : List Request) → Keeps way.how now.rows source destination now'.rows source destination) → ToldAlike now now' → Stands way has now' calls seens
-  board_moves_stand now now' calls seens s earlier keeps alike = record {
-    between = board_moves_keep_between way.from way.to way.size way.how has way.slices now now' calls seens s.between earlier keeps;
-    told = board_moves_tell way.how has way.slices now now' calls seens way.asked way.zero s.told earlier keeps alike;
+  board_moves_stand now now' calls seens s earlier same keeps alike = record {
+    between = board_moves_keep_between way.from way.to way.size way.how has way.slices now now' calls seens s.between earlier same keeps;
+    told = board_moves_tell way.how has way.slices now now' calls seens way.asked way.zero s.told earlier same keeps alike;
   }
 
   -- Where no extents are waited for, it does not matter what the board was told of them.
-  pub unasked_moves_stand : (now now' : board.Seen) (calls : List wire.Call) (seens : List (Seen Ticket)) → way.asked ≡ None → Stands way has now calls seens → (now'.error ≡ None → now.error ≡ None) →
+  pub unasked_moves_stand : (now now' : board.Seen) (calls : List wire.Call) (seens : List (Seen Ticket)) → way.asked ≡ None → Stands way has now calls seens → (now'.error ≡ None → now.error ≡ None) → CountsSame now now' →
       ((source destination : List Request) → Keeps way.how now.rows source destination now'.rows source destination) → Stands way has now' calls seens
-  unasked_moves_stand now now' calls seens none s earlier keeps = record {
-    between = board_moves_keep_between way.from way.to way.size way.how has way.slices now now' calls seens s.between earlier keeps;
-    told = subst (λ (o : Option (ℕ × ℕ)). course.Told way.how has way.slices now' calls seens o way.zero) (sym none) (unasked_moves_tell way.how has way.slices now now' calls seens way.zero (subst (λ (o : Option (ℕ × ℕ)). course.Told way.how has way.slices now calls seens o way.zero) none s.told) earlier keeps);
+  unasked_moves_stand now now' calls seens none s earlier same keeps = record {
+    between = board_moves_keep_between way.from way.to way.size way.how has way.slices now now' calls seens s.between earlier same keeps;
+    told = subst (λ (o : Option (ℕ × ℕ)). course.Told way.how has way.slices now' calls seens o way.zero) (sym none) (unasked_moves_tell way.how has way.slices now now' calls seens way.zero (subst (λ (o : Option (ℕ × ℕ)). course.Told way.how has way.slices now calls seens o way.zero) none s.told) earlier same keeps);
   }
 
   pub others_stand : (now : board.Seen) (calls : List wire.Call) (seens : List (Seen Ticket)) (index : ℕ) (seen : Seen Ticket) (event : Event Ticket) → Stands way has now calls seens → slice_get seens index ≡ Some seen →

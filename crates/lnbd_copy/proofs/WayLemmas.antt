@@ -15,6 +15,7 @@ use Rattle.lnbd_board.specs.Asks as asks
 use Rattle.lnbd_board.specs.Files as board
 use Rattle.lnbd_board.specs.Requests.{Request}
 use Rattle.lnbd_tracks.specs.Mapping.{ToldAlike, asks_extents}
+use Rattle.lnbd_course.specs.Counted.{CountsSame}
 use Rattle.lnbd_course.specs.Laws.{AsksSource, AsksDestination}
 use Rattle.lnbd_course.specs.Taken.{without_buffer}
 use Rattle.lnbd_copy.specs.declared.sides.Sides.{Sides}
@@ -81,13 +82,13 @@ module _ (how : How) (sides : Sides) where
         subst (λ (slices : List Slice). IsOn (record way { slices = slices }) c calls k) (append_assoc way.slices more further) (second.on (with_slices more way) calls h s (first.on way calls h s on));
   }
 
-  pub board_keeps : (now now' : board.Seen) (held : List (Held Ticket)) → now'.begun ≡ now.begun → now'.error ≡ now.error → ToldAlike now now' →
+  pub board_keeps : (now now' : board.Seen) (held : List (Held Ticket)) → now'.begun ≡ now.begun → now'.error ≡ now.error → CountsSame now now' → ToldAlike now now' →
       ((source destination : List Request) → asks.Keeps how now.rows source destination now'.rows source destination) → Keeps how sides [] now now' held held
-  board_keeps now now' held begun error alike goes = record {
+  board_keeps now now' held begun error same alike goes = record {
     stand = λ s. s;
     on = λ way calls h s on.
         no_more way calls now' held (moved_on way calls now now' held on begun
-        (board_moves_stand way on.has now now' calls on.seens on.stands (λ none. sym error ∙ none)
+        (board_moves_stand way on.has now now' calls on.seens on.stands (λ none. sym error ∙ none) same
         (subst (λ (w : How). (source destination : List Request) → asks.Keeps w now.rows source destination now'.rows source destination) (sym h) goes) alike));
   }
 

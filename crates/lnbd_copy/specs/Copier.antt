@@ -9,6 +9,7 @@ use Rattle.lnbd_board.specs.declared.ticket.Ticket.{Ticket}
 use Rattle.lnbd_board.specs.Files as board
 use Rattle.lnbd_course.specs.Asks.{HasAskedOnce, WereDone}
 use Rattle.lnbd_course.specs.Copied.{Copied}
+use Rattle.lnbd_course.specs.Counted.{HasNotCounted}
 use Rattle.lnbd_copy.specs.declared.copier.Progress.{Progress}
 use Rattle.lnbd_copy.specs.declared.copier.Progress.TheVariants as progress
 use Rattle.lnbd_copy.specs.declared.counts.Counts.{Counts}
@@ -35,6 +36,7 @@ pub record HasNotBegun (copy : Seen) : Type 0 where
   pub held : copy.held ≡ []
   pub rows : copy.board.rows ≡ []
   pub begun : copy.board.begun ≡ 0
+  pub uncounted : HasNotCounted copy.board
 
 -- Its connections.
 

@@ -9,3 +9,4 @@ pub mod Opening
 pub mod Leaving
 pub mod Agreed
 pub mod Copier
+pub mod Summed

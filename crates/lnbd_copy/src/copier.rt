@@ -4,10 +4,12 @@ ghost use Rattle.std.specs.Prelude.{◌≡◌, ◌≢◌, ◌<◌, ◌≤◌, �
 ghost use Rattle.lnbd_link.specs.Call.{Call};
 ghost use Rattle.lnbd_course.specs.Asks.{GrewBy, HasAskedOnce, WereDone};
 ghost use Rattle.lnbd_course.specs.Copied.{Copies};
+ghost use Rattle.lnbd_course.specs.Counts.{Summarizes};
 ghost use Rattle.lnbd_copy.specs.Agreed.{AreQuiet};
 ghost use Rattle.lnbd_copy.specs.Causes.{GoesOn, HasCause};
 ghost use Rattle.lnbd_copy.specs.Copier.{GoesFurther, HasJob, HasMet, HasNotBegun, HasTurned, IsDone, IsGoing, IsOnItsWay, IsParting, Seen};
 ghost use Rattle.lnbd_copy.specs.Opening.{Dials};
+ghost use Rattle.lnbd_copy.specs.Summed.{HasSummed, IsTally};
 ghost use Rattle.lnbd_copy.specs.Way.{Goes, Told};
 
 use crate::agreeing::{agree, check_answers, check_same, tells_extents};
@@ -290,6 +292,9 @@ impl Copier {
         ensures turns { IfOk result (λ told. (start : Option (List Call)) → IsOnItsWay start (W.told wires.old) self.old → HasTurned start (W.told wires.new) self.new told) }
         ensures shut { OnErr result (self.new.held ≡ []) }
 
+        // Where it is finished, the summary says what its calls asked.
+        ensures sums { IfOk result (λ told. (start : Option (List Call)) → IsOnItsWay start (W.told wires.old) self.old → HasSummed start (W.told wires.new) self.new told) }
+
         // Nothing was asked twice so far, and nothing past the source's end.
         ensures asks { OnOk result ((start : Option (List Call)) → IsOnItsWay start (W.told wires.old) self.old → self.new.from ≢ self.new.to → Told start (W.told wires.new) (HasAskedOnce self.new.options.allocated self.new.from self.new.to)) }
 
@@ -312,6 +317,7 @@ impl Copier {
         requires idles { self.old.start.idles ≤ W.idles wires.old }
         ensures kept { self.new ≡ record self.old { held = self.new.held; board = self.new.board; job = self.new.job } }
         ensures turns { IfOk result (λ told. (start : Option (List Call)) → IsOnItsWay start (W.told wires.old) self.old → HasTurned start (W.told wires.new) self.new told) }
+        ensures sums { IfOk result (λ told. (start : Option (List Call)) → IsOnItsWay start (W.told wires.old) self.old → HasSummed start (W.told wires.new) self.new told) }
         ensures asks { OnOk result ((start : Option (List Call)) → IsOnItsWay start (W.told wires.old) self.old → self.new.from ≢ self.new.to → Told start (W.told wires.new) (HasAskedOnce self.new.options.allocated self.new.from self.new.to)) }
         ensures causes { IfErr result (λ told. HasCause self.old.start (W.faults wires.new) (W.idles wires.new) told) }
         ensures counts { GoesOn (W.faults wires.old) (W.faults wires.new) (W.idles wires.old) (W.idles wires.new) (W.contents wires.old) (W.contents wires.new) }
@@ -384,7 +390,9 @@ impl Copier {
     }
 
     /// What the copy did.
-    fn summary(&self) -> Summary {
+    fn summary(&self) -> Summary
+        ensures counted { IsTally self.now result }
+    {
         let size = match &self.job {
             Some(job) => job.size(),
             None => 0,
@@ -408,6 +416,9 @@ impl Copier {
         ensures asks { self.from ≢ self.to → OnOk result (GrewBy (HasAskedOnce self.options.allocated self.from self.to) (W.told wires.old) (W.told wires.new)) }
         ensures done { self.from ≢ self.to → OnOk result (GrewBy (WereDone self.from self.to) (W.told wires.old) (W.told wires.new)) }
 
+        // The summary has the bytes that were asked to be read, written and zeroed, and those that nothing was asked for.
+        ensures summary { self.from ≢ self.to → IfOk result (λ told. GrewBy (Summarizes self.from self.to told) (W.told wires.old) (W.told wires.new)) }
+
         // The counts, and what they show of a fault.
         ensures causes { IfErr result (λ told. HasCause (record { faults = W.faults wires.old; idles = W.idles wires.old }) (W.faults wires.new) (W.idles wires.new) told) }
         ensures counts { GoesOn (W.faults wires.old) (W.faults wires.new) (W.idles wires.old) (W.idles wires.new) (W.contents wires.old) (W.contents wires.new) }
@@ -424,6 +435,7 @@ impl Copier {
         requires { HasNotBegun self.old }
         ensures kept { self.new ≡ record self.old { start = self.new.start; held = self.new.held; board = self.new.board; job = self.new.job } }
         ensures done { OnOk result (IsDone (W.told wires.old) (W.told wires.new) self.new) }
+        ensures sums { IfOk result (λ told. self.new.from ≢ self.new.to → Told (W.told wires.old) (W.told wires.new) (Summarizes self.new.from self.new.to told)) }
         ensures causes { IfErr result (λ told. HasCause (record { faults = W.faults wires.old; idles = W.idles wires.old }) (W.faults wires.new) (W.idles wires.new) told) }
         ensures counts { GoesOn (W.faults wires.old) (W.faults wires.new) (W.idles wires.old) (W.idles wires.new) (W.contents wires.old) (W.contents wires.new) }
     {
@@ -474,7 +486,8 @@ impl Copier {
 
 /// What a turn did, where so much moved and it went on or not in another way.
 fn progress_of(moved: Turn, acted: bool) -> Progress
-    ensures { (start told : Option (List Call)) (copy : Seen) → IsOnItsWay start told copy → HasTurned start told copy result }
+    ensures on { (start told : Option (List Call)) (copy : Seen) → IsOnItsWay start told copy → HasTurned start told copy result }
+    ensures sums { (start told : Option (List Call)) (copy : Seen) → HasSummed start told copy result }
 {
     match moved {
         Turn::Moved(count) => Progress::Moved(count),

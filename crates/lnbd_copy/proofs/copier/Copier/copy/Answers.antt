@@ -3,6 +3,7 @@ use Rattle.lnbd_link.specs.Call.{Call}
 use Rattle.lnbd_copy.specs.Copier.{IsOnItsWay, Seen}
 use Rattle.lnbd_copy.proofs.CauseLemmas.{goes_as, goes_then}
 use Rattle.lnbd_copy.proofs.EndLemmas.{all_then, finished_on, moved_on, rested, still_on}
+use Rattle.lnbd_copy.proofs.SummedLemmas.{summed_on}
 use Rattle.lnbd_copy.proofs.copier.Copier.copy.Goals as goal
 use Rattle.lnbd_copy.proofs.copier.Copier.copy.Goals.{in-Moved, in-Still+in_ok-rest-in-Still}
 
@@ -38,3 +39,6 @@ turn-requires-clause-going g c = record { start = g.W.Wires.told c.args.wires.no
 
 pub returns-in-Finished-clause-done : goal.returns-in-Finished-clause-done
 returns-in-Finished-clause-done g c = finished_on _ _ _ _ _ c.in-Finished.is (c.in_ok-turn.ensures.turns (g.W.Wires.told c.args.wires.now) c.turns.invariant.on)
+
+pub returns-in-Finished-clause-sums : goal.returns-in-Finished-clause-sums
+returns-in-Finished-clause-sums g c = summed_on _ _ _ _ _ c.in-Finished.is (c.in_ok-turn.ensures.sums (g.W.Wires.told c.args.wires.now) c.turns.invariant.on)

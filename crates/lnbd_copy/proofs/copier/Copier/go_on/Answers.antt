@@ -1,6 +1,7 @@
 use Rattle.std.proofs.Common.{refl, ap, sym, ◌∙◌}
 use Rattle.lnbd_copy.specs.Copier.{Seen}
 use Rattle.lnbd_copy.proofs.EndLemmas.{finished, has_job, way_asks}
+use Rattle.lnbd_copy.proofs.SummedLemmas.{summed}
 use Rattle.lnbd_copy.proofs.copier.Copier.go_on.Goals as goal
 
 pub returns-then-is_finished-clause-turns : goal.returns-then-is_finished-clause-turns
@@ -10,7 +11,7 @@ returns-then-is_finished-clause-turns g c start on =
     finished _ start _ parting.job parting.there parting.parts (c.if-is_finished.ensures.parted refl) (sym (ap (λ (s : Seen). s.board.error) c.self.view_is) ∙ c.in_ok-check_answers.ensures.well) left
 
 pub returns-clause-turns : goal.returns-clause-turns
-returns-clause-turns g c start on = c.progress_of.ensures start _ _ (c.part-parted.ensures.on start (c.in_ok-acted.ensures.on start _ (c.in_ok-moved.ensures.on start on)))
+returns-clause-turns g c start on = c.progress_of.ensures.on start _ _ (c.part-parted.ensures.on start (c.in_ok-acted.ensures.on start _ (c.in_ok-moved.ensures.on start on)))
 
 pub act-requires : goal.act-requires
 act-requires g c = has_job c.requires.going.start _ _ (c.in_ok-moved.ensures.on c.requires.going.start c.requires.going.on)
@@ -24,3 +25,12 @@ pub returns-clause-asks : goal.returns-clause-asks
 returns-clause-asks g c start on two =
     let left = c.part-parted.ensures.on start (c.in_ok-acted.ensures.on start _ (c.in_ok-moved.ensures.on start on)) in
     way_asks _ start _ (sym (ap (λ (s : Seen). s.board.error) c.self.view_is) ∙ c.in_ok-check_answers.ensures.well) left two
+
+pub returns-then-is_finished-clause-sums : goal.returns-then-is_finished-clause-sums
+returns-then-is_finished-clause-sums g c start on two =
+    let parting = c.if-is_finished.ensures.parting refl in
+    let left = c.part-parted.ensures.on start (c.in_ok-acted.ensures.on start _ (c.in_ok-moved.ensures.on start on)) in
+    summed _ start _ c.summary.result parting.job c.summary.ensures parting.there parting.parts (c.if-is_finished.ensures.parted refl) (sym (ap (λ (s : Seen). s.board.error) c.self.view_is) ∙ c.in_ok-check_answers.ensures.well) left two
+
+pub returns-clause-sums : goal.returns-clause-sums
+returns-clause-sums g c start on = c.progress_of.ensures.sums start _ _

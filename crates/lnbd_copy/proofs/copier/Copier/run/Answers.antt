@@ -1,6 +1,7 @@
 use Rattle.std.proofs.Common.{ap}
 use Rattle.std.proofs.lemmas.Result.{on_ok_weaker}
 use Rattle.lnbd_copy.proofs.EndLemmas.{done_asks, done_copies, done_whole}
+use Rattle.lnbd_copy.proofs.SummedLemmas.{done_sums}
 use Rattle.lnbd_copy.proofs.copier.Copier.run.Goals as goal
 
 pub returns-clause-copies : goal.returns-clause-copies
@@ -20,3 +21,6 @@ returns-clause-done g c two =
     on_ok_weaker c.copy-told.result
     (λ done. done_whole c.args.self c.copy-told.new.self _ _ _ c.copy-told.ensures.kept (ap g.W.Wires.told (c.end.ensures.parted done.parted)) two done)
     c.copy-told.ensures.done
+
+pub returns-clause-summary : goal.returns-clause-summary
+returns-clause-summary g c two = done_sums c.args.self c.copy-told.new.self _ _ _ c.copy-told.result c.copy-told.ensures.kept (λ parted. ap g.W.Wires.told (c.end.ensures.parted parted)) two c.copy-told.ensures.done c.copy-told.ensures.sums
