@@ -1,5 +1,7 @@
 pub mod AlikeLemmas
 pub mod CloseLemmas
+pub mod CompleteLemmas
+pub mod EndLemmas
 pub mod IssueLemmas
 pub mod LandLemmas
 pub mod LandsLemmas

@@ -66,6 +66,3 @@ module _ {K : Type 0} where
   -- a row that landed
   pub landed_rows : (c : ℕ) (failure : Option Failure) (kept : Kept) (row : Row K) (rows : List (ℕ × Row K)) → value_at c rows ≡ Some row → changed (landed failure kept) c rows ≡ with_value c (landed failure kept row) rows
   landed_rows c failure kept row rows at = ap (λ (o : Option (Row K)). changing (landed failure kept) c o rows) at
-
-  pub landed_at : (c : ℕ) (failure : Option Failure) (kept : Kept) (row : Row K) (rows : List (ℕ × Row K)) → value_at c rows ≡ Some row → value_at c (changed (landed failure kept) c rows) ≡ Some (landed failure kept row)
-  landed_at c failure kept row rows at = ap (value_at c) (landed_rows c failure kept row rows at) ∙ value_at_with c row (landed failure kept row) rows at

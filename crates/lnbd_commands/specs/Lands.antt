@@ -102,10 +102,6 @@ module _ {K : Type 0} where
   abbrev pub told_row : List MetaContext → Told → Option Heard → Row K → Row K
   told_row contexts content heard row = hearing row contexts (Framed content false) heard
 
-  abbrev pub HearsAt : {World : Type 0} → (World → List (Call K) → World → Type 0) → List MetaContext → Told → Option (Row K) → Option Heard → Log → Log → World → World → Type 0
-  HearsAt steps contexts content None heard before after start end = ⊥
-  HearsAt steps contexts content (Some row) heard before after start end = Hears steps row.flight (heard_in row contexts (Framed content false)) heard before after start end
-
   -- what a command lacks at its last frame
   abbrev pub lacking : List MetaContext → Row K → Option Failure
   lacking contexts row = if true && not (is_told (query_in row) contexts row.facts) then failing from.Content EPROTO else None
@@ -120,10 +116,6 @@ module _ {K : Type 0} where
     pub heard : landing.heard ≡ answer
     pub failure : landing.failure ≡ last_failure contexts row
     pub bytes : landing.bytes ≡ buffer row.kind row.length row.bytes (error_number landing.failure) row.bytes
-
-  abbrev pub EndsAt : List MetaContext → Option (Row K) → Option Heard → Landing K → Type 0
-  EndsAt contexts None heard landing = ⊥
-  EndsAt contexts (Some row) heard landing = EndsAs contexts row heard landing
 
 -- The item was told to the chunk callback, if it has content and the command has such a callback, and the command comes to what the machine says.
 pub record Lands {K World : Type 0} (steps : World → List (Call K) → World → Type 0) (row : Row K) (item : Item) (landing : Landing K) (before after : Log) (start end : World) : Type 0 where
@@ -148,10 +140,6 @@ module _ {K : Type 0} where
   AnswerableAt None error bytes log = ⊥
   AnswerableAt (Some row) error bytes log = IsAnswerable row error bytes log
 
-  abbrev pub LandsAt : {World : Type 0} → (World → List (Call K) → World → Type 0) → Option (Row K) → ℕ → List ℕ → Landing K → Log → Log → World → World → Type 0
-  LandsAt steps None error bytes landing before after start end = ⊥
-  LandsAt steps (Some row) error bytes landing before after start end = Lands steps row (reply_item row error bytes) landing before after start end
-
   pub record IsLosable (row : Row K) : Type 0 where
     pub flies : is_some row.flight ≡ true
     pub held : row.kept ≡ None
@@ -159,7 +147,3 @@ module _ {K : Type 0} where
   abbrev pub LosableAt : Option (Row K) → Type 0
   LosableAt None = ⊥
   LosableAt (Some row) = IsLosable row
-
-  abbrev pub LostAt : Option (Row K) → Landing K → Type 0
-  LostAt None landing = ⊥
-  LostAt (Some row) landing = (landing ≡ lost row landing.flight) × (row.flight ≡ Some landing.flight)

@@ -1,6 +1,7 @@
 pub mod Asks
 pub mod Closes
 pub mod Commands
+pub mod Completes
 pub mod Contents
 pub mod Flights
 pub mod Lands

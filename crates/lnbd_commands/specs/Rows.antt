@@ -84,10 +84,6 @@ module _ {K : Type 0} where
   flight_of_row None = None
   flight_of_row (Some row) = row.flight
 
-  abbrev pub kept_of_row : Option (Row K) → Option Kept
-  kept_of_row None = None
-  kept_of_row (Some row) = row.kept
-
   -- the table after a command that landed was kept or retired
   abbrev pub ended : Verdict → ℕ → Table (Row K) → Table (Row K)
   ended (Keep error bytes) cookie table = record { rows = changed (keeping (record { error = error; bytes = bytes })) cookie table.rows; done = table.done ++ cookie ∷ [] }

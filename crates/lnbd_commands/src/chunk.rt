@@ -11,7 +11,7 @@ ghost use Rattle.lnbd_commands.specs.Takes.{IsChunk, TakesUnder};
 
 use crate::commands::Commands;
 use crate::content::Brought;
-use crate::rows::{end_in, finish_in, tell_in};
+use crate::rows::take_chunk;
 use lnbd_callbacks::Caller;
 use lnbd_model::{Contexts, NoMemory};
 use lnbd_structured::Told;
@@ -34,7 +34,7 @@ impl<K: Caller> Commands<K> {
         ensures err { OnErr result (self.new ≡ record self.old { room = self.new.room }) }
         ensures err_world { OnErr result (world.new ≡ world.old) }
     {
-        match self.file_chunk(world, cookie, Brought::Told(told), last, contexts) {
+        match self.take_chunk(world, cookie, Brought::Told(told), last, contexts) {
             Ok(_) => Ok(()),
             Err(_) => Err(NoMemory),
         }
@@ -59,15 +59,15 @@ impl<K: Caller> Commands<K> {
         ensures err_world { OnErr result (world.new ≡ world.old) }
     {
         let brought = Brought::Filled { offset, buffer };
-        match self.file_chunk(world, cookie, brought, last, contexts) {
+        match self.take_chunk(world, cookie, brought, last, contexts) {
             Ok(spare) => Ok(spare),
             Err(Brought::Filled { offset: _, buffer }) => Err(buffer),
             Err(Brought::Told(_)) => unreachable!(),
         }
     }
 
-    /// Files a chunk. A buffer that is not needed any more comes back, and for want of memory what it brings.
-    fn file_chunk<'a>(
+    /// Tells a command what a chunk brings, and ends it after the last one. A buffer that is not needed any more comes back, and for want of memory what it brings.
+    fn take_chunk<'a>(
         &mut self,
         world: &mut K::World,
         cookie: u64,
@@ -83,24 +83,21 @@ impl<K: Caller> Commands<K> {
         ensures err_world { OnErr result (world.new ≡ world.old) }
     {
         let _admitted = self.desk.admitted();
-        let (heard, spare) = match tell_in(
+        match take_chunk(
             &mut self.table,
             self.alloc,
             &mut self.desk,
             world,
             cookie,
             brought,
+            last,
             contexts,
         ) {
-            Ok(end) => end,
-            Err(brought) => return Err(brought),
-        };
-        if !last {
-            return Ok(spare);
+            Ok((freed, spare)) => {
+                self.freed += freed;
+                Ok(spare)
+            }
+            Err(brought) => Err(brought),
         }
-        let landed = end_in(&mut self.table, self.alloc, cookie, heard, contexts);
-        self.freed += landed.count();
-        finish_in(&mut self.table, &mut self.desk, world, cookie, landed);
-        Ok(spare)
     }
 }

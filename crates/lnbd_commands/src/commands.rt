@@ -17,7 +17,7 @@ ghost use Rattle.lnbd_commands.specs.Takes.{IsReply, Takes, TakesReply};
 
 use crate::content::Content;
 use crate::row::{Row, Waiting};
-use crate::rows::{answer_in, finish_in, lose_in};
+use crate::rows::{end_by_loss, end_by_reply};
 use lnbd_callbacks::{Caller, Desk};
 use lnbd_history::Peeked;
 use lnbd_inflight::Table;
@@ -163,7 +163,7 @@ impl<K: Caller> Commands<K> {
         ensures err { OnErr result (self.new ≡ self.old) }
         ensures err_world { OnErr result (world.new ≡ world.old) }
     {
-        match self.file(world, cookie, error, Content::Copied(bytes)) {
+        match self.end_by_reply(world, cookie, error, Content::Copied(bytes)) {
             Ok(_) => Ok(()),
             Err(_) => Err(NoMemory),
         }
@@ -186,15 +186,15 @@ impl<K: Caller> Commands<K> {
         ensures err { OnErr result (self.new ≡ self.old) }
         ensures err_world { OnErr result (world.new ≡ world.old) }
     {
-        match self.file(world, cookie, error, Content::Moved(buffer)) {
+        match self.end_by_reply(world, cookie, error, Content::Moved(buffer)) {
             Ok(spare) => Ok(spare),
             Err(Content::Moved(back)) => Err(back),
             Err(Content::Copied(_)) => unreachable!(),
         }
     }
 
-    /// Files a simple reply. A buffer that is not needed any more comes back, and for want of memory what it brings.
-    fn file<'a>(
+    /// Ends a command by a simple reply. A buffer that is not needed any more comes back, and for want of memory what it brings.
+    fn end_by_reply<'a>(
         &mut self,
         world: &mut K::World,
         cookie: u64,
@@ -209,7 +209,8 @@ impl<K: Caller> Commands<K> {
         ensures err { OnErr result (self.new ≡ self.old) }
         ensures err_world { OnErr result (world.new ≡ world.old) }
     {
-        let (landed, spare) = match answer_in(
+        let _admitted = self.desk.admitted();
+        match end_by_reply(
             &mut self.table,
             self.alloc,
             &mut self.desk,
@@ -218,13 +219,12 @@ impl<K: Caller> Commands<K> {
             error,
             content,
         ) {
-            Ok(end) => end,
-            Err(content) => return Err(content),
-        };
-        let _admitted = self.desk.admitted();
-        self.freed += landed.count();
-        finish_in(&mut self.table, &mut self.desk, world, cookie, landed);
-        Ok(spare)
+            Ok((freed, spare)) => {
+                self.freed += freed;
+                Ok(spare)
+            }
+            Err(content) => Err(content),
+        }
     }
 
     /// Fails each command in flight with 107, ENOTCONN, or an earlier error of its own, in order of
@@ -249,9 +249,7 @@ impl<K: Caller> Commands<K> {
         requires { is_some (waiting_at cookie self.old) ≡ true }
         ensures { Takes K.steps (file_in cookie Lost) self.old self.new world.old world.new }
     {
-        let landed = lose_in(&mut self.table, self.alloc, cookie);
         let _admitted = self.desk.admitted();
-        self.freed += landed.count();
-        finish_in(&mut self.table, &mut self.desk, world, cookie, landed);
+        self.freed += end_by_loss(&mut self.table, self.alloc, &mut self.desk, world, cookie);
     }
 }

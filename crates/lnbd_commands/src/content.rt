@@ -29,7 +29,7 @@ impl Content<'_> {
 
     /// A buffer that holds these bytes, in the place of one of the same length, and one that is not needed any more. For one
     /// that was handed in, one of its length comes back.
-    pub(crate) fn fill(self, alloc: Global, buffer: Vec<u8>) -> (Vec<u8>, Vec<u8>)
+    pub(crate) fn into_buffer(self, alloc: Global, buffer: Vec<u8>) -> (Vec<u8>, Vec<u8>)
         requires { length (bytes_in self) ≡ vec_len buffer }
         ensures filled { result.0.items ≡ bytes_in self.entry }
         ensures spare { IsSpare (Some self.entry) (length result.1.items) }

@@ -1,19 +1,22 @@
 //! The row of one command: what was asked, its callbacks while it is in flight, its buffer, its first error, and what
 //! was kept of it. How rows change is not said here.
 
-ghost use Rattle.std.specs.Prelude.{◌≡◌, ◌<◌, ◌^◌, ℕ, List, [], true, false, Some, None, is_some, length, vec_len, IfOk, IfErr, OnErr};
+ghost use Rattle.std.specs.Prelude.{◌≡◌, ◌<◌, ◌^◌, ℕ, List, [], true, false, Some, None, is_some, length, map, vec_len, IfOk, IfErr, OnErr};
 ghost use Rattle.std.specs.Option.{option_map};
 ghost use Rattle.lnbd_model.specs.Kind.{is_read};
 ghost use Rattle.lnbd_outcome.specs.Outcome.{buffer, error_number, failing, or_else};
-ghost use Rattle.lnbd_history.specs.Entries.{heard_error};
+ghost use Rattle.lnbd_callbacks.specs.Calls.{is_keep};
+ghost use Rattle.lnbd_callbacks.specs.declared.caller.Verdict.{Verdict};
+ghost use Rattle.lnbd_history.specs.Entries.{call_of, completion_acts, heard_error};
+ghost use Rattle.lnbd_commands.specs.Completes.{answered};
 ghost use Rattle.lnbd_commands.specs.Contents.{FitsIn, IsSpare, brought_in, bytes_in};
-ghost use Rattle.lnbd_commands.specs.Flights.{flight_count, has_first};
+ghost use Rattle.lnbd_commands.specs.Flights.{IsLiveFlight, completing, flight_count, has_first};
 ghost use Rattle.lnbd_commands.specs.Lands.{EndsAs, Hears, IsLiveRow, IsWhole, lacking, lost, reply_bad, reply_failure, reply_hearing};
 ghost use Rattle.lnbd_commands.specs.Seen.{seen_waiting, told_to};
 
 use crate::content::{Content, spare_of};
-use crate::flight::{Flight, Hearing};
-use lnbd_callbacks::{Caller, Desk, Heard};
+use crate::flight::{Flight, Hearing, complete};
+use lnbd_callbacks::{Caller, Desk, Heard, Verdict};
 use lnbd_history::Completed;
 use lnbd_model::{Bytes, Contexts, ENOTCONN, EPROTO, Failure, Kind, NoMemory, Origin, told_error};
 use lnbd_structured::Assembly;
@@ -201,7 +204,7 @@ impl<K> Row<K> {
     }
 
     /// Keeps this error and these bytes of a command that landed.
-    pub(crate) fn keep(&mut self, error: u32, bytes: Bytes)
+    fn keep(&mut self, error: u32, bytes: Bytes)
         requires { is_some self.old.kept ≡ true }
         ensures { self.new ≡ keeping (record { error = error; bytes = bytes }) self.old }
     {
@@ -233,7 +236,7 @@ impl<K> Row<K> {
         };
         let error = error_number(failure);
         let own = replace(&mut self.buf, Vec::new(alloc));
-        let (bytes, spare) = finish(alloc, self.kind, error, own, content);
+        let (bytes, spare) = last_buffer(alloc, self.kind, error, own, content);
         self.failure = failure;
         self.kept = Some(Kept {
             error,
@@ -248,8 +251,8 @@ impl<K> Row<K> {
         (landed, spare)
     }
 
-    /// Ends the command because the connection died. It takes no memory.
-    pub(crate) fn lose(&mut self, alloc: Global) -> Landed<K>
+    /// Lands the command because the connection died. It takes no memory.
+    pub(crate) fn land_lost(&mut self, alloc: Global) -> Landed<K>
         requires flies { is_some self.old.flight ≡ true }
         requires held { self.old.kept ≡ None }
         ensures landed { result ≡ lost self.old result.flight }
@@ -260,9 +263,9 @@ impl<K> Row<K> {
         self.land(alloc, None, failure, None).0
     }
 
-    /// Ends the command after its last chunk, to which its callback answered this: what was not told is its error, if it
+    /// Lands the command after its last chunk, to which its callback answered this: what was not told is its error, if it
     /// has none before. It takes no memory.
-    pub(crate) fn end(
+    pub(crate) fn land_last(
         &mut self,
         alloc: Global,
         heard: Option<Heard>,
@@ -368,7 +371,7 @@ impl<K> Row<K> {
 
 /// The buffer of a command that ends with this error, 0 for none, made of its own one, and one that is not needed any
 /// more.
-fn finish(
+fn last_buffer(
     alloc: Global,
     kind: Kind,
     error: u32,
@@ -385,7 +388,7 @@ fn finish(
             if error == 0 {
                 return match content {
                     None => (bytes, Vec::new(alloc)),
-                    Some(content) => content.fill(alloc, bytes),
+                    Some(content) => content.into_buffer(alloc, bytes),
                 };
             }
             bytes.fill(0);
@@ -412,9 +415,9 @@ impl<K: Caller> Row<K> {
     ghost use Rattle.lnbd_commands.specs.Rows.{landed, unanswered};
     ghost use Rattle.lnbd_commands.specs.Lands.{IsLiveRow, Lands, known_of, reply_item};
 
-    /// Ends the command by a simple reply with this error, as the wire tells it, and these bytes. For want of memory they are
-    /// handed back, and nothing has changed. A buffer that is not needed any more comes back beside what the command came to.
-    pub(crate) fn answer<'a>(
+    /// Tells the chunk callback of a simple reply with this error, as the wire tells it, and these bytes, which lands the command. For want of
+    /// memory they are handed back, and nothing has changed. A buffer that is not needed any more comes back beside what the command came to.
+    pub(crate) fn land_reply<'a>(
         &mut self,
         alloc: Global,
         desk: &mut Desk,
@@ -454,6 +457,35 @@ impl<K: Caller> Row<K> {
         let first = first_of(before, told_by(bad, error));
         let failure = first_of(first, failing(Origin::Callback, number_of(heard)));
         Ok(self.land(alloc, heard, failure, Some(content)))
+    }
+
+    /// Completes the command, which landed as this: its completion callback is called, its callbacks are freed, and what that one keeps is
+    /// kept. Answers whether it keeps something; else the row may go.
+    pub(crate) fn complete(
+        &mut self,
+        desk: &mut Desk,
+        world: &mut K::World,
+        landed: Landed<K>,
+    ) -> bool
+        requires landed { is_some self.old.kept ≡ true }
+        requires live { IsLiveFlight landed.flight desk.old.log }
+        ensures { (verdict : Verdict) × (result ≡ is_keep verdict) × (self.new ≡ answered verdict self.old)
+            × (desk.new.log ≡ completing landed.flight (error_number landed.failure) verdict desk.old.log)
+            × K.steps world.old (map call_of (completion_acts landed.flight (error_number landed.failure) landed.bytes verdict)) world.new }
+    {
+        let Landed {
+            flight,
+            heard: _,
+            failure,
+            bytes,
+        } = landed;
+        match complete(flight, desk, world, error_number(failure), bytes) {
+            Verdict::Keep { error, buf } => {
+                self.keep(error, buf);
+                true
+            }
+            Verdict::Retire => false,
+        }
     }
 
     /// Whether a simple reply with this error, of the right size, has a content fault.

@@ -1,28 +1,24 @@
-//! Changes of one row of the table, with the callbacks of its command. Which commands there are, and
-//! what holds of all of them, is not said here.
+//! What a reply and a loss do to the row of their command in the table, and to its callbacks: what came is told, the command lands, and it
+//! completes. Each looks its row up once, and once more where it marks it as done or takes it out. What holds of all commands is not said here.
 
-ghost use Rattle.std.specs.Prelude.{◌≡◌, map, length, true, false, None, Some, IsSome, IfOk, IfErr, OnErr, is_some};
+ghost use Rattle.std.specs.Prelude.{◌≡◌, length, true, false, None, Some, IsSome, IfSome, IfOk, IfErr, OnErr};
 ghost use Rattle.lnbd_keyed.specs.Keyed.{value_at, without};
 ghost use Rattle.lnbd_inflight.specs.Done.{is_done, forgetting};
-ghost use Rattle.lnbd_callbacks.specs.declared.caller.Verdict.{Verdict};
-ghost use Rattle.lnbd_outcome.specs.Outcome.{error_number};
-ghost use Rattle.lnbd_history.specs.Entries.{call_of, completion_acts};
+ghost use Rattle.lnbd_commands.specs.Completes.{EndsByChunk, EndsByLoss, EndsByReply, IsTold, settled};
 ghost use Rattle.lnbd_commands.specs.Contents.{IsSpare, IsSpareOf, bytes_in, told_of};
-ghost use Rattle.lnbd_commands.specs.Flights.{IsLiveFlight, completing, has_first};
-ghost use Rattle.lnbd_commands.specs.Lands.{AnswerableAt, EndsAt, HearsAt, LandsAt, LosableAt, LostAt, TellableAt, told_row};
-ghost use Rattle.lnbd_commands.specs.Rows.{changed, ended, flight_of_row, keeping, kept_of_row, landed, unanswered};
+ghost use Rattle.lnbd_commands.specs.Flights.{has_first};
+ghost use Rattle.lnbd_commands.specs.Lands.{AnswerableAt, IsLiveRow, LosableAt, TellableAt};
+ghost use Rattle.lnbd_commands.specs.Rows.{flight_of_row};
 
 use crate::content::{Brought, Content};
-use crate::flight::complete;
-use crate::row::{Landed, Row, error_number};
-use lnbd_callbacks::{Caller, Desk, Heard, Verdict};
+use crate::row::Row;
+use lnbd_callbacks::{Caller, Desk};
 use lnbd_inflight::Table;
-use lnbd_model::{Bytes, Contexts};
+use lnbd_model::Contexts;
 use std::alloc::Global;
 
-/// Ends the command of a cookie by a simple reply, and takes its callbacks out of its row. A buffer that is not needed any more
-/// comes back beside.
-pub(crate) fn answer_in<'a, K: Caller>(
+/// Ends the command of a cookie by a simple reply. Answers how many callbacks were freed, and beside a buffer that is not needed any more.
+pub(crate) fn end_by_reply<'a, K: Caller>(
     table: &mut Table<Row<K>>,
     alloc: Global,
     desk: &mut Desk,
@@ -30,10 +26,10 @@ pub(crate) fn answer_in<'a, K: Caller>(
     cookie: u64,
     error: u32,
     content: Content<'a>,
-) -> Result<(Landed<K>, Vec<u8>), Content<'a>>
-    requires { AnswerableAt (value_at cookie table.old.rows) error (bytes_in content) desk.old.log }
-    ensures lands { IfOk result (λ end. LandsAt K.steps (value_at cookie table.old.rows) error (bytes_in content.entry) end.0 desk.old.log desk.new.log world.old world.new) }
-    ensures rows { IfOk result (λ end. table.new ≡ record table.old { rows = changed (landed end.0.failure (unanswered end.0.failure)) cookie table.old.rows }) }
+) -> Result<(u64, Vec<u8>), Content<'a>>
+    requires answerable { AnswerableAt (value_at cookie table.old.rows) error (bytes_in content) desk.old.log }
+    requires undone { is_done cookie table.old.done ≡ false }
+    ensures ends { IfOk result (λ end. IfSome (value_at cookie table.old.rows) (λ row. EndsByReply K.steps cookie row error (bytes_in content.entry) end.0 table.old table.new desk.old.log desk.new.log world.old world.new)) }
     ensures spare { IfOk result (λ end. IsSpare (Some content.entry) (length end.1.items)) }
     ensures needed { OnErr result (has_first (flight_of_row (value_at cookie table.old.rows)) ≡ true) }
     ensures handed_back { IfErr result (λ back. back ≡ content.entry) }
@@ -42,26 +38,36 @@ pub(crate) fn answer_in<'a, K: Caller>(
     ensures err_world { OnErr result (world.new ≡ world.old) }
 {
     if let Some(row) = table.get_mut(cookie) {
-        row.answer(alloc, desk, world, error, content)
+        match row.land_reply(alloc, desk, world, error, content) {
+            Ok((landed, spare)) => {
+                let freed = landed.count();
+                let kept = row.complete(desk, world, landed);
+                settle(table, cookie, kept);
+                Ok((freed, spare))
+            }
+            Err(content) => Err(content),
+        }
     } else {
         unreachable!()
     }
 }
 
-/// Tells what a chunk brings to the command of a cookie, and what its callback answered, if it was called. A buffer that is not
-/// needed any more comes back beside.
-pub(crate) fn tell_in<'a, K: Caller>(
+/// Tells what a chunk brings to the command of a cookie, and after the last one ends the command. Answers how many callbacks were freed, and
+/// beside a buffer that is not needed any more.
+pub(crate) fn take_chunk<'a, K: Caller>(
     table: &mut Table<Row<K>>,
     alloc: Global,
     desk: &mut Desk,
     world: &mut K::World,
     cookie: u64,
     brought: Brought<'a>,
+    last: bool,
     contexts: &Contexts,
-) -> Result<(Option<Heard>, Vec<u8>), Brought<'a>>
-    requires { TellableAt (value_at cookie table.old.rows) (told_of brought) desk.old.log }
-    ensures hears { IfOk result (λ end. HearsAt K.steps contexts.now (told_of brought.entry) (value_at cookie table.old.rows) end.0 desk.old.log desk.new.log world.old world.new) }
-    ensures rows { IfOk result (λ end. table.new ≡ record table.old { rows = changed (told_row contexts.now (told_of brought.entry) end.0) cookie table.old.rows }) }
+) -> Result<(u64, Vec<u8>), Brought<'a>>
+    requires tellable { TellableAt (value_at cookie table.old.rows) (told_of brought) desk.old.log }
+    requires undone { is_done cookie table.old.done ≡ false }
+    ensures told { last ≡ false → IfOk result (λ end. IfSome (value_at cookie table.old.rows) (λ row. IsTold K.steps cookie contexts.now (told_of brought.entry) row end.0 table.old table.new desk.old.log desk.new.log world.old world.new)) }
+    ensures ends { last ≡ true → IfOk result (λ end. IfSome (value_at cookie table.old.rows) (λ row. EndsByChunk K.steps cookie contexts.now (told_of brought.entry) row end.0 table.old table.new desk.old.log desk.new.log world.old world.new)) }
     ensures spare { IfOk result (λ end. IsSpareOf brought.entry (length end.1.items)) }
     ensures handed_back { IfErr result (λ back. back ≡ brought.entry) }
     ensures err_table { OnErr result (table.new ≡ table.old) }
@@ -69,53 +75,59 @@ pub(crate) fn tell_in<'a, K: Caller>(
     ensures err_world { OnErr result (world.new ≡ world.old) }
 {
     if let Some(row) = table.get_mut(cookie) {
-        row.tell(alloc, desk, world, brought, contexts)
+        match row.tell(alloc, desk, world, brought, contexts) {
+            Ok((heard, spare)) => {
+                if !last {
+                    return Ok((0, spare));
+                }
+                let landed = row.land_last(alloc, heard, contexts);
+                let freed = landed.count();
+                let kept = row.complete(desk, world, landed);
+                settle(table, cookie, kept);
+                Ok((freed, spare))
+            }
+            Err(brought) => Err(brought),
+        }
     } else {
         unreachable!()
     }
 }
 
-/// Ends the command of a cookie after its last chunk, to which its callback answered this, and takes its callbacks out of its row.
-pub(crate) fn end_in<K>(
+/// Ends the command of a cookie because the connection died. Answers how many callbacks were freed.
+pub(crate) fn end_by_loss<K: Caller>(
     table: &mut Table<Row<K>>,
     alloc: Global,
+    desk: &mut Desk,
+    world: &mut K::World,
     cookie: u64,
-    heard: Option<Heard>,
-    contexts: &Contexts,
-) -> Landed<K>
-    requires { LosableAt (value_at cookie table.old.rows) }
-    ensures ends { EndsAt contexts.now (value_at cookie table.old.rows) heard result }
-    ensures rows { table.new ≡ record table.old { rows = changed (landed result.failure (unanswered result.failure)) cookie table.old.rows } }
+) -> u64
+    requires losable { LosableAt (value_at cookie table.old.rows) }
+    requires live { IsLiveRow (flight_of_row (value_at cookie table.old.rows)) desk.old.log }
+    requires undone { is_done cookie table.old.done ≡ false }
+    ensures { IfSome (value_at cookie table.old.rows) (λ row. EndsByLoss K.steps cookie row result table.old table.new desk.old.log desk.new.log world.old world.new) }
 {
     if let Some(row) = table.get_mut(cookie) {
-        row.end(alloc, heard, contexts)
+        let landed = row.land_lost(alloc);
+        let freed = landed.count();
+        let kept = row.complete(desk, world, landed);
+        settle(table, cookie, kept);
+        freed
     } else {
         unreachable!()
     }
 }
 
-/// Ends the command of a cookie because the connection died, and takes its callbacks out of its row.
-pub(crate) fn lose_in<K>(table: &mut Table<Row<K>>, alloc: Global, cookie: u64) -> Landed<K>
-    requires { LosableAt (value_at cookie table.old.rows) }
-    ensures lost { LostAt (value_at cookie table.old.rows) result }
-    ensures rows { table.new ≡ record table.old { rows = changed (landed result.failure (unanswered result.failure)) cookie table.old.rows } }
+/// Marks the row of a command that completed as done, where something of it is kept, or takes it out.
+fn settle<K>(table: &mut Table<Row<K>>, cookie: u64, kept: bool)
+    requires held { IsSome (value_at cookie table.old.rows) }
+    requires empty { flight_of_row (value_at cookie table.old.rows) ≡ None }
+    requires undone { is_done cookie table.old.done ≡ false }
+    ensures { table.new ≡ settled kept cookie table.old }
 {
-    if let Some(row) = table.get_mut(cookie) {
-        row.lose(alloc)
+    if kept {
+        table.mark_done(cookie);
     } else {
-        unreachable!()
-    }
-}
-
-/// Keeps an error and bytes in the row of a cookie whose command landed.
-pub(crate) fn keep_in<K>(table: &mut Table<Row<K>>, cookie: u64, error: u32, bytes: Bytes)
-    requires { is_some (kept_of_row (value_at cookie table.old.rows)) ≡ true }
-    ensures { table.new ≡ record table.old { rows = changed (keeping (record { error = error; bytes = bytes })) cookie table.old.rows } }
-{
-    if let Some(row) = table.get_mut(cookie) {
-        row.keep(error, bytes);
-    } else {
-        unreachable!()
+        drop_in(table, cookie);
     }
 }
 
@@ -129,36 +141,5 @@ pub(crate) fn drop_in<K>(table: &mut Table<Row<K>>, cookie: u64)
         row.let_go();
     } else {
         unreachable!()
-    }
-}
-
-/// Completes a command that landed, frees its callbacks, and keeps or retires it.
-pub(crate) fn finish_in<K: Caller>(
-    table: &mut Table<Row<K>>,
-    desk: &mut Desk,
-    world: &mut K::World,
-    cookie: u64,
-    landed: Landed<K>,
-)
-    requires landed { is_some (kept_of_row (value_at cookie table.old.rows)) ≡ true }
-    requires empty { flight_of_row (value_at cookie table.old.rows) ≡ None }
-    requires undone { is_done cookie table.old.done ≡ false }
-    requires live { IsLiveFlight landed.flight desk.old.log }
-    ensures { (verdict : Verdict) × (table.new ≡ ended verdict cookie table.old)
-        × (desk.new ≡ record desk.old { log = completing landed.flight (error_number landed.failure) verdict desk.old.log })
-        × K.steps world.old (map call_of (completion_acts landed.flight (error_number landed.failure) landed.bytes verdict)) world.new }
-{
-    let Landed {
-        flight,
-        heard: _,
-        failure,
-        bytes,
-    } = landed;
-    match complete(flight, desk, world, error_number(failure), bytes) {
-        Verdict::Keep { error, buf } => {
-            keep_in(table, cookie, error, buf);
-            table.mark_done(cookie);
-        }
-        Verdict::Retire => drop_in(table, cookie),
     }
 }

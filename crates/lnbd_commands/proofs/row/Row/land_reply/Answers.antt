@@ -11,7 +11,7 @@ use Rattle.lnbd_commands.specs.Rows.{IsReal}
 use Rattle.lnbd_commands.specs.Seen.{told_to}
 use Rattle.lnbd_commands.proofs.LandsLemmas.{good_end, lands_reply}
 use Rattle.lnbd_commands.proofs.MaskLemmas.{opened, opened_facts}
-use Rattle.lnbd_commands.proofs.row.Row.answer.Goals as goal
+use Rattle.lnbd_commands.proofs.row.Row.land_reply.Goals as goal
 
 pub land-requires-clause-whole : goal.land-requires-clause-whole
 land-requires-clause-whole g c = λ read done.

@@ -5,7 +5,7 @@ use Rattle.lnbd_outcome.specs.Outcome.{buffer, error_number, or_else}
 use Rattle.lnbd_commands.specs.Lands.{lacking}
 use Rattle.lnbd_commands.proofs.MaskLemmas.{opened, opened_facts}
 use Rattle.lnbd_commands.proofs.RealLemmas.{whole_end}
-use Rattle.lnbd_commands.proofs.row.Row.end.Goals as goal
+use Rattle.lnbd_commands.proofs.row.Row.land_last.Goals as goal
 
 pub land-requires-clause-whole : goal.land-requires-clause-whole
 land-requires-clause-whole g c = λ read done.

@@ -6,7 +6,7 @@ use Rattle.lnbd_outcome.specs.Outcome.{buffer, error_number, failing, or_else}
 use Rattle.lnbd_commands.proofs.LandsLemmas.{lands_lost}
 use Rattle.lnbd_commands.proofs.MaskLemmas.{opened, opened_facts}
 use Rattle.lnbd_commands.proofs.RealLemmas.{lost_number}
-use Rattle.lnbd_commands.proofs.row.Row.lose.Goals as goal
+use Rattle.lnbd_commands.proofs.row.Row.land_lost.Goals as goal
 
 pub land-requires-clause-whole : goal.land-requires-clause-whole
 land-requires-clause-whole g c = λ read done.
