@@ -2,6 +2,7 @@ pub mod AlikeLemmas
 pub mod CloseLemmas
 pub mod CompleteLemmas
 pub mod EndLemmas
+pub mod FaultyLemmas
 pub mod IssueLemmas
 pub mod LandLemmas
 pub mod LandsLemmas

@@ -3,6 +3,7 @@ pub mod Closes
 pub mod Commands
 pub mod Completes
 pub mod Contents
+pub mod Faulty
 pub mod Flights
 pub mod Lands
 pub mod Parts

@@ -10,6 +10,7 @@ ghost use Rattle.lnbd_machine.specs.Machine.{Row as SeenRow, file_all, file_in, 
 ghost use Rattle.lnbd_machine.specs.Now.{completed_row};
 ghost use Rattle.lnbd_commands.specs.Commands.{Commands as Seen, cleared, issuing, no_commands, payload_at, retiring, waiting_at};
 ghost use Rattle.lnbd_commands.specs.Contents.{IsSpare, bytes_in};
+ghost use Rattle.lnbd_commands.specs.Faulty.{HasAsked, faulty_at};
 ghost use Rattle.lnbd_commands.specs.Flights.{has_first};
 ghost use Rattle.lnbd_commands.specs.Rows.{flight_of_row};
 ghost use Rattle.lnbd_commands.specs.Seen.{seen_waiting};
@@ -104,6 +105,18 @@ impl<K> Commands<K> {
         match self.table.get(cookie) {
             Some(row) => row.waiting(),
             None => None,
+        }
+    }
+
+    /// Whether a chunk of so many bytes of data from this place of the export on would have a content fault now, under a read in flight that asked
+    /// for them: some of them were told, or under DF content came.
+    pub fn is_faulty(&self, cookie: u64, offset: u64, size: u64) -> bool
+        requires { HasAsked (waiting_at cookie self.now) offset size }
+        ensures { result ≡ faulty_at cookie offset size self.now.rows }
+    {
+        match self.table.get(cookie) {
+            Some(row) => row.is_faulty(offset, size),
+            None => false,
         }
     }
 

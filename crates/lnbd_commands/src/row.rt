@@ -128,6 +128,8 @@ impl<K> Model for Row<K> {
 impl<K> Row<K> {
     ghost use Rattle.lnbd_machine.specs.Machine.{waiting_row};
     ghost use Rattle.lnbd_commands.specs.Commands.{payload_of};
+    ghost use Rattle.lnbd_commands.specs.Faulty.{HasAsked, is_faulty};
+    ghost use Rattle.lnbd_commands.specs.Lands.{known_of};
     ghost use Rattle.lnbd_commands.specs.Rows.{unflown, flown, landed, keeping, unanswered};
 
     /// The row of a command whose callbacks are not admitted yet.
@@ -201,6 +203,15 @@ impl<K> Row<K> {
             None => self.assembly.faults(),
             Some(_) => 0,
         }
+    }
+
+    /// Whether a chunk of so many bytes of data from this place of the export on would have a content fault now.
+    pub(crate) fn is_faulty(&self, offset: u64, size: u64) -> bool
+        requires held { self.now.kept ≡ None }
+        requires asked { HasAsked (Some (known_of self.now)) offset size }
+        ensures { result ≡ is_faulty self.now offset size }
+    {
+        self.assembly.clashes(offset, size)
     }
 
     /// Keeps this error and these bytes of a command that landed.

@@ -145,8 +145,8 @@ impl Assembly {
         self.flags & DF != 0 && self.came
     }
 
-    /// Whether content at these places of the export is at fault.
-    fn clashes(&self, offset: u64, length: u64) -> bool
+    /// Whether content at these places of the export would have a fault now: some of them were told, or content came where one chunk has the whole.
+    pub fn clashes(&self, offset: u64, length: u64) -> bool
         requires read { is_read self.now.query.kind ≡ true }
         requires within { lies_within (waiting_of self.now) offset length ≡ true }
         ensures { result ≡ clashes self.now offset length }
