@@ -25,7 +25,7 @@ use Rattle.lnbd_commands.specs.Seen.{seen_waiting}
 use Rattle.lnbd_commands.specs.declared.row.Waiting.{Waiting as Told}
 use Rattle.lnbd_structured.specs.Assembly.{head_of}
 use Rattle.lnbd_wire.specs.declared.extended_chunk.ExtHead.{ExtHead}
-use Rattle.lnbd_arrivals.specs.Frames.{Announces, IsChunk, IsDataFront, IsFront, IsReply, IsSuccess, front_size, is_extended, is_structured, shows_by}
+use Rattle.lnbd_arrivals.specs.Frames.{Announces, IsChunk, IsDataFront, IsFront, IsReply, IsSuccess, announced_by, data_announced, front_size, is_extended, is_structured, shows_by}
 use Rattle.lnbd_arrivals.specs.Heads.{IsCut, IsHead, head_in, head_size, magic_breach, magic_of}
 use Rattle.lnbd_arrivals.specs.Payloads.{told_by}
 use Rattle.lnbd_arrivals.specs.declared.announced.Announced.{Announced}
@@ -544,3 +544,51 @@ pub announced_to : (replies : Replies) (front : List ℕ) (found : Option Announ
 announced_to replies front None waiting command is sized told = tt
 announced_to replies front (Some announced) waiting command is sized told = λ waited waits.
     told waited (waits (omega (arith, sized, least_front replies)) ∙ ap (option_map seen_waiting) is)
+
+-- What a front says of its data.
+
+-- the head of a chunk that these bytes begin
+abbrev head_at : (extended : Bool) → List ℕ → ExtHead
+head_at extended front = record { flags = (head_in extended front).flags; kind = (head_in extended front).type; cookie = number_at 8 8 front; offset = 0; length = (head_in extended front).length }
+
+head_there : (extended : Bool) (command : Waiting) (front : List ℕ) → IsDataFront extended command front → IsHead extended front (head_at extended front)
+head_there extended command front is = record { there = omega (arith, is.sized); magic = is.magic; says = refl; cookie = refl }
+
+-- Each front announces what it says.
+pub front_announces : (replies : Replies) (waited : ℕ → Option Waiting) (command : Waiting) (front : List ℕ) → waited (number_at 8 8 front) ≡ Some command → IsFront replies command front → Announces replies waited front (announced_by replies command front)
+front_announces Simple waited command front waits is = reply_announced waited front command is.1 waits is.0 (number_at 8 8 front) refl
+front_announces Structured waited command front waits is =
+    chunk_announced Structured waited front (head_at false front) refl (head_there false command front is) command waits is.sized is.type (drop (head_size false) front) refl is.lawful
+front_announces Extended waited command front waits is =
+    chunk_announced Extended waited front (head_at true front) refl (head_there true command front is) command waits is.sized is.type (drop (head_size true) front) refl is.lawful
+
+-- the head of a chunk of data that was read, and the place of its data
+module _ (command : Waiting) (front : List ℕ) (head : ExtHead) (is_data : head.kind ≡ 1) (place : List ℕ) where
+  abbrev found : Announced
+  found = record { cookie = head.cookie; offset = number_at 0 8 place; size = head.length - 8; carrier = carrier.Chunk (is_done (head_of head)) }
+
+  front_says : (extended : Bool) → IsHead extended front head → length front ≡ head_size extended + 8 → place ≡ drop (head_size extended) front → breach_of extended command (head_of head) place ≡ None →
+      IsDataFront extended command front × (found ≡ data_announced extended front)
+  front_says extended h sized placed fair = (
+    record { sized = sized; magic = h.magic; type = sym (ap (λ (s : Head). s.type) h.says) ∙ is_data; lawful = subst (λ (p : List ℕ). breach_of extended command (head_in extended front) p ≡ None) placed (subst (λ (s : Head). breach_of extended command s place ≡ None) h.says fair) },
+    ap (λ (c : ℕ). record { cookie = c; offset = number_at 0 8 place; size = head.length - 8; carrier = carrier.Chunk (is_done (head_of head)) }) h.cookie
+        ∙ ap (λ (p : List ℕ). record { cookie = number_at 8 8 front; offset = number_at 0 8 p; size = head.length - 8; carrier = carrier.Chunk (is_done (head_of head)) }) placed
+        ∙ ap (λ (s : Head). record { cookie = number_at 8 8 front; offset = number_at 0 8 (drop (head_size extended) front); size = s.length - 8; carrier = carrier.Chunk (is_done s) }) h.says,
+  )
+
+  pub data_says : (replies : Replies) → is_structured replies ≡ true → IsHead (is_extended replies) front head → length front ≡ front_size replies → place ≡ drop (head_size (is_extended replies)) front → breach_of (is_extended replies) command (head_of head) place ≡ None →
+      IsFront replies command front × (found ≡ announced_by replies command front)
+  data_says Simple agreed h sized placed fair = absurd (true≢false (sym agreed))
+  data_says Structured agreed h sized placed fair = front_says false h sized placed fair
+  data_says Extended agreed h sized placed fair = front_says true h sized placed fair
+
+-- what is said to the command that waits is said to it
+same_waiting : (one other : Waiting) → Some one ≡ Some other → one ≡ other
+same_waiting one other e = cc
+
+pub says_to : (replies : Replies) (front : List ℕ) (found : Option Announced) (waiting : Option Told) (command : Told) → waiting ≡ Some command →
+    IfSome found (λ announced. IsFront replies (seen_waiting command) front × (announced ≡ announced_by replies (seen_waiting command) front)) →
+    IfSome found (λ announced. (known : Waiting) → option_map seen_waiting waiting ≡ Some known → IsFront replies known front × (announced ≡ announced_by replies known front))
+says_to replies front None waiting command is said = tt
+says_to replies front (Some announced) waiting command is said = λ known asks.
+    subst (λ (w : Waiting). IsFront replies w front × (announced ≡ announced_by replies w front)) (same_waiting (seen_waiting command) known (sym (ap (option_map seen_waiting) is) ∙ asks)) said

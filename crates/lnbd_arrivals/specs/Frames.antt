@@ -1,5 +1,5 @@
 -- What is seen at the front of some bytes, by how the server replies.
-use Rattle.std.specs.Prelude.{◌≡◌, ℕ, ◌+◌, ◌<◌, ◌≤◌, Bool, true, false, List, ◌++◌, length, take, drop, Option, Some, None}
+use Rattle.std.specs.Prelude.{◌≡◌, ℕ, ◌+◌, ◌-◌, ◌<◌, ◌≤◌, Bool, true, false, List, ◌++◌, length, take, drop, Option, Some, None}
 use Rattle.lnbd_records.specs.Numbers.{number_at}
 use Rattle.lnbd_chunks.specs.Chunk.{Waiting, is_done}
 use Rattle.lnbd_chunks.specs.Laws.{breach_of}
@@ -32,6 +32,12 @@ abbrev pub is_extended : Replies → Bool
 is_extended Simple = false
 is_extended Structured = false
 is_extended Extended = true
+
+-- how a server replies where structured replies and extended headers are on or not
+abbrev pub replies_by : (structured extended : Bool) → Replies
+replies_by structured true = Extended
+replies_by true false = Structured
+replies_by false false = Simple
 
 -- what bytes show there
 abbrev pub shows_by : Replies → (ℕ → Option Waiting) → List ℕ → Option Shown
@@ -101,11 +107,27 @@ pub record IsDataFront (extended : Bool) (command : Waiting) (front : List ℕ) 
   pub type : (head_in extended front).type ≡ reply_type_offset_data
   pub lawful : breach_of extended command (head_in extended front) (drop (head_size extended) front) ≡ None
 
+-- the data of a chunk with this front
+abbrev pub data_announced : (extended : Bool) → (front : List ℕ) → Announced
+data_announced extended front = record {
+  cookie = number_at 8 8 front;
+  offset = number_at 0 8 (drop (head_size extended) front);
+  size = (head_in extended front).length - 8;
+  carrier = carrier.Chunk (is_done (head_in extended front));
+}
+
 -- the front of a reply without error that brings data to this command
 abbrev pub IsFront : Replies → Waiting → List ℕ → Type 0
 IsFront Simple command front = (is_read command.kind ≡ true) × IsSuccess front
 IsFront Structured command front = IsDataFront false command front
 IsFront Extended command front = IsDataFront true command front
+
+-- The data that such a front announces to this command: a simple reply has all that was asked for; a chunk tells their place behind its head, and has a payload of so many
+-- bytes with it.
+abbrev pub announced_by : Replies → Waiting → List ℕ → Announced
+announced_by Simple command front = record { cookie = number_at 8 8 front; offset = command.offset; size = command.length; carrier = carrier.Reply }
+announced_by Structured command front = data_announced false front
+announced_by Extended command front = data_announced true front
 
 -- The whole reply that was announced, with these data. It may be filed, and a simple reply brings all that its command asked for.
 pub record Carries (replies : Replies) (waited : ℕ → Option Waiting) (bytes : List ℕ) (announced : Announced) (content : List ℕ) : Type 0 where

@@ -8,7 +8,7 @@ ghost use Rattle.lnbd_chunks.specs.Chunk.{Waiting as Known};
 ghost use Rattle.lnbd_chunks.specs.Laws.{breach_of};
 ghost use Rattle.lnbd_structured.specs.Assembly.{head_of};
 ghost use Rattle.lnbd_commands.specs.Seen.{seen_waiting};
-ghost use Rattle.lnbd_arrivals.specs.Frames.{Announces, IsFront, IsDataFront, IsSuccess, front_size, is_extended, is_last, is_structured};
+ghost use Rattle.lnbd_arrivals.specs.Frames.{Announces, IsFront, IsDataFront, IsSuccess, announced_by, front_size, is_extended, is_last, is_structured};
 ghost use Rattle.lnbd_arrivals.specs.Heads.{IsHead, head_size};
 ghost use Rattle.lnbd_arrivals.specs.declared.replies.Replies.TheVariants.{Simple};
 
@@ -62,6 +62,9 @@ pub struct Announced {
 pub fn look_front(replies: Replies, waiting: Option<Waiting>, front: &[u8]) -> Option<Announced>
     ensures announces { IfSome result (λ announced. (waited : ℕ → Option Known) → (16 ≤ length front.now → waited (number_at 8 8 front.now) ≡ option_map seen_waiting waiting) → Announces replies waited front.now announced) }
 
+    // What it says of its data.
+    ensures says { IfSome result (λ announced. (command : Known) → option_map seen_waiting waiting ≡ Some command → IsFront replies command front.now × (announced ≡ announced_by replies command front.now)) }
+
     // Each front of a reply without error that brings data to a read that waits is told.
     ensures all { (command : Known) → option_map seen_waiting waiting ≡ Some command → IsFront replies command front.now → IsSome result }
 {
@@ -93,6 +96,7 @@ fn look_success(replies: Replies, command: &Waiting, head: &[u8]) -> Option<Anno
     requires sized { length head.now ≡ front_size replies }
     requires simple { is_structured replies ≡ false }
     ensures announces { IfSome result (λ announced. (waited : ℕ → Option Known) → waited (number_at 8 8 head.now) ≡ Some (seen_waiting command.now) → Announces replies waited head.now announced) }
+    ensures says { IfSome result (λ announced. IsFront replies (seen_waiting command.now) head.now × (announced ≡ announced_by replies (seen_waiting command.now) head.now)) }
     ensures all { IsFront replies (seen_waiting command.now) head.now → IsSome result }
 {
     if !is_read(command.kind) || !is_success(head) {
@@ -111,6 +115,7 @@ fn look_data(replies: Replies, command: &Waiting, front: &[u8]) -> Option<Announ
     requires sized { length front.now ≡ front_size replies }
     requires agreed { is_structured replies ≡ true }
     ensures announces { IfSome result (λ announced. (waited : ℕ → Option Known) → waited (number_at 8 8 front.now) ≡ Some (seen_waiting command.now) → Announces replies waited front.now announced) }
+    ensures says { IfSome result (λ announced. IsFront replies (seen_waiting command.now) front.now × (announced ≡ announced_by replies (seen_waiting command.now) front.now)) }
     ensures all { IsFront replies (seen_waiting command.now) front.now → IsSome result }
 {
     let extended = replies.is_extended();

@@ -3,7 +3,7 @@
 ghost use Rattle.std.specs.Prelude.{◌≡◌, ℕ, List, Option, false};
 ghost use Rattle.lnbd_chunks.specs.Chunk.{Waiting as Known};
 ghost use Rattle.lnbd_history.specs.Arrivals.{shows_frame};
-ghost use Rattle.lnbd_arrivals.specs.Frames.{front_size, is_extended, is_structured, shows_by};
+ghost use Rattle.lnbd_arrivals.specs.Frames.{front_size, is_extended, is_structured, replies_by, shows_by};
 ghost use Rattle.lnbd_arrivals.specs.declared.replies.Replies.TheVariants.{Simple};
 
 /// How a server replies to commands.
@@ -23,6 +23,7 @@ impl Replies {
     pub fn agreed(structured: bool, extended: bool) -> Replies
         ensures shows { (waited : ℕ → Option Known) (bytes : List ℕ) → shows_by result waited bytes ≡ shows_frame structured extended waited bytes }
         ensures simple { structured ≡ false → extended ≡ false → result ≡ Simple }
+        ensures is { result ≡ replies_by structured extended }
     {
         if extended {
             Replies::Extended
