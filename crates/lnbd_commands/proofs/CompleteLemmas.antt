@@ -1,10 +1,10 @@
 -- A command that landed completes: what is live then, and the table after it.
-use Rattle.std.proofs.Common.{◌≡◌, ℕ, List, [], ◌∷◌, ◌++◌, true, false, Bool, Option, Some, None, IsSome, refl, ap, sym, subst, ◌∙◌}
+use Rattle.std.proofs.Common.{◌≡◌, ℕ, List, [], ◌∷◌, ◌++◌, Bool, Option, Some, None, IsSome, refl, ap, sym, subst, ◌∙◌}
 use Rattle.lnbd_keyed.specs.Keyed.{value_at, with_value, without}
 use Rattle.lnbd_keyed.proofs.KeyedLemmas.{value_at_with}
 use Rattle.lnbd_callbacks.specs.Calls.{is_keep}
 use Rattle.lnbd_callbacks.specs.Desk.{Log}
-use Rattle.lnbd_callbacks.specs.Slot.{Slot, IsLiveOn}
+use Rattle.lnbd_callbacks.specs.Slot.{Slot}
 use Rattle.lnbd_callbacks.specs.declared.caller.Verdict.{Verdict}
 use Rattle.lnbd_callbacks.specs.declared.caller.Verdict.TheVariants.{Keep, Retire}
 use Rattle.lnbd_history.specs.Commands.{Flight}

@@ -1,5 +1,5 @@
 -- A command that landed and completed: what holds of the commands of every handle, and what it does to the table machine.
-use Rattle.std.proofs.Common.{◌≡◌, ℕ, ◌+◌, ◌<◌, List, [], ◌++◌, Bool, true, false, Option, Some, None, refl, ap, sym, ◌∙◌, subst, map, arith, append-nil}
+use Rattle.std.proofs.Common.{◌≡◌, ℕ, ◌+◌, List, [], ◌++◌, Bool, true, false, Option, Some, None, refl, ap, sym, ◌∙◌, subst, map, arith, append-nil}
 use Rattle.std.specs.Prelude.{is_some}
 use Rattle.lnbd_model.specs.declared.export.Context.{Context as MetaContext}
 use Rattle.lnbd_model.specs.declared.failure.Failure.{Failure}

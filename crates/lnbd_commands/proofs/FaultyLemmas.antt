@@ -1,5 +1,5 @@
 -- Data that are still to come to a read in flight.
-use Rattle.std.proofs.Common.{◌≡◌, ℕ, ◌&&◌, ◌||◌, List, [], Bool, true, false, Option, Some, None, replicate, length, refl, ap, sym, ◌∙◌, subst}
+use Rattle.std.proofs.Common.{◌≡◌, ℕ, ◌&&◌, ◌||◌, [], true, Option, Some, None, replicate, refl, ap, sym, ◌∙◌, subst}
 use Rattle.std.specs.Prelude.{is_some}
 use Rattle.std.proofs.lemmas.List.{length-replicate}
 use Rattle.lnbd_keyed.specs.Keyed.{value_at}

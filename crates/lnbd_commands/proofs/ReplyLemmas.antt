@@ -2,7 +2,6 @@
 use Rattle.std.proofs.Common.{◌≡◌, ℕ, List, true, false, refl, ap, sym, subst, Some, None, Option, ◌∙◌}
 use Rattle.std.specs.Prelude.{is_some}
 use Rattle.lnbd_keyed.specs.Keyed.{value_at, with_value}
-use Rattle.lnbd_keyed.proofs.KeyedLemmas.{value_at_with}
 use Rattle.lnbd_model.specs.declared.failure.Failure.{Failure}
 use Rattle.lnbd_chunks.specs.Chunk.{Waiting}
 use Rattle.lnbd_history.specs.Commands.{Flight}

@@ -1,5 +1,4 @@
-use Rattle.std.proofs.Common.{◌≡◌, Some, sym}
-use Rattle.lnbd_keyed.specs.Keyed.{value_at}
+use Rattle.std.proofs.Common.{sym}
 use Rattle.lnbd_commands.specs.Commands.{Commands}
 use Rattle.lnbd_commands.proofs.FaultyLemmas.{asked_held, asked_known}
 use Rattle.lnbd_commands.proofs.commands.Commands.is_faulty.Goals as goal

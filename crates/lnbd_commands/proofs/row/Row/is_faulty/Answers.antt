@@ -1,9 +1,7 @@
 use Rattle.std.proofs.Common.{◌≡◌, None, true, sym, ap, ◌∙◌, subst}
-use Rattle.std.specs.Prelude.{[]}
 use Rattle.lnbd_model.specs.Kind.{is_read}
 use Rattle.lnbd_chunks.specs.Chunk.{lies_within}
 use Rattle.lnbd_outcome.specs.Pieces.{Query}
-use Rattle.lnbd_structured.specs.Assembly.{waiting_of}
 use Rattle.lnbd_machine.specs.Machine.{query_in}
 use Rattle.lnbd_commands.proofs.FaultyLemmas.{clash_is}
 use Rattle.lnbd_commands.proofs.MaskLemmas.{opened, opened_facts}
