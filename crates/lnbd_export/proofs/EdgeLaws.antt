@@ -1,17 +1,15 @@
 -- Edges: how they are found, what a change leaves, and what lies between two of them.
-use Rattle.std.proofs.Common.{◌≡◌, ℕ, zero, suc, ◌+◌, ◌-◌, ◌%◌, ◌<◌, ◌≤◌, Bool, true, false, not, ◌&&◌, ◌||◌, List, [], ◌∷◌, ◌++◌, Result, Ok, Err, length, take, drop, get_or, if◌then◌else◌, nat_lt, ◌==◌, min, refl, ap, sym, subst, ◌∙◌, inl, inr, arith, slice_get, Some}
+use Rattle.std.proofs.Common.{◌≡◌, ℕ, zero, suc, ◌+◌, ◌-◌, ◌%◌, ◌<◌, ◌≤◌, Bool, true, false, not, List, [], ◌∷◌, ◌++◌, Result, Ok, Err, length, take, drop, get_or, if◌then◌else◌, nat_lt, ◌==◌, min, refl, ap, sym, subst, ◌∙◌, inl, inr, arith}
 use Rattle.std.specs.Prelude.{OnOk, OnErr}
 use mathlib.Core.Bool.{beq}
 use Rattle.std.specs.List.Sorted.{IsPartitionPoint, IsPartitionedBy}
 use Rattle.std.proofs.lemmas.Bool.{ltb-true, ltb-false, lt-ltb, le-ltb, cases_lt}
-use Rattle.std.proofs.lemmas.List.{take-append-drop, length-take-le, length-drop, get_or-drop, take_more}
-use Rattle.std.proofs.lemmas.Option.{get_or_from_slice_get}
+use Rattle.std.proofs.lemmas.List.{take-append-drop, length-take-le, length-drop, get_or-drop}
 use Rattle.std.proofs.lemmas.Grind.{common_steps}
-use Rattle.lnbd_extents.specs.Positions.{within, holds}
-use Rattle.lnbd_extents.specs.Ranges.{IsFrom}
-use Rattle.lnbd_export.specs.Edges.{below, is_odd, is_told, Rise, AreBelow, differ, edge_if, turned, edge_at, edges_of}
-use Rattle.lnbd_export.specs.Walks.{IsRun}
-use Rattle.lnbd_export.proofs.WalkLaws.{run_of, is_within, is_before, is_behind}
+use Rattle.lnbd_extents.specs.Positions.{within}
+use Rattle.lnbd_export.specs.Edges.{below, is_odd, is_told, Rise, AreBelow, differ, edge_if, turned, edge_at}
+use Rattle.lnbd_export.specs.Walks.{IsReach}
+use Rattle.lnbd_export.proofs.WalkLaws.{is_within, is_before, is_behind}
 
 -- How many lie below a position.
 
@@ -153,7 +151,7 @@ is_even n e = grind (arith, common_steps)
 is_one : (n : ℕ) → n % 2 ≡ 1 → is_odd n ≡ true
 is_one n e = grind (arith, common_steps)
 
-pub odd_more : (n : ℕ) → is_odd (suc n) ≡ not (is_odd n)
+odd_more : (n : ℕ) → is_odd (suc n) ≡ not (is_odd n)
 odd_more n = go (is_odd n) refl
   where
     go : (b : Bool) → is_odd n ≡ b → is_odd (suc n) ≡ not b
@@ -265,21 +263,12 @@ told_behind start end flag xs less f p high =
     let new : below (p + 1) (turned start end flag xs) ≡ below start xs + (bit (differ (is_odd (below start xs)) flag) + bit (differ (is_odd (below (end + 1) xs)) flag)) + below (p + 1) (drop (below (end + 1) xs) xs) = omega arith in
     ap is_odd new ∙ bits_turn (below start xs) (below (end + 1) xs) (below (p + 1) (drop (below (end + 1) xs) xs)) flag ∙ sym (ap is_odd e)
 
-held : (start n : ℕ) (xs : List ℕ) → 0 < n → Rise 0 xs → (p : ℕ) → is_told (turned start (start + n) true xs) p ≡ within (start, n) p || is_told xs p
-held start n xs some f p = elim (cases_lt p start) [
-  | inl h ↦ told_before start (start + n) true xs (omega arith) f p h ∙ sym (ap (λ b. b || is_told xs p) (is_before (start, n) p h))
+told_after : (start n : ℕ) (flag : Bool) (xs : List ℕ) → 0 < n → Rise 0 xs → (p : ℕ) → is_told (turned start (start + n) flag xs) p ≡ (if within (start, n) p then flag else is_told xs p)
+told_after start n flag xs some f p = elim (cases_lt p start) [
+  | inl h ↦ told_before start (start + n) flag xs (omega arith) f p h ∙ sym (ap (λ b. if b then flag else is_told xs p) (is_before (start, n) p h))
   | inr h ↦ elim (cases_lt p (start + n)) [
-    | inl k ↦ told_inside start (start + n) true xs (omega arith) f p h k ∙ sym (ap (λ b. b || is_told xs p) (is_within (start, n) p h k))
-    | inr k ↦ told_behind start (start + n) true xs (omega arith) f p k ∙ sym (ap (λ b. b || is_told xs p) (is_behind (start, n) p k))
-  ]
-]
-
-released : (start n : ℕ) (xs : List ℕ) → 0 < n → Rise 0 xs → (p : ℕ) → is_told (turned start (start + n) false xs) p ≡ not (within (start, n) p) && is_told xs p
-released start n xs some f p = elim (cases_lt p start) [
-  | inl h ↦ told_before start (start + n) false xs (omega arith) f p h ∙ sym (ap (λ b. not b && is_told xs p) (is_before (start, n) p h))
-  | inr h ↦ elim (cases_lt p (start + n)) [
-    | inl k ↦ told_inside start (start + n) false xs (omega arith) f p h k ∙ sym (ap (λ b. not b && is_told xs p) (is_within (start, n) p h k))
-    | inr k ↦ told_behind start (start + n) false xs (omega arith) f p k ∙ sym (ap (λ b. not b && is_told xs p) (is_behind (start, n) p k))
+    | inl k ↦ told_inside start (start + n) flag xs (omega arith) f p h k ∙ sym (ap (λ b. if b then flag else is_told xs p) (is_within (start, n) p h k))
+    | inr k ↦ told_behind start (start + n) flag xs (omega arith) f p k ∙ sym (ap (λ b. if b then flag else is_told xs p) (is_behind (start, n) p k))
   ]
 ]
 
@@ -289,52 +278,16 @@ pub still_rise : {T E : Type 0} (r : Result T E) (start n : ℕ) (flag : Bool) (
 still_rise (Ok x) start n flag xs new ok err some f = subst (Rise 0) (sym ok) (turned_rise start (start + n) flag xs (omega arith) f)
 still_rise (Err e) start n flag xs new ok err some f = subst (Rise 0) (sym err) f
 
-pub held_now : {T E : Type 0} (r : Result T E) (start n : ℕ) (xs new : List ℕ) → OnOk r (new ≡ turned start (start + n) true xs) → 0 < n → Rise 0 xs → OnOk r ((p : ℕ) → is_told new p ≡ within (start, n) p || is_told xs p)
-held_now (Ok x) start n xs new ok some f = λ p. ap (λ (ys : List ℕ). is_told ys p) ok ∙ held start n xs some f p
-held_now (Err e) start n xs new ok some f = ok
+pub told_now : {T E : Type 0} (r : Result T E) (start n : ℕ) (flag : Bool) (xs new : List ℕ) → OnOk r (new ≡ turned start (start + n) flag xs) → 0 < n → Rise 0 xs →
+    OnOk r ((p : ℕ) → is_told new p ≡ (if within (start, n) p then flag else is_told xs p))
+told_now (Ok x) start n flag xs new ok some f = λ p. ap (λ (ys : List ℕ). is_told ys p) ok ∙ told_after start n flag xs some f p
+told_now (Err e) start n flag xs new ok some f = ok
 
-pub released_now : {T E : Type 0} (r : Result T E) (start n : ℕ) (xs new : List ℕ) → OnOk r (new ≡ turned start (start + n) false xs) → 0 < n → Rise 0 xs → OnOk r ((p : ℕ) → is_told new p ≡ not (within (start, n) p) && is_told xs p)
-released_now (Ok x) start n xs new ok some f = λ p. ap (λ (ys : List ℕ). is_told ys p) ok ∙ released start n xs some f p
-released_now (Err e) start n xs new ok some f = ok
-
--- The edges of ranges.
-
-pub edges_append : (ranges : List (ℕ × ℕ)) (range : ℕ × ℕ) → edges_of (ranges ++ range ∷ []) ≡ (edges_of ranges ++ range.0 ∷ []) ++ (range.0 + range.1) ∷ []
-edges_append [] range = refl
-edges_append (first ∷ ranges) range = ap (λ (xs : List ℕ). first.0 ∷ (first.0 + first.1) ∷ xs) (edges_append ranges range)
-
-pub edges_rise : (m : ℕ) (ranges : List (ℕ × ℕ)) → IsFrom m ranges → Rise m (edges_of ranges)
-edges_rise m [] f = tt
-edges_rise m (range ∷ ranges) f = (f.0, (omega (arith, f.1), edges_rise (range.0 + range.1 + 1) ranges f.2))
-
-pub edges_tell : (m : ℕ) (ranges : List (ℕ × ℕ)) → IsFrom m ranges → (p : ℕ) → is_told (edges_of ranges) p ≡ holds ranges p
-edges_tell m [] f p = refl
-edges_tell m (range ∷ ranges) f p =
-    let more : List ℕ = edges_of ranges in
-    let start : ℕ = range.0 in
-    let end : ℕ = range.0 + range.1 in
-    let up : Rise (end + 1) more = edges_rise (end + 1) ranges f.2 in
-    let others = edges_tell (end + 1) ranges f.2 p in
-    let some = f.1 in
-    elim (cases_lt p start) [
-      | inl h ↦
-          let none = below_none (end + 1) (p + 1) more up (omega arith) in
-          let a = is_not_below (p + 1) start (end ∷ more) (omega arith) in
-          let b = is_not_below (p + 1) end more (omega arith) in
-          let same : below (p + 1) (start ∷ end ∷ more) ≡ below (p + 1) more = omega arith in
-          ap is_odd same ∙ others ∙ sym (ap (λ b. b || holds ranges p) (is_before range p h))
-      | inr h ↦ elim (cases_lt p end) [
-        | inl k ↦
-            let none = below_none (end + 1) (p + 1) more up (omega arith) in
-            let a = is_below (p + 1) start (end ∷ more) (omega arith) in
-            let b = is_not_below (p + 1) end more (omega arith) in
-            is_one (below (p + 1) (start ∷ end ∷ more)) (omega arith) ∙ sym (ap (λ b. b || holds ranges p) (is_within range p h k))
-        | inr k ↦
-            let a = is_below (p + 1) start (end ∷ more) (omega arith) in
-            let b = is_below (p + 1) end more (omega arith) in
-            same_parity (below (p + 1) (start ∷ end ∷ more)) (below (p + 1) more) (omega arith) ∙ others ∙ sym (ap (λ b. b || holds ranges p) (is_behind range p k))
-      ]
-    ]
+pub told_nowhere : (start n p : ℕ) (flag told : Bool) → n ≡ 0 → told ≡ (if within (start, n) p then flag else told)
+told_nowhere start n p flag told none = elim (cases_lt p start) [
+  | inl h ↦ sym (ap (λ b. if b then flag else told) (is_before (start, n) p h))
+  | inr h ↦ sym (ap (λ b. if b then flag else told) (is_behind (start, n) p (omega arith)))
+]
 
 -- What lies between two edges.
 
@@ -349,53 +302,30 @@ edge_past : (xs : List ℕ) (n end : ℕ) → length xs ≤ n → edge_at xs n e
 edge_past xs n end l = ap (λ (b : Bool). if b then min (get_or xs n 0) end else end) (le-ltb n (length xs) l)
 
 -- from a position on, up to the first edge behind it, all is told alike
-pub alike : (xs : List ℕ) (at end n until : ℕ) (flag : Bool) → Rise 0 xs → at < end → n ≡ below (at + 1) xs → until ≡ edge_at xs n end → flag ≡ is_odd n → (at < until) × IsRun (is_told xs) at end (run_of (until - at) flag)
-alike xs at end n until flag f some place is odd =
+pub reached : (xs seen more : List ℕ) (at end n until : ℕ) → Rise 0 xs → at < end → n ≡ below (at + 1) seen → seen ≡ xs → until ≡ edge_at more n end → more ≡ xs → IsReach (is_told xs) at end until
+reached xs seen more at end n until f some below_seen seen_is edge_more more_is =
+    let place : n ≡ below (at + 1) xs = below_seen ∙ ap (below (at + 1)) seen_is in
+    let is : until ≡ edge_at xs n end = edge_more ∙ ap (λ (ys : List ℕ). edge_at ys n end) more_is in
     let up : Rise (at + 1) (drop n xs) = subst (λ (k : ℕ). Rise (at + 1) (drop k xs)) (sym place) (rest 0 (at + 1) xs f) in
     let first : get_or (drop n xs) 0 0 ≡ get_or xs n 0 = get_or-drop n xs 0 0 ∙ (let k : n + 0 ≡ n = omega arith in ap (λ (k : ℕ). get_or xs k 0) k) in
     let size : length (drop n xs) ≡ length xs - n = length-drop n xs in
     let low : (n < length xs → at < get_or xs n 0) = (λ l. let h = head (at + 1) (drop n xs) up (omega arith) in omega arith) in
-    let bounds : (at < until) × (until ≤ end) × (n < length xs → until ≤ get_or xs n 0) × (until < end → (n < length xs) × (until ≡ get_or xs n 0)) = elim (cases_lt n (length xs)) [
-      | inl l ↦ let e = edge_there xs n end l in let h = low l in (omega arith, omega arith, (λ k. omega arith), (λ k. (l, omega arith)))
-      | inr l ↦ let e = edge_past xs n end l in (omega arith, omega arith, (λ k. absurd (omega arith)), (λ k. absurd (omega arith)))
+    let bounds : (at < until) × (until ≤ end) × (n < length xs → until ≤ get_or xs n 0) = elim (cases_lt n (length xs)) [
+      | inl l ↦ let e = edge_there xs n end l in let h = low l in (omega arith, omega arith, (λ k. omega arith))
+      | inr l ↦ let e = edge_past xs n end l in (omega arith, omega arith, (λ k. absurd (omega arith)))
     ] in
     let here : (p : ℕ) → at ≤ p → below (p + 1) xs ≡ n + below (p + 1) (drop n xs) = (λ p le.
     subst (λ (k : ℕ). below (p + 1) xs ≡ k + below (p + 1) (drop k xs)) (sym place) (counted (at + 1) (p + 1) xs f (omega arith))) in
-    let there = bounds.0 in
-    let low_enough = bounds.1 in (
-      there,
-      record {
-        some = omega arith;
-        within = omega arith;
-        alike = λ p le less.
-            let h = here p le in
-            let none = below_none (p + 1) (p + 1) (drop n xs) (rise_to (at + 1) (p + 1) (drop n xs) up (λ l. let k = bounds.2 (omega arith) in omega arith)) (omega arith) in
-            let same : below (p + 1) xs ≡ n = omega arith in
-            ap is_odd same ∙ sym odd;
-        otherwise = λ less.
-            let here_is : at + (until - at) ≡ until = omega arith in
-            let turn = bounds.3 (omega arith) in
-            let l = turn.0 in
-            let edge = turn.1 in
-            let h = here until (omega arith) in
-            let one = one_first (at + 1) until (drop n xs) up (omega arith) (omega arith) in
-            let same : below (until + 1) xs ≡ suc n = omega arith in
-            ap (is_told xs) here_is ∙ ap is_odd same ∙ odd_more n ∙ sym (ap (λ b. not b) odd);
-      },
-    )
+    record {
+      some = bounds.0;
+      within = bounds.1;
+      alike = λ p le less.
+          let h = here p le in
+          let none = below_none (p + 1) (p + 1) (drop n xs) (rise_to (at + 1) (p + 1) (drop n xs) up (λ l. let k = bounds.2 (omega arith) in omega arith)) (omega arith) in
+          let same : below (p + 1) xs ≡ below (at + 1) xs = omega arith in
+          ap is_odd same;
+    }
   where
     head : (m : ℕ) (ys : List ℕ) → Rise m ys → 0 < length ys → m ≤ get_or ys 0 0
     head m [] g l = absurd (omega arith)
     head m (y ∷ ys) g l = g.0
-
-    one_first : (m p : ℕ) (ys : List ℕ) → Rise m ys → 0 < length ys → p ≡ get_or ys 0 0 → below (p + 1) ys ≡ 1
-    one_first m p [] g l e = absurd (omega arith)
-    one_first m p (y ∷ ys) g l e = let a = is_below (p + 1) y ys (omega arith) in let b = below_none (y + 1) (p + 1) ys g.1 (omega arith) in omega arith
-
--- the edges of one range more
-pub edges_more : (ranges : List (ℕ × ℕ)) (i : ℕ) (range : ℕ × ℕ) (xs ys zs : List ℕ) → slice_get ranges i ≡ Some range → i < length ranges → xs ≡ edges_of (take i ranges) →
-    ys ≡ xs ++ range.0 ∷ [] → zs ≡ ys ++ (range.0 + range.1) ∷ [] → zs ≡ edges_of (take (i + 1) ranges)
-edges_more ranges i range xs ys zs at l so_far a b =
-    let is : get_or ranges i (0, 0) ≡ range = get_or_from_slice_get ranges i range (0, 0) at in
-    let one : take (i + 1) ranges ≡ take i ranges ++ range ∷ [] = take_more ranges i (0, 0) l ∙ ap (λ (r : ℕ × ℕ). take i ranges ++ r ∷ []) is in
-    b ∙ ap (λ (vs : List ℕ). vs ++ (range.0 + range.1) ∷ []) (a ∙ ap (λ (vs : List ℕ). vs ++ range.0 ∷ []) so_far) ∙ sym (ap edges_of one ∙ edges_append (take i ranges) range)

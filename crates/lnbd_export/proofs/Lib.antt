@@ -5,4 +5,5 @@ pub mod Made
 pub mod Allowed
 pub mod Exact
 pub mod EdgeLaws
+pub mod SpanLaws
 pub mod Example

@@ -1,11 +1,14 @@
 -- The contents that a seed gives, block by block.
-use Rattle.std.proofs.Common.{◌≡◌, ℕ, ◌+◌, ◌-◌, ◌*◌, ◌/◌, ◌%◌, ◌<◌, ◌≤◌, ◌&&◌, ◌||◌, Bool, true, false, List, [], ◌∷◌, ◌++◌, length, get_or, refl, ap, sym, subst, ◌∙◌, arith, inl, inr, nat_lt, nat_le, cond}
+use Rattle.std.proofs.Common.{◌≡◌, ℕ, ◌+◌, ◌-◌, ◌*◌, ◌/◌, ◌%◌, ◌<◌, ◌≤◌, ◌&&◌, Bool, true, false, List, [], ◌∷◌, ◌++◌, Result, Ok, Err, length, get_or, refl, ap, sym, subst, ◌∙◌, arith, inl, inr, nat_lt, nat_le, cond, if◌then◌else◌}
+use Rattle.std.specs.Prelude.{OnOk}
 use Rattle.std.proofs.lemmas.Bool.{cases_lt, lt-ltb, le-ltb, ltb-true}
 use Rattle.std.proofs.lemmas.Bool.Decides.{nat_tests}
 use Rattle.std.proofs.lemmas.List.{get_or_append_left, get_or-append_right, get_or_default}
 use Rattle.lnbd_extents.specs.Positions.{within}
 use Rattle.lnbd_export.specs.Export.{Export, AreZeros, flags}
 use Rattle.lnbd_export.proofs.PutLaws.{get_or-flags}
+use Rattle.lnbd_export.specs.declared.spans.Span.{Span}
+use Rattle.lnbd_export.specs.Spans.{is_told_by}
 use Rattle.lnbd_export.specs.Generated.{mixed, is_zero_block, byte_in, byte_at, IsGenerated}
 
 pub at_block : (seed block i : ℕ) → i < 4096 → byte_at seed (block * 4096 + i) ≡ byte_in seed block i
@@ -28,8 +31,8 @@ both_false : (b : Bool) → b && false ≡ false
 both_false true = refl
 both_false false = refl
 
-pub zeros_more : (seed start n p : ℕ) → start % 4096 ≡ 0 → n ≤ 4096 → is_zero_block seed (start / 4096) ≡ true →
-    within (start, n) p || (nat_lt p start && is_zero_block seed (p / 4096)) ≡ nat_lt p (start + n) && is_zero_block seed (p / 4096)
+zeros_more : (seed start n p : ℕ) → start % 4096 ≡ 0 → n ≤ 4096 → is_zero_block seed (start / 4096) ≡ true →
+    (if within (start, n) p then true else nat_lt p start && is_zero_block seed (p / 4096)) ≡ nat_lt p (start + n) && is_zero_block seed (p / 4096)
 zeros_more seed start n p aligned few is = elim (cases_lt p start) [
   | inl h ↦
       let out : nat_le start p ≡ false = grind (arith, nat_tests) in
@@ -51,7 +54,7 @@ zeros_more seed start n p aligned few is = elim (cases_lt p start) [
       ]
 ]
 
-pub zeros_same : (seed start n p : ℕ) → start % 4096 ≡ 0 → n ≤ 4096 → is_zero_block seed (start / 4096) ≡ false →
+zeros_same : (seed start n p : ℕ) → start % 4096 ≡ 0 → n ≤ 4096 → is_zero_block seed (start / 4096) ≡ false →
     nat_lt p start && is_zero_block seed (p / 4096) ≡ nat_lt p (start + n) && is_zero_block seed (p / 4096)
 zeros_same seed start n p aligned few is = elim (cases_lt p start) [
   | inl h ↦
@@ -70,6 +73,19 @@ zeros_same seed start n p aligned few is = elim (cases_lt p start) [
             rw (one, two) refl
       ]
 ]
+
+-- a block is told as zero where its number is small enough
+
+pub block_told : {T E : Type 0} (r : Result T E) (seed start n : ℕ) (old new : List Span) → start % 4096 ≡ 0 → n ≤ 4096 → mixed seed (start / 4096) < 1073741824 →
+    ((p : ℕ) → is_told_by old p ≡ nat_lt p start && is_zero_block seed (p / 4096)) → OnOk r ((p : ℕ) → is_told_by new p ≡ (if within (start, n) p then true else is_told_by old p)) →
+    OnOk r ((p : ℕ) → is_told_by new p ≡ nat_lt p (start + n) && is_zero_block seed (p / 4096))
+block_told (Ok x) seed start n old new aligned few small before told = λ p.
+    told p ∙ ap (λ (b : Bool). if within (start, n) p then true else b) (before p) ∙ zeros_more seed start n p aligned few (lt-ltb (mixed seed (start / 4096)) 1073741824 small)
+block_told (Err e) seed start n old new aligned few small before told = told
+
+pub block_kept : (seed start n : ℕ) (old : List Span) → start % 4096 ≡ 0 → n ≤ 4096 → 1073741824 ≤ mixed seed (start / 4096) →
+    ((p : ℕ) → is_told_by old p ≡ nat_lt p start && is_zero_block seed (p / 4096)) → (p : ℕ) → is_told_by old p ≡ nat_lt p (start + n) && is_zero_block seed (p / 4096)
+block_kept seed start n old aligned few large before p = before p ∙ zeros_same seed start n p aligned few (le-ltb (mixed seed (start / 4096)) 1073741824 large)
 
 both_true : (a b : Bool) → a && b ≡ true → (a ≡ true) × (b ≡ true)
 both_true true true e = (refl, refl)

@@ -198,3 +198,14 @@ seen_zeroed before offset n bytes bytes' told told' name description read_only s
     ap (λ (xs : List ℕ). record { name = name; description = description; bytes = xs; zeros = flags told' 0 (length bytes'); read_only = read_only }) e
     ∙ ap (λ (bs : List Bool). record { name = name; description = description; bytes = put offset (replicate n 0) bytes; zeros = bs; read_only = read_only }) z
     ∙ ap (zeroed offset n) seen
+
+-- where what is told stays, so does the export
+
+pub same_zeros : (bytes : List ℕ) (told told' : ℕ → Bool) → AreZeros bytes told → ((p : ℕ) → told' p ≡ told p) → AreZeros bytes told'
+same_zeros bytes told told' are same p e = are p (sym (same p) ∙ e)
+
+pub seen_same : (before : Export) (bytes : List ℕ) (told told' : ℕ → Bool) (name description : List ℕ) (read_only : Bool) →
+    record { name = name; description = description; bytes = bytes; zeros = flags told 0 (length bytes); read_only = read_only } ≡ before →
+    ((p : ℕ) → told' p ≡ told p) → record { name = name; description = description; bytes = bytes; zeros = flags told' 0 (length bytes); read_only = read_only } ≡ before
+seen_same before bytes told told' name description read_only seen same =
+    ap (λ (bs : List Bool). record { name = name; description = description; bytes = bytes; zeros = bs; read_only = read_only }) (flags_same told' told 0 (length bytes) (λ p low high. same p)) ∙ seen

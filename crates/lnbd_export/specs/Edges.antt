@@ -42,8 +42,3 @@ turned start end zero edges =
 -- the edge at a place, but no further than the end
 abbrev pub edge_at : List ℕ → ℕ → ℕ → ℕ
 edge_at edges place end = if nat_lt place (length edges) then min (get_or edges place 0) end else end
-
--- the edges of ranges
-abbrev pub edges_of : List (ℕ × ℕ) → List ℕ
-edges_of [] = []
-edges_of (range ∷ ranges) = range.0 ∷ (range.0 + range.1) ∷ edges_of ranges

@@ -17,3 +17,9 @@ pub record IsRun (zeros : ℕ → Bool) (at end : ℕ) (run : Run) : Type 0 wher
   pub within : at + run.length ≤ end
   pub alike : (p : ℕ) → at ≤ p → p < at + run.length → zeros p ≡ run.zero
   pub otherwise : at + run.length < end → zeros (at + run.length) ≡ not run.zero
+
+-- from a position on all is told alike up to here, which is behind it and no further than the end
+pub record IsReach (zeros : ℕ → Bool) (at end until : ℕ) : Type 0 where
+  pub some : at < until
+  pub within : until ≤ end
+  pub alike : (p : ℕ) → at ≤ p → p < until → zeros p ≡ zeros at

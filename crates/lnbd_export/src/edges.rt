@@ -1,12 +1,12 @@
 //! Positions, kept as the edges between those that are told as zero and those that aren't. Which bytes stand
 //! there is not known here.
 
-ghost use Rattle.std.specs.Prelude.{◌≡◌, ℕ, ◌+◌, ◌<◌, ◌≤◌, ◌^◌, [], ◌∷◌, ◌&&◌, ◌||◌, Some, not, IfOk, OnOk, OnErr, length, slice_get, vec_len};
+ghost use Rattle.std.specs.Prelude.{◌≡◌, ℕ, ◌+◌, ◌<◌, ◌≤◌, ◌^◌, [], ◌∷◌, IfOk, OnOk, OnErr, if◌then◌else◌, length, slice_get};
 ghost use Rattle.std.specs.List.{splice};
-ghost use Rattle.lnbd_extents.specs.Positions.{holds, within};
-ghost use Rattle.lnbd_export.specs.Edges.{Rise, below, is_odd, is_told, turned};
+ghost use Rattle.lnbd_extents.specs.Positions.{within};
+ghost use Rattle.lnbd_export.specs.Edges.{Rise, below, is_odd, is_told, edge_at, turned};
+ghost use Rattle.lnbd_export.specs.Walks.{IsReach};
 
-use lnbd_extents::Ranges;
 use lnbd_model::NoMemory;
 use std::alloc::Global;
 use std::marker::Model;
@@ -38,77 +38,46 @@ impl Edges {
         }
     }
 
-    /// The edges of ranges.
-    pub fn of(alloc: Global, ranges: &Ranges) -> Result<Edges, NoMemory>
-        ensures { IfOk result (λ edges. (p : ℕ) → is_told edges p ≡ holds ranges.now p) }
+    /// The same edges in memory of their own.
+    pub fn copy(&self) -> Result<Edges, NoMemory>
+        ensures { IfOk result (λ edges. edges ≡ self.now) }
     {
-        ranges.are_longest();
-        let mut places = Vec::with_capacity(alloc, ranges.count().saturating_mul(2))?;
-        for index in 0..ranges.count() {
-            let (start, length) = ranges.get(index);
-            places.push(start)?;
-            places.push(start + length)?;
-        }
+        let places = self.places.clone()?;
         Ok(Edges { places })
     }
 
-    /// How many edges there are.
-    pub fn count(&self) -> usize
-        ensures { result ≡ length self.now }
-    {
-        self.places.len()
-    }
-
-    /// One of the edges.
-    pub fn get(&self, index: usize) -> u64
-        requires { index < length self.now }
-        ensures { slice_get self.now index ≡ Some result }
-    {
-        self.places[index]
-    }
-
-    /// The edges rise.
-    pub fn rise(&self)
-        ensures { Rise 0 self.now }
-    {
-        let _ = &self.places;
-    }
-
-    /// How many edges lie at a position or before it.
-    pub fn place(&self, position: u64) -> usize
+    /// Whether a position is told as zero.
+    pub fn is_told(&self, position: u64) -> bool
         requires { position < 2 ^ 63 }
-        ensures { result ≡ below (position + 1) self.now }
+        ensures { result ≡ is_told self.now position }
     {
-        below(&self.places, position + 1)
+        is_odd(below(&self.places, position + 1))
     }
 
-    /// Tells these positions as zero. On `NoMemory` nothing changes.
-    pub fn hold(&mut self, start: u64, length: u64) -> Result<(), NoMemory>
+    /// Up to where all is told as at a position, but no further than the end.
+    pub fn reach(&self, at: u64, end: u64) -> u64
+        requires some { at < end }
+        requires room { end ≤ 2 ^ 63 }
+        ensures { IsReach (is_told self.now) at end result }
+    {
+        edge_at(&self.places, below(&self.places, at + 1), end)
+    }
+
+    /// Tells these positions as zero, or no more. On `NoMemory` nothing changes.
+    pub fn tell(&mut self, start: u64, length: u64, zero: bool) -> Result<(), NoMemory>
         requires { start + length ≤ 2 ^ 63 }
-        ensures told { OnOk result ((p : ℕ) → is_told self.new p ≡ within (start, length) p || is_told self.old p) }
+        ensures told { OnOk result ((p : ℕ) → is_told self.new p ≡ (if within (start, length) p then zero else is_told self.old p)) }
         ensures err { OnErr result (self.new ≡ self.old) }
     {
         if length == 0 {
             return Ok(());
         }
-        turn(&mut self.places, start, start + length, true)
-    }
-
-    /// Tells these positions as zero no more. On `NoMemory` nothing changes.
-    pub fn release(&mut self, start: u64, length: u64) -> Result<(), NoMemory>
-        requires { start + length ≤ 2 ^ 63 }
-        ensures told { OnOk result ((p : ℕ) → is_told self.new p ≡ not (within (start, length) p) && is_told self.old p) }
-        ensures err { OnErr result (self.new ≡ self.old) }
-    {
-        if length == 0 {
-            return Ok(());
-        }
-        turn(&mut self.places, start, start + length, false)
+        turn(&mut self.places, start, start + length, zero)
     }
 }
 
 /// Whether so many edges end on positions that are told as zero.
-pub(crate) fn is_odd(count: usize) -> bool
+fn is_odd(count: usize) -> bool
     ensures { result ≡ is_odd count }
 {
     count % 2 == 1
@@ -120,6 +89,16 @@ fn below(places: &[u64], position: u64) -> usize
     ensures { result ≡ below position places.now }
 {
     places.partition_point(|place| *place < position)
+}
+
+/// The edge at a place, but no further than the end.
+fn edge_at(places: &[u64], place: usize, end: u64) -> u64
+    ensures { result ≡ edge_at places.now place end }
+{
+    if place < places.len() {
+        return places[place].min(end);
+    }
+    end
 }
 
 /// From `start` up to `end` this is told from now on.

@@ -180,7 +180,7 @@ impl Export {
         ensures err { OnErr result (self.new ≡ self.old) }
     {
         let alloc = *self.content.allocator();
-        self.zeros.release(alloc, offset, payload.len() as u64)?;
+        self.zeros.tell(alloc, offset, payload.len() as u64, false)?;
         paste(&mut self.content, offset as usize, payload);
         Ok(())
     }
@@ -192,7 +192,7 @@ impl Export {
         ensures err { OnErr result (self.new ≡ self.old) }
     {
         let alloc = *self.content.allocator();
-        self.zeros.hold(alloc, offset, length)?;
+        self.zeros.tell(alloc, offset, length, true)?;
         fill_zeros(&mut self.content, offset as usize, length as usize);
         Ok(())
     }

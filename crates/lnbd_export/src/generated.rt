@@ -1,11 +1,11 @@
 //! The contents that a seed gives.
 
 ghost use Rattle.std.specs.Prelude.{◌≡◌, ℕ, ◌+◌, ◌-◌, ◌*◌, ◌/◌, ◌%◌, ◌<◌, ◌≤◌, ◌^◌, ◌&&◌, IfOk, OnOk, nat_lt, length, get_or};
-ghost use Rattle.lnbd_export.specs.Edges.{is_told};
+ghost use Rattle.lnbd_export.specs.Spans.{is_told_by};
 ghost use Rattle.lnbd_export.specs.Generated.{mixed, is_zero_block, byte_in, byte_at, block_size, IsGenerated};
 
-use crate::edges::Edges;
 use crate::export::Export;
+use crate::spans::Spans;
 use crate::zeros::Zeros;
 use lnbd_model::{NoMemory, Text};
 use std::alloc::Global;
@@ -91,19 +91,31 @@ fn byte_of(number: u64, i: u64) -> u8
     ((number / 256 + i) % 256) as u8
 }
 
-/// The edges of the zero blocks.
-fn zeros(alloc: Global, seed: u64, size: u64) -> Result<Edges, NoMemory>
+/// The zero blocks.
+fn zeros(alloc: Global, seed: u64, size: u64) -> Result<Spans, NoMemory>
     requires { size ≤ 2 ^ 30 }
-    ensures { IfOk result (λ zeros. (p : ℕ) → is_told zeros p ≡ nat_lt p size && is_zero_block seed (p / block_size)) }
+    ensures { IfOk result (λ zeros. (p : ℕ) → is_told_by zeros.spans.items p ≡ nat_lt p size && is_zero_block seed (p / block_size)) }
 {
-    let mut zeros = Edges::new(alloc);
+    let mut zeros = Spans::new(alloc);
     let mut start = 0;
     while start < size {
         let count = BLOCK.min(size - start);
-        if mixed(seed, start / BLOCK) < ZERO_BELOW {
-            zeros.hold(start, count)?;
-        }
+        tell_block(&mut zeros, seed, start, count)?;
         start += count;
     }
     Ok(zeros)
+}
+
+/// Tells the positions of a block as zero, where they are zeros.
+fn tell_block(zeros: &mut Spans, seed: u64, start: u64, count: u64) -> Result<(), NoMemory>
+    requires small { start < 2 ^ 30 }
+    requires aligned { start % block_size ≡ 0 }
+    requires count { count ≤ block_size }
+    requires before { (p : ℕ) → is_told_by zeros.old.spans.items p ≡ nat_lt p start && is_zero_block seed (p / block_size) }
+    ensures { OnOk result ((p : ℕ) → is_told_by zeros.new.spans.items p ≡ nat_lt p (start + count) && is_zero_block seed (p / block_size)) }
+{
+    if mixed(seed, start / BLOCK) < ZERO_BELOW {
+        return zeros.tell(start, count, true);
+    }
+    Ok(())
 }

@@ -8,6 +8,7 @@ mod generated;
 mod laws;
 mod refusals;
 mod request;
+mod spans;
 mod statuses;
 #[cfg(test)]
 mod tests;

@@ -3,13 +3,13 @@
 
 ghost use Rattle.std.specs.Prelude.{◌≡◌, ◌+◌, ◌-◌, ◌<◌, ◌≤◌, ◌^◌, IfOk, take, length};
 ghost use Rattle.lnbd_extents.specs.Positions.{holds};
-ghost use Rattle.lnbd_export.specs.Edges.{edge_at, is_told};
 ghost use Rattle.lnbd_export.specs.Zeros.{told};
 ghost use Rattle.lnbd_export.specs.Export.{flags};
+ghost use Rattle.lnbd_export.specs.Spans.{is_told_by};
 ghost use Rattle.lnbd_export.specs.Statuses.{statuses, status_of};
 ghost use Rattle.lnbd_export.specs.Walks.{IsRun, end_in_front, start_behind};
 
-use crate::edges::{Edges, is_odd};
+use crate::spans::Spans;
 use crate::zeros::Zeros;
 use lnbd_extents::Ranges;
 use lnbd_model::{Extent, NoMemory};
@@ -64,28 +64,21 @@ fn run_at(zeros: &Zeros, at: u64, end: u64) -> Run
 {
     match zeros {
         Zeros::Given(ranges) => run_of_ranges(ranges, at, end),
-        Zeros::Turning(edges) => run_between(edges, at, end),
+        Zeros::Turning(spans) => run_of_spans(spans, at, end),
     }
 }
 
-fn run_between(edges: &Edges, at: u64, end: u64) -> Run
+fn run_of_spans(zeros: &Spans, at: u64, end: u64) -> Run
     requires some { at < end }
     requires room { end ≤ 2 ^ 63 }
-    ensures { IsRun (is_told edges.now) at end result }
+    ensures { IsRun (is_told_by zeros.now.spans.items) at end result }
 {
-    edges.rise();
-    let place = edges.place(at);
-    made_run(at, edge_at(edges, place, end), is_odd(place))
-}
-
-/// The edge at a place, but no further than the end.
-fn edge_at(edges: &Edges, place: usize, end: u64) -> u64
-    ensures { result ≡ edge_at edges.now place end }
-{
-    if place < edges.count() {
-        return edges.get(place).min(end);
+    let zero = zeros.is_told(at);
+    let mut until = zeros.reach(at, end);
+    while until < end && zeros.is_told(until) == zero {
+        until = zeros.reach(until, end);
     }
-    end
+    made_run(at, until, zero)
 }
 
 fn run_of_ranges(zeros: &Ranges, at: u64, end: u64) -> Run
