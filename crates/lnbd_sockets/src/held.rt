@@ -12,6 +12,10 @@ use mio::{Interest, Poll, Token};
 use std::io;
 use std::io::ErrorKind;
 
+/// How many calls in a row are answered from what is known. One that asks and awaits the answer reads twice in vain before it waits: right behind its
+/// question, and in the turn that finds nothing left to do.
+const ANSWERED: u32 = 2;
+
 /// A link or a listener that a poll tells of.
 #[derive(Drop)]
 pub struct Held {
@@ -23,8 +27,8 @@ pub struct Held {
     has_ended: bool,
     // Whether the last write was taken in part, so that another at once would find no room.
     is_full: bool,
-    // Whether a call was answered from what is known, and the poll has told nothing since.
-    is_stale: bool,
+    // How many calls were answered from what is known since the poll was asked last.
+    answered: u32,
     // Whether the poll tells of writing too, beside reading.
     tells_writing: bool,
 }
@@ -41,7 +45,7 @@ impl Held {
             may_write: true,
             has_ended: false,
             is_full: false,
-            is_stale: false,
+            answered: 0,
             tells_writing: false,
         })
     }
@@ -51,7 +55,7 @@ impl Held {
         ensures { IfMoved result (λ n. (0 < n) × (n ≤ length into.old)) }
     {
         if !self.may_read {
-            self.is_stale = true;
+            self.answered = self.answered.saturating_add(1);
             return Got::NotReady;
         }
         let room = into.len();
@@ -81,7 +85,7 @@ impl Held {
     /// A link from a peer that waits. The error's kind is `WouldBlock` where none does.
     pub fn accept(&mut self) -> io::Result<Socket> {
         if !self.may_read {
-            self.is_stale = true;
+            self.answered = self.answered.saturating_add(1);
             return Err(io::Error::from(ErrorKind::WouldBlock));
         }
         let accepted = self.socket.accept();
@@ -104,14 +108,14 @@ impl Held {
         self.is_full = false;
     }
 
-    /// Whether the poll is to be asked before its next read: what was known has been given as an answer once.
+    /// Whether the poll is to be asked before its next read: what was known has been given as an answer often enough.
     pub fn is_stale(&self) -> bool {
-        self.is_stale && !self.may_read
+        self.answered >= ANSWERED && !self.may_read
     }
 
     /// The poll was asked. Where it told nothing, nothing is known any more.
     pub fn refresh(&mut self, was_told: bool) {
-        self.is_stale = false;
+        self.answered = 0;
         if !was_told {
             self.doubt();
         }

@@ -149,8 +149,8 @@ fn is_waited(poll: &Poll, sockets: &mut Vec<Held>, wants: &[Want]) -> bool {
     listens && !due
 }
 
-// Asks the poll without waiting where a call of this socket was answered from what is known, and nothing was told since. So each
-// is looked at at its second call at the latest, and all of them by one call of the system.
+// Asks the poll without waiting where calls of this socket were answered from what is known, and nothing was told since. So each is
+// looked at at its third call at the latest, and all of them by one call of the system.
 fn look(poll: &mut Poll, events: &mut Events, sockets: &mut Vec<Held>, number: u32) {
     let is_stale = match sockets.get(number as usize) {
         Some(held) => held.is_stale(),
