@@ -40,3 +40,9 @@ printf '%s\n' 'connect unix ' settle 'pwrite fill:aa:512 0' 'trim 512 0' 'zero 5
 printf '%s\n' connected settled 'refused unsupported read-only' 'refused unsupported read-only' 'refused unsupported read-only' \
   'cookie 1' settled 'done 4 00*4' 'opened 4 freed 4' >"$dir/expected"
 check 'a server that may only be read is told no change' "connect unix $dir/read-only" "$dir/changes" "$dir/expected"
+
+# (the longest fill and the longest read of a script are longer than a request may be)
+printf '%s\n' 'connect unix ' settle 'pwrite fill:aa:67108864 0' 'pread 67108864 0' 'pread-structured 67108864 0' 'auto pwrite fill:00:67108864 0' >"$dir/long"
+printf '%s\n' connected settled 'refused too-big 33554432' 'refused too-big 33554432' 'refused too-big 33554432' 'refused too-big 33554432' \
+  'opened 5 freed 5' >"$dir/expected"
+check 'a fill and a read of 64 MiB are refused' "connect unix $dir/socket" "$dir/long" "$dir/expected"
