@@ -2,6 +2,7 @@ pub mod CauseLemmas
 pub mod HandleLemmas
 pub mod AskedLemmas
 pub mod WindowLemmas
+pub mod SparedLemmas
 pub mod FiledLemmas
 pub mod TurnLemmas
 pub mod DialLemmas

@@ -21,12 +21,12 @@ use Rattle.lnbd_copy.specs.Windows.{Seen, IsPlanned, AreFit, AreKept, zero_withi
 
 -- Windows one behind the other.
 
-slices_behind : (cells : Cells) (start : ℕ) (parts : List Window) (w : Window) → windows_slices cells start (parts ++ w ∷ []) ≡ windows_slices cells start parts ++ window_slices cells w.told (windows_end start parts) w.count
+pub slices_behind : (cells : Cells) (start : ℕ) (parts : List Window) (w : Window) → windows_slices cells start (parts ++ w ∷ []) ≡ windows_slices cells start parts ++ window_slices cells w.told (windows_end start parts) w.count
 slices_behind cells start [] w = append-nil _
 slices_behind cells start (v ∷ parts) w =
     ap (λ (l : List Slice). window_slices cells v.told start v.count ++ l) (slices_behind cells (start + v.count) parts w) ∙ sym (append_assoc (window_slices cells v.told start v.count) (windows_slices cells (start + v.count) parts) _)
 
-end_behind : (start : ℕ) (parts : List Window) (w : Window) → windows_end start (parts ++ w ∷ []) ≡ windows_end start parts + w.count
+pub end_behind : (start : ℕ) (parts : List Window) (w : Window) → windows_end start (parts ++ w ∷ []) ≡ windows_end start parts + w.count
 end_behind start [] w = refl
 end_behind start (v ∷ parts) w = end_behind (start + v.count) parts w
 
@@ -158,7 +158,7 @@ pub record Joins (told list : List Extent) (index left most : ℕ) : Type 0 wher
 pub join_begins : (told list : List Extent) (most : ℕ) → list ≡ [] → Joins told list 0 most most
 join_begins told list most is = subst (λ (l : List Extent). Joins told l 0 most most) (sym is) (record { walks = walk_begins told most; left_ = omega arith; blank = λ p e. absurd (false≢true e) })
 
-less_or_more : (n p : ℕ) → (p < n) ⊎ ((q : ℕ) × (p ≡ n + q))
+pub less_or_more : (n p : ℕ) → (p < n) ⊎ ((q : ℕ) × (p ≡ n + q))
 less_or_more n p = elim (nat_lt p n) as (λ b. nat_lt p n ≡ b → (p < n) ⊎ ((q : ℕ) × (p ≡ n + q))) [ true ↦ λ e. inl (grind (arith, common_steps)) | false ↦ λ e. inr (p - n, grind (arith, common_steps)) ] refl
 
 one_flags : (n flags q : ℕ) → is_zero (flags_at (record { length = n; flags = flags } ∷ []) q) ≡ true → (q < n) × (has_bit 2 flags ≡ true)
@@ -192,26 +192,26 @@ pub record HoldsTold (told : List Extent) (before now : List (ℕ × ℕ)) (from
   pub walks : Walks told index reached most
   pub held : (p : ℕ) → holds now p ≡ true → holds before p || zero_within (from, most) told p ≡ true
 
-or_first : (a b : Bool) → a ≡ true → a || b ≡ true
+pub or_first : (a b : Bool) → a ≡ true → a || b ≡ true
 or_first true b e = refl
 or_first false b e = absurd (false≢true e)
 
-or_second : (a b : Bool) → b ≡ true → a || b ≡ true
+pub or_second : (a b : Bool) → b ≡ true → a || b ≡ true
 or_second true b e = refl
 or_second false b e = e
 
-or_cases : (a b : Bool) → a || b ≡ true → (a ≡ true) ⊎ (b ≡ true)
+pub or_cases : (a b : Bool) → a || b ≡ true → (a ≡ true) ⊎ (b ≡ true)
 or_cases true b e = inl refl
 or_cases false b e = inr e
 
-both_true : (a b : Bool) → a ≡ true → b ≡ true → a && b ≡ true
+pub both_true : (a b : Bool) → a ≡ true → b ≡ true → a && b ≡ true
 both_true a b e k = rw (e, k) refl
 
-and_left : (a b : Bool) → a && b ≡ true → a ≡ true
+pub and_left : (a b : Bool) → a && b ≡ true → a ≡ true
 and_left true b e = refl
 and_left false b e = e
 
-and_right : (a b : Bool) → a && b ≡ true → b ≡ true
+pub and_right : (a b : Bool) → a && b ≡ true → b ≡ true
 and_right true b e = e
 and_right false b e = absurd (false≢true e)
 

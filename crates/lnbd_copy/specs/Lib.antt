@@ -4,6 +4,7 @@ pub mod Asked
 pub mod Way
 pub mod Dealing
 pub mod Windows
+pub mod Spared
 pub mod Job
 pub mod Opening
 pub mod Leaving

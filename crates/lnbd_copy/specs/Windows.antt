@@ -11,8 +11,9 @@ use Rattle.lnbd_plan.specs.Laws.{Window, windows_slices, windows_end, told_by}
 pub record Seen : Type 0 where
   -- the slices still to come, and where the windows end that are planned
   pub plan : Planned
-  -- the source's size
+  -- the source's size, and the size of its blocks
   pub size : ℕ
+  pub grain : ℕ
   -- how far the extents are told of the window under way, and its whole blocks that were told as zero
   pub at : ℕ
   pub zero : List (ℕ × ℕ)

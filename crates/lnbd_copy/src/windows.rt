@@ -1,11 +1,12 @@
 //! The windows of a copy: how far the source's extents were asked for and told, and the slices that are planned of it.
 //! One window after another is asked for; which connection is asked, and when, is not known here.
 
-ghost use Rattle.std.specs.Prelude.{◌≡◌, ◌<◌, ◌≤◌, ◌+◌, ◌-◌, ◌^◌, ℕ, Bool, true, not, ◌&&◌, ◌||◌, ◌==◌, nat_lt, min, length, List, [], ◌++◌, IfSome, IfOk, OnOk, OnErr, None, option_to_list};
+ghost use Rattle.std.specs.Prelude.{◌≡◌, ◌<◌, ◌≤◌, ◌+◌, ◌-◌, ◌*◌, ◌/◌, ◌^◌, ℕ, Bool, true, not, ◌&&◌, ◌||◌, ◌==◌, nat_lt, min, length, List, [], ◌++◌, IfSome, IfOk, OnOk, OnErr, None, option_to_list};
 ghost use Rattle.std.specs.Option.{option_map};
 ghost use Rattle.lnbd_extents.specs.Positions.{within, holds};
-ghost use Rattle.lnbd_extents.specs.Lists.{flags_at};
+ghost use Rattle.lnbd_extents.specs.Lists.{flags_at, AreJoined};
 ghost use Rattle.lnbd_asked.specs.Transcript.{is_zero};
+ghost use Rattle.lnbd_copy.specs.Spared.{HaveOneFlag, IsInside, whole_within};
 ghost use Rattle.lnbd_copy.specs.Windows.{zero_within};
 
 use crate::terms::Terms;
@@ -46,20 +47,21 @@ impl Model for Windows {
 
     ghost Value = { Seen };
 
-    ghost view = { λ w. record { plan = w.plan; size = w.size; at = w.at; zero = w.zero } };
+    ghost view = { λ w. record { plan = w.plan; size = w.size; grain = w.grain; at = w.at; zero = w.zero } };
 
     ghost invariant = { λ w. AreKept w.plan w.start w.at w.size w.grain };
 }
 
 impl Windows {
     ghost use Rattle.lnbd_plan.specs.declared.grid.Slice.{Slice};
+    ghost use Rattle.lnbd_copy.specs.Spared.{IsSpared, whole_heard};
     ghost use Rattle.lnbd_copy.specs.Windows.{wanted, zero_heard, IsPlanned};
 
     /// No window yet.
     pub(crate) fn new(alloc: Global, terms: Terms) -> Windows
         requires cells { (0 < terms.cell) × (0 < terms.zero_cell) × (0 < terms.grain) }
         requires size { terms.size ≤ 2 ^ 63 }
-        ensures value { result ≡ record { plan = record { end = 0; slices = []; cells = record { cell = terms.cell; zero_cell = terms.zero_cell; zeros = not terms.how.skip } }; size = terms.size; at = 0; zero = [] } }
+        ensures value { result ≡ record { plan = record { end = 0; slices = []; cells = record { cell = terms.cell; zero_cell = terms.zero_cell; zeros = not terms.how.skip } }; size = terms.size; grain = terms.grain; at = 0; zero = [] } }
         ensures planned { (zero : ℕ → Bool) → IsPlanned result zero [] }
     {
         Windows {
@@ -105,8 +107,11 @@ impl Windows {
     pub(crate) fn hear(&mut self, told: &[Extent]) -> Result<(), NoMemory>
         ensures planned { OnOk result ((zero : ℕ → Bool) (slices : List Slice) → IsPlanned self.old zero slices
             → IsPlanned self.new (λ p. zero p || zero_heard (wanted self.old) told.now p) slices) }
+        ensures spared { OnOk result ((whole : ℕ → Bool) (slices : List Slice) → IsSpared self.old whole slices
+            → IsSpared self.new (λ p. whole p || whole_heard self.old.grain (wanted self.old) told.now p) slices) }
         ensures cells { self.new.plan.cells ≡ self.old.plan.cells }
         ensures size { self.new.size ≡ self.old.size }
+        ensures grain { self.new.grain ≡ self.old.grain }
         ensures unwanted { wanted self.old ≡ None → self.new ≡ self.old }
     {
         let end = end_of(self.start, self.size);
@@ -171,7 +176,10 @@ fn end_of(start: u64, size: u64) -> u64
 /// What was told, with ZERO as the one flag, equal neighbours joined, up to so many bytes.
 fn joined(alloc: Global, told: &[Extent], most: u64) -> Result<Vec<Extent>, NoMemory>
     requires { most ≤ 2 ^ 63 }
-    ensures { IfOk result (λ list. (p : ℕ) → is_zero (flags_at list.items p) ≡ true → is_zero (flags_at told.now p) ≡ true) }
+    ensures told { IfOk result (λ list. (p : ℕ) → is_zero (flags_at list.items p) ≡ true → is_zero (flags_at told.now p) ≡ true) }
+    ensures all { IfOk result (λ list. (p : ℕ) → p < most → is_zero (flags_at told.now p) ≡ true → is_zero (flags_at list.items p) ≡ true) }
+    ensures joined { IfOk result (λ list. AreJoined list.items) }
+    ensures one { IfOk result (λ list. HaveOneFlag list.items) }
 {
     let mut list = Vec::new(alloc);
     let mut left = most;
@@ -199,8 +207,12 @@ fn hold_zeroes(
 ) -> Result<u64, NoMemory>
     requires room { from + most ≤ 2 ^ 63 }
     requires grain { 0 < grain }
+    requires joined { AreJoined told.now }
+    requires one { HaveOneFlag told.now }
     ensures reached { IfOk result (λ reached. reached ≤ most) }
     ensures held { OnOk result ((p : ℕ) → holds zero.new p ≡ true → holds zero.old p || zero_within (from, most) told.now p ≡ true) }
+    ensures kept { OnOk result ((p : ℕ) → holds zero.old p ≡ true → holds zero.new p ≡ true) }
+    ensures whole { OnOk result ((p : ℕ) → whole_within grain (from, most) told.now p ≡ true → holds zero.new p ≡ true) }
 {
     let mut reached: u64 = 0;
     'extents: for extent in told {
@@ -217,20 +229,39 @@ fn hold_zeroes(
 fn hold_blocks(zero: &mut Ranges, start: u64, length: u64, grain: u64) -> Result<(), NoMemory>
     requires room { start + length ≤ 2 ^ 63 }
     requires grain { 0 < grain }
-    ensures { OnOk result ((p : ℕ) → holds zero.new p ≡ true → within (start, length) p || holds zero.old p ≡ true) }
+    ensures held { OnOk result ((p : ℕ) → holds zero.new p ≡ true → within (start, length) p || holds zero.old p ≡ true) }
+    ensures kept { OnOk result ((p : ℕ) → holds zero.old p ≡ true → holds zero.new p ≡ true) }
+    ensures whole { OnOk result ((p : ℕ) → IsInside grain start length p → holds zero.new p ≡ true) }
 {
-    let end = start + length;
-    let last = end - end % grain;
-    let over = start % grain;
-    let first = if over == 0 {
-        start
-    } else {
-        start - over + grain
-    };
+    let first = first_block(start, grain);
+    let last = last_block(start + length, grain);
     if first < last {
         zero.hold(first, last - first)?;
     }
     Ok(())
+}
+
+/// Where the first block begins that doesn't begin before this place.
+fn first_block(start: u64, grain: u64) -> u64
+    requires room { start ≤ 2 ^ 63 }
+    requires grain { 0 < grain }
+    ensures ahead { start ≤ result }
+    ensures first { (p : ℕ) → start ≤ p / grain * grain → result ≤ p / grain * grain }
+{
+    let over = start % grain;
+    if over == 0 {
+        return start;
+    }
+    start - over + grain
+}
+
+/// Where the last block ends that doesn't end behind this place.
+fn last_block(end: u64, grain: u64) -> u64
+    requires { 0 < grain }
+    ensures behind { result ≤ end }
+    ensures last { (p : ℕ) → p / grain * grain + grain ≤ end → p / grain * grain + grain ≤ result }
+{
+    end - end % grain
 }
 
 /// How far asking goes on where so many bytes were told: to the last multiple of the grain, but by a block at least.

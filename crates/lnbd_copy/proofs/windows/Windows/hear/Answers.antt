@@ -1,6 +1,11 @@
-use Rattle.std.proofs.Common.{◌≡◌, ◌<◌, ◌≤◌, ◌+◌, ◌-◌, ◌||◌, ℕ, Bool, List, subst, arith}
+use Rattle.std.proofs.Common.{refl, sym, true, ◌≡◌, ◌<◌, ◌≤◌, ◌+◌, ◌-◌, ◌||◌, ℕ, Bool, List, subst, arith}
+use Rattle.lnbd_model.specs.declared.export.Extent.{Extent}
+use Rattle.lnbd_extents.specs.Lists.{flags_at}
+use Rattle.lnbd_asked.specs.Transcript.{is_zero}
 use Rattle.lnbd_plan.specs.declared.grid.Slice.{Slice}
 use Rattle.lnbd_copy.specs.Windows.{Seen, IsPlanned, wanted, zero_heard}
+use Rattle.lnbd_copy.specs.Spared.{IsSpared, whole_heard}
+use Rattle.lnbd_copy.proofs.SparedLemmas.{spared_partly, spared_wholly}
 use Rattle.lnbd_copy.proofs.WindowLemmas.{window_kept, hear_wholly}
 use Rattle.lnbd_copy.proofs.windows.Windows.hear.Goals as goal
 
@@ -17,13 +22,37 @@ invariant_of-self-2 c =
 
 pub returns-clause-planned : goal.returns-clause-planned
 returns-clause-planned c =
-    let was : Seen = record { plan = c.self.inside.plan; size = c.self.inside.size; at = c.self.inside.at; zero = c.self.inside.zero } in
-    let now : Seen = record { plan = c.window.new.self; size = c.self.inside.size; at = c.self.inside.at + c.passed.result; zero = c.new.result } in
+    let was : Seen = record { plan = c.self.inside.plan; size = c.self.inside.size; grain = c.self.inside.grain; at = c.self.inside.at; zero = c.self.inside.zero } in
+    let now : Seen = record { plan = c.window.new.self; size = c.self.inside.size; grain = c.self.inside.grain; at = c.self.inside.at + c.passed.result; zero = c.new.result } in
     let left : c.self.inside.at < c.end_of-end.result = omega arith in
     let ahead = c.self.invariant.ahead in
     let order = c.end_of-end.ensures.order in
     let most = c.passed.ensures in
     let fits : c.self.inside.start + (c.self.inside.at + c.passed.result - c.self.inside.start) ≤ c.self.inside.size = omega arith in
     subst (λ (w : Seen). (blank : ℕ → Bool) (slices : List Slice) → IsPlanned w blank slices → IsPlanned now (λ p. blank p || zero_heard (wanted w) c.args.told.now p) slices) c.self.view_is
-    (hear_wholly was c.self.inside.start c.end_of-end.result c.args.told.now c.deref.result.now c.in_ok-joined.joined.items c.hold_zeroes.new.zero c.self.invariant.begins c.end_of-end.ensures.end left c.deref.ensures.value c.in_ok-joined.ensures
+    (hear_wholly was c.self.inside.start c.end_of-end.result c.args.told.now c.deref.result.now c.in_ok-joined.joined.items c.hold_zeroes.new.zero c.self.invariant.begins c.end_of-end.ensures.end left c.deref.ensures.value c.in_ok-joined.ensures.told
     c.in_ok-reached.ensures.held now (c.self.inside.at + c.passed.result - c.self.inside.start) c.in_ok-window.ensures.ok fits c.new.ensures)
+
+pub returns-then-self-end-clause-spared : goal.returns-then-self-end-clause-spared
+returns-then-self-end-clause-spared c =
+    let was : Seen = record { plan = c.self.inside.plan; size = c.self.inside.size; grain = c.self.inside.grain; at = c.self.inside.at; zero = c.self.inside.zero } in
+    let now : Seen = record { plan = c.self.inside.plan; size = c.self.inside.size; grain = c.self.inside.grain; at = c.self.inside.at + c.passed.result; zero = c.hold_zeroes.new.zero } in
+    let left : c.self.inside.at < c.end_of-end.result = omega arith in
+    subst (λ (w : Seen). (whole : ℕ → Bool) (slices : List Slice) → IsSpared w whole slices → IsSpared now (λ p. whole p || whole_heard w.grain (wanted w) c.args.told.now p) slices) c.self.view_is
+    (spared_partly was c.self.inside.start c.end_of-end.result c.self.inside.grain c.args.told.now c.deref.result.now c.hold_zeroes.new.zero c.self.invariant.begins c.self.invariant.ahead c.end_of-end.ensures.end left c.self.invariant.some
+    (λ p low e. subst (λ (l : List Extent). is_zero (flags_at l p) ≡ true) (sym c.deref.ensures.value) (c.in_ok-joined.ensures.all p low e)) c.in_ok-reached.ensures.kept c.in_ok-reached.ensures.whole now refl refl refl)
+
+pub returns-clause-spared : goal.returns-clause-spared
+returns-clause-spared c =
+    let was : Seen = record { plan = c.self.inside.plan; size = c.self.inside.size; grain = c.self.inside.grain; at = c.self.inside.at; zero = c.self.inside.zero } in
+    let now : Seen = record { plan = c.window.new.self; size = c.self.inside.size; grain = c.self.inside.grain; at = c.self.inside.at + c.passed.result; zero = c.new.result } in
+    let left : c.self.inside.at < c.end_of-end.result = omega arith in
+    let ahead = c.self.invariant.ahead in
+    let order = c.end_of-end.ensures.order in
+    let most = c.passed.ensures in
+    let fits : c.self.inside.start + (c.self.inside.at + c.passed.result - c.self.inside.start) ≤ c.self.inside.size = omega arith in
+    let last : c.self.inside.start + (c.self.inside.at + c.passed.result - c.self.inside.start) ≡ c.end_of-end.result = omega arith in
+    subst (λ (w : Seen). (whole : ℕ → Bool) (slices : List Slice) → IsSpared w whole slices → IsSpared now (λ p. whole p || whole_heard w.grain (wanted w) c.args.told.now p) slices) c.self.view_is
+    (spared_wholly was c.self.inside.start c.end_of-end.result c.self.inside.grain c.args.told.now c.deref.result.now c.hold_zeroes.new.zero c.self.invariant.begins ahead c.end_of-end.ensures.end left c.self.invariant.some
+    (λ p low e. subst (λ (l : List Extent). is_zero (flags_at l p) ≡ true) (sym c.deref.ensures.value) (c.in_ok-joined.ensures.all p low e)) c.in_ok-reached.ensures.kept c.in_ok-reached.ensures.whole now
+    (c.self.inside.at + c.passed.result - c.self.inside.start) c.in_ok-window.ensures.ok last fits)
