@@ -1,10 +1,11 @@
 -- From a copy's first connection to all that it makes.
-use Rattle.std.proofs.Common.{◌≡◌, ℕ, ◌+◌, Bool, true, false, List, [], length, Option, Some, None, Result, Ok, Err, IfOk, OnOk, if◌then◌else◌, refl, ap, sym, subst, ◌∙◌}
+use Rattle.std.proofs.Common.{◌≡◌, ℕ, ◌+◌, ◌≤◌, Bool, true, false, List, [], length, Option, Some, None, Result, Ok, Err, IfOk, OnOk, if◌then◌else◌, refl, ap, sym, subst, ◌∙◌, arith}
 use Rattle.lnbd_model.specs.declared.target.Place.{Place}
 use Rattle.lnbd_link.specs.Call as wire
 use Rattle.lnbd_plan.specs.declared.options.CopyOptions.{CopyOptions}
 use Rattle.lnbd_poll.specs.Held.{Held}
 use Rattle.lnbd_board.specs.declared.how.How.{How}
+use Rattle.lnbd_board.specs.declared.row.Row.{Row}
 use Rattle.lnbd_board.specs.declared.ticket.Ticket.{Ticket}
 use Rattle.lnbd_board.specs.Files as board
 use Rattle.lnbd_copy.specs.declared.sides.Sides.{Sides}
@@ -15,6 +16,7 @@ use Rattle.lnbd_copy.specs.Agreed.{Agrees, AreAgreed, IsWished}
 use Rattle.lnbd_copy.specs.declared.job.Phase.TheVariants.{Copying}
 use Rattle.lnbd_copy.specs.Copier.{GoesFurther, HasMet, HasNotBegun, IsOnItsWay, Seen, beginning}
 use Rattle.lnbd_copy.specs.Job as job
+use Rattle.lnbd_copy.specs.Limit.{IsLimited}
 use Rattle.lnbd_copy.specs.Opening.{Dials, place_of}
 use Rattle.lnbd_copy.specs.Way.{Goes, IsOn, IsUnderWay, Stand, Told, Way, is_source}
 use Rattle.lnbd_copy.proofs.DialLemmas.{nothing_is_on, settled}
@@ -68,7 +70,7 @@ module _ (copy : Seen) (sides : Sides) (first : ℕ) where
 
 -- The first connection of each side.
 
-no_handles : (copy : Seen) → HasNotBegun copy → Stand copy.held
+pub no_handles : (copy : Seen) → HasNotBegun copy → Stand copy.held
 no_handles copy none = subst Stand (sym none.held) (record { seens = []; at = tt })
 
 from_first : (copy : Seen) (how : How) (sides : Sides) (n : ℕ) → n ≡ 0 → place_of (beginning copy None how sides) n ≡ copy.from
@@ -96,6 +98,20 @@ agreed_on copy size how sides calls agrees on =
       };
     }
 
+pub first_on : (copy : Seen) (h : List (Held Ticket)) (t u : Option (List wire.Call)) (how : How) (sides : Sides) → HasNotBegun copy → Dials copy.from copy.board copy.held t h u → Told t u (λ calls. IsOn (beginning copy None how sides) copy.board calls h)
+first_on copy h t u how sides none first =
+    let none_held : length copy.held ≡ 0 = ap (λ (l : List (Held Ticket)). length l) none.held in
+    first.on (beginning copy None how sides) t (from_first copy how sides (length copy.held) none_held) (told_begins t (begins_on copy how sides none))
+
+-- Both stand where a copy begins, however it is to be made.
+pub second_on : (copy : Seen) (b : board.Seen) (h i j : List (Held Ticket)) (t u v w : Option (List wire.Call)) (how : How) (sides : Sides) → HasNotBegun copy → Dials copy.from copy.board copy.held t h u → Goes copy.board h u b i v → Dials copy.to b i v j w →
+    Stand j × Told t w (λ calls. IsOn (beginning copy None how sides) b calls j)
+second_on copy b h i j t u v w how sides none first one second =
+    let way = beginning copy None how sides in
+    let s1 = first.stand (no_handles copy none) in
+    let one_held : length i ≡ 1 = one.many s1 ∙ first.many ∙ ap (λ (n : ℕ). n + 1) (ap (λ (l : List (Held Ticket)). length l) none.held) in
+    (second.stand (one.stand s1), second.on way t (to_second copy how sides (length i) one_held) (one.on false way t s1 (first_on copy h t u how sides none first)))
+
 module _ (copy : Seen) (b c : board.Seen) (h i j k : List (Held Ticket)) (t u v w x : Option (List wire.Call)) where
   two_stand : Dials copy.from copy.board copy.held t h u → Goes copy.board h u b i v → Dials copy.to b i v j w → Goes b j w c k x → HasNotBegun copy → length k ≡ 2
   two_stand first one second two none =
@@ -104,30 +120,27 @@ module _ (copy : Seen) (b c : board.Seen) (h i j k : List (Held Ticket)) (t u v 
       let s3 = second.stand s2 in
       two.many s3 ∙ second.many ∙ ap (λ (n : ℕ). n + 1) (one.many s1 ∙ first.many ∙ ap (λ (n : ℕ). n + 1) (ap (λ (l : List (Held Ticket)). length l) none.held))
 
-  pub has_met : (terms : Terms) → IsWished copy.options terms.how → Agrees terms.size k → HasNotBegun copy → Dials copy.from copy.board copy.held t h u → Goes copy.board h u b i v → Dials copy.to b i v j w → Goes b j w c k x →
+  pub two_on : (how : How) (sides : Sides) → HasNotBegun copy → Dials copy.from copy.board copy.held t h u → Goes copy.board h u b i v → Dials copy.to b i v j w → Goes b j w c k x → Told t x (λ calls. IsOn (beginning copy None how sides) c calls k)
+  two_on how sides none first one second two =
+      let both = second_on copy b h i j t u v w how sides none first one second in
+      two.on false (beginning copy None how sides) t both.0 both.1
+
+  pub has_met : (terms : Terms) → IsWished copy.options terms.how → IsLimited copy.options terms → Agrees terms.size k → HasNotBegun copy → Dials copy.from copy.board copy.held t h u → Goes copy.board h u b i v → Dials copy.to b i v j w → Goes b j w c k x →
       HasMet (record copy { held = k; board = c }) t x terms
-  has_met terms wished agrees none first one second two =
+  has_met terms wished limited agrees none first one second two =
       let s0 = no_handles copy none in
       let s1 = first.stand s0 in
       let s2 = one.stand s1 in
       let s3 = second.stand s2 in
-      let none_held : length copy.held ≡ 0 = ap (λ (l : List (Held Ticket)). length l) none.held in
-      let one_held : length i ≡ 1 = one.many s1 ∙ first.many ∙ ap (λ (n : ℕ). n + 1) none_held in
       let filed = filed_then copy.board b c (one.filed s1) (two.filed s3) in
       record {
         stand = two.stand s3;
         blank = record { rows = filed.none none.rows; begun = filed.begun ∙ none.begun };
         wished = wished;
+        limited = limited;
         on =
-            let how = terms.how in
-            let sides = terms.sides in
-            let way = beginning copy None how sides in
-            told_as t x (λ calls on. agreed_on (record copy { held = k; board = c }) terms.size how sides calls agrees on)
-            (two.on false way t s3
-            (second.on way t (to_second copy how sides (length i) one_held)
-            (one.on false way t s1
-            (first.on way t (from_first copy how sides (length copy.held) none_held)
-            (told_begins t (begins_on copy how sides none))))));
+            told_as t x (λ calls on. agreed_on (record copy { held = k; board = c }) terms.size terms.how terms.sides calls agrees on)
+            (two_on terms.how terms.sides none first one second two);
       }
 
 -- Behind them further ones.
@@ -170,6 +183,7 @@ meets s0 s1 s2 s3 s4 t u v w x options held terms k1 k2 k3 k4 b1 b3 same_options
     let two' : Goes s2.board s3.held w s4.board s4.held x = subst (λ (b : board.Seen). Goes b s3.held w s4.board s4.held x) b3 two in
     subst (λ (s : Seen). HasMet s t x terms) (sym k04)
     (has_met s0 s2.board s4.board s1.held s2.held s3.held s4.held t u v w x terms (subst (λ (o : CopyOptions). IsWished o terms.how) (same_options ∙ ap (λ (s : Seen). s.options) k04) agreed.wished)
+    (subst (λ (o : CopyOptions). IsLimited o terms) (same_options ∙ ap (λ (s : Seen). s.options) k04) agreed.limited)
     (subst (Agrees terms.size) same_held agreed.size) none first one' second' two')
 
 pub two_meet : (s0 s1 s2 s3 s4 : Seen) (t u v w x : Option (List wire.Call)) → s1 ≡ with_held s0 s1 → s2 ≡ with_held s1 s2 → s1.board ≡ s0.board → s3.board ≡ s2.board →
@@ -189,6 +203,7 @@ met_on copy now held t u v terms met two further =
       stand = further.stand met.stand;
       blank = record { rows = filed.none met.blank.rows; begun = filed.begun ∙ met.blank.begun };
       wished = met.wished;
+      limited = met.limited;
       on = further.on (Some terms.size) terms.how t met.stand two met.on;
     }
 
@@ -213,6 +228,8 @@ begins_job copy start told terms j now met well empty new uncounted writes same 
       from = refl;
       to = refl;
       wished = subst (λ (t : Terms). IsWished copy.options t.how) (sym same) met.wished;
+      limited = subst (IsLimited copy.options) (sym same) met.limited;
+      most = subst (λ (rows : List (ℕ × Row)). length rows ≤ j.terms.limit) (sym empty) (omega arith);
       is = is way now refl writes refl refl refl refl;
       on = told_as start told
           (λ calls on. subst (λ (p : Bool). IsUnderWay p way now calls copy.held) (sym (ap job.is_parting copying)) (settled way terms.how copy.board now calls copy.held refl refl met.blank.rows well empty new uncounted on))

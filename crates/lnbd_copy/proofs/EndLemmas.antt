@@ -1,5 +1,5 @@
 -- What stands after each step of a turn, and that a copy which has parted from all its connections has copied.
-use Rattle.std.proofs.Common.{◌≡◌, ◌≢◌, ◌⊎◌, inl, inr, ℕ, Bool, true, false, not, List, [], ◌∷◌, ◌++◌, Option, Some, None, if◌then◌else◌, refl, ap, sym, subst, ◌∙◌, arith}
+use Rattle.std.proofs.Common.{◌≡◌, ◌≢◌, ◌⊎◌, ◌≤◌, inl, inr, ℕ, length, Bool, true, false, not, List, [], ◌∷◌, ◌++◌, Option, Some, None, if◌then◌else◌, refl, ap, sym, subst, ◌∙◌, arith}
 use Rattle.std.proofs.lemmas.Bool.{false≢true}
 use Rattle.std.proofs.lemmas.List.{append-nil}
 use Rattle.lnbd_model.specs.declared.target.Place.{Place}
@@ -33,6 +33,7 @@ use Rattle.lnbd_copy.specs.declared.copier.Progress.{Progress}
 use Rattle.lnbd_copy.specs.declared.copier.Progress.TheVariants.{Finished, Moved, Still}
 use Rattle.lnbd_copy.specs.Job as job
 use Rattle.lnbd_copy.specs.Leaving.{Leaves}
+use Rattle.lnbd_copy.specs.Limit.{IsLimited}
 use Rattle.lnbd_copy.specs.Windows as windows
 use Rattle.lnbd_copy.specs.Way.{Filed, Goes, IsLeaving, IsOn, IsUnderWay, Stands, Told, Way}
 use Rattle.lnbd_copy.proofs.CopierLemmas.{told_as}
@@ -76,14 +77,16 @@ module _ (copy : Seen) (start : Option (List wire.Call)) where
     from = on.from;
     to = on.to;
     wished = on.wished;
+    limited = on.limited;
+    most = (let many = (goes.filed on.stand).many in let most = on.most in omega (arith, many, most));
     is = job_filed on.job on.way copy.board now (goes.filed on.stand) on.is;
     on = goes.on (job.is_parting on.job.phase) on.way start on.stand on.on;
   }
 
   -- The job goes on.
-  pub after_act : (j j' : job.Seen) (now : board.Seen) (held : List (Held Ticket)) (told : Option (List wire.Call)) → copy.job ≡ Some j → j'.terms ≡ j.terms → job.is_parting j.phase ≡ false → job.Acts j j' copy.board now copy.held held →
+  pub after_act : (j j' : job.Seen) (now : board.Seen) (held : List (Held Ticket)) (told : Option (List wire.Call)) → copy.job ≡ Some j → j'.terms ≡ j.terms → (length copy.board.rows ≤ j.terms.limit → length now.rows ≤ j.terms.limit) → job.is_parting j.phase ≡ false → job.Acts j j' copy.board now copy.held held →
       IsOnItsWay start told copy → IsOnItsWay start told (record copy { held = held; board = now; job = Some j' })
-  after_act j j' now held told there terms going acts on =
+  after_act j j' now held told there terms few going acts on =
       let same : on.job ≡ j = some_same on.job j (sym on.there ∙ there) in
       let acted = acts.on on.way (subst (λ (x : job.Seen). job.IsJob x on.way copy.board) same on.is) in
       record {
@@ -94,6 +97,8 @@ module _ (copy : Seen) (start : Option (List wire.Call)) where
         from = acted.one.from ∙ on.from;
         to = acted.one.to ∙ on.to;
         wished = subst (λ (t : Terms). IsWished copy.options t.how) (ap (λ (x : job.Seen). x.terms) same ∙ sym terms) on.wished;
+        limited = subst (IsLimited copy.options) (ap (λ (x : job.Seen). x.terms) same ∙ sym terms) on.limited;
+        most = subst (λ (t : Terms). length now.rows ≤ t.limit) (sym terms) (few (subst (λ (x : job.Seen). length copy.board.rows ≤ x.terms.limit) same on.most));
         is = acted.job';
         on = told_as start told
             (λ calls is. from_on (job.is_parting j'.phase) acted.way' now calls held (acted.on calls (subst (λ (b : Bool). IsUnderWay b on.way copy.board calls copy.held) (ap (λ (x : job.Seen). job.is_parting x.phase) same ∙ going) is)))
@@ -115,6 +120,8 @@ module _ (copy : Seen) (start : Option (List wire.Call)) where
         from = on.from;
         to = on.to;
         wished = on.wished;
+        limited = on.limited;
+        most = (let many = leaves.filed.many in let most = on.most in omega (arith, many, most));
         is = job_filed on.job on.way copy.board now leaves.filed on.is;
         on = told_as start b (λ calls is. subst (λ (p : Bool). IsUnderWay p on.way now calls held) (sym parting) is)
             (leaves.on on.way start (on.is.asked ∙ ap (λ (b : Bool). if b then windows.wanted on.job.windows else None) over.heard) over.rows (told_as start a (λ calls is. subst (λ (p : Bool). IsUnderWay p on.way copy.board calls copy.held) parting is) on.on));
@@ -136,11 +143,11 @@ same_way copy start told j j' now held there one two three on =
     (subst (λ (b : board.Seen). IsOnItsWay start told (record copy { board = b; job = Some j' })) (sym two)
     (subst (λ (o : Option job.Seen). IsOnItsWay start told (record copy { job = o })) (there ∙ ap (λ (x : job.Seen). Some x) (sym one)) on))
 
-pub after_acting : (copy : Seen) (start told : Option (List wire.Call)) (j j' : job.Seen) (now : board.Seen) (held : List (Held Ticket)) → copy.job ≡ Some j → j'.terms ≡ j.terms → job.Acts j j' copy.board now copy.held held →
+pub after_acting : (copy : Seen) (start told : Option (List wire.Call)) (j j' : job.Seen) (now : board.Seen) (held : List (Held Ticket)) → copy.job ≡ Some j → j'.terms ≡ j.terms → (length copy.board.rows ≤ j.terms.limit → length now.rows ≤ j.terms.limit) → job.Acts j j' copy.board now copy.held held →
     (j.phase ≡ Parting → (j' ≡ j) × (now ≡ copy.board) × (held ≡ copy.held)) → IsOnItsWay start told copy → IsOnItsWay start told (record copy { held = held; board = now; job = Some j' })
-after_acting copy start told j j' now held there terms acts parted on = elim (cases_bool (job.is_parting j.phase)) [
+after_acting copy start told j j' now held there terms few acts parted on = elim (cases_bool (job.is_parting j.phase)) [
   | inl parts ↦ (let same = parted (is_past j.phase parts) in same_way copy start told j j' now held there same.0 same.1 same.2 on)
-  | inr going ↦ after_act copy start j j' now held told there terms going acts on
+  | inr going ↦ after_act copy start j j' now held told there terms few going acts on
 ]
 
 -- From turn to turn.

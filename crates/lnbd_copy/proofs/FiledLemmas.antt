@@ -12,15 +12,17 @@ use Rattle.lnbd_board.specs.declared.ticket.Ticket.TheVariants as ticket
 use Rattle.lnbd_board.specs.Files.{Files, Hears, came_with, filed_done, is_map, is_unfit, or_error, rows_with}
 use Rattle.lnbd_board.specs.Files as board
 use Rattle.lnbd_copy.specs.Way.{Filed}
+use Rattle.lnbd_copy.proofs.UnderWayLemmas.{rows_many}
 
 pub filed_none : (now : board.Seen) → Filed now now
-filed_none now = record { how = refl; begun = refl; none = λ e. e; error = λ e. e; read = refl; written = refl; zeroed = refl }
+filed_none now = record { how = refl; begun = refl; none = λ e. e; many = refl; error = λ e. e; read = refl; written = refl; zeroed = refl }
 
 pub filed_then : (a b c : board.Seen) → Filed a b → Filed b c → Filed a c
 filed_then a b c one two = record {
   how = two.how ∙ one.how;
   begun = two.begun ∙ one.begun;
   none = λ e. two.none (one.none e);
+  many = two.many ∙ one.many;
   error = λ e. one.error (two.error e);
   read = two.read ∙ one.read;
   written = two.written ∙ one.written;
@@ -35,7 +37,7 @@ no_error None error e = refl
 no_error (Some first) error e = e
 
 error_filed : (old : board.Seen) (error : ℕ) → Filed old (record old { error = or_error old.error error })
-error_filed old error = record { how = refl; begun = refl; none = λ e. e; error = λ e. no_error old.error error e; read = refl; written = refl; zeroed = refl }
+error_filed old error = record { how = refl; begun = refl; none = λ e. e; many = refl; error = λ e. no_error old.error error e; read = refl; written = refl; zeroed = refl }
 
 slice_filed : (unfit : Bool) (n : ℕ) (buf : List ℕ) (old : board.Seen)
     → Filed old (if unfit then record old { error = or_error old.error 71 } else record old { rows = rows_with (value_at n old.rows) n buf old.rows; came = came_with (value_at n old.rows) n old.came })
@@ -44,6 +46,7 @@ slice_filed false n buf old = record {
   how = refl;
   begun = refl;
   none = λ e. ap (λ (rows : List (ℕ × Row)). rows_with (value_at n rows) n buf rows) e;
+  many = rows_many (value_at n old.rows) n buf old.rows;
   error = λ e. e;
   read = refl;
   written = refl;
@@ -52,16 +55,16 @@ slice_filed false n buf old = record {
 
 done_filed : (by : Ticket) (buf : List ℕ) (old : board.Seen) → Filed old (filed_done by buf old)
 done_filed (ticket.Slice n) buf old = slice_filed (is_unfit (value_at n old.rows) buf) n buf old
-done_filed ticket.Extents buf old = record { how = refl; begun = refl; none = λ e. e; error = λ e. e; read = refl; written = refl; zeroed = refl }
-done_filed ticket.Flush buf old = record { how = refl; begun = refl; none = λ e. e; error = λ e. e; read = refl; written = refl; zeroed = refl }
+done_filed ticket.Extents buf old = record { how = refl; begun = refl; none = λ e. e; many = refl; error = λ e. e; read = refl; written = refl; zeroed = refl }
+done_filed ticket.Flush buf old = record { how = refl; begun = refl; none = λ e. e; many = refl; error = λ e. e; read = refl; written = refl; zeroed = refl }
 
 completed_filed : (well : Bool) (by : Ticket) (error : ℕ) (buf : List ℕ) (old : board.Seen) → Filed old (if well then filed_done by buf old else record old { error = or_error old.error error })
 completed_filed true by error buf old = done_filed by buf old
 completed_filed false by error buf old = error_filed old error
 
 hears_filed : (is : Bool) (entries : List Extent) (old new : board.Seen) → Hears is entries old new → Filed old new
-hears_filed true entries old new (inl e) = subst (Filed old) (sym e) (record { how = refl; begun = refl; none = λ e. e; error = λ e. e; read = refl; written = refl; zeroed = refl })
-hears_filed true entries old new (inr e) = subst (Filed old) (sym e) (record { how = refl; begun = refl; none = λ e. e; error = λ e. e; read = refl; written = refl; zeroed = refl })
+hears_filed true entries old new (inl e) = subst (Filed old) (sym e) (record { how = refl; begun = refl; none = λ e. e; many = refl; error = λ e. e; read = refl; written = refl; zeroed = refl })
+hears_filed true entries old new (inr e) = subst (Filed old) (sym e) (record { how = refl; begun = refl; none = λ e. e; many = refl; error = λ e. e; read = refl; written = refl; zeroed = refl })
 hears_filed false entries old new e = filed_same old new e
 
 call_filed : (old new : board.Seen) (call : Call Ticket) → Files old call new → Filed old new

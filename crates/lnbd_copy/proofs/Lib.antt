@@ -1,4 +1,5 @@
 pub mod CauseLemmas
+pub mod UnderWayLemmas
 pub mod HandleLemmas
 pub mod AskedLemmas
 pub mod WindowLemmas
@@ -16,3 +17,4 @@ pub mod CopierLemmas
 pub mod EndLemmas
 pub mod SummedLemmas
 pub mod AgreeLemmas
+pub mod GroundLemmas

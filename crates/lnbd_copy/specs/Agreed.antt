@@ -11,6 +11,7 @@ use Rattle.lnbd_poll.specs.Seen.{Seen}
 use Rattle.lnbd_board.specs.declared.how.How.{How}
 use Rattle.lnbd_board.specs.declared.ticket.Ticket.{Ticket}
 use Rattle.lnbd_copy.specs.declared.terms.Terms.{Terms}
+use Rattle.lnbd_copy.specs.Limit.{IsLimited}
 
 -- A handle may make requests, and has nothing to write.
 pub record IsQuiet (handle : Machine Ticket) : Type 0 where
@@ -50,4 +51,5 @@ pub record IsWished (options : CopyOptions) (how : How) : Type 0 where
 pub record AreAgreed (options : CopyOptions) (terms : Terms) (held : List (Held Ticket)) : Type 0 where
   pub size : Agrees terms.size held
   pub wished : IsWished options terms.how
+  pub limited : IsLimited options terms
   pub some : 0 < terms.sides.source

@@ -1,5 +1,5 @@
 -- What a contract sees of a copy, and what stands between two of its turns.
-use Rattle.std.specs.Prelude.{◌≡◌, ◌≢◌, ℕ, true, false, List, [], length, Option, Some, None}
+use Rattle.std.specs.Prelude.{◌≡◌, ◌≢◌, ◌≤◌, ℕ, true, false, List, [], length, Option, Some, None}
 use Rattle.lnbd_model.specs.declared.target.Place.{Place}
 use Rattle.lnbd_link.specs.Call as wire
 use Rattle.lnbd_plan.specs.declared.options.CopyOptions.{CopyOptions}
@@ -17,6 +17,7 @@ use Rattle.lnbd_copy.specs.declared.sides.Sides.{Sides}
 use Rattle.lnbd_copy.specs.declared.terms.Terms.{Terms}
 use Rattle.lnbd_copy.specs.Agreed.{IsWished}
 use Rattle.lnbd_copy.specs.Job as work
+use Rattle.lnbd_copy.specs.Limit.{IsLimited}
 use Rattle.lnbd_copy.specs.Way.{Filed, IsOn, IsUnderWay, Stand, Told, Way}
 
 pub record Seen : Type 0 where
@@ -54,6 +55,7 @@ pub record HasMet (copy : Seen) (start told : Option (List wire.Call)) (terms : 
   pub stand : Stand copy.held
   pub blank : IsBlank copy.board
   pub wished : IsWished copy.options terms.how
+  pub limited : IsLimited copy.options terms
   pub on : Told start told (λ calls. IsOn (beginning copy (Some terms.size) terms.how terms.sides) copy.board calls copy.held)
 
 -- Further connections are made, each to the side that its place says, where so many were made before.
@@ -74,6 +76,9 @@ pub record IsOnItsWay (start told : Option (List wire.Call)) (copy : Seen) : Typ
   pub from : way.from ≡ copy.from
   pub to : way.to ≡ copy.to
   pub wished : IsWished copy.options job.terms.how
+  -- no more slices are begun and not over than may be
+  pub limited : IsLimited copy.options job.terms
+  pub most : length copy.board.rows ≤ job.terms.limit
   pub is : work.IsJob job way copy.board
   pub on : Told start told (λ calls. IsUnderWay (work.is_parting job.phase) way copy.board calls copy.held)
 

@@ -1,13 +1,16 @@
 pub mod Causes
 pub mod Terms
+pub mod Limit
 pub mod Asked
 pub mod Way
 pub mod Dealing
 pub mod Windows
 pub mod Spared
 pub mod Job
+pub mod UnderWay
 pub mod Opening
 pub mod Leaving
 pub mod Agreed
+pub mod Grounds
 pub mod Copier
 pub mod Summed

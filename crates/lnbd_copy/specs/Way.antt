@@ -92,11 +92,12 @@ pub record Since (start : Option (List wire.Call)) (all : List wire.Call) (Is : 
 pub record Told (start told : Option (List wire.Call)) (Is : List wire.Call → Type 0) : Type 0 where
   pub since : (all : List wire.Call) → told ≡ Some all → Since start all Is
 
--- What callbacks are told is filed on a board: no slice is begun, a board without rows has none, and an error that was told stands.
+-- What callbacks are told is filed on a board: no slice is begun or over, and an error that was told stands.
 pub record Filed (old new : board.Seen) : Type 0 where
   pub how : new.how ≡ old.how
   pub begun : new.begun ≡ old.begun
   pub none : old.rows ≡ [] → new.rows ≡ []
+  pub many : length new.rows ≡ length old.rows
   pub error : new.error ≡ None → old.error ≡ None
   pub read : new.read ≡ old.read
   pub written : new.written ≡ old.written

@@ -1,39 +1,42 @@
 //! What the connections of a copy tell of their exports, and whether a copy can be made of it.
 
-ghost use Rattle.std.specs.Prelude.{◌≡◌, ◌<◌, ◌≤◌, ◌^◌, true, length, None, IfErr, IfOk, OnOk};
+ghost use Rattle.std.specs.Prelude.{◌≡◌, ◌<◌, ◌≤◌, ◌^◌, true, false, length, None, IfErr, IfOk, OnOk};
 ghost use Rattle.lnbd_handle.specs.Histories.{ForEach};
 ghost use Rattle.lnbd_history.specs.Answers.{direction_after, state_after};
 ghost use Rattle.lnbd_model.specs.declared.state.State.TheVariants as state;
 ghost use Rattle.lnbd_copy.specs.Agreed.{AreAgreed, AreQuiet, Tells};
 ghost use Rattle.lnbd_copy.specs.Causes.{tells_no_count};
+ghost use Rattle.lnbd_copy.specs.Grounds.{AllSame, AreSame, Finds, Happens, IsFound, IsShown, needs_no_ground};
+ghost use Rattle.lnbd_copy.specs.declared.sides.Sides.{Sides as Both};
 
 use crate::sides::{FIRST_DESTINATION, FIRST_SOURCE};
 use crate::terms::{Terms, broken_rule, settled};
 use lnbd_board::{Board, Ticket};
 use lnbd_handle::Handle;
-use lnbd_model::{Breach, Broken, EPROTO, ExportInfo, State};
+use lnbd_model::{Broken, EPROTO, ExportInfo, NoMemory, State};
 use lnbd_plan::{CopyFault, CopyOptions};
 use lnbd_poll::Handles;
 
 /// The first size that no export has (libnbd: sizes are below 2^63).
 const SIZE_END: u64 = 1 << 63;
 
-/// What a connection tells of its export, once all have negotiated.
-fn info_of(handles: &Handles<Ticket>, index: usize) -> Result<&ExportInfo, CopyFault>
+/// What a connection tells of its export, once all have negotiated. That it tells nothing, or a size that no export has, would count
+/// as want of memory: none does that may make requests.
+fn info_of(handles: &Handles<Ticket>, index: usize) -> Result<&ExportInfo, NoMemory>
     requires held { index < length handles.now }
     requires quiet { AreQuiet handles.now }
     ensures size { IfOk result (λ info. info.now.size < 2 ^ 63) }
     ensures tells { IfOk result (λ info. Tells index info.now.size handles.now) }
-    ensures free { IfErr result (λ told. tells_no_count told ≡ true) }
+    ensures shown { IfOk result (λ info. Happens (IsShown info.now) index handles.now) }
 {
     match handles.get(index).info() {
         Some(info) => {
             if info.size < SIZE_END {
                 return Ok(info);
             }
-            Err(CopyFault::Broke(Broken::Breach(Breach::SizeTooBig)))
+            Err(NoMemory)
         }
-        None => Err(CopyFault::Broke(Broken::Breach(Breach::NoExportInfo))),
+        None => Err(NoMemory),
     }
 }
 
@@ -66,6 +69,8 @@ pub(crate) fn agree(handles: &Handles<Ticket>, options: CopyOptions) -> Result<T
     ensures size { IfOk result (λ terms. terms.size ≤ 2 ^ 63) }
     ensures agrees { IfOk result (λ terms. AreAgreed options terms handles.now) }
     ensures free { IfErr result (λ told. tells_no_count told ≡ true) }
+    ensures holds { OnOk result (Finds None handles.now) }
+    ensures found { IfErr result (λ told. (sides : Both) → IsFound sides handles.now told) }
 {
     let source = info_of(handles, FIRST_SOURCE)?;
     let destination = info_of(handles, FIRST_DESTINATION)?;
@@ -87,7 +92,10 @@ pub(crate) fn tells_extents(handles: &Handles<Ticket>) -> bool {
 }
 
 /// Whether two connections of a side tell the same export.
-fn is_same(one: &ExportInfo, other: &ExportInfo) -> bool {
+fn is_same(one: &ExportInfo, other: &ExportInfo) -> bool
+    ensures same { result ≡ true → AreSame one.now other.now }
+    ensures differ { result ≡ false → AreSame one.now other.now → ⊥ }
+{
     one.size == other.size && one.flags == other.flags && one.blocks == other.blocks
 }
 
@@ -95,6 +103,8 @@ fn is_same(one: &ExportInfo, other: &ExportInfo) -> bool {
 pub(crate) fn check_same(handles: &Handles<Ticket>, terms: Terms) -> Result<(), CopyFault>
     requires { AreQuiet handles.now }
     ensures free { IfErr result (λ told. tells_no_count told ≡ true) }
+    ensures same { OnOk result (AllSame terms.sides (length handles.now) handles.now) }
+    ensures found { IfErr result (λ told. IsFound terms.sides handles.now told) }
 {
     'further: for index in 2..handles.len() {
         let first = terms.sides.first(index);
@@ -110,6 +120,7 @@ pub(crate) fn check_same(handles: &Handles<Ticket>, terms: Terms) -> Result<(), 
 pub(crate) fn check_answers(board: &Board) -> Result<(), CopyFault>
     ensures well { OnOk result (board.now.error ≡ None) }
     ensures free { IfErr result (λ told. tells_no_count told ≡ true) }
+    ensures unground { IfErr result (λ told. needs_no_ground told ≡ true) }
 {
     if board.is_short() {
         return Err(CopyFault::NoMemory);

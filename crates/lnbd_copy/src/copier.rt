@@ -1,6 +1,6 @@
 //! A copy from its first connection to its last byte.
 
-ghost use Rattle.std.specs.Prelude.{◌≡◌, ◌≢◌, ◌<◌, ◌≤◌, ◌+◌, ◌^◌, [], length, List, Option, None, true, IfErr, IfOk, OnErr, OnOk};
+ghost use Rattle.std.specs.Prelude.{◌≡◌, ◌≢◌, ◌<◌, ◌≤◌, ◌+◌, ◌^◌, [], length, List, Option, None, true, false, IfErr, IfOk, OnErr, OnOk};
 ghost use Rattle.lnbd_link.specs.Call.{Call};
 ghost use Rattle.lnbd_course.specs.Asks.{GrewBy, HasAskedOnce, WereDone};
 ghost use Rattle.lnbd_course.specs.Copied.{Copies};
@@ -8,8 +8,11 @@ ghost use Rattle.lnbd_course.specs.Counts.{Summarizes};
 ghost use Rattle.lnbd_copy.specs.Agreed.{AreQuiet};
 ghost use Rattle.lnbd_copy.specs.Causes.{GoesOn, HasCause};
 ghost use Rattle.lnbd_copy.specs.Copier.{GoesFurther, HasJob, HasMet, HasNotBegun, HasTurned, IsDone, IsGoing, IsOnItsWay, IsParting, Seen};
+ghost use Rattle.lnbd_copy.specs.Grounds.{FailsOn, IsGrounded, Lasts, needs_no_ground};
+ghost use Rattle.lnbd_copy.specs.declared.terms.Terms.{Terms as Settled};
 ghost use Rattle.lnbd_copy.specs.Opening.{Dials};
 ghost use Rattle.lnbd_copy.specs.Summed.{HasSummed, IsTally};
+ghost use Rattle.lnbd_copy.specs.UnderWay.{IsBusy};
 ghost use Rattle.lnbd_copy.specs.Way.{Goes, Told};
 
 use crate::agreeing::{agree, check_answers, check_same, tells_extents};
@@ -108,6 +111,9 @@ impl Copier {
         ensures begins { OnOk result (IsOnItsWay (W.told wires.old) (W.told wires.new) self.new) }
         ensures shut { OnErr result (self.new.held ≡ []) }
 
+        // What the calls show of a fault.
+        ensures grounds { IfErr result (λ told. IsGrounded (W.told wires.old) (W.told wires.new) self.old.from self.old.to told) }
+
         // The counts, and what they show of a fault.
         ensures causes { IfErr result (λ told. HasCause self.new.start (W.faults wires.new) (W.idles wires.new) told) }
         ensures counts { GoesOn (W.faults wires.old) (W.faults wires.new) (W.idles wires.old) (W.idles wires.new) (W.contents wires.old) (W.contents wires.new) }
@@ -121,7 +127,7 @@ impl Copier {
     }
 
     /// Makes all connections, the source's first and then the destination's, and behind them all further ones.
-    #[tactic(auto, using(crate::proofs::CauseLemmas::goes_same, crate::proofs::CauseLemmas::goes_then, crate::proofs::CauseLemmas::cause_later, crate::proofs::CauseLemmas::cause_free))]
+    #[tactic(auto, using(crate::proofs::CauseLemmas::goes_same, crate::proofs::CauseLemmas::goes_then, crate::proofs::CauseLemmas::cause_later, crate::proofs::CauseLemmas::cause_free, crate::proofs::GroundLemmas::none_grounded))]
     fn connect<W: Wires>(&mut self, wires: &mut W) -> Result<(), CopyFault>
         requires begun { HasNotBegun self.old }
         requires faults { self.old.start.faults ≤ W.faults wires.old }
@@ -129,6 +135,7 @@ impl Copier {
         ensures kept { self.new ≡ record self.old { held = self.new.held; board = self.new.board; job = self.new.job } }
         ensures begins { OnOk result (IsOnItsWay (W.told wires.old) (W.told wires.new) self.new) }
         ensures causes { IfErr result (λ told. HasCause self.old.start (W.faults wires.new) (W.idles wires.new) told) }
+        ensures grounds { IfErr result (λ told. IsGrounded (W.told wires.old) (W.told wires.new) self.old.from self.old.to told) }
         ensures counts { GoesOn (W.faults wires.old) (W.faults wires.new) (W.idles wires.old) (W.idles wires.new) (W.contents wires.old) (W.contents wires.new) }
     {
         let terms = self.meet(wires)?;
@@ -139,7 +146,7 @@ impl Copier {
     }
 
     /// Makes the first connection of each side, the source's first, and settles how the copy is made.
-    #[tactic(auto, using(crate::proofs::CauseLemmas::goes_same, crate::proofs::CauseLemmas::goes_then, crate::proofs::CauseLemmas::cause_later, crate::proofs::CauseLemmas::cause_free))]
+    #[tactic(auto, using(crate::proofs::CauseLemmas::goes_same, crate::proofs::CauseLemmas::goes_then, crate::proofs::CauseLemmas::cause_later, crate::proofs::CauseLemmas::cause_free, crate::proofs::GroundLemmas::none_grounded))]
     fn meet<W: Wires>(&mut self, wires: &mut W) -> Result<Terms, CopyFault>
         requires begun { HasNotBegun self.old }
         requires faults { self.old.start.faults ≤ W.faults wires.old }
@@ -151,6 +158,7 @@ impl Copier {
         ensures cells { IfOk result (λ terms. (0 < terms.cell) × (0 < terms.zero_cell) × (0 < terms.grain)) }
         ensures size { IfOk result (λ terms. terms.size ≤ 2 ^ 63) }
         ensures causes { IfErr result (λ told. HasCause self.old.start (W.faults wires.new) (W.idles wires.new) told) }
+        ensures grounds { IfErr result (λ told. IsGrounded (W.told wires.old) (W.told wires.new) self.old.from self.old.to told) }
         ensures counts { GoesOn (W.faults wires.old) (W.faults wires.new) (W.idles wires.old) (W.idles wires.new) (W.contents wires.old) (W.contents wires.new) }
     {
         let extents = self.options.extents;
@@ -182,6 +190,7 @@ impl Copier {
         ensures dials { OnOk result (Dials self.old.from self.old.board self.old.held (W.told wires.old) self.new.held (W.told wires.new)) }
         ensures board { OnOk result (self.new.board ≡ self.old.board) }
         ensures causes { IfErr result (λ told. HasCause self.old.start (W.faults wires.new) (W.idles wires.new) told) }
+        ensures free { IfErr result (λ told. needs_no_ground told ≡ true) }
         ensures counts { GoesOn (W.faults wires.old) (W.faults wires.new) (W.idles wires.old) (W.idles wires.new) (W.contents wires.old) (W.contents wires.new) }
     {
         dial(
@@ -202,6 +211,7 @@ impl Copier {
         ensures dials { OnOk result (Dials self.old.to self.old.board self.old.held (W.told wires.old) self.new.held (W.told wires.new)) }
         ensures board { OnOk result (self.new.board ≡ self.old.board) }
         ensures causes { IfErr result (λ told. HasCause self.old.start (W.faults wires.new) (W.idles wires.new) told) }
+        ensures free { IfErr result (λ told. needs_no_ground told ≡ true) }
         ensures counts { GoesOn (W.faults wires.old) (W.faults wires.new) (W.idles wires.old) (W.idles wires.new) (W.contents wires.old) (W.contents wires.new) }
     {
         dial(
@@ -223,13 +233,14 @@ impl Copier {
         ensures goes { OnOk result (Goes self.old.board self.old.held (W.told wires.old) self.new.board self.new.held (W.told wires.new)) }
         ensures quiet { OnOk result (AreQuiet self.new.held) }
         ensures causes { IfErr result (λ told. HasCause self.old.start (W.faults wires.new) (W.idles wires.new) told) }
+        ensures fails { IfErr result (λ told. FailsOn false self.old.board self.old.held (W.told wires.old) (W.told wires.new) told) }
         ensures counts { GoesOn (W.faults wires.old) (W.faults wires.new) (W.idles wires.old) (W.idles wires.new) (W.contents wires.old) (W.contents wires.new) }
     {
         settle(&mut self.handles, &mut self.board, wires, self.start)
     }
 
     /// Makes the further connections, the source's first.
-    #[tactic(auto, using(crate::proofs::CauseLemmas::goes_same, crate::proofs::CauseLemmas::goes_then, crate::proofs::CauseLemmas::cause_later, crate::proofs::CauseLemmas::cause_free))]
+    #[tactic(auto, using(crate::proofs::CauseLemmas::goes_same, crate::proofs::CauseLemmas::goes_then, crate::proofs::CauseLemmas::cause_later, crate::proofs::CauseLemmas::cause_free, crate::proofs::GroundLemmas::none_grounded))]
     fn dial_further<W: Wires>(&mut self, wires: &mut W, sides: Sides) -> Result<(), CopyFault>
         requires faults { self.old.start.faults ≤ W.faults wires.old }
         requires idles { self.old.start.idles ≤ W.idles wires.old }
@@ -238,6 +249,7 @@ impl Copier {
         ensures further { OnOk result (GoesFurther self.old sides 2 self.old.board self.old.held (W.told wires.old) self.new.board self.new.held (W.told wires.new)) }
         ensures quiet { OnOk result (AreQuiet self.new.held) }
         ensures causes { IfErr result (λ told. HasCause self.old.start (W.faults wires.new) (W.idles wires.new) told) }
+        ensures grounds { IfErr result (λ told. (start : Option (List Call)) (terms : Settled) → HasMet self.old start (W.told wires.old) terms → sides ≡ terms.sides → length self.old.held ≡ 2 → IsGrounded start (W.told wires.new) self.old.from self.old.to told) }
         ensures counts { GoesOn (W.faults wires.old) (W.faults wires.new) (W.idles wires.old) (W.idles wires.new) (W.contents wires.old) (W.contents wires.new) }
     {
         self.dial_sources(wires, sides)?;
@@ -253,6 +265,7 @@ impl Copier {
         ensures further { OnOk result (GoesFurther self.old sides 2 self.old.board self.old.held (W.told wires.old) self.new.board self.new.held (W.told wires.new)) }
         ensures many { OnOk result (length self.old.held ≡ 2 → length self.new.held ≡ sides.source + 1) }
         ensures causes { IfErr result (λ told. HasCause self.old.start (W.faults wires.new) (W.idles wires.new) told) }
+        ensures free { IfErr result (λ told. needs_no_ground told ≡ true) }
         ensures counts { GoesOn (W.faults wires.old) (W.faults wires.new) (W.idles wires.old) (W.idles wires.new) (W.contents wires.old) (W.contents wires.new) }
     {
         'further: for connection in 1..sides.source {
@@ -267,6 +280,7 @@ impl Copier {
         ensures kept { self.new ≡ record self.old { held = self.new.held; board = self.new.board } }
         ensures further { OnOk result (GoesFurther self.old sides (sides.source + 1) self.old.board self.old.held (W.told wires.old) self.new.board self.new.held (W.told wires.new)) }
         ensures causes { IfErr result (λ told. HasCause self.old.start (W.faults wires.new) (W.idles wires.new) told) }
+        ensures free { IfErr result (λ told. needs_no_ground told ≡ true) }
         ensures counts { GoesOn (W.faults wires.old) (W.faults wires.new) (W.idles wires.old) (W.idles wires.new) (W.contents wires.old) (W.contents wires.new) }
     {
         'further: for _ in 1..sides.destination {
@@ -294,9 +308,14 @@ impl Copier {
 
         // Where it is finished, the summary says what its calls asked.
         ensures sums { IfOk result (λ told. (start : Option (List Call)) → IsOnItsWay start (W.told wires.old) self.old → HasSummed start (W.told wires.new) self.new told) }
+        // While slices are copied, as much is under way as may be.
+        ensures busy { OnOk result (IsBusy self.new.job self.new.board) }
 
         // Nothing was asked twice so far, and nothing past the source's end.
         ensures asks { OnOk result ((start : Option (List Call)) → IsOnItsWay start (W.told wires.old) self.old → self.new.from ≢ self.new.to → Told start (W.told wires.new) (HasAskedOnce self.new.options.allocated self.new.from self.new.to)) }
+
+        // What the calls show of a fault.
+        ensures grounds { IfErr result (λ told. (start : Option (List Call)) → IsOnItsWay start (W.told wires.old) self.old → IsGrounded start (W.told wires.new) self.old.from self.old.to told) }
 
         // The counts, and what they show of a fault.
         ensures causes { IfErr result (λ told. HasCause self.old.start (W.faults wires.new) (W.idles wires.new) told) }
@@ -310,7 +329,7 @@ impl Copier {
     }
 
     /// One turn, after which nothing is shut.
-    #[tactic(auto, using(crate::proofs::CauseLemmas::goes_same, crate::proofs::CauseLemmas::goes_then, crate::proofs::CauseLemmas::cause_later, crate::proofs::CauseLemmas::cause_free))]
+    #[tactic(auto, using(crate::proofs::CauseLemmas::goes_same, crate::proofs::CauseLemmas::goes_then, crate::proofs::CauseLemmas::cause_later, crate::proofs::CauseLemmas::cause_free, crate::proofs::GroundLemmas::none_grounded))]
     fn go_on<W: Wires>(&mut self, wires: &mut W) -> Result<Progress, CopyFault>
         requires going { IsGoing (W.told wires.old) self.old }
         requires faults { self.old.start.faults ≤ W.faults wires.old }
@@ -318,8 +337,10 @@ impl Copier {
         ensures kept { self.new ≡ record self.old { held = self.new.held; board = self.new.board; job = self.new.job } }
         ensures turns { IfOk result (λ told. (start : Option (List Call)) → IsOnItsWay start (W.told wires.old) self.old → HasTurned start (W.told wires.new) self.new told) }
         ensures sums { IfOk result (λ told. (start : Option (List Call)) → IsOnItsWay start (W.told wires.old) self.old → HasSummed start (W.told wires.new) self.new told) }
+        ensures busy { OnOk result (IsBusy self.new.job self.new.board) }
         ensures asks { OnOk result ((start : Option (List Call)) → IsOnItsWay start (W.told wires.old) self.old → self.new.from ≢ self.new.to → Told start (W.told wires.new) (HasAskedOnce self.new.options.allocated self.new.from self.new.to)) }
         ensures causes { IfErr result (λ told. HasCause self.old.start (W.faults wires.new) (W.idles wires.new) told) }
+        ensures grounds { IfErr result (λ told. (start : Option (List Call)) → IsOnItsWay start (W.told wires.old) self.old → IsGrounded start (W.told wires.new) self.old.from self.old.to told) }
         ensures counts { GoesOn (W.faults wires.old) (W.faults wires.new) (W.idles wires.old) (W.idles wires.new) (W.contents wires.old) (W.contents wires.new) }
     {
         let moved = self.take_turn(wires)?;
@@ -333,12 +354,13 @@ impl Copier {
     }
 
     /// One turn of the connections.
-    #[tactic(auto, using(crate::proofs::CauseLemmas::goes_same, crate::proofs::CauseLemmas::goes_then, crate::proofs::CauseLemmas::cause_later, crate::proofs::CauseLemmas::cause_free))]
+    #[tactic(auto, using(crate::proofs::CauseLemmas::goes_same, crate::proofs::CauseLemmas::goes_then, crate::proofs::CauseLemmas::cause_later, crate::proofs::CauseLemmas::cause_free, crate::proofs::GroundLemmas::none_grounded))]
     fn take_turn<W: Wires>(&mut self, wires: &mut W) -> Result<Turn, CopyFault>
         requires faults { self.old.start.faults ≤ W.faults wires.old }
         ensures kept { self.new ≡ record self.old { held = self.new.held; board = self.new.board } }
         ensures on { OnOk result ((start : Option (List Call)) → IsOnItsWay start (W.told wires.old) self.old → IsOnItsWay start (W.told wires.new) self.new) }
         ensures causes { IfErr result (λ told. HasCause self.old.start (W.faults wires.new) (W.idles wires.new) told) }
+        ensures grounds { IfErr result (λ told. (start : Option (List Call)) → IsOnItsWay start (W.told wires.old) self.old → IsGrounded start (W.told wires.new) self.old.from self.old.to told) }
         ensures counts { GoesOn (W.faults wires.old) (W.faults wires.new) (W.idles wires.old) (W.idles wires.new) (W.contents wires.old) (W.contents wires.new) }
     {
         let moved = self.handles.turn(wires, &mut self.board)?;
@@ -352,6 +374,7 @@ impl Copier {
         requires { HasJob self.old }
         ensures kept { self.new ≡ record self.old { held = self.new.held; board = self.new.board; job = self.new.job } }
         ensures on { OnOk result ((start told : Option (List Call)) → IsOnItsWay start told self.old → IsOnItsWay start told self.new) }
+        ensures busy { OnOk result ((start told : Option (List Call)) → IsOnItsWay start told self.old → IsBusy self.new.job self.new.board) }
     {
         match &mut self.job {
             Some(job) => job.act(self.alloc, &mut self.handles, &mut self.board),
@@ -373,6 +396,7 @@ impl Copier {
     fn part<W: Wires>(&mut self, wires: &mut W) -> usize
         ensures kept { self.new ≡ record self.old { held = self.new.held; board = self.new.board } }
         ensures on { (start : Option (List Call)) → IsOnItsWay start (W.told wires.old) self.old → IsOnItsWay start (W.told wires.new) self.new }
+        ensures busy { IsBusy self.old.job self.old.board → IsBusy self.new.job self.new.board }
         ensures counts { GoesOn (W.faults wires.old) (W.faults wires.new) (W.idles wires.old) (W.idles wires.new) (W.contents wires.old) (W.contents wires.new) }
     {
         if !self.is_parting() {
@@ -418,6 +442,8 @@ impl Copier {
 
         // The summary has the bytes that were asked to be read, written and zeroed, and those that nothing was asked for.
         ensures summary { self.from ≢ self.to → IfOk result (λ told. GrewBy (Summarizes self.from self.to told) (W.told wires.old) (W.told wires.new)) }
+        // What the calls show of a fault.
+        ensures grounds { IfErr result (λ told. IsGrounded (W.told wires.old) (W.told wires.new) self.from self.to told) }
 
         // The counts, and what they show of a fault.
         ensures causes { IfErr result (λ told. HasCause (record { faults = W.faults wires.old; idles = W.idles wires.old }) (W.faults wires.new) (W.idles wires.new) told) }
@@ -430,13 +456,14 @@ impl Copier {
     }
 
     /// Begins, and takes turns until the copy is finished, with a pause after each in which nothing happened.
-    #[tactic(auto, using(crate::proofs::CauseLemmas::goes_same, crate::proofs::CauseLemmas::goes_then, crate::proofs::CauseLemmas::cause_later, crate::proofs::CauseLemmas::cause_free))]
+    #[tactic(auto, using(crate::proofs::CauseLemmas::goes_same, crate::proofs::CauseLemmas::goes_then, crate::proofs::CauseLemmas::cause_later, crate::proofs::CauseLemmas::cause_free, crate::proofs::GroundLemmas::none_grounded))]
     fn copy<W: Wires>(&mut self, wires: &mut W) -> Result<Summary, CopyFault>
         requires { HasNotBegun self.old }
         ensures kept { self.new ≡ record self.old { start = self.new.start; held = self.new.held; board = self.new.board; job = self.new.job } }
         ensures done { OnOk result (IsDone (W.told wires.old) (W.told wires.new) self.new) }
         ensures sums { IfOk result (λ told. self.new.from ≢ self.new.to → Told (W.told wires.old) (W.told wires.new) (Summarizes self.new.from self.new.to told)) }
         ensures causes { IfErr result (λ told. HasCause (record { faults = W.faults wires.old; idles = W.idles wires.old }) (W.faults wires.new) (W.idles wires.new) told) }
+        ensures grounds { IfErr result (λ told. IsGrounded (W.told wires.old) (W.told wires.new) self.old.from self.old.to told) }
         ensures counts { GoesOn (W.faults wires.old) (W.faults wires.new) (W.idles wires.old) (W.idles wires.new) (W.contents wires.old) (W.contents wires.new) }
     {
         self.begin(wires)?;
@@ -456,6 +483,7 @@ impl Copier {
         ensures kept { self.new ≡ record self.old { held = self.new.held } }
         ensures on { OnOk result ((start : Option (List Call)) → IsOnItsWay start (W.told wires.old) self.old → IsOnItsWay start (W.told wires.new) self.new) }
         ensures causes { IfErr result (λ told. HasCause self.old.start (W.faults wires.new) (W.idles wires.new) told) }
+        ensures free { IfErr result (λ told. needs_no_ground told ≡ true) }
         ensures counts { GoesOn (W.faults wires.old) (W.faults wires.new) (W.idles wires.old) (W.idles wires.new) (W.contents wires.old) (W.contents wires.new) }
     {
         wait(&mut self.handles, wires, self.start)
@@ -464,6 +492,7 @@ impl Copier {
     /// Ends a copy, finished or not: frees all callbacks and shuts all links.
     pub fn end<W: Wires>(self, wires: &mut W)
         ensures parted { self.held ≡ [] → wires.new ≡ wires.old }
+        ensures lasts { Lasts (W.told wires.old) (W.told wires.new) }
         ensures counts { GoesOn (W.faults wires.old) (W.faults wires.new) (W.idles wires.old) (W.idles wires.new) (W.contents wires.old) (W.contents wires.new) }
     {
         let Copier {

@@ -3,6 +3,7 @@
 ghost use Rattle.std.specs.Prelude.{◌≡◌, ◌≤◌, ◌<◌, true, false, IfErr, OnOk};
 ghost use Rattle.lnbd_link.specs.Count.{Rises};
 ghost use Rattle.lnbd_copy.specs.Causes.{HasCause, patience, tells_no_count};
+ghost use Rattle.lnbd_copy.specs.Grounds.{fault_of, needs_no_ground};
 
 use lnbd_link::Wires;
 use lnbd_model::{Broken, Cause};
@@ -43,6 +44,7 @@ fn rose(before: u64, after: u64) -> bool
 pub(crate) fn check_faults<W: Wires>(wires: &W, start: Counts) -> Result<(), CopyFault>
     requires counted { start.faults ≤ W.faults wires.now }
     ensures causes { IfErr result (λ told. HasCause start (W.faults wires.now) (W.idles wires.now) told) }
+    ensures free { IfErr result (λ told. needs_no_ground told ≡ true) }
 {
     let after = wires.faults();
     if rose(start.faults, after) {
@@ -68,6 +70,7 @@ pub(crate) fn check_idles<W: Wires>(wires: &W, start: Counts) -> Result<(), Copy
     requires counted { start.idles ≤ W.idles wires.now }
     ensures open_ { OnOk result (W.idles wires.now < 18446744073709551615) }
     ensures causes { IfErr result (λ told. HasCause start (W.faults wires.now) (W.idles wires.now) told) }
+    ensures free { IfErr result (λ told. needs_no_ground told ≡ true) }
 {
     let idles = wires.idles();
     if is_long(start.idles, idles) {
@@ -76,9 +79,11 @@ pub(crate) fn check_idles<W: Wires>(wires: &W, start: Counts) -> Result<(), Copy
     Ok(())
 }
 
-/// Why a copy ends where this connection is dead. A failed link is told by the wires' count before.
+/// Why a copy ends where this connection is dead. A failed link is told by the wires' count before: if it were not counted it would
+/// count as want of memory.
 pub(crate) fn of_death(death: Cause) -> CopyFault
     ensures free { tells_no_count result ≡ true }
+    ensures value { result ≡ fault_of death }
 {
     match death {
         Cause::Broke(breach) => CopyFault::Broke(Broken::Breach(breach)),
@@ -86,6 +91,7 @@ pub(crate) fn of_death(death: Cause) -> CopyFault
             option: Some(option),
             code,
         },
-        Cause::Ended | Cause::LinkFailed => CopyFault::Broke(Broken::Ended),
+        Cause::Ended => CopyFault::Broke(Broken::Ended),
+        Cause::LinkFailed => CopyFault::NoMemory,
     }
 }

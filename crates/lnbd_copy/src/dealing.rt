@@ -1,12 +1,13 @@
 //! The requests of a copy: which connection is asked for what, as the board and the plan say. When a copy turns, and when it
 //! ends, is not known here.
 
-ghost use Rattle.std.specs.Prelude.{◌≡◌, ◌+◌, ◌≤◌, ◌<◌, ◌^◌, true, false, not, [], ◌∷◌, IfOk, OnOk};
+ghost use Rattle.std.specs.Prelude.{◌≡◌, ◌+◌, ◌≤◌, ◌<◌, ◌^◌, true, false, not, [], ◌∷◌, length, IfOk, OnOk};
 ghost use Rattle.lnbd_handle.specs.Issues.{read_of, write_of, zero_of, flush_of, block_status_of};
 ghost use Rattle.lnbd_board.specs.declared.ticket.Ticket.TheVariants as ticket;
 ghost use Rattle.lnbd_course.specs.Orders.{command_of};
 ghost use Rattle.lnbd_copy.specs.Asked.{IsAsked};
 ghost use Rattle.lnbd_copy.specs.Dealing.{Begins, HasBegun, HasGoneOn, IsAskedFirst, IsAskedOf};
+ghost use Rattle.lnbd_copy.specs.UnderWay.{Fills, HasBegunOne, HasLooked, HaveLooked};
 ghost use Rattle.lnbd_copy.specs.Way.{Keeps, is_source};
 
 use crate::sides::{FIRST_DESTINATION, FIRST_SOURCE, Sides};
@@ -252,7 +253,8 @@ impl Bindings {
         })
     }
 
-    /// Asks what comes next of all slices that something came for. How many requests were made, and slices came to their end.
+    /// Asks what comes next of all slices that something came for. How many requests were made, and slices came to their end. If that
+    /// came to no end it would count as want of memory.
     pub(crate) fn go_on(
         &mut self,
         alloc: Global,
@@ -262,6 +264,7 @@ impl Bindings {
         ensures sides { self.new ≡ self.old }
         ensures others { OnOk result (HasGoneOn board.old board.new) }
         ensures keeps { OnOk result (Keeps board.old.how self.old [] board.old board.new handles.old handles.new) }
+        ensures looked { OnOk result (HaveLooked board.old board.new) }
     {
         let mut done: usize = 0;
         'slices: for _ in 0..u64::MAX {
@@ -270,7 +273,7 @@ impl Bindings {
             }
             done = done.saturating_add(1);
         }
-        Ok(done)
+        Err(NoMemory)
     }
 
     /// Asks what comes next of the slice that something came for first. Whether there was one.
@@ -283,6 +286,7 @@ impl Bindings {
         ensures sides { self.new ≡ self.old }
         ensures others { OnOk result (HasGoneOn board.old board.new) }
         ensures keeps { OnOk result (Keeps board.old.how self.old [] board.old board.new handles.old handles.new) }
+        ensures looked { IfOk result (λ went. HasLooked went board.old board.new) }
     {
         let next = board.next(alloc)?;
         match next {
@@ -355,9 +359,10 @@ impl Bindings {
         ensures sides { self.new ≡ self.old }
         ensures windows { windows.new ≡ record windows.old { plan = record windows.old.plan { slices = windows.new.plan.slices } } }
         ensures begins { OnOk result (Begins board.old.how self.old windows.old windows.new board.old board.new handles.old handles.new) }
+        ensures fills { OnOk result (Fills limit windows.old windows.new board.old board.new) }
     {
         let mut done: usize = 0;
-        'slices: for _ in board.count() as u64..limit {
+        'slices: for under_way in board.count() as u64..limit {
             if !self.begin_next(alloc, handles, board, windows)? {
                 return Ok(done);
             }
@@ -378,6 +383,7 @@ impl Bindings {
         ensures sides { self.new ≡ self.old }
         ensures windows { windows.new ≡ record windows.old { plan = record windows.old.plan { slices = windows.new.plan.slices } } }
         ensures begins { OnOk result (Begins board.old.how self.old windows.old windows.new board.old board.new handles.old handles.new) }
+        ensures next { IfOk result (λ begun. HasBegunOne begun windows.old windows.new board.old board.new) }
     {
         match windows.next() {
             None => Ok(false),
@@ -401,6 +407,7 @@ impl Bindings {
         ensures sides { self.new ≡ self.old }
         ensures others { OnOk result (HasBegun board.old board.new) }
         ensures keeps { OnOk result (Keeps board.old.how self.old (slice ∷ []) board.old board.new handles.old handles.new) }
+        ensures more { OnOk result (length board.new.rows ≡ length board.old.rows + 1) }
     {
         let number = board.begun();
         let (source, destination) = self.fewest();

@@ -1,9 +1,10 @@
 //! The connections of a copy: they are made one after another, and negotiate side by side.
 
-ghost use Rattle.std.specs.Prelude.{◌≡◌, ◌≤◌, ◌++◌, ◌∷◌, [], true, IfErr, OnOk};
+ghost use Rattle.std.specs.Prelude.{◌≡◌, ◌≤◌, ◌++◌, ◌∷◌, [], true, false, IfErr, OnOk};
 ghost use Rattle.lnbd_board.specs.Files.{Seen};
 ghost use Rattle.lnbd_copy.specs.Agreed.{AreQuiet};
 ghost use Rattle.lnbd_copy.specs.Causes.{GoesOn, HasCause, tells_no_count};
+ghost use Rattle.lnbd_copy.specs.Grounds.{Blames, FailsOn, FindsDead, needs_no_ground};
 ghost use Rattle.lnbd_copy.specs.Opening.{Dials};
 ghost use Rattle.lnbd_copy.specs.Way.{Goes};
 
@@ -67,6 +68,7 @@ pub(crate) fn dial<W: Wires>(
     ensures dials { OnOk result (Dials place.now board.old handles.old (W.told wires.old) handles.new (W.told wires.new)) }
     ensures board { OnOk result (board.new ≡ board.old) }
     ensures causes { IfErr result (λ told. HasCause start (W.faults wires.new) (W.idles wires.new) told) }
+    ensures free { IfErr result (λ told. needs_no_ground told ≡ true) }
     ensures counts { GoesOn (W.faults wires.old) (W.faults wires.new) (W.idles wires.old) (W.idles wires.new) (W.contents wires.old) (W.contents wires.new) }
 {
     let handle = open(alloc, &place.name, extents, board)?;
@@ -85,6 +87,7 @@ pub(crate) fn dial<W: Wires>(
 /// Why the copy ends where one of its connections is dead, if so: the first of them.
 fn check_states(handles: &Handles<Ticket>) -> Result<(), CopyFault>
     ensures free { IfErr result (λ told. tells_no_count told ≡ true) }
+    ensures dead { IfErr result (λ told. FindsDead told handles.now) }
 {
     'handles: for index in 0..handles.len() {
         if let State::Dead(death) = handles.get(index).state() {
@@ -95,7 +98,7 @@ fn check_states(handles: &Handles<Ticket>) -> Result<(), CopyFault>
 }
 
 /// Why the copy ends by its links and connections, if so.
-#[tactic(auto, using(crate::proofs::CauseLemmas::cause_free))]
+#[tactic(auto, using(crate::proofs::CauseLemmas::cause_free, crate::proofs::GroundLemmas::blames_free, crate::proofs::GroundLemmas::blames_dead))]
 pub(crate) fn check<W: Wires>(
     handles: &Handles<Ticket>,
     wires: &W,
@@ -103,6 +106,7 @@ pub(crate) fn check<W: Wires>(
 ) -> Result<(), CopyFault>
     requires counted { start.faults ≤ W.faults wires.now }
     ensures causes { IfErr result (λ told. HasCause start (W.faults wires.now) (W.idles wires.now) told) }
+    ensures blames { IfErr result (λ told. Blames handles.now told) }
 {
     check_faults(wires, start)?;
     check_states(handles)
@@ -117,6 +121,7 @@ pub(crate) fn wait<W: Wires>(
     requires counted { start.idles ≤ W.idles wires.old }
     ensures goes { OnOk result ((now : Seen) → Goes now handles.old (W.told wires.old) now handles.new (W.told wires.new)) }
     ensures causes { IfErr result (λ told. HasCause start (W.faults wires.new) (W.idles wires.new) told) }
+    ensures free { IfErr result (λ told. needs_no_ground told ≡ true) }
     ensures counts { GoesOn (W.faults wires.old) (W.faults wires.new) (W.idles wires.old) (W.idles wires.new) (W.contents wires.old) (W.contents wires.new) }
 {
     check_idles(wires, start)?;
@@ -135,6 +140,7 @@ fn rest<W: Wires>(
     requires counted { start.idles ≤ W.idles wires.old }
     ensures goes { OnOk result ((now : Seen) → Goes now handles.old (W.told wires.old) now handles.new (W.told wires.new)) }
     ensures causes { IfErr result (λ told. HasCause start (W.faults wires.new) (W.idles wires.new) told) }
+    ensures free { IfErr result (λ told. needs_no_ground told ≡ true) }
     ensures counts { GoesOn (W.faults wires.old) (W.faults wires.new) (W.idles wires.old) (W.idles wires.new) (W.contents wires.old) (W.contents wires.new) }
 {
     match told {
@@ -144,7 +150,7 @@ fn rest<W: Wires>(
 }
 
 /// Takes turns until all handles have negotiated and written all that they did, with a pause after each in which nothing happened.
-#[tactic(auto, using(crate::proofs::CauseLemmas::goes_same, crate::proofs::CauseLemmas::goes_then, crate::proofs::CauseLemmas::cause_later, crate::proofs::CauseLemmas::cause_free, crate::proofs::TurnLemmas::goes_none))]
+#[tactic(auto, using(crate::proofs::CauseLemmas::goes_same, crate::proofs::CauseLemmas::goes_then, crate::proofs::CauseLemmas::cause_later, crate::proofs::CauseLemmas::cause_free, crate::proofs::TurnLemmas::goes_none, crate::proofs::GroundLemmas::fails_free))]
 pub(crate) fn settle<W: Wires>(
     handles: &mut Handles<Ticket>,
     board: &mut Board,
@@ -156,6 +162,7 @@ pub(crate) fn settle<W: Wires>(
     ensures goes { OnOk result (Goes board.old handles.old (W.told wires.old) board.new handles.new (W.told wires.new)) }
     ensures quiet { OnOk result (AreQuiet handles.new) }
     ensures causes { IfErr result (λ told. HasCause start (W.faults wires.new) (W.idles wires.new) told) }
+    ensures fails { IfErr result (λ told. FailsOn false board.old handles.old (W.told wires.old) (W.told wires.new) told) }
     ensures counts { GoesOn (W.faults wires.old) (W.faults wires.new) (W.idles wires.old) (W.idles wires.new) (W.contents wires.old) (W.contents wires.new) }
 {
     'turns: for _ in 0..MAX_TURNS {

@@ -1,10 +1,12 @@
 //! What a copy does once both sides are known: slices are begun and go on, extents are asked for, and in the end the
 //! destination is flushed and all connections part. How bytes move is not known here.
 
-ghost use Rattle.std.specs.Prelude.{◌≡◌, ◌≢◌, ◌<◌, ◌≤◌, ◌^◌, ℕ, true, false, not, List, [], Bool, Some, None, IfOk, OnOk};
+ghost use Rattle.std.specs.Prelude.{◌≡◌, ◌≢◌, ◌<◌, ◌≤◌, ◌^◌, ℕ, true, false, not, List, [], length, Bool, Some, None, IfOk, OnOk};
 ghost use Rattle.lnbd_poll.specs.Held.{Held};
 ghost use Rattle.lnbd_board.specs.declared.ticket.Ticket.{Ticket as Tag};
 ghost use Rattle.lnbd_board.specs.Files.{Seen as Kept};
+ghost use Rattle.lnbd_board.specs.Rows.{busy};
+ghost use Rattle.lnbd_copy.specs.UnderWay.{HasAsked, HasFilled, HaveLooked, IsPast, Refills, unfinished};
 ghost use Rattle.lnbd_copy.specs.Way.{Keeps, Way};
 ghost use Rattle.lnbd_copy.specs.Windows.{IsPlanned};
 
@@ -92,7 +94,7 @@ impl Job {
     /// Asks for whatever can be asked for now. Whether anything was, or the copy went on in another way.
     ///
     /// On `NoMemory` some requests may have been made, and the copy is to end.
-    #[tactic(auto, using(crate::proofs::JobLemmas::acts_none))]
+    #[tactic(auto, using(crate::proofs::JobLemmas::acts_none, crate::proofs::UnderWayLemmas::parting_none, crate::proofs::UnderWayLemmas::past_none))]
     pub(crate) fn act(
         &mut self,
         alloc: Global,
@@ -104,6 +106,7 @@ impl Job {
         ensures terms { self.new.terms ≡ self.old.terms }
         ensures onward { self.old.phase ≢ phase.Copying → self.new.phase ≢ phase.Copying }
         ensures parting { self.old.phase ≡ phase.Parting → (self.new ≡ self.old) × (board.new ≡ board.old) × (handles.new ≡ handles.old) }
+        ensures full { OnOk result (Refills self.old self.new board.old board.new) }
     {
         match self.phase {
             Phase::Copying => self.copy(alloc, handles, board),
@@ -123,6 +126,7 @@ impl Job {
         requires copying { self.old.phase ≡ phase.Copying }
         ensures acts { OnOk result (Acts self.old self.new board.old board.new handles.old handles.new) }
         ensures terms { self.new.terms ≡ self.old.terms }
+        ensures full { OnOk result (Refills self.old self.new board.old board.new) }
     {
         let went = self.go_on(alloc, handles, board)?;
         let heard = self.hear(board)?;
@@ -146,6 +150,7 @@ impl Job {
         requires copying { self.old.phase ≡ phase.Copying }
         ensures acts { OnOk result (Acts self.old self.new board.old board.new handles.old handles.new) }
         ensures how { OnOk result (board.new.how ≡ board.old.how) }
+        ensures looked { OnOk result (HaveLooked board.old board.new) }
         ensures job { self.new ≡ self.old }
     {
         let went = self.bindings.go_on(alloc, handles, board)?;
@@ -159,6 +164,7 @@ impl Job {
         ensures acts { OnOk result ((held : List (Held Tag)) → Acts self.old self.new board.now board.now held held) }
         ensures terms { self.new.terms ≡ self.old.terms }
         ensures phase { self.new.phase ≡ self.old.phase }
+        ensures untold { OnOk result (self.new.asked ≡ true → board.now.mapped ≡ false) }
     {
         if !self.has_come(board) {
             return Ok(false);
@@ -172,6 +178,7 @@ impl Job {
     fn has_come(&self, board: &Board) -> bool
         ensures asked { result ≡ true → self.now.asked ≡ true }
         ensures mapped { result ≡ true → board.now.mapped ≡ true }
+        ensures untold { result ≡ false → self.now.asked ≡ true → board.now.mapped ≡ false }
     {
         self.asked && board.is_mapped()
     }
@@ -184,6 +191,7 @@ impl Job {
         ensures how { OnOk result (board.new.how ≡ board.old.how) }
         ensures terms { self.new.terms ≡ self.old.terms }
         ensures phase { self.new.phase ≡ self.old.phase }
+        ensures asks { OnOk result (HasAsked self.old self.new board.old board.new) }
     {
         if !self.may_ask(board) {
             return Ok(false);
@@ -201,7 +209,8 @@ impl Job {
     /// Whether extents may be asked for: none are, and a window is under way, or fewer planned slices are not over than may be
     /// under way.
     fn may_ask(&self, board: &Board) -> bool
-        ensures { result ≡ true → self.now.asked ≡ false }
+        ensures unasked { result ≡ true → self.now.asked ≡ false }
+        ensures planned { result ≡ false → self.now.asked ≡ false → self.now.terms.limit ≤ unfinished self.now.windows board.now }
     {
         let planned = self.windows.left().saturating_add(board.count() as u64);
         !self.asked && (self.windows.is_under_way() || planned < self.terms.limit)
@@ -218,6 +227,7 @@ impl Job {
         requires copying { self.old.phase ≡ phase.Copying }
         ensures acts { OnOk result (Acts self.old self.new board.old board.new handles.old handles.new) }
         ensures terms { self.new.terms ≡ self.old.terms }
+        ensures fills { OnOk result (HasFilled self.old self.new board.old board.new) }
     {
         let begun = self
             .bindings
@@ -227,9 +237,11 @@ impl Job {
 
     /// Whether all extents were heard, and all slices of all windows are over.
     fn is_copied(&self, board: &Board) -> bool
-        ensures { result ≡ true → IsOver self.now board.now }
+        ensures over { result ≡ true → IsOver self.now board.now }
+        ensures quiet { board.now.came ≡ [] → busy board.now.rows ≡ length board.now.rows }
     {
-        !self.asked && self.windows.are_planned() && self.windows.left() == 0 && board.count() == 0
+        let count = board.count();
+        !self.asked && self.windows.are_planned() && self.windows.left() == 0 && count == 0
     }
 
     /// Asks for the flush, where it is wanted, or else for the end.
@@ -237,6 +249,7 @@ impl Job {
         requires { IsOver self.old board.old }
         ensures acts { OnOk result (Acts self.old self.new board.old board.new handles.old handles.new) }
         ensures terms { self.new.terms ≡ self.old.terms }
+        ensures past { OnOk result (IsPast self.new board.old board.new) }
     {
         if self.terms.flush {
             ask_flush(handles, board)?;

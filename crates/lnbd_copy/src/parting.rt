@@ -5,6 +5,7 @@ ghost use Rattle.lnbd_board.specs.declared.how.How.{How};
 ghost use Rattle.lnbd_board.specs.Files.{Seen};
 ghost use Rattle.lnbd_copy.specs.declared.sides.Sides.{Sides};
 ghost use Rattle.lnbd_copy.specs.Causes.{GoesOn};
+ghost use Rattle.lnbd_copy.specs.Grounds.{Lasts};
 ghost use Rattle.lnbd_copy.specs.Leaving.{Leaves};
 ghost use Rattle.lnbd_copy.specs.Way.{Keeps};
 
@@ -36,12 +37,13 @@ fn has_parted(handles: &Handles<Ticket>, index: usize) -> bool
 }
 
 /// Closes a handle and shuts its link.
-#[tactic(auto, using(crate::proofs::FiledLemmas::calls_filed, crate::proofs::PartLemmas::leaves_one))]
+#[tactic(auto, using(crate::proofs::FiledLemmas::calls_filed, crate::proofs::PartLemmas::leaves_one, crate::proofs::GroundLemmas::lasts_adds))]
 fn hang_up<W: Wires>(handles: &mut Handles<Ticket>, board: &mut Board, wires: &mut W, index: usize)
     requires { index < length handles.old }
     ensures leaves { Leaves board.old handles.old (W.told wires.old) board.new handles.new (W.told wires.new) }
     ensures counts { GoesOn (W.faults wires.old) (W.faults wires.new) (W.idles wires.old) (W.idles wires.new) (W.contents wires.old) (W.contents wires.new) }
     ensures fewer { length handles.new + 1 ≡ length handles.old }
+    ensures lasts { Lasts (W.told wires.old) (W.told wires.new) }
 {
     let (link, handle) = handles.take(index);
     let _ = handle.close(board);
@@ -72,10 +74,11 @@ pub(crate) fn shut_parted<W: Wires>(
 }
 
 /// Hangs up on every connection.
-#[tactic(auto, using(crate::proofs::CauseLemmas::goes_same, crate::proofs::CauseLemmas::goes_then, crate::proofs::CauseLemmas::cause_later, crate::proofs::CauseLemmas::cause_free))]
+#[tactic(auto, using(crate::proofs::CauseLemmas::goes_same, crate::proofs::CauseLemmas::goes_then, crate::proofs::CauseLemmas::cause_later, crate::proofs::CauseLemmas::cause_free, crate::proofs::GroundLemmas::lasts_none, crate::proofs::GroundLemmas::lasts_then))]
 pub(crate) fn shut_all<W: Wires>(handles: &mut Handles<Ticket>, board: &mut Board, wires: &mut W)
     ensures counts { GoesOn (W.faults wires.old) (W.faults wires.new) (W.idles wires.old) (W.idles wires.new) (W.contents wires.old) (W.contents wires.new) }
     ensures none { handles.new ≡ [] }
+    ensures lasts { Lasts (W.told wires.old) (W.told wires.new) }
     ensures parted { handles.old ≡ [] → wires.new ≡ wires.old }
 {
     'handles: while !handles.is_empty() {

@@ -1,6 +1,7 @@
 //! Which handle of a copy is which connection.
 
 ghost use Rattle.std.specs.Prelude.{◌≡◌, ◌<◌, ◌≤◌, true, false};
+ghost use Rattle.lnbd_copy.specs.Grounds.{first_of};
 ghost use Rattle.lnbd_copy.specs.Way.{is_source};
 
 /// How many connections each side has. The first handle that is held is the source's first connection and the second the
@@ -47,7 +48,8 @@ impl Sides {
 
     /// The first handle of the side that this one is on.
     pub(crate) fn first(self, index: usize) -> usize
-        ensures { result ≤ 1 }
+        ensures few { result ≤ 1 }
+        ensures value { result ≡ first_of self index }
     {
         if self.is_source(index) {
             FIRST_SOURCE

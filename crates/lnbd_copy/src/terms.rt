@@ -1,9 +1,10 @@
 //! What both sides of a copy and its options settle before a slice begins: the rules between the sides, and the sizes by
 //! which slices are cut.
 
-ghost use Rattle.std.specs.Prelude.{◌≡◌, ◌<◌, ◌≤◌, ◌^◌, true, false, Some, None, IfOk, IfErr, max, min};
+ghost use Rattle.std.specs.Prelude.{◌≡◌, ◌<◌, ◌≤◌, ◌^◌, ◌*◌, ◌/◌, true, false, Some, None, IfOk, IfErr, max, min};
 ghost use Rattle.lnbd_records.specs.Numbers.{has_bit};
 ghost use Rattle.lnbd_copy.specs.Agreed.{IsWished};
+ghost use Rattle.lnbd_copy.specs.Limit.{IsLimited, max_under_way};
 ghost use Rattle.lnbd_copy.specs.Terms.{broken_rule, grain, least_block, limit, most_bytes};
 
 use crate::sides::Sides;
@@ -133,6 +134,7 @@ fn connections(info: &ExportInfo, options: CopyOptions) -> u32
 /// How many slices may be begun and not over.
 fn most_begun(options: CopyOptions, sides: Sides, cell: u32) -> u64
     requires { 0 < cell }
+    ensures { result ≡ min (options.requests * min sides.source sides.destination) (max_under_way / cell) }
 {
     let fewer = sides.source.min(sides.destination) as u64;
     let requests = (options.requests as u64).saturating_mul(fewer);
@@ -153,6 +155,7 @@ pub(crate) fn settled(options: CopyOptions, source: &ExportInfo, destination: &E
     ensures cells { (0 < result.cell) × (0 < result.zero_cell) × (0 < result.grain) }
     ensures size { result.size ≡ source.now.size }
     ensures wished { IsWished options result.how }
+    ensures limited { IsLimited options result }
     ensures some { 0 < result.sides.source }
 {
     let grain = least_block(source.blocks).max(least_block(destination.blocks));

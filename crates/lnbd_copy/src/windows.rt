@@ -1,7 +1,7 @@
 //! The windows of a copy: how far the source's extents were asked for and told, and the slices that are planned of it.
 //! One window after another is asked for; which connection is asked, and when, is not known here.
 
-ghost use Rattle.std.specs.Prelude.{◌≡◌, ◌<◌, ◌≤◌, ◌+◌, ◌-◌, ◌*◌, ◌/◌, ◌^◌, ℕ, Bool, true, not, ◌&&◌, ◌||◌, ◌==◌, nat_lt, min, length, List, [], ◌++◌, IfSome, IfOk, OnOk, OnErr, None, option_to_list};
+ghost use Rattle.std.specs.Prelude.{◌≡◌, ◌<◌, ◌≤◌, ◌+◌, ◌-◌, ◌*◌, ◌/◌, ◌^◌, ℕ, Bool, true, not, ◌&&◌, ◌||◌, ◌==◌, ◌↔◌, nat_lt, min, length, List, [], ◌++◌, IfSome, IsSome, IfOk, OnOk, OnErr, None, option_to_list};
 ghost use Rattle.std.specs.Option.{option_map};
 ghost use Rattle.lnbd_extents.specs.Positions.{within, holds};
 ghost use Rattle.lnbd_extents.specs.Lists.{flags_at, AreJoined};
@@ -149,6 +149,7 @@ impl Windows {
     /// The next slice, if one is planned.
     pub(crate) fn next(&mut self) -> Option<Slice>
         ensures slices { self.old.plan.slices ≡ option_to_list result ++ self.new.plan.slices }
+        ensures some { IsSome result ↔ (0 < length self.old.plan.slices) }
         ensures others { self.new ≡ record self.old { plan = record self.old.plan { slices = self.new.plan.slices } } }
         ensures room { IfSome result (λ slice. slice.start + slice.length ≤ 2 ^ 63) }
         ensures copied { IfSome result (λ slice. slice.zero ≡ true → self.old.plan.cells.zeros ≡ true) }

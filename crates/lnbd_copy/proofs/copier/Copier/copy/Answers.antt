@@ -4,6 +4,7 @@ use Rattle.lnbd_copy.specs.Copier.{IsOnItsWay, Seen}
 use Rattle.lnbd_copy.proofs.CauseLemmas.{goes_as, goes_then}
 use Rattle.lnbd_copy.proofs.EndLemmas.{all_then, finished_on, moved_on, rested, still_on}
 use Rattle.lnbd_copy.proofs.SummedLemmas.{summed_on}
+use Rattle.lnbd_copy.proofs.GroundLemmas.{grounded_as, handed_on}
 use Rattle.lnbd_copy.proofs.copier.Copier.copy.Goals as goal
 use Rattle.lnbd_copy.proofs.copier.Copier.copy.Goals.{in-Moved, in-Still+in_ok-rest-in-Still}
 
@@ -42,3 +43,9 @@ returns-in-Finished-clause-done g c = finished_on _ _ _ _ _ c.in-Finished.is (c.
 
 pub returns-in-Finished-clause-sums : goal.returns-in-Finished-clause-sums
 returns-in-Finished-clause-sums g c = summed_on _ _ _ _ _ c.in-Finished.is (c.in_ok-turn.ensures.sums (g.W.Wires.told c.args.wires.now) c.turns.invariant.on)
+
+pub returns-in_err-turn-clause-grounds : goal.returns-in_err-turn-clause-grounds
+returns-in_err-turn-clause-grounds g c =
+    handed_on _ c.from_residual-in_err-turn.result _ c.from_residual-in_err-turn.ensures.1 (
+    grounded_as (g.W.Wires.told c.args.wires.now) (g.W.Wires.told c.turn.new.wires) _ _ _ _ _ (ap (λ (s : Seen). s.from) c.turns.invariant.kept) (ap (λ (s : Seen). s.to) c.turns.invariant.kept)
+    (c.in_err-turn.ensures.grounds (g.W.Wires.told c.args.wires.now) c.turns.invariant.on))

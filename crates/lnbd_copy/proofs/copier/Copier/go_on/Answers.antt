@@ -34,3 +34,9 @@ returns-then-is_finished-clause-sums g c start on two =
 
 pub returns-clause-sums : goal.returns-clause-sums
 returns-clause-sums g c start on = c.progress_of.ensures.sums start _ _
+
+pub returns-then-is_finished-clause-busy : goal.returns-then-is_finished-clause-busy
+returns-then-is_finished-clause-busy g c = c.part-parted.ensures.busy (c.in_ok-acted.ensures.busy c.requires.going.start _ (c.in_ok-moved.ensures.on c.requires.going.start c.requires.going.on))
+
+pub returns-clause-busy : goal.returns-clause-busy
+returns-clause-busy g c = c.part-parted.ensures.busy (c.in_ok-acted.ensures.busy c.requires.going.start _ (c.in_ok-moved.ensures.on c.requires.going.start c.requires.going.on))

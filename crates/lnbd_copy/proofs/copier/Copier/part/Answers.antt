@@ -1,6 +1,7 @@
 use Rattle.std.proofs.Common.{refl, sym, subst}
 use Rattle.lnbd_copy.specs.Copier.{IsOnItsWay, IsParting, Seen}
 use Rattle.lnbd_copy.proofs.EndLemmas.{after_leaving}
+use Rattle.lnbd_copy.proofs.UnderWayLemmas.{parting_busy}
 use Rattle.lnbd_copy.proofs.copier.Copier.part.Goals as goal
 
 pub returns-clause-on : goal.returns-clause-on
@@ -8,3 +9,6 @@ returns-clause-on g c start on =
     let parts = subst IsParting (sym c.self.view_is) (c.if-not-is_parting.ensures refl) in
     after_leaving _ start parts.job c.shut_parted.new.board c.shut_parted.new.handles (g.W.Wires.told c.args.wires.now) (g.W.Wires.told c.shut_parted.new.wires) parts.there parts.parts c.shut_parted.ensures.leaves
     (subst (λ (s : Seen). IsOnItsWay start (g.W.Wires.told c.args.wires.now) s) (sym c.self.view_is) on)
+
+pub returns-clause-busy : goal.returns-clause-busy
+returns-clause-busy g c busy = parting_busy _ c.shut_parted.new.board (subst IsParting (sym c.self.view_is) (c.if-not-is_parting.ensures refl))

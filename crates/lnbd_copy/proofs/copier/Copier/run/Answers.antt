@@ -2,6 +2,7 @@ use Rattle.std.proofs.Common.{ap}
 use Rattle.std.proofs.lemmas.Result.{on_ok_weaker}
 use Rattle.lnbd_copy.proofs.EndLemmas.{done_asks, done_copies, done_whole}
 use Rattle.lnbd_copy.proofs.SummedLemmas.{done_sums}
+use Rattle.lnbd_copy.proofs.GroundLemmas.{grounded_later, if_err_leads}
 use Rattle.lnbd_copy.proofs.copier.Copier.run.Goals as goal
 
 pub returns-clause-copies : goal.returns-clause-copies
@@ -24,3 +25,6 @@ returns-clause-done g c two =
 
 pub returns-clause-summary : goal.returns-clause-summary
 returns-clause-summary g c two = done_sums c.args.self c.copy-told.new.self _ _ _ c.copy-told.result c.copy-told.ensures.kept (λ parted. ap g.W.Wires.told (c.end.ensures.parted parted)) two c.copy-told.ensures.done c.copy-told.ensures.sums
+
+pub returns-clause-grounds : goal.returns-clause-grounds
+returns-clause-grounds g c = if_err_leads c.copy-told.result (λ why grounds. grounded_later _ _ _ _ _ why c.end.ensures.lasts grounds) c.copy-told.ensures.grounds

@@ -1,20 +1,26 @@
-use Rattle.std.proofs.Common.{refl, ◌∙◌}
+use Rattle.std.proofs.Common.{ℕ, ◌+◌, refl, ap, sym, ◌∙◌, arith}
 use Rattle.lnbd_copy.specs.Dealing.{Begins}
 use Rattle.lnbd_copy.proofs.DealingLemmas.{begins_none, begins_on, zeros_stay}
+use Rattle.lnbd_copy.proofs.UnderWayLemmas.{begun_all, begun_count, fills_end, fills_stop}
 use Rattle.lnbd_copy.proofs.dealing.Bindings.begin.Goals as goal
 
 pub slices-init : goal.slices-init
-slices-init c = record { sides = refl; zeros = c.requires.zeros; windows = refl; begins = begins_none c.args.board.now.how c.args.self.now c.args.windows.now c.args.windows.now c.args.board.now c.args.handles.now refl refl }
+slices-init c = record { sides = refl; zeros = c.requires.zeros; windows = refl; count = sym c.count-under_way.ensures.count; all = refl; most = λ few. few; begins = begins_none c.args.board.now.how c.args.self.now c.args.windows.now c.args.windows.now c.args.board.now c.args.handles.now refl refl }
 
 pub slices-preserved : goal.slices-preserved
 slices-preserved c =
     let all : Begins c.args.board.now.how c.args.self.now c.args.windows.now c.begin_next.new.windows c.args.board.now c.begin_next.new.board c.args.handles.now c.begin_next.new.handles =
     begins_on c.args.self.now c.slices.self c.args.windows.now c.slices.windows c.begin_next.new.windows c.args.board.now c.slices.board c.begin_next.new.board c.args.handles.now c.slices.handles c.begin_next.new.handles
     c.slices.invariant.sides c.slices.invariant.begins c.in_ok-begin_next.ensures.begins in
+    let went = c.if-not-branch.false in
+    let more = begun_count _ c.slices.windows c.begin_next.new.windows c.slices.board c.begin_next.new.board went c.in_ok-begin_next.ensures.next in
     record {
       sides = c.in_ok-begin_next.ensures.sides ∙ c.slices.invariant.sides;
       zeros = zeros_stay c.args.board.now.how c.args.self.now c.args.windows.now c.begin_next.new.windows c.args.board.now c.begin_next.new.board c.args.handles.now c.begin_next.new.handles c.requires.zeros all;
       windows = all.others;
+      count = more ∙ ap (λ (n : ℕ). n + 1) c.slices.invariant.count;
+      all = begun_all _ c.args.windows.now c.slices.windows c.begin_next.new.windows c.args.board.now c.slices.board c.begin_next.new.board went c.slices.invariant.all c.in_ok-begin_next.ensures.next;
+      most = λ few. (let count = c.slices.invariant.count in let less = c.slices-test.true in omega (arith, more, count, less));
       begins = all;
     }
 
@@ -22,3 +28,10 @@ pub returns-then-not-branch-clause-begins : goal.returns-then-not-branch-clause-
 returns-then-not-branch-clause-begins c =
     begins_on c.args.self.now c.slices.self c.args.windows.now c.slices.windows c.begin_next.new.windows c.args.board.now c.slices.board c.begin_next.new.board c.args.handles.now c.slices.handles c.begin_next.new.handles
     c.slices.invariant.sides c.slices.invariant.begins c.in_ok-begin_next.ensures.begins
+
+pub returns-then-not-branch-clause-fills : goal.returns-then-not-branch-clause-fills
+returns-then-not-branch-clause-fills c =
+    fills_stop c.args.limit _ c.args.windows.now c.slices.windows c.begin_next.new.windows c.args.board.now c.slices.board c.begin_next.new.board c.if-not-branch.true c.slices.invariant.all c.slices.invariant.most c.in_ok-begin_next.ensures.next
+
+pub returns-clause-fills : goal.returns-clause-fills
+returns-clause-fills c = fills_end c.args.limit c.args.windows.now c.slices.windows c.args.board.now c.slices.board c.slices.invariant.all c.slices.invariant.most (let count = c.slices.invariant.count in let end = c.slices-test.false in omega (arith, count, end))

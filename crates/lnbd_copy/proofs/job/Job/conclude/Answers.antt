@@ -1,7 +1,8 @@
-use Rattle.std.proofs.Common.{refl, sym, subst}
+use Rattle.std.proofs.Common.{refl, ap, sym, subst}
 use Rattle.lnbd_copy.specs.declared.job.Phase.TheVariants as phase
 use Rattle.lnbd_copy.specs.Job.{Acts, IsOver, Seen}
 use Rattle.lnbd_copy.proofs.JobLemmas.{acts_flushing, acts_parting}
+use Rattle.lnbd_copy.proofs.UnderWayLemmas.{flushing_past, parting_past}
 use Rattle.lnbd_copy.proofs.job.Job.conclude.Goals as goal
 
 pub returns-then-self-clause-acts : goal.returns-then-self-clause-acts
@@ -13,3 +14,9 @@ returns-then-self-clause-acts c =
 
 pub returns-clause-acts : goal.returns-clause-acts
 returns-clause-acts c = acts_parting c.args.self.now c.leave.new.self phase.Parting c.args.board.now c.args.handles.now c.leave.new.handles c.leave.ensures.others c.requires (c.leave.ensures.keeps c.args.board.now)
+
+pub returns-then-self-clause-past : goal.returns-then-self-clause-past
+returns-then-self-clause-past c = flushing_past _ c.args.board.now c.ask_flush.new.board refl c.in_ok-ask_flush.ensures.board
+
+pub returns-clause-past : goal.returns-clause-past
+returns-clause-past c = parting_past c.leave.new.self c.args.board.now c.args.board.now (ap (λ (j : Seen). j.phase) c.leave.ensures.others) refl

@@ -1,0 +1,327 @@
+-- What the connections of a copy were told for which it does not end well is told by the calls on the wires.
+use Rattle.std.proofs.Common.{◌≡◌, ◌<◌, ◌≤◌, ◌+◌, ◌⊎◌, inl, inr, ℕ, zero, suc, Bool, true, false, List, [], ◌∷◌, ◌++◌, length, Option, Some, None, Result, Ok, Err, IfErr, slice_get, if◌then◌else◌, refl, ap, sym, subst, ◌∙◌, arith}
+use Rattle.std.proofs.lemmas.Bool.{cases_lt, false≢true}
+use Rattle.std.proofs.lemmas.List.{append_assoc, append-nil}
+use Rattle.std.specs.Option.{option_map}
+use Rattle.std.specs.Prelude.{IsErrAnd}
+use Rattle.lnbd_model.specs.declared.breach.Broken.{Broken}
+use Rattle.lnbd_model.specs.declared.breach.Broken.TheVariants as broken
+use Rattle.lnbd_model.specs.declared.export.ExportInfo.{ExportInfo}
+use Rattle.lnbd_model.specs.declared.state.Cause.{Cause}
+use Rattle.lnbd_model.specs.declared.state.Cause.TheVariants as cause
+use Rattle.lnbd_model.specs.declared.state.State.{State}
+use Rattle.lnbd_model.specs.declared.state.State.TheVariants as state
+use Rattle.lnbd_model.specs.declared.target.Place.{Place}
+use Rattle.lnbd_link.specs.Call as wire
+use Rattle.lnbd_link.specs.Numbers.{is_given}
+use Rattle.lnbd_link.specs.Part.{Adds}
+use Rattle.lnbd_history.specs.Answers.{info_after, state_after}
+use Rattle.lnbd_history.specs.Events.{History}
+use Rattle.lnbd_machine.specs.Machine.{Machine}
+use Rattle.lnbd_standing.specs.Standing.{StandsFor}
+use Rattle.lnbd_handle.specs.Histories.{ForEach, max_unretired}
+use Rattle.lnbd_asked.specs.Driven.{Drives}
+use Rattle.lnbd_asked.specs.Exports.{name_set}
+use Rattle.lnbd_poll.specs.Held.{Held, AreAt}
+use Rattle.lnbd_poll.specs.Seen.{Seen}
+use Rattle.lnbd_drives.specs.Driving.{AllDrive}
+use Rattle.lnbd_plan.specs.declared.fault.CopyFault.{CopyFault}
+use Rattle.lnbd_plan.specs.declared.fault.CopyFault.TheVariants as fault
+use Rattle.lnbd_plan.specs.declared.fault.Rule.{Rule}
+use Rattle.lnbd_board.specs.declared.how.How.{How}
+use Rattle.lnbd_board.specs.declared.ticket.Ticket.{Ticket}
+use Rattle.lnbd_board.specs.Files as board
+use Rattle.lnbd_course.specs.Between.{place_of}
+use Rattle.lnbd_course.proofs.Asking.{not_one}
+use Rattle.lnbd_course.proofs.Holding.{one_has}
+use Rattle.lnbd_copy.specs.declared.sides.Sides.{Sides}
+use Rattle.lnbd_copy.specs.declared.terms.Terms.{Terms}
+use Rattle.lnbd_copy.specs.Copier.{GoesFurther, HasMet, HasNotBegun, IsOnItsWay, beginning}
+use Rattle.lnbd_copy.specs.Job as work
+use Rattle.lnbd_copy.specs.Copier as copier
+use Rattle.lnbd_copy.specs.Grounds.{AllSame, AreSame, AtSome, Blames, Differ, Drove, FailsOn, Finds, FindsBeside, FindsDead, FindsOther, Happened, Happens, HasDied, IsDead, IsFound, IsGrounded, IsShown, Lasts, Settle, fault_of, first_of, needs_no_ground}
+use Rattle.lnbd_copy.specs.Opening.{Dials}
+use Rattle.lnbd_copy.specs.Way.{Goes, IsOn, IsUnderWay, Stand, Told, Way, is_source}
+use Rattle.lnbd_copy.proofs.CopierLemmas.{first_on, kept_then, no_handles, second_on, told_as, two_on, with_held}
+
+-- By the handles.
+
+none_some : (handle : Machine Ticket) → None ≡ Some handle → ⊥
+none_some handle e = cc
+
+some_same : (one other : Machine Ticket) → Some one ≡ Some other → one ≡ other
+some_same one other e = cc
+
+module _ (handle : Machine Ticket) (Is : History Ticket → Type 0) (each : ForEach handle Is) where
+  happened_at : (index : ℕ) (all : List (Held Ticket)) (seens : List (Seen Ticket)) → option_map (λ held. held.handle) (slice_get all index) ≡ Some handle → AreAt all seens → Happened Is index seens
+  happened_at index [] seens is at = absurd (none_some handle is)
+  happened_at index (held ∷ others) [] is at = absurd at
+  happened_at zero (held ∷ others) (seen ∷ more) is at =
+      let stands = subst (λ (m : Machine Ticket). StandsFor max_unretired seen.history m) (some_same held.handle handle is) at.0.stands in
+      record { seen = seen; there = refl; is = each seen.history stands }
+  happened_at (suc index) (held ∷ others) (seen ∷ more) is at = let rest = happened_at index others more is at.1 in record { seen = rest.seen; there = rest.there; is = rest.is }
+
+  pub happens : (index : ℕ) (all : List (Held Ticket)) → option_map (λ held. held.handle) (slice_get all index) ≡ Some handle → Happens Is index all
+  happens index all is = record { on = λ seens at. happened_at index all seens is at }
+
+pub is_shown : (handle : Machine Ticket) (info : ExportInfo) (index : ℕ) (all : List (Held Ticket)) → ForEach handle (λ history. state_after history ≡ state.Ready) → ForEach handle (λ history. Some info ≡ info_after history) →
+    option_map (λ (held : Held Ticket). held.handle) (slice_get all index) ≡ Some handle → Happens (IsShown info) index all
+is_shown handle info index all ready told is = happens handle (IsShown info) (λ history stands. record { ready = ready history stands; shown = sym (told history stands) }) index all is
+
+pub finds_dead : (handle : Machine Ticket) (now : State) (death : Cause) (why : CopyFault) (index : ℕ) (all : List (Held Ticket)) → now ≡ state.Dead death → why ≡ fault_of death → ForEach handle (λ history. now ≡ state_after history) →
+    option_map (λ (held : Held Ticket). held.handle) (slice_get all index) ≡ Some handle → FindsDead why all
+finds_dead handle now death why index all dies same told is = record {
+  index = index;
+  death = death;
+  is = same;
+  dead = happens handle (IsDead death) (λ history stands. record { dead = sym (told history stands) ∙ dies }) index all is;
+}
+
+-- Each further connection is the same as the first of its side.
+
+pub none_same : (sides : Sides) (held : List (Held Ticket)) → AllSame sides 2 held
+none_same sides held = record { on = λ index some less. absurd (omega (arith, some, less)) }
+
+pub same_more : (sides : Sides) (n : ℕ) (held : List (Held Ticket)) → AllSame sides n held → FindsBeside AreSame sides n held → AllSame sides (n + 1) held
+same_more sides n held all one = record {
+  on = λ index some less. elim (cases_lt index n) [
+    | inl k ↦ all.on index some k
+    | inr k ↦ (let same : n ≡ index = omega (arith, less, k) in subst (λ (m : ℕ). FindsBeside AreSame sides m held) same one)
+  ];
+}
+
+pub same_all : (sides : Sides) (n : ℕ) (held : List (Held Ticket)) → AllSame sides n held → length held ≤ n → AllSame sides (length held) held
+same_all sides n held all end = record { on = λ index some less. all.on index some (omega (arith, less, end)) }
+
+pub blames_free : (held : List (Held Ticket)) (why : CopyFault) → needs_no_ground why ≡ true → Blames held why
+blames_free held why free = record { on = inl free }
+
+pub blames_dead : (held : List (Held Ticket)) (why : CopyFault) → FindsDead why held → Blames held why
+blames_dead held why dead = record { on = inr dead }
+
+-- By the calls of the copy.
+
+some_seen : (seen : Seen Ticket) → None ≡ Some seen → ⊥
+some_seen seen e = cc
+
+seen_same : (one other : Seen Ticket) → Some one ≡ Some other → one ≡ other
+seen_same one other e = cc
+
+drive_at : (calls : List wire.Call) (index : ℕ) (seen : Seen Ticket) (seens : List (Seen Ticket)) → slice_get seens index ≡ Some seen → AllDrive calls seens → Drives seen.link calls seen.history seen.unread
+drive_at calls index seen [] there drive = absurd (some_seen seen there)
+drive_at calls zero seen (first ∷ others) there drive = subst (λ (s : Seen Ticket). Drives s.link calls s.history s.unread) (seen_same first seen there) drive.0
+drive_at calls (suc index) seen (first ∷ others) there drive = drive_at calls index seen others there drive.1
+
+given_at : (calls : List wire.Call) (link : ℕ) (b : Bool) → is_given link calls ≡ b → (is_given link calls ≡ false → ⊥) → is_given link calls ≡ true
+given_at calls link true is other = is
+given_at calls link false is other = absurd (other is)
+
+first_side : (sides : Sides) (index : ℕ) → is_source sides (first_of sides index) ≡ is_source sides index
+first_side sides index = elim (is_source sides index) as (λ b. is_source sides (if b then 0 else 1) ≡ b) [ true ↦ refl | false ↦ refl ]
+
+-- What happened on a handle happened by the calls on a link to one of the places: to that of its side while all are held.
+module _ (parting : Bool) (way : Way) (now : board.Seen) (calls : List wire.Call) (held : List (Held Ticket)) (on : IsUnderWay parting way now calls held) (Is : History Ticket → Type 0) where
+  drove_has : (index : ℕ) → (h : Happened Is index on.seens) → Drove (place_of way.from way.to (on.has h.seen.link)) Is calls
+  drove_has index h =
+      let between = on.stands.between in
+      let course = between.course in
+      let given : is_given h.seen.link calls ≡ true = given_at calls h.seen.link (is_given h.seen.link calls) refl (λ none. not_one h.seen.link index h.seen on.seens h.there (course.unused h.seen.link none).apart refl) in
+      record {
+        link = h.seen.link;
+        history = h.seen.history;
+        unread = h.seen.unread;
+        drives = drive_at calls index h.seen on.seens h.there course.drive.drive;
+        address = between.placed.address h.seen.link given;
+        name = ap (λ (history : History Ticket). name_set history) (sym (one_has index h.seen course.histories on.seens h.there course.held)) ∙ between.placed.name h.seen.link given;
+        is = h.is;
+      }
+
+died : (parting : Bool) (way : Way) (now : board.Seen) (calls : List wire.Call) (held : List (Held Ticket)) (index : ℕ) (death : Cause) → IsUnderWay parting way now calls held → Happens (IsDead death) index held → HasDied way.from way.to death calls
+died parting way now calls held index death on dead =
+    let h = dead.on on.seens on.at in
+    record { source = on.has h.seen.link; dead = drove_has parting way now calls held on (IsDead death) index h }
+
+drove : (way : Way) (now : board.Seen) (calls : List wire.Call) (held : List (Held Ticket)) (Is : History Ticket → Type 0) (index : ℕ) → IsOn way now calls held → Happens Is index held → Drove (place_of way.from way.to (is_source way.sides index)) Is calls
+drove way now calls held Is index on happens =
+    let h = happens.on on.seens on.at in
+    subst (λ (b : Bool). Drove (place_of way.from way.to b) Is calls) (on.sided index h.seen h.there) (drove_has false way now calls held on Is index h)
+
+settles : (way : Way) (now : board.Seen) (calls : List wire.Call) (held : List (Held Ticket)) (rule : Option Rule) → Finds rule held → IsOn way now calls held → Settle way.from way.to rule calls
+settles way now calls held rule finds on = record {
+  source = finds.source;
+  destination = finds.destination;
+  shown = drove way now calls held (IsShown finds.source) 0 on finds.shown;
+  shown' = drove way now calls held (IsShown finds.destination) 1 on finds.shown';
+  first = finds.first;
+}
+
+differs : (way : Way) (now : board.Seen) (calls : List wire.Call) (held : List (Held Ticket)) → FindsOther way.sides held → IsOn way now calls held → Differ way.from way.to calls
+differs way now calls held finds on = record {
+  source = is_source way.sides finds.index;
+  one = finds.beside.one;
+  other = finds.beside.other;
+  shown = subst (λ (b : Bool). Drove (place_of way.from way.to b) (IsShown finds.beside.one) calls) (first_side way.sides finds.index) (drove way now calls held (IsShown finds.beside.one) (first_of way.sides finds.index) on finds.beside.shown);
+  shown' = drove way now calls held (IsShown finds.beside.other) finds.index on finds.beside.shown';
+  differ = finds.beside.is;
+}
+
+-- At the time itself.
+at_once : {Is : List wire.Call → Type 0} (calls : List wire.Call) → Is calls → AtSome Is calls
+at_once calls is = record { before = calls; after = []; are = sym (append-nil calls); is = is }
+
+-- Grounds.
+
+pub none_grounded : (start told : Option (List wire.Call)) (from to : Place) (why : CopyFault) → needs_no_ground why ≡ true → IsGrounded start told from to why
+none_grounded start told from to fault.NoMemory free = record { shown = tt }
+none_grounded start told from to (fault.Link before after) free = record { shown = tt }
+none_grounded start told from to (fault.Broke (broken.Breach breach)) free = absurd (false≢true free)
+none_grounded start told from to (fault.Broke broken.Content) free = record { shown = tt }
+none_grounded start told from to (fault.Broke broken.Ended) free = absurd (false≢true free)
+none_grounded start told from to (fault.Broke broken.Differs) free = absurd (false≢true free)
+none_grounded start told from to (fault.Peer None code) free = record { shown = tt }
+none_grounded start told from to (fault.Peer (Some option) code) free = absurd (false≢true free)
+none_grounded start told from to (fault.Rule rule) free = absurd (false≢true free)
+none_grounded start told from to (fault.Silent idles) free = record { shown = tt }
+
+death_grounded : (start told : Option (List wire.Call)) (from to : Place) (death : Cause) → Told start told (AtSome (HasDied from to death)) → IsGrounded start told from to (fault_of death)
+death_grounded start told from to (cause.Broke breach) died = record { shown = died }
+death_grounded start told from to (cause.Refused option code) died = record { shown = died }
+death_grounded start told from to cause.Ended died = record { shown = died }
+death_grounded start told from to cause.LinkFailed died = record { shown = tt }
+
+pub blames_grounded : (parting : Bool) (way : Way) (now : board.Seen) (held : List (Held Ticket)) (start told : Option (List wire.Call)) (why : CopyFault) → Blames held why → Told start told (λ calls. IsUnderWay parting way now calls held) → IsGrounded start told way.from way.to why
+blames_grounded parting way now held start told why blames on = elim blames.on [
+  | inl free ↦ none_grounded start told way.from way.to why free
+  | inr dead ↦
+      subst (IsGrounded start told way.from way.to) (sym dead.is)
+      (death_grounded start told way.from way.to dead.death (told_as start told (λ calls is. at_once calls (died parting way now calls held dead.index dead.death is dead.dead)) on))
+]
+
+pub found_grounded : (way : Way) (now : board.Seen) (held : List (Held Ticket)) (start told : Option (List wire.Call)) (why : CopyFault) → IsFound way.sides held why → Told start told (λ calls. IsOn way now calls held) → IsGrounded start told way.from way.to why
+found_grounded way now held start told fault.NoMemory is on = record { shown = tt }
+found_grounded way now held start told (fault.Link before after) is on = absurd is.found
+found_grounded way now held start told (fault.Broke (broken.Breach breach)) is on = absurd is.found
+found_grounded way now held start told (fault.Broke broken.Content) is on = absurd is.found
+found_grounded way now held start told (fault.Broke broken.Ended) is on = absurd is.found
+found_grounded way now held start told (fault.Broke broken.Differs) is on = record { shown = told_as start told (λ calls at. at_once calls (differs way now calls held is.found at)) on }
+found_grounded way now held start told (fault.Peer option code) is on = absurd is.found
+found_grounded way now held start told (fault.Rule rule) is on = record { shown = told_as start told (λ calls at. at_once calls (settles way now calls held (Some rule) is.found at)) on }
+found_grounded way now held start told (fault.Silent idles) is on = absurd is.found
+
+-- The transcript goes on.
+
+pub lasts_none : (told : Option (List wire.Call)) → Lasts told told
+lasts_none told = record { on = λ all is. at_once all is }
+
+pub lasts_adds : (a b : Option (List wire.Call)) (call : wire.Call) → Adds a b call → Lasts a b
+lasts_adds a b call adds = record { on = λ all is. let added = adds all is in record { before = added.0; after = call ∷ []; are = added.2; is = added.1 } }
+
+pub lasts_then : (a b c : Option (List wire.Call)) → Lasts a b → Lasts b c → Lasts a c
+lasts_then a b c one two = record {
+  on = λ all is.
+      let late = two.on all is in
+      let early = one.on late.before late.is in
+      record { before = early.before; after = early.after ++ late.after; are = late.are ∙ ap (λ (l : List wire.Call). l ++ late.after) early.are ∙ append_assoc early.before early.after late.after; is = early.is };
+}
+
+told_later : {Is : List wire.Call → Type 0} (start a b : Option (List wire.Call)) → Lasts a b → Told start a (AtSome Is) → Told start b (AtSome Is)
+told_later start a b lasts t = record {
+  since = λ all is.
+      let front = lasts.on all is in
+      let since = t.since front.before front.is in
+      record {
+        before = since.before;
+        calls = since.calls ++ front.after;
+        was = since.was;
+        now = front.are ∙ ap (λ (l : List wire.Call). l ++ front.after) since.now ∙ append_assoc since.before since.calls front.after;
+        is = record { before = since.is.before; after = since.is.after ++ front.after; are = ap (λ (l : List wire.Call). l ++ front.after) since.is.are ∙ append_assoc since.is.before since.is.after front.after; is = since.is.is };
+      };
+}
+
+pub grounded_later : (start a b : Option (List wire.Call)) (from to : Place) (why : CopyFault) → Lasts a b → IsGrounded start a from to why → IsGrounded start b from to why
+grounded_later start a b from to fault.NoMemory lasts g = record { shown = tt }
+grounded_later start a b from to (fault.Link before after) lasts g = record { shown = tt }
+grounded_later start a b from to (fault.Broke (broken.Breach breach)) lasts g = record { shown = told_later start a b lasts g.shown }
+grounded_later start a b from to (fault.Broke broken.Content) lasts g = record { shown = tt }
+grounded_later start a b from to (fault.Broke broken.Ended) lasts g = record { shown = told_later start a b lasts g.shown }
+grounded_later start a b from to (fault.Broke broken.Differs) lasts g = record { shown = told_later start a b lasts g.shown }
+grounded_later start a b from to (fault.Peer None code) lasts g = record { shown = tt }
+grounded_later start a b from to (fault.Peer (Some option) code) lasts g = record { shown = told_later start a b lasts g.shown }
+grounded_later start a b from to (fault.Rule rule) lasts g = record { shown = told_later start a b lasts g.shown }
+grounded_later start a b from to (fault.Silent idles) lasts g = record { shown = tt }
+
+pub if_err_leads : {T F : Type 0} {A B : F → Type 0} (r : Result T F) → ((why : F) → A why → B why) → IfErr r A → IfErr r B
+if_err_leads (Ok value) leads a = tt
+if_err_leads (Err why) leads a = leads why a
+
+-- What `?` hands on.
+pub handed_on : {T F : Type 0} (P : F → Type 0) (r : Result T F) (why : F) → IsErrAnd r (λ f. f ≡ why) → P why → IfErr r P
+handed_on P (Ok value) why is p = tt
+handed_on P (Err f) why is p = subst P (sym is) p
+
+-- A step that keeps a copy on its way, and then one that fails.
+pub fails_then : (parting : Bool) (now now' : board.Seen) (held held' : List (Held Ticket)) (a b c : Option (List wire.Call)) (why : CopyFault) → Goes now held a now' held' b → FailsOn parting now' held' b c why → FailsOn parting now held a c why
+fails_then parting now now' held held' a b c why goes fails = record { on = λ way start s on. fails.on way start (goes.stand s) (goes.on parting way start s on) }
+
+pub fails_blamed : (parting : Bool) (now : board.Seen) (held : List (Held Ticket)) (told : Option (List wire.Call)) (why : CopyFault) → Blames held why → FailsOn parting now held told told why
+fails_blamed parting now held told why blames = record { on = λ way start s on. blames_grounded parting way now held start told why blames on }
+
+pub fails_free : (parting : Bool) (now : board.Seen) (held : List (Held Ticket)) (told told' : Option (List wire.Call)) (why : CopyFault) → needs_no_ground why ≡ true → FailsOn parting now held told told' why
+fails_free parting now held told told' why free = record { on = λ way start s on. none_grounded start told' way.from way.to why free }
+
+-- The first connection of each side, and then what both settle.
+
+one_side : Sides
+one_side = record { source = 1; destination = 1 }
+
+-- A step fails behind the source's first connection,
+pub source_fails : (s0 s1 : copier.Seen) (t u c : Option (List wire.Call)) (why : CopyFault) → s1.board ≡ s0.board → Dials s0.from s0.board s0.held t s1.held u → HasNotBegun s0 → FailsOn false s1.board s1.held u c why → IsGrounded t c s0.from s0.to why
+source_fails s0 s1 t u c why same first none fails =
+    let how = s0.board.how in
+    fails.on (beginning s0 None how one_side) t (first.stand (no_handles s0 none)) (subst (λ (b : board.Seen). Told t u (λ calls. IsOn (beginning s0 None how one_side) b calls s1.held)) (sym same) (first_on s0 s1.held t u how one_side none first))
+
+goes_first : (s0 s1 s2 : copier.Seen) (u v : Option (List wire.Call)) → s1.board ≡ s0.board → Goes s1.board s1.held u s2.board s2.held v → Goes s0.board s1.held u s2.board s2.held v
+goes_first s0 s1 s2 u v same one = subst (λ (b : board.Seen). Goes b s1.held u s2.board s2.held v) same one
+
+dials_second : (s0 s1 s2 s3 : copier.Seen) (v w : Option (List wire.Call)) → s1 ≡ with_held s0 s1 → s2 ≡ with_held s1 s2 → Dials s2.to s2.board s2.held v s3.held w → Dials s0.to s2.board s2.held v s3.held w
+dials_second s0 s1 s2 s3 v w k1 k2 second = subst (λ (p : Place). Dials p s2.board s2.held v s3.held w) (ap (λ (s : copier.Seen). s.to) (kept_then s0 s1 s2 k1 k2)) second
+
+-- or behind the destination's,
+pub destination_fails : (s0 s1 s2 s3 : copier.Seen) (t u v w c : Option (List wire.Call)) (why : CopyFault) → s1 ≡ with_held s0 s1 → s2 ≡ with_held s1 s2 → s1.board ≡ s0.board → s3.board ≡ s2.board →
+    Dials s0.from s0.board s0.held t s1.held u → Goes s1.board s1.held u s2.board s2.held v → Dials s2.to s2.board s2.held v s3.held w → HasNotBegun s0 → FailsOn false s3.board s3.held w c why → IsGrounded t c s0.from s0.to why
+destination_fails s0 s1 s2 s3 t u v w c why k1 k2 b1 b3 first one second none fails =
+    let how = s0.board.how in
+    let both = second_on s0 s2.board s1.held s2.held s3.held t u v w how one_side none first (goes_first s0 s1 s2 u v b1 one) (dials_second s0 s1 s2 s3 v w k1 k2 second) in
+    fails.on (beginning s0 None how one_side) t both.0 (subst (λ (b : board.Seen). Told t w (λ calls. IsOn (beginning s0 None how one_side) b calls s3.held)) (sym b3) both.1)
+
+-- or what both were told is refused.
+pub found_fails : (s0 s1 s2 s3 s4 : copier.Seen) (t u v w x : Option (List wire.Call)) (held : List (Held Ticket)) (why : CopyFault) → s1 ≡ with_held s0 s1 → s2 ≡ with_held s1 s2 → s1.board ≡ s0.board → s3.board ≡ s2.board → held ≡ s4.held →
+    Dials s0.from s0.board s0.held t s1.held u → Goes s1.board s1.held u s2.board s2.held v → Dials s2.to s2.board s2.held v s3.held w → Goes s3.board s3.held w s4.board s4.held x → HasNotBegun s0 → ((sides : Sides) → IsFound sides held why) →
+    IsGrounded t x s0.from s0.to why
+found_fails s0 s1 s2 s3 s4 t u v w x held why k1 k2 b1 b3 same first one second two none found =
+    let how = s0.board.how in
+    let two' : Goes s2.board s3.held w s4.board s4.held x = subst (λ (b : board.Seen). Goes b s3.held w s4.board s4.held x) b3 two in
+    found_grounded (beginning s0 None how one_side) s4.board s4.held t x why (subst (λ (l : List (Held Ticket)). IsFound one_side l why) same (found one_side))
+    (two_on s0 s2.board s4.board s1.held s2.held s3.held s4.held t u v w x how one_side none first (goes_first s0 s1 s2 u v b1 one) (dials_second s0 s1 s2 s3 v w k1 k2 second) two')
+
+-- Further connections.
+
+pub further_fails : (copy mid : copier.Seen) (sides : Sides) (start a b c : Option (List wire.Call)) (why : CopyFault) → GoesFurther copy sides 2 copy.board copy.held a mid.board mid.held b → FailsOn false mid.board mid.held b c why →
+    (terms : Terms) → HasMet copy start a terms → sides ≡ terms.sides → length copy.held ≡ 2 → IsGrounded start c copy.from copy.to why
+further_fails copy mid sides start a b c why further fails terms met same two =
+    fails.on (beginning copy (Some terms.size) terms.how sides) start (further.stand met.stand)
+    (further.on (Some terms.size) terms.how start met.stand two (subst (λ (x : Sides). Told start a (λ calls. IsOn (beginning copy (Some terms.size) terms.how x) copy.board calls copy.held)) (sym same) met.on))
+
+pub same_fails : (copy : copier.Seen) (held : List (Held Ticket)) (start told : Option (List wire.Call)) (terms : Terms) (why : CopyFault) → held ≡ copy.held → HasMet copy start told terms → IsFound terms.sides held why → IsGrounded start told copy.from copy.to why
+same_fails copy held start told terms why same met found =
+    found_grounded (beginning copy (Some terms.size) terms.how terms.sides) copy.board copy.held start told why (subst (λ (l : List (Held Ticket)). IsFound terms.sides l why) same found) met.on
+
+-- Turns.
+
+pub grounded_as : (start told : Option (List wire.Call)) (from from' to to' : Place) (why : CopyFault) → from ≡ from' → to ≡ to' → IsGrounded start told from to why → IsGrounded start told from' to' why
+grounded_as start told from from' to to' why one two g = subst (λ (p : Place). IsGrounded start told from' p why) two (subst (λ (p : Place). IsGrounded start told p to why) one g)
+
+pub way_grounded : (copy : copier.Seen) (held : List (Held Ticket)) (start told : Option (List wire.Call)) (why : CopyFault) → held ≡ copy.held → Blames held why → IsOnItsWay start told copy → IsGrounded start told copy.from copy.to why
+way_grounded copy held start told why same blames on =
+    grounded_as start told on.way.from copy.from on.way.to copy.to why on.from on.to
+    (blames_grounded (work.is_parting on.job.phase) on.way copy.board copy.held start told why (subst (λ (l : List (Held Ticket)). Blames l why) same blames) on.on)

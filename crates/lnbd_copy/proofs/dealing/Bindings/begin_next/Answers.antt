@@ -1,0 +1,10 @@
+use Rattle.lnbd_copy.proofs.DealingLemmas.{taken_some}
+use Rattle.lnbd_copy.proofs.UnderWayLemmas.{begun_one, none_begun}
+use Rattle.lnbd_copy.proofs.dealing.Bindings.begin_next.Goals as goal
+
+pub returns-in-None-clause-next : goal.returns-in-None-clause-next
+returns-in-None-clause-next c = none_begun c.next.result c.args.windows.now c.next.new.self c.args.board.now c.in-None.is c.next.ensures.slices c.next.ensures.others c.next.ensures.some
+
+pub returns-in_ok-begin_one-in-Some-clause-next : goal.returns-in_ok-begin_one-in-Some-clause-next
+returns-in_ok-begin_one-in-Some-clause-next c =
+    begun_one c.in-Some.slice c.args.windows.now c.next.new.self c.args.board.now c.begin_one.new.board (taken_some c.next.result c.in-Some.slice _ _ c.in-Some.is c.next.ensures.slices) c.in_ok-begin_one-in-Some.ensures.more

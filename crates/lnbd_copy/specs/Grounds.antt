@@ -1,0 +1,212 @@
+-- What the connections of a copy were told for which it does not end well: by the handles that are held, and by the calls on the wires.
+use Rattle.std.specs.Prelude.{◌≡◌, ◌<◌, ℕ, Bool, true, false, ◌⊎◌, List, ◌++◌, Option, Some, None, slice_get, if◌then◌else◌}
+use Rattle.lnbd_model.specs.declared.breach.Breach.{Breach}
+use Rattle.lnbd_model.specs.declared.breach.Broken.{Broken}
+use Rattle.lnbd_model.specs.declared.breach.Broken.TheVariants as broken
+use Rattle.lnbd_model.specs.declared.export.ExportInfo.{ExportInfo}
+use Rattle.lnbd_model.specs.declared.state.Cause.{Cause}
+use Rattle.lnbd_model.specs.declared.state.Cause.TheVariants as cause
+use Rattle.lnbd_model.specs.declared.state.State.TheVariants as state
+use Rattle.lnbd_model.specs.declared.target.Place.{Place}
+use Rattle.lnbd_link.specs.Call as wire
+use Rattle.lnbd_link.specs.Traffic.{target_of}
+use Rattle.lnbd_history.specs.Answers.{info_after, state_after}
+use Rattle.lnbd_history.specs.Events.{History}
+use Rattle.lnbd_asked.specs.Driven.{Drives}
+use Rattle.lnbd_asked.specs.Exports.{name_set}
+use Rattle.lnbd_plan.specs.declared.fault.CopyFault.{CopyFault}
+use Rattle.lnbd_plan.specs.declared.fault.CopyFault.TheVariants as fault
+use Rattle.lnbd_plan.specs.declared.fault.Rule.{Rule}
+use Rattle.lnbd_poll.specs.Held.{Held, AreAt}
+use Rattle.lnbd_poll.specs.Seen.{Seen}
+use Rattle.lnbd_board.specs.declared.ticket.Ticket.{Ticket}
+use Rattle.lnbd_board.specs.Files as board
+use Rattle.lnbd_course.specs.Between.{place_of}
+use Rattle.lnbd_copy.specs.declared.sides.Sides.{Sides}
+use Rattle.lnbd_copy.specs.Terms.{broken_rule}
+use Rattle.lnbd_copy.specs.Way.{IsUnderWay, Stand, Told, Way, is_source}
+
+-- What happened on a handle.
+
+-- It may make requests, and was told this of its export.
+pub record IsShown (info : ExportInfo) (history : History Ticket) : Type 0 where
+  pub ready : state_after history ≡ state.Ready
+  pub shown : info_after history ≡ Some info
+
+-- It is dead, for this cause.
+pub record IsDead (why : Cause) (history : History Ticket) : Type 0 where
+  pub dead : state_after history ≡ state.Dead why
+
+-- Two connections were told the same size, flags and blocks.
+pub record AreSame (one other : ExportInfo) : Type 0 where
+  pub size : one.size ≡ other.size
+  pub flags : one.flags ≡ other.flags
+  pub blocks : one.blocks ≡ other.blocks
+
+-- By the handles that are held.
+
+-- What happened on the handle of this index is so.
+pub record Happened (Is : History Ticket → Type 0) (index : ℕ) (seens : List (Seen Ticket)) : Type 0 where
+  pub seen : Seen Ticket
+  pub there : slice_get seens index ≡ Some seen
+  pub is : Is seen.history
+
+-- So it is from wherever the handles stand.
+pub record Happens (Is : History Ticket → Type 0) (index : ℕ) (held : List (Held Ticket)) : Type 0 where
+  pub on : (seens : List (Seen Ticket)) → AreAt held seens → Happened Is index seens
+
+-- Between what the first connections of both sides were told, this is the first rule that does not hold; or all hold.
+pub record Finds (rule : Option Rule) (held : List (Held Ticket)) : Type 0 where
+  pub source : ExportInfo
+  pub destination : ExportInfo
+  pub shown : Happens (IsShown source) 0 held
+  pub shown' : Happens (IsShown destination) 1 held
+  pub first : broken_rule source destination ≡ rule
+
+-- the first connection of the side that a handle is on
+abbrev pub first_of : Sides → (index : ℕ) → ℕ
+first_of sides index = if is_source sides index then 0 else 1
+
+-- A connection and the first of its side were told of exports of which this is so.
+pub record FindsBeside (Is : (one other : ExportInfo) → Type 0) (sides : Sides) (index : ℕ) (held : List (Held Ticket)) : Type 0 where
+  pub one : ExportInfo
+  pub other : ExportInfo
+  pub shown : Happens (IsShown one) (first_of sides index) held
+  pub shown' : Happens (IsShown other) index held
+  pub is : Is one other
+
+-- A further connection was told another export than the first of its side.
+pub record FindsOther (sides : Sides) (held : List (Held Ticket)) : Type 0 where
+  pub index : ℕ
+  pub beside : FindsBeside (λ one other. AreSame one other → ⊥) sides index held
+
+-- Each further connection before this one was told the same.
+pub record AllSame (sides : Sides) (end : ℕ) (held : List (Held Ticket)) : Type 0 where
+  pub on : (index : ℕ) → 1 < index → index < end → FindsBeside AreSame sides index held
+
+-- the fault that a death is; a link fails only where the wires count a fault, and that is told first
+abbrev pub fault_of : Cause → CopyFault
+fault_of (cause.Broke breach) = fault.Broke (broken.Breach breach)
+fault_of (cause.Refused option code) = fault.Peer (Some option) code
+fault_of cause.Ended = fault.Broke broken.Ended
+fault_of cause.LinkFailed = fault.NoMemory
+
+-- A connection is dead, and this fault is why.
+pub record FindsDead (why : CopyFault) (held : List (Held Ticket)) : Type 0 where
+  pub index : ℕ
+  pub death : Cause
+  pub is : why ≡ fault_of death
+  pub dead : Happens (IsDead death) index held
+
+-- By calls on the wires.
+
+-- A front of the calls is so.
+pub record AtSome (Is : List wire.Call → Type 0) (calls : List wire.Call) : Type 0 where
+  pub before : List wire.Call
+  pub after : List wire.Call
+  pub are : calls ≡ before ++ after
+  pub is : Is before
+
+-- By these calls a handle drove a link to this place, and asked for the export there; and what happened on it is so.
+pub record Drove (place : Place) (Is : History Ticket → Type 0) (calls : List wire.Call) : Type 0 where
+  pub link : ℕ
+  pub history : History Ticket
+  pub unread : List ℕ
+  pub drives : Drives link calls history unread
+  pub address : target_of link calls ≡ Some place.to
+  pub name : name_set history ≡ place.name
+  pub is : Is history
+
+-- Between what was told of both places, this is the first rule that does not hold; or all hold.
+pub record Settle (from to : Place) (rule : Option Rule) (calls : List wire.Call) : Type 0 where
+  pub source : ExportInfo
+  pub destination : ExportInfo
+  pub shown : Drove from (IsShown source) calls
+  pub shown' : Drove to (IsShown destination) calls
+  pub first : broken_rule source destination ≡ rule
+
+-- Two connections to the same side were told of different exports.
+pub record Differ (from to : Place) (calls : List wire.Call) : Type 0 where
+  pub source : Bool
+  pub one : ExportInfo
+  pub other : ExportInfo
+  pub shown : Drove (place_of from to source) (IsShown one) calls
+  pub shown' : Drove (place_of from to source) (IsShown other) calls
+  pub differ : AreSame one other → ⊥
+
+-- A connection of one of the sides died so.
+pub record HasDied (from to : Place) (why : Cause) (calls : List wire.Call) : Type 0 where
+  pub source : Bool
+  pub dead : Drove (place_of from to source) (IsDead why) calls
+
+-- What the calls of the transcript show of a fault: for a rule, that it is the first that does not hold between what both sides were told; that connections
+-- differ, by two of one side that were told different exports; and of a breach, an end and a refused option, a connection that died of it.
+abbrev pub BreakOf : (start told : Option (List wire.Call)) → (from to : Place) → Broken → Type 0
+BreakOf start told from to (broken.Breach breach) = Told start told (AtSome (HasDied from to (cause.Broke breach)))
+BreakOf start told from to broken.Content = Unit {0}
+BreakOf start told from to broken.Ended = Told start told (AtSome (HasDied from to cause.Ended))
+BreakOf start told from to broken.Differs = Told start told (AtSome (Differ from to))
+
+abbrev pub RefusalOf : (start told : Option (List wire.Call)) → (from to : Place) → Option ℕ → (code : ℕ) → Type 0
+RefusalOf start told from to None code = Unit {0}
+RefusalOf start told from to (Some option) code = Told start told (AtSome (HasDied from to (cause.Refused option code)))
+
+abbrev pub GroundOf : (start told : Option (List wire.Call)) → (from to : Place) → CopyFault → Type 0
+GroundOf start told from to fault.NoMemory = Unit {0}
+GroundOf start told from to (fault.Link before after) = Unit {0}
+GroundOf start told from to (fault.Broke one) = BreakOf start told from to one
+GroundOf start told from to (fault.Peer option code) = RefusalOf start told from to option code
+GroundOf start told from to (fault.Rule rule) = Told start told (AtSome (Settle from to (Some rule)))
+GroundOf start told from to (fault.Silent idles) = Unit {0}
+
+pub record IsGrounded (start told : Option (List wire.Call)) (from to : Place) (why : CopyFault) : Type 0 where
+  pub shown : GroundOf start told from to why
+
+-- a fault of which nothing is to be shown so
+abbrev pub is_content : Broken → Bool
+is_content (broken.Breach breach) = false
+is_content broken.Content = true
+is_content broken.Ended = false
+is_content broken.Differs = false
+
+abbrev pub is_of_command : Option ℕ → Bool
+is_of_command None = true
+is_of_command (Some option) = false
+
+abbrev pub needs_no_ground : CopyFault → Bool
+needs_no_ground fault.NoMemory = true
+needs_no_ground (fault.Link before after) = true
+needs_no_ground (fault.Broke one) = is_content one
+needs_no_ground (fault.Peer option code) = is_of_command option
+needs_no_ground (fault.Rule rule) = false
+needs_no_ground (fault.Silent idles) = true
+
+-- A rule that is told is the first that does not hold by the handles that are held, and a difference is found; but for want of memory nothing else is told.
+abbrev pub FindsBreak : Sides → List (Held Ticket) → Broken → Type 0
+FindsBreak sides held (broken.Breach breach) = ⊥
+FindsBreak sides held broken.Content = ⊥
+FindsBreak sides held broken.Ended = ⊥
+FindsBreak sides held broken.Differs = FindsOther sides held
+
+abbrev pub FindsFault : Sides → List (Held Ticket) → CopyFault → Type 0
+FindsFault sides held fault.NoMemory = Unit {0}
+FindsFault sides held (fault.Link before after) = ⊥
+FindsFault sides held (fault.Broke one) = FindsBreak sides held one
+FindsFault sides held (fault.Peer option code) = ⊥
+FindsFault sides held (fault.Rule rule) = Finds (Some rule) held
+FindsFault sides held (fault.Silent idles) = ⊥
+
+pub record IsFound (sides : Sides) (held : List (Held Ticket)) (why : CopyFault) : Type 0 where
+  pub found : FindsFault sides held why
+
+-- It is of a dead connection, or nothing is to be shown of it.
+pub record Blames (held : List (Held Ticket)) (why : CopyFault) : Type 0 where
+  pub on : (needs_no_ground why ≡ true) ⊎ FindsDead why held
+
+-- A step with calls on the wires fails on grounds, wherever on its way the copy was.
+pub record FailsOn (parting : Bool) (now : board.Seen) (held : List (Held Ticket)) (told told' : Option (List wire.Call)) (why : CopyFault) : Type 0 where
+  pub on : (way : Way) (start : Option (List wire.Call)) → Stand held → Told start told (λ calls. IsUnderWay parting way now calls held) → IsGrounded start told' way.from way.to why
+
+-- The transcript goes on, where it is told.
+pub record Lasts (told told' : Option (List wire.Call)) : Type 0 where
+  pub on : (all : List wire.Call) → told' ≡ Some all → AtSome (λ before. told ≡ Some before) all
