@@ -42,7 +42,7 @@ pub returns-in-Finished-clause-done : goal.returns-in-Finished-clause-done
 returns-in-Finished-clause-done g c = finished_on _ _ _ _ _ c.in-Finished.is (c.in_ok-turn.ensures.turns (g.W.Wires.told c.args.wires.now) c.turns.invariant.on)
 
 pub returns-in-Finished-clause-sums : goal.returns-in-Finished-clause-sums
-returns-in-Finished-clause-sums g c = summed_on _ _ _ _ _ c.in-Finished.is (c.in_ok-turn.ensures.sums (g.W.Wires.told c.args.wires.now) c.turns.invariant.on)
+returns-in-Finished-clause-sums g c = summed_on _ _ c.turn.new.self c.in_ok-turn.field-0 _ c.in-Finished.is (c.in_ok-turn.ensures.sums (g.W.Wires.told c.args.wires.now) c.turns.invariant.on)
 
 pub returns-in_err-turn-clause-grounds : goal.returns-in_err-turn-clause-grounds
 returns-in_err-turn-clause-grounds g c =

@@ -30,10 +30,10 @@ pub returns-then-is_finished-clause-sums : goal.returns-then-is_finished-clause-
 returns-then-is_finished-clause-sums g c start on two =
     let parting = c.if-is_finished.ensures.parting refl in
     let left = c.part-parted.ensures.on start (c.in_ok-acted.ensures.on start _ (c.in_ok-moved.ensures.on start on)) in
-    summed _ start _ c.summary.result parting.job c.summary.ensures parting.there parting.parts (c.if-is_finished.ensures.parted refl) (sym (ap (λ (s : Seen). s.board.error) c.self.view_is) ∙ c.in_ok-check_answers.ensures.well) left two
+    summed _ start _ c.summary.result parting.job c.summary.ensures.counted parting.there parting.parts (c.if-is_finished.ensures.parted refl) (sym (ap (λ (s : Seen). s.board.error) c.self.view_is) ∙ c.in_ok-check_answers.ensures.well) left two
 
 pub returns-clause-sums : goal.returns-clause-sums
-returns-clause-sums g c start on = c.progress_of.ensures.sums start _ _
+returns-clause-sums g c start on = c.progress_of.ensures.sums start (g.W.Wires.told c.part-parted.new.wires) c.part-parted.new.self
 
 pub returns-then-is_finished-clause-busy : goal.returns-then-is_finished-clause-busy
 returns-then-is_finished-clause-busy g c = c.part-parted.ensures.busy (c.in_ok-acted.ensures.busy c.requires.going.start _ (c.in_ok-moved.ensures.on c.requires.going.start c.requires.going.on))
