@@ -227,12 +227,9 @@ module _ {K : Type 0} where
   pub waited_fits : (size : ℕ) (state : State K) (cookie : ℕ) (command : Waiting) → ReadsFit size state.rows → waited state cookie ≡ Some command → is_read command.kind ≡ true → command.length ≤ size
   waited_fits size state cookie command fits e read = waits_fit size (nat_le cookie state.written) (value_at cookie state.rows) state.rows cookie command fits refl e read
 
-  -- A reply that is announced to a command that waits.
-  pub announced_fits : (size : ℕ) (state : State K) (replies : Replies) (front : List ℕ) (found : Option Announced) (waiting : Option Told) → (16 ≤ length front → waited state (number_at 8 8 front) ≡ option_map seen_waiting waiting) →
-      AreAnnounced replies front waiting found → ReadsFit size state.rows → IfSome found (λ announced. announced.size ≤ size)
-  announced_fits size state replies front None waiting waits announces fits = tt
-  announced_fits size state replies front (Some announced) waiting waits announces fits =
-      let a = announces (waited state) waits in
+  -- Data that are announced to a command that waits.
+  pub announces_fit : (size : ℕ) (state : State K) (replies : Replies) (front : List ℕ) (announced : Announced) → Announces replies (waited state) front announced → ReadsFit size state.rows → announced.size ≤ size
+  announces_fit size state replies front announced a fits =
       let long : length (replicate {A = ℕ} announced.size 0) ≡ announced.size = length-replicate announced.size 0 in
       let r = a.whole (replicate announced.size 0) long in
       let inside = r.may_come.inside in
@@ -241,6 +238,12 @@ module _ {K : Type 0} where
       let high = leb-true (announced.offset + length (replicate {A = ℕ} announced.size 0)) (r.command.offset + r.command.length) parts.1 in
       let most = waited_fits size state announced.cookie r.command fits r.waits inside.0 in
       omega (arith, low, high, most, long)
+
+  -- A reply that is announced to a command that waits.
+  pub announced_fits : (size : ℕ) (state : State K) (replies : Replies) (front : List ℕ) (found : Option Announced) (waiting : Option Told) → (16 ≤ length front → waited state (number_at 8 8 front) ≡ option_map seen_waiting waiting) →
+      AreAnnounced replies front waiting found → ReadsFit size state.rows → IfSome found (λ announced. announced.size ≤ size)
+  announced_fits size state replies front None waiting waits announces fits = tt
+  announced_fits size state replies front (Some announced) waiting waits announces fits = announces_fit size state replies front announced (announces (waited state) waits) fits
 
   -- A whole head of a read's reply, where its data are not all there, is told.
   pub announced_all : (c : Connection K) (replies : Replies) (head rest : List ℕ) (found : Option Announced) (waiting : Option Told) → (16 ≤ length head → waited (state_of c) (number_at 8 8 head) ≡ option_map seen_waiting waiting) →

@@ -1,46 +1,54 @@
 -- Where the place of the data that are still to come stands, and what receiving into it is.
-use Rattle.std.proofs.Common.{◌≡◌, ◌⊎◌, inl, inr, ℕ, zero, suc, ◌+◌, ◌-◌, ◌<◌, ◌≤◌, Bool, true, false, ◌&&◌, ◌==◌, if◌then◌else◌, nat_le, List, [], ◌∷◌, ◌++◌, length, take, drop, replicate, Option, Some, None, refl, ap, sym, ◌∙◌, subst, arith, append_assoc}
-use Rattle.std.specs.Prelude.{vec_len}
-use Rattle.std.proofs.lemmas.Bool.{cases_lt, eqb-true, leb-true, le-leb, false≢true, true≢false}
+use Rattle.std.proofs.Common.{◌≡◌, ◌⊎◌, inl, inr, ℕ, zero, suc, ◌+◌, ◌-◌, ◌<◌, ◌≤◌, Bool, true, false, not, ◌&&◌, ◌==◌, if◌then◌else◌, nat_le, List, [], ◌∷◌, ◌++◌, length, take, drop, replicate, Option, Some, None, refl, ap, sym, ◌∙◌, subst, arith, append_assoc}
+use Rattle.std.specs.Prelude.{is_some, vec_len, IfSome, IsSome}
+use Rattle.std.specs.Option.{option_map}
+use Rattle.std.proofs.lemmas.Bool.{and_parts, cases_lt, eqb-true, eq-eqb, false≢true}
 use Rattle.std.proofs.Math.Seq.{take-add}
-use Rattle.std.proofs.lemmas.List.{length-append, length-drop, length-replicate, length-take, append-nil, drop_at, drop-take, length-take-le, take-append-le, take-take, take_at}
-use Rattle.lnbd_model.specs.declared.breach.Breach.TheVariants.{SimpleForRead}
+use Rattle.std.proofs.lemmas.List.{length-append, length-drop, length-replicate, length-take, append-nil, drop_at, drop-take, length-take-le, take-append-drop, take-append-le, take-take, take_all, take_at}
+use Rattle.lnbd_model.specs.Kind.{is_read}
+use Rattle.lnbd_model.specs.declared.breach.Breach.{Breach}
+use Rattle.lnbd_keyed.specs.Keyed.{value_at}
 use Rattle.lnbd_records.specs.Numbers.{number_at}
-use Rattle.lnbd_records.specs.Transmission.{simple_head_size, simple_reply_magic, extended_reply_magic}
+use Rattle.lnbd_records.specs.Transmission.{simple_head_size, simple_reply_magic, reply_type_offset_data}
 use Rattle.lnbd_stream.proofs.Stream.{feed_none}
-use Rattle.lnbd_chunks.specs.Reply.{content_size}
-use Rattle.lnbd_chunks.proofs.Steady.{at_more}
+use Rattle.lnbd_chunks.specs.Chunk.{lies_within}
 use Rattle.lnbd_history.specs.declared.kinds.Phase.{Phase}
 use Rattle.lnbd_history.specs.declared.kinds.Phase.TheVariants as phase
 use Rattle.lnbd_history.specs.declared.kinds.Stage.{Stage}
 use Rattle.lnbd_history.specs.declared.kinds.Stage.TheVariants.{Created, Open, Disconnecting, Aborting, Closed, Dead}
-use Rattle.lnbd_history.specs.Arrivals.{Broken, Shown, Sight, Waiting, shows_at, shows_frame, shows_in}
+use Rattle.lnbd_history.specs.Arrivals.{Sight, Waiting, shows_at, shows_frame, shows_in}
 use Rattle.lnbd_callbacks.specs.Calls.{Call}
 use Rattle.lnbd_history.specs.Answers.{is_living}
 use Rattle.lnbd_history.specs.Entries as entries
 use Rattle.lnbd_history.specs.Events.{Arrived}
 use Rattle.lnbd_history.specs.History.{reading}
 use Rattle.lnbd_machine.specs.Laws.{IsPartial}
-use Rattle.lnbd_machine.specs.Machine.{Machine, calls, sight, step, table_rules, waited}
+use Rattle.lnbd_machine.specs.Machine.{Machine, State, calls, sight, step, table_rules, waited}
 use Rattle.lnbd_machine.proofs.Partial.{table_steady}
 use Rattle.lnbd_standing.proofs.Standing.{stands_calls}
-use Rattle.lnbd_arrivals.specs.Frames.{Announces, is_chunk, is_structured, shows_by}
+use Rattle.lnbd_commands.specs.Commands.{waiting_at}
+use Rattle.lnbd_commands.specs.Faulty.{HasAsked}
+use Rattle.lnbd_commands.specs.Seen.{seen_waiting}
+use Rattle.lnbd_commands.specs.declared.row.Waiting.{Waiting as Told}
+use Rattle.lnbd_arrivals.specs.Frames.{Announces, IsDataFront, IsFront, announced_by, front_size, replies_by, shows_by}
+use Rattle.lnbd_arrivals.specs.Heads.{head_in, head_size, magic_of}
 use Rattle.lnbd_arrivals.specs.declared.announced.Announced.{Announced}
 use Rattle.lnbd_arrivals.specs.declared.replies.Replies.{Replies}
 use Rattle.lnbd_arrivals.specs.declared.replies.Replies.TheVariants.{Simple, Structured, Extended}
-use Rattle.lnbd_arrivals.proofs.Frames.{for_read, no_data, not_extended}
+use Rattle.lnbd_arrivals.proofs.Frames.{front_announces}
 use Rattle.lnbd_handle.specs.declared.connection.Connection.{Connection}
 use Rattle.lnbd_handle.specs.declared.pending.Pending.{Pending}
 use Rattle.lnbd_handle.specs.Held.{held_in, data_in}
 use Rattle.lnbd_handle.specs.Histories.{ForEach}
-use Rattle.lnbd_handle.specs.Placing.{AddsSilently, begins_success, data_for, data_to_come, handled_of, place_size, room_in, takes_replies, with_place}
-use Rattle.lnbd_handle.specs.Room.{AreOrdered, RepliesSimply}
+use Rattle.lnbd_handle.specs.Placing.{AddsSilently, announced_at, announced_to, data_to_come, handled_of, has_fault, is_data_front, is_front, left_of, place_size, replies_in, room_in, takes_replies, with_place, without_fault}
+use Rattle.lnbd_handle.specs.Room.{AreOrdered}
 use Rattle.lnbd_handle.specs.Runs.{doing}
 use Rattle.lnbd_handle.specs.Seen.{state_of, machine_of}
 use Rattle.lnbd_handle.specs.Turns.{Brings, ShowsNothing, is_speaking}
-use Rattle.lnbd_handle.proofs.CalmLemmas.{Lacks, frame_lacks, sized, waited_fits}
+use Rattle.lnbd_handle.proofs.CalmLemmas.{AreAnnounced, announces_fit}
 use Rattle.lnbd_handle.proofs.HistoryLemmas.{adds}
 use Rattle.lnbd_handle.proofs.PlacesLemmas.{PlacesAt}
+use Rattle.lnbd_handle.proofs.TurnLemmas.{waited_row}
 
 -- what shows where replies may come
 frame_at : (stage : Stage) (seen : Sight) (waits : ℕ → Option Waiting) (bytes : List ℕ) → is_speaking stage ≡ true → seen.phase ≡ phase.Ready → shows_at stage seen waits bytes ≡ shows_frame seen.structured seen.extended waits bytes
@@ -63,107 +71,224 @@ empty : (xs : List ℕ) → length xs ≡ 0 → xs ≡ []
 empty [] e = refl
 empty (x ∷ xs) e = absurd (omega (arith, e))
 
-none_some : (found : Shown) → Some found ≡ None → ⊥
+-- A front that is one by its tests, and the other way round.
+
+parts : (a b : Bool) → (a && b) ≡ true → (a ≡ true) × (b ≡ true)
+parts a b e = and_parts a b e
+
+no_breach : (found : Option Breach) → not (is_some found) ≡ true → found ≡ None
+no_breach None e = refl
+no_breach (Some breach) e = absurd (false≢true e)
+
+data_is : (extended : Bool) (command : Waiting) (front : List ℕ) → is_data_front extended command front ≡ true → IsDataFront extended command front
+data_is extended command front e =
+    let a = parts (length front == head_size extended + 8) _ e in
+    let b = parts (number_at 0 4 front == magic_of extended) _ a.1 in
+    let d = parts ((head_in extended front).type == reply_type_offset_data) _ b.1 in
+    record { sized = eqb-true _ _ a.0; magic = eqb-true _ _ b.0; type = eqb-true _ _ d.0; lawful = no_breach _ d.1 }
+
+is_data : (extended : Bool) (command : Waiting) (front : List ℕ) → IsDataFront extended command front → is_data_front extended command front ≡ true
+is_data extended command front is = rw (eq-eqb _ _ is.sized, eq-eqb _ _ is.magic, eq-eqb _ _ is.type, is.lawful) refl
+
+front_is : (replies : Replies) (command : Waiting) (front : List ℕ) → is_front replies command front ≡ true → IsFront replies command front
+front_is Simple command front e =
+    let a = parts (is_read command.kind) _ e in
+    let b = parts (length front == simple_head_size) _ a.1 in
+    let d = parts (number_at 0 4 front == simple_reply_magic) _ b.1 in
+    (a.0, record { sized = eqb-true _ _ b.0; magic = eqb-true _ _ d.0; error = eqb-true _ _ d.1 })
+front_is Structured command front e = data_is false command front e
+front_is Extended command front e = data_is true command front e
+
+is_one : (replies : Replies) (command : Waiting) (front : List ℕ) → IsFront replies command front → is_front replies command front ≡ true
+is_one Simple command front is = rw (is.0, eq-eqb _ _ is.1.sized, eq-eqb _ _ is.1.magic, eq-eqb _ _ is.1.error) refl
+is_one Structured command front is = is_data false command front is
+is_one Extended command front is = is_data true command front is
+
+pub least_front : (replies : Replies) → simple_head_size ≤ front_size replies
+least_front Simple = omega arith
+least_front Structured = omega arith
+least_front Extended = omega arith
+
+front_long : (replies : Replies) (command : Waiting) (front : List ℕ) → IsFront replies command front → length front ≡ front_size replies
+front_long Simple command front is = is.1.sized
+front_long Structured command front is = is.sized
+front_long Extended command front is = is.sized
+
+none_some : (found : Waiting) → None ≡ Some found → ⊥
 none_some found e = cc
 
--- These bytes end within the data of a simple reply to READ that tells no error.
-pub record Within (waits : ℕ → Option Waiting) (bytes : List ℕ) : Type 0 where
-  pub long : simple_head_size ≤ length bytes
-  pub lacks : Lacks waits bytes
-  pub left : data_to_come waits bytes + length bytes ≡ simple_head_size + lacks.command.length
+no_one : (found : Announced) → None ≡ Some found → ⊥
+no_one found e = cc
 
-module _ (waits : ℕ → Option Waiting) (bytes : List ℕ) where
-  to_come_as : (begins : Bool) (found : Option Waiting) → begins_success bytes ≡ begins → waits (number_at 8 8 bytes) ≡ found → data_to_come waits bytes ≡ (if begins then simple_head_size + data_for found - length bytes else 0)
-  unfolding data_to_come
-  to_come_as begins found b w = ap (λ (x : Bool). if x then simple_head_size + data_for (waits (number_at 8 8 bytes)) - length bytes else 0) b ∙ ap (λ f. if begins then simple_head_size + data_for f - length bytes else 0) w
+same_one : (one other : Announced) → Some one ≡ Some other → one ≡ other
+same_one one other e = cc
 
-  -- something is still to come
-  pub come_within : 0 < data_to_come waits bytes → Within waits bytes
-  come_within some = go (nat_le simple_head_size (length bytes)) (number_at 0 4 bytes == simple_reply_magic) (number_at 4 4 bytes == 0) refl refl refl (waits (number_at 8 8 bytes)) refl
+-- What was looked up is what the front announces.
+module _ (replies : Replies) (front : List ℕ) (waiting : Option Told) (waits : Option Waiting) (waits_is : 16 ≤ length front → waits ≡ option_map seen_waiting waiting) where
+  found_as : (found : Option Announced) → AreAnnounced replies front waiting found →
+      IfSome found (λ announced. (known : Waiting) → option_map seen_waiting waiting ≡ Some known → IsFront replies known front × (announced ≡ announced_by replies known front)) →
+      ((known : Waiting) → option_map seen_waiting waiting ≡ Some known → IsFront replies known front → IsSome found) → found ≡ announced_to replies waits front
+  found_as None announces says all = go waits refl
     where
-      begins : (a b c : Bool) → nat_le simple_head_size (length bytes) ≡ a → (number_at 0 4 bytes == simple_reply_magic) ≡ b → (number_at 4 4 bytes == 0) ≡ c → begins_success bytes ≡ (a && (b && c))
-      begins a b c l m e = ap (λ (x : Bool). x && ((number_at 0 4 bytes == simple_reply_magic) && (number_at 4 4 bytes == 0))) l ∙ ap (λ (x : Bool). a && (x && (number_at 4 4 bytes == 0))) m ∙ ap (λ (x : Bool). a && (b && x)) e
+      go : (w : Option Waiting) → waits ≡ w → None ≡ announced_to replies w front
+      go None is = refl
+      go (Some command) is = over (is_front replies command front) refl
+        where
+          over : (b : Bool) → is_front replies command front ≡ b → None ≡ (if b then Some (announced_by replies command front) else None)
+          over false e = refl
+          over true e =
+              let one = front_is replies command front e in
+              let long = front_long replies command front one in
+              let low = least_front replies in
+              absurd (false≢true (all command (sym (waits_is (omega (arith, long, low))) ∙ is) one))
+  found_as (Some announced) announces says all = go (option_map seen_waiting waiting) refl
+    where
+      go : (w : Option Waiting) → option_map seen_waiting waiting ≡ w → Some announced ≡ announced_to replies waits front
+      go None is =
+          let a = announces (λ cookie. None) (λ long. sym is) in
+          absurd (none_some _ (a.whole (replicate announced.size 0) (length-replicate announced.size 0)).waits)
+      go (Some command) is =
+          let said = says command is in
+          let long = front_long replies command front said.0 in
+          let low = least_front replies in
+          let there : waits ≡ Some command = waits_is (omega (arith, long, low)) ∙ is in
+          ap Some said.1 ∙ sym (ap (λ (w : Option Waiting). announced_to replies w front) there ∙ ap (λ (b : Bool). if b then Some (announced_by replies command front) else None) (is_one replies command front said.0))
 
-      none : (test : Bool) (found : Option Waiting) → test ≡ false → begins_success bytes ≡ test → waits (number_at 8 8 bytes) ≡ found → Within waits bytes
-      none test found off b w = let e = to_come_as false found (b ∙ off) w in absurd (omega (arith, some, e))
+-- as many bytes as there are of so many
+pub same_take : (size most : ℕ) (xs : List ℕ) → (most ≤ length xs → size ≡ most) → (length xs < most → size ≡ length xs) → take size xs ≡ take most xs
+same_take size most xs fits short = elim (cases_lt (length xs) most) [
+  | inl less ↦ take_all size xs (let is = short less in omega (arith, is)) ∙ sym (take_all most xs (omega (arith, less)))
+  | inr enough ↦ ap (λ (n : ℕ). take n xs) (fits enough)
+]
 
-      go : (a b c : Bool) → nat_le simple_head_size (length bytes) ≡ a → (number_at 0 4 bytes == simple_reply_magic) ≡ b → (number_at 4 4 bytes == 0) ≡ c → (found : Option Waiting) → waits (number_at 8 8 bytes) ≡ found → Within waits bytes
-      go true true true l m e None w =
-          let is = to_come_as true None (begins true true true l m e) w in
-          let long = leb-true simple_head_size (length bytes) l in
-          absurd (omega (arith, some, is, long))
-      go true true true l m e (Some command) w =
-          let is = to_come_as true (Some command) (begins true true true l m e) w in
-          let long = leb-true simple_head_size (length bytes) l in
-          let r = sized command 0 (content_size command 0) refl (omega (arith, some, is, long)) in
-          record {
-            long = long;
-            lacks = record { magic = eqb-true _ _ m; command = command; there = w; read = r.1; error = eqb-true _ _ e; short = omega (arith, some, is, long, r.2) };
-            left = omega (arith, some, is, long, r.2);
-          }
-      go true true false l m e found w = none false found refl (begins true true false l m e) w
-      go true false c l m e found w = none false found refl (begins true false c l m e) w
-      go false b c l m e found w = none false found refl (begins false b c l m e) w
-
-  -- the same is so while fewer come
-  pub within_more : (more : List ℕ) → Within waits bytes → length more < data_to_come waits bytes → shows_by Simple waits (bytes ++ more) ≡ None
-  within_more more w few =
-      let same : (place width : ℕ) → place + width ≤ 16 → number_at place width (bytes ++ more) ≡ number_at place width bytes = λ place width h. at_more place width bytes more (omega (arith, h, w.long)) in
-      no_data Simple waits (bytes ++ more) refl (omega (arith, length-append bytes more, w.long)) (same 0 4 (omega arith) ∙ w.lacks.magic) w.lacks.command (ap waits (same 8 8 (omega arith)) ∙ w.lacks.there) refl w.lacks.command.length
-      (sym (ap (content_size w.lacks.command) (same 4 4 (omega arith) ∙ w.lacks.error) ∙ ap (λ (b : Bool). if b then w.lacks.command.length else 0) w.lacks.read))
-      (omega (arith, length-append bytes more, w.left, few, w.long))
-
--- Where such bytes show nothing, simple replies alone come.
-alone : (structured extended : Bool) (waits : ℕ → Option Waiting) (bytes : List ℕ) → AreOrdered structured extended → Within waits bytes → shows_frame structured extended waits bytes ≡ None → (structured ≡ false) × (extended ≡ false)
-alone true true waits bytes ordered w e =
-    let other : number_at 0 4 bytes ≡ extended_reply_magic → ⊥ = λ is. omega (arith, is, w.lacks.magic) in
-    absurd (none_some _ (sym (not_extended waits bytes (omega (arith, w.long)) other) ∙ e))
-alone true false waits bytes ordered w e = absurd (none_some (Broken SimpleForRead) (sym (for_read Structured waits bytes refl w.long w.lacks.magic w.lacks.command w.lacks.there w.lacks.read) ∙ e))
-alone false true waits bytes ordered w e = absurd (false≢true (ordered refl))
-alone false false waits bytes ordered w e = (refl, refl)
-
--- Where no chunks come, simple replies alone do.
-alone_simple : (replies : Replies) → is_structured replies ≡ false → replies ≡ Simple
-alone_simple Simple e = refl
-alone_simple Structured e = absurd (true≢false e)
-alone_simple Extended e = absurd (true≢false e)
+-- What shows where the server replies so.
+agree : (structured extended : Bool) (waits : ℕ → Option Waiting) (bytes : List ℕ) → AreOrdered structured extended → shows_frame structured extended waits bytes ≡ shows_by (replies_by structured extended) waits bytes
+agree true true waits bytes ordered = refl
+agree true false waits bytes ordered = refl
+agree false true waits bytes ordered = absurd (false≢true (ordered refl))
+agree false false waits bytes ordered = refl
 
 module _ {K : Type 0} where
-  place_as : (now : Machine K) (speaking replies : Bool) → is_speaking now.known.stage ≡ speaking → takes_replies now.known.talk.phase ≡ replies → place_size now ≡ (if speaking && replies then data_to_come (waited now.known) now.pending - 1 else 0)
-  unfolding place_size
-  place_as now speaking replies s r = ap (λ (x : Bool). if x && takes_replies now.known.talk.phase then data_to_come (waited now.known) now.pending - 1 else 0) s ∙ ap (λ (x : Bool). if speaking && x then data_to_come (waited now.known) now.pending - 1 else 0) r
+  -- where no replies to commands come nothing is announced
+  pub announced_not : (state : State K) (front : List ℕ) (b : Bool) → (is_speaking state.stage && takes_replies state.talk.phase) ≡ b → b ≡ false → announced_at state front ≡ None
+  announced_not state front b e off = ap (λ (x : Bool). if x then announced_to (replies_in state) (waited state (number_at 8 8 front)) front else None) (e ∙ off)
+
+  pub announced_come : (state : State K) (front : List ℕ) → is_speaking state.stage ≡ true → state.talk.phase ≡ phase.Ready → announced_at state front ≡ announced_to (replies_in state) (waited state (number_at 8 8 front)) front
+  announced_come state front speaking ready =
+      let both : (is_speaking state.stage && takes_replies state.talk.phase) ≡ true = rw (speaking, ready) refl in
+      ap (λ (x : Bool). if x then announced_to (replies_in state) (waited state (number_at 8 8 front)) front else None) both
+
+  -- What is announced.
+  pub record IsAnnounced (state : State K) (front : List ℕ) (announced : Announced) : Type 0 where
+    pub speaking : is_speaking state.stage ≡ true
+    pub ready : state.talk.phase ≡ phase.Ready
+    pub announces : Announces (replies_in state) (waited state) front announced
+
+  pub is_announced : (state : State K) (front : List ℕ) (announced : Announced) → announced_at state front ≡ Some announced → IsAnnounced state front announced
+  is_announced state front announced e = go (is_speaking state.stage) (takes_replies state.talk.phase) refl refl
+    where
+      replies : Replies
+      replies = replies_in state
+
+      to : (w : Option Waiting) → waited state (number_at 8 8 front) ≡ w → announced_to replies w front ≡ Some announced → Announces replies (waited state) front announced
+      to None is found = absurd (no_one announced found)
+      to (Some command) is found = over (is_front replies command front) refl
+        where
+          over : (b : Bool) → is_front replies command front ≡ b → Announces replies (waited state) front announced
+          over true one = subst (λ (a : Announced). Announces replies (waited state) front a) (same_one (announced_by replies command front) announced (sym (ap (λ (x : Bool). if x then Some (announced_by replies command front) else None) one) ∙ found)) (front_announces replies (waited state) command front is (front_is replies command front one))
+          over false one = absurd (no_one announced (sym (ap (λ (x : Bool). if x then Some (announced_by replies command front) else None) one) ∙ found))
+
+      go : (a b : Bool) → is_speaking state.stage ≡ a → takes_replies state.talk.phase ≡ b → IsAnnounced state front announced
+      go true true s r =
+          let ready = is_ready state.talk.phase r in
+          record { speaking = s; ready = ready; announces = to (waited state (number_at 8 8 front)) refl (sym (announced_come state front s ready) ∙ e) }
+      go true false s r = absurd (no_one announced (sym (announced_not state front false (rw (s, r) refl) refl) ∙ e))
+      go false b s r = absurd (no_one announced (sym (announced_not state front false (rw s refl) refl) ∙ e))
+
+  -- what is announced where replies to commands may come
+  pub announced_is : (c : Connection K) (replies : Replies) (front : List ℕ) (found : Option Announced) (waiting : Option Told) → is_speaking c.stage ≡ true → c.talk.phase ≡ phase.Ready → replies ≡ replies_by c.talk.structured c.talk.extended →
+      (16 ≤ length front → waited (state_of c) (number_at 8 8 front) ≡ option_map seen_waiting waiting) → AreAnnounced replies front waiting found →
+      IfSome found (λ announced. (known : Waiting) → option_map seen_waiting waiting ≡ Some known → IsFront replies known front × (announced ≡ announced_by replies known front)) →
+      ((known : Waiting) → option_map seen_waiting waiting ≡ Some known → IsFront replies known front → IsSome found) → found ≡ announced_at (state_of c) front
+  announced_is c replies front found waiting speaking ready is waits announces says all =
+      found_as replies front waiting (waited (state_of c) (number_at 8 8 front)) waits found announces says all
+      ∙ ap (λ (r : Replies). announced_to r (waited (state_of c) (number_at 8 8 front)) front) is ∙ sym (announced_come (state_of c) front speaking ready)
+
+  -- Its data lie in what a read in flight asked for.
+  pub brings_asked : (c : Connection K) (front : List ℕ) (announced : Announced) → Brings c front announced → HasAsked (waiting_at announced.cookie c.commands) announced.offset announced.size
+  brings_asked c front announced b =
+      let long : length (replicate {A = ℕ} announced.size 0) ≡ announced.size = length-replicate announced.size 0 in
+      let r = b.announces.whole (replicate announced.size 0) long in
+      let row : waiting_at announced.cookie c.commands ≡ Some r.command = waited_row (nat_le announced.cookie c.written) (value_at announced.cookie c.commands.rows) r.command r.waits in
+      let inside = r.may_come.inside in
+      subst (λ (o : Option Waiting). HasAsked o announced.offset announced.size) (sym row) (inside.0, subst (λ (n : ℕ). lies_within r.command announced.offset n ≡ true) long inside.1)
 
   -- The place has bytes.
   pub record HasPlace (c : Connection K) (p : Pending) : Type 0 where
-    pub simply : RepliesSimply c.stage c.talk.phase c.talk.structured c.talk.extended
-    pub within : Within (waited (state_of c)) (held_in p)
-    pub size : place_size (machine_of c (held_in p)) + 1 ≡ data_to_come (waited (state_of c)) (held_in p)
-    pub head : length p.head.items ≡ simple_head_size
+    pub announced : Announced
+    pub told : IsAnnounced (state_of c) (take (front_size (replies_in (state_of c))) (held_in p)) announced
+    pub long : front_size (replies_in (state_of c)) ≤ length (held_in p)
+    pub left : place_size (machine_of c (held_in p)) + 1 + (length (held_in p) - front_size (replies_in (state_of c))) ≡ announced.size
+
+  pub place_as : (c : Connection K) (p : Pending) → place_size (machine_of c (held_in p))
+      ≡ left_of (without_fault c.commands.rows (announced_at (state_of c) (take (front_size (replies_in (state_of c))) (held_in p)))) (length (held_in p) - front_size (replies_in (state_of c))) - 1
+  unfolding place_size data_to_come
+  place_as c p = refl
 
   module _ (c : Connection K) (p : Pending) (partial : IsPartial (machine_of c (held_in p))) (places : PlacesAt (state_of c) p) where
-    head_of : RepliesSimply c.stage c.talk.phase c.talk.structured c.talk.extended → simple_head_size ≤ length (held_in p) → length p.head.items ≡ simple_head_size
-    head_of simply long = go (cases_lt 0 p.came)
-      where
-        low : length p.head.items ≤ simple_head_size
-        low = places.split simply
+    abbrev state : State K
+    state = state_of c
 
-        go : (0 < p.came) ⊎ (p.came ≤ 0) → length p.head.items ≡ simple_head_size
-        go (inl some) = let apart = places.kept.apart some in omega (arith, low, apart)
-        go (inr none) = let n : length (data_in p) ≡ 0 = omega (arith, none, length-take p.came p.content.items) in omega (arith, low, n, long, length-append p.head.items (data_in p))
+    abbrev begin : ℕ
+    begin = front_size (replies_in (state_of c))
+
+    came : length (data_in p) ≡ p.came
+    came = omega (arith, length-take p.came p.content.items, places.kept.within, p.content.ok.0)
+
+    held_long : length (held_in p) ≡ length p.head.items + p.came
+    held_long = omega (arith, length-append p.head.items (data_in p), came)
+
+    -- the front that is held as one is that of all that is held
+    same_front : take begin p.head.items ≡ take begin (held_in p)
+    same_front = go (cases_lt 0 p.came)
+      where
+        go : (0 < p.came) ⊎ (p.came ≤ 0) → take begin p.head.items ≡ take begin (held_in p)
+        go (inl some) = sym (take-append-le begin p.head.items (data_in p) (places.front some))
+        go (inr none) = ap (take begin) (sym (append-nil p.head.items) ∙ ap (λ (d : List ℕ). p.head.items ++ d) (sym (empty (data_in p) (omega (arith, came, none)))))
+
+    same_data : (length p.head.items - begin) + p.came ≡ length (held_in p) - begin
+    same_data = go (cases_lt 0 p.came)
+      where
+        go : (0 < p.came) ⊎ (p.came ≤ 0) → (length p.head.items - begin) + p.came ≡ length (held_in p) - begin
+        go (inl some) = let behind = places.front some in omega (arith, behind, held_long)
+        go (inr none) = omega (arith, none, held_long)
+
+    -- by what is announced by the front that is held as one
+    pub place_by : (front : List ℕ) (found : Option Announced) → front ≡ take begin p.head.items → found ≡ announced_at (state_of c) front →
+        place_size (machine_of c (held_in p)) ≡ left_of (without_fault c.commands.rows found) ((length p.head.items - begin) + p.came) - 1
+    place_by front found is e =
+        place_as c p ∙ ap (λ (n : ℕ). left_of (without_fault c.commands.rows (announced_at (state_of c) (take begin (held_in p)))) n - 1) (sym same_data)
+        ∙ ap (λ (o : Option Announced). left_of (without_fault c.commands.rows o) ((length p.head.items - begin) + p.came) - 1) (sym (e ∙ ap (announced_at (state_of c)) (is ∙ same_front)))
 
     pub has_place : 0 < place_size (machine_of c (held_in p)) → HasPlace c p
-    has_place some = go (is_speaking c.stage) (takes_replies c.talk.phase) refl refl
+    has_place some = go (announced_at (state_of c) (take begin (held_in p))) refl
       where
-        go : (speaking replies : Bool) → is_speaking c.stage ≡ speaking → takes_replies c.talk.phase ≡ replies → HasPlace c p
-        go true true s r =
-            let is = place_as (machine_of c (held_in p)) true true s r in
-            let ready = is_ready c.talk.phase r in
-            let within = come_within (waited (state_of c)) (held_in p) (omega (arith, some, is)) in
-            let both = alone c.talk.structured c.talk.extended (waited (state_of c)) (held_in p) places.ordered within (sym (frame_at c.stage (sight (state_of c)) (waited (state_of c)) (held_in p) s ready) ∙ partial) in
-            let simply : RepliesSimply c.stage c.talk.phase c.talk.structured c.talk.extended = record { speaking = s; ready = ready; compact = both.0; short = both.1 } in
-            record { simply = simply; within = within; size = omega (arith, some, is); head = head_of simply within.long }
-        go true false s r = let is = place_as (machine_of c (held_in p)) true false s r in absurd (omega (arith, some, is))
-        go false replies s r = let is = place_as (machine_of c (held_in p)) false replies s r in absurd (omega (arith, some, is))
+        is : (found : Option Announced) → announced_at (state_of c) (take begin (held_in p)) ≡ found → place_size (machine_of c (held_in p)) ≡ left_of (without_fault c.commands.rows found) (length (held_in p) - begin) - 1
+        is found e = place_as c p ∙ ap (λ (o : Option Announced). left_of (without_fault c.commands.rows o) (length (held_in p) - begin) - 1) e
+
+        go : (found : Option Announced) → announced_at (state_of c) (take begin (held_in p)) ≡ found → HasPlace c p
+        go None e = let none = is None e in absurd (omega (arith, some, none))
+        go (Some announced) e = over (has_fault c.commands.rows announced) refl
+          where
+            size : (b : Bool) → has_fault c.commands.rows announced ≡ b → place_size (machine_of c (held_in p)) ≡ left_of (if b then None else Some announced) (length (held_in p) - begin) - 1
+            size b f = is (Some announced) e ∙ ap (λ (x : Bool). left_of (if x then None else Some announced) (length (held_in p) - begin) - 1) f
+
+            over : (b : Bool) → has_fault c.commands.rows announced ≡ b → HasPlace c p
+            over true f = let none = size true f in absurd (omega (arith, some, none))
+            over false f =
+                let count = size false f in
+                let told = is_announced (state_of c) (take begin (held_in p)) announced e in
+                record { announced = announced; told = told; long = omega (arith, told.announces.sized, length-take begin (held_in p)); left = omega (arith, some, count) }
 
     -- the place lies within the buffer
     pub place_fits : p.came + place_size (machine_of c (held_in p)) ≤ vec_len p.content
@@ -172,61 +297,9 @@ module _ {K : Type 0} where
         go : (0 < place_size (machine_of c (held_in p))) ⊎ (place_size (machine_of c (held_in p)) ≤ 0) → p.came + place_size (machine_of c (held_in p)) ≤ vec_len p.content
         go (inl some) =
             let h = has_place some in
-            let fits = waited_fits (vec_len p.content) (state_of c) (number_at 8 8 (held_in p)) h.within.lacks.command places.fits h.within.lacks.there h.within.lacks.read in
-            omega (arith, fits, h.size, h.within.left, h.head, length-append p.head.items (data_in p), length-take p.came p.content.items, places.kept.within, p.content.ok.0)
+            let fits = announces_fit (vec_len p.content) (state_of c) (replies_in (state_of c)) (take begin (held_in p)) h.announced h.told.announces places.fits in
+            omega (arith, fits, h.left, same_data)
         go (inr none) = omega (arith, none, places.kept.within)
-
-    -- what was told of the head tells how many bytes the place has
-    pub place_none : ((rest : List ℕ) → RepliesSimply c.stage c.talk.phase c.talk.structured c.talk.extended → length p.head.items ≡ simple_head_size → ShowsNothing (state_of c) (p.head.items ++ rest) → ⊥) → place_size (machine_of c (held_in p)) ≡ 0
-    place_none never = go (cases_lt 0 (place_size (machine_of c (held_in p))))
-      where
-        go : (0 < place_size (machine_of c (held_in p))) ⊎ (place_size (machine_of c (held_in p)) ≤ 0) → place_size (machine_of c (held_in p)) ≡ 0
-        go (inl some) = let h = has_place some in absurd (never (data_in p) h.simply h.head partial)
-        go (inr none) = omega (arith, none)
-
-    -- no place is lent of a chunk's data
-    pub place_chunk : (announced : Announced) → Brings c p.head.items announced → is_chunk announced.carrier ≡ true → place_size (machine_of c (held_in p)) ≡ 0
-    place_chunk announced b chunk = go (cases_lt 0 (place_size (machine_of c (held_in p))))
-      where
-        go : (0 < place_size (machine_of c (held_in p))) ⊎ (place_size (machine_of c (held_in p)) ≤ 0) → place_size (machine_of c (held_in p)) ≡ 0
-        go (inl some) =
-            let h = has_place some in
-            absurd (true≢false (sym chunk ∙ b.announces.carried ∙ ap is_structured (b.simple h.simply.compact h.simply.short)))
-        go (inr none) = omega (arith, none)
-
-    pub place_some : (announced : Announced) → Brings c p.head.items announced → is_chunk announced.carrier ≡ false → place_size (machine_of c (held_in p)) ≡ announced.size - p.came - 1
-    place_some announced b is_reply = place_as (machine_of c (held_in p)) true true b.speaking (ap takes_replies b.ready) ∙ ap (λ (n : ℕ). n - 1) (left (cases_lt p.came announced.size))
-      where
-        waits : ℕ → Option Waiting
-        waits = waited (state_of c)
-
-        announces : Announces Simple waits p.head.items announced
-        announces = subst (λ (r : Replies). Announces r waits p.head.items announced) (alone_simple b.replies (sym b.announces.carried ∙ is_reply)) b.announces
-
-        came : length (data_in p) ≡ p.came
-        came = omega (arith, length-take p.came p.content.items, places.kept.within, p.content.ok.0)
-
-        long : length (held_in p) ≡ simple_head_size + p.came
-        long = omega (arith, length-append p.head.items (data_in p), came, announces.sized)
-
-        known : (command : Waiting) × (waits (number_at 8 8 (held_in p)) ≡ Some command) × (announced.size ≡ content_size command 0)
-        known =
-            let r = announces.whole (replicate announced.size 0) (length-replicate announced.size 0) in
-            let here = at_more 8 8 p.head.items (data_in p) (omega (arith, announces.sized)) in
-            (r.command, ap waits (here ∙ sym announces.cookie_is) ∙ r.waits, (r.all is_reply).1 ∙ sym (ap (λ (b : Bool). if b then r.command.length else 0) r.may_come.inside.0))
-
-        begins : p.came < announced.size → begins_success (held_in p) ≡ true
-        begins less =
-            let l = frame_lacks waits (held_in p) (omega (arith, long)) (announces.partial (data_in p) (omega (arith, came, less))) in
-            rw (le-leb simple_head_size (length (held_in p)) (omega (arith, long)), l.magic, l.error) refl
-
-        left : (p.came < announced.size) ⊎ (announced.size ≤ p.came) → data_to_come waits (held_in p) ≡ announced.size - p.came
-        left (inl less) = let k = known in let e = to_come_as waits (held_in p) true (Some k.0) (begins less) k.1 in omega (arith, e, k.2, long, less)
-        left (inr most) = let k = known in over (begins_success (held_in p)) refl
-          where
-            over : (test : Bool) → begins_success (held_in p) ≡ test → data_to_come waits (held_in p) ≡ announced.size - p.came
-            over true t = let k = known in let e = to_come_as waits (held_in p) true (Some k.0) t k.1 in omega (arith, e, k.2, long, most)
-            over false t = let e = to_come_as waits (held_in p) false (waits (number_at 8 8 (held_in p))) t refl in omega (arith, e, most)
 
     -- The first bytes of the place arrive.
     module _ (n : ℕ) (few : n ≤ length (room_in (place_size (machine_of c (held_in p))) p)) where
@@ -253,9 +326,13 @@ module _ {K : Type 0} where
           go : (0 < n) ⊎ (n ≤ 0) → ShowsNothing (state_of c) (held_in p ++ arrived)
           go (inl some) =
               let h = has_place (omega (arith, some, n_fits)) in
-              frame_at c.stage (sight (state_of c)) (waited (state_of c)) (held_in p ++ arrived) h.simply.speaking h.simply.ready
-              ∙ ap (λ (b : Bool). shows_frame b c.talk.extended (waited (state_of c)) (held_in p ++ arrived)) h.simply.compact ∙ ap (λ (b : Bool). shows_frame false b (waited (state_of c)) (held_in p ++ arrived)) h.simply.short
-              ∙ within_more (waited (state_of c)) (held_in p) arrived h.within (omega (arith, len, n_fits, h.size))
+              let content = drop begin (held_in p) ++ arrived in
+              let joined : held_in p ++ arrived ≡ take begin (held_in p) ++ content = ap (λ (d : List ℕ). d ++ arrived) (sym (take-append-drop begin (held_in p))) ∙ append_assoc (take begin (held_in p)) (drop begin (held_in p)) arrived in
+              let short : length content < h.announced.size = omega (arith, length-append (drop begin (held_in p)) arrived, length-drop begin (held_in p), len, n_fits, h.left) in
+              frame_at c.stage (sight (state_of c)) (waited (state_of c)) (held_in p ++ arrived) h.told.speaking h.told.ready
+              ∙ agree c.talk.structured c.talk.extended (waited (state_of c)) (held_in p ++ arrived) places.ordered
+              ∙ ap (shows_by (replies_in (state_of c)) (waited (state_of c))) joined
+              ∙ h.told.announces.partial content short
           go (inr none) = subst (ShowsNothing (state_of c)) (sym (ap (λ (d : List ℕ). held_in p ++ d) (empty arrived (omega (arith, len, none))) ∙ append-nil (held_in p))) partial
 
       fed : (course : Unit {0}) → (step (machine_of c (held_in p)) (Arrived arrived []) ≡ machine_of c (held_in p ++ arrived)) × (calls (machine_of c (held_in p)) (Arrived arrived []) ≡ [])
@@ -272,19 +349,23 @@ module _ {K : Type 0} where
       pub placed_partial : IsPartial (machine_of c (held_in now))
       placed_partial = subst (ShowsNothing (state_of c)) (sym held_more) still
 
+      kept_behind : 0 < p.came + n → begin ≤ length p.head.items
+      kept_behind some = elim (cases_lt 0 p.came) [
+        | inl before ↦ places.front before
+        | inr none ↦ let long = (has_place (omega (arith, some, none, n_fits))).long in omega (arith, long, held_long, none)
+      ]
+
       pub placed_places : PlacesAt (state_of c) now
       placed_places = record {
         kept = record {
           within = omega (arith, n_fits, place_fits);
           room = places.kept.room;
-          apart = λ some. elim (cases_lt 0 n) [
-            | inl more ↦ let whole = (has_place (omega (arith, more, n_fits))).head in omega (arith, whole)
-            | inr none ↦ let apart = places.kept.apart (omega (arith, some, none)) in omega (arith, apart)
-          ];
+          apart = λ some. let low = least_front (replies_in (state_of c)) in let long = kept_behind some in omega (arith, low, long);
         };
         fits = places.fits;
         split = places.split;
         ordered = places.ordered;
+        front = kept_behind;
       }
 
 -- The place is lent.

@@ -2,6 +2,7 @@
 use Rattle.std.proofs.Common.{◌≡◌, ◌⊎◌, inl, inr, ℕ, ◌+◌, ◌<◌, ◌≤◌, Bool, true, false, if◌then◌else◌, nat_lt, List, [], ◌∷◌, ◌++◌, length, take, Option, Some, None, Result, Ok, Err, refl, ap, sym, ◌∙◌, subst, arith, length-append}
 use Rattle.std.proofs.lemmas.Bool.{false≢true, true≢false}
 use Rattle.std.specs.Prelude.{vec_len}
+use Rattle.std.proofs.lemmas.List.{length-take}
 use Rattle.lnbd_model.specs.Kind.{is_read}
 use Rattle.lnbd_records.specs.Transmission.{simple_head_size}
 use Rattle.lnbd_callbacks.specs.Calls.{Call}
@@ -27,9 +28,11 @@ use Rattle.lnbd_handle.specs.declared.connection.Connection.{Connection}
 use Rattle.lnbd_handle.specs.declared.issue.IssueFault.{IssueFault}
 use Rattle.lnbd_handle.specs.declared.issue.IssueFault.TheVariants.{NoMemory, Refused}
 use Rattle.lnbd_handle.specs.declared.pending.Pending.{Pending}
-use Rattle.lnbd_handle.specs.Held.{held_in}
+use Rattle.lnbd_handle.specs.Held.{data_in, held_in}
 use Rattle.lnbd_handle.specs.Issues.{Faults}
-use Rattle.lnbd_handle.specs.Room.{AreOrdered, HasPlaces, IfFlies, IsCalm, IsKept, IsPlain, ReadsFit, RepliesSimply}
+use Rattle.lnbd_handle.specs.Room.{AreOrdered, HasPlaces, IfFlies, IsBehindFront, IsCalm, IsKept, IsPlain, ReadsFit, RepliesSimply}
+use Rattle.lnbd_arrivals.specs.Frames.{front_size, replies_by}
+use Rattle.lnbd_handle.specs.Placing.{replies_in}
 use Rattle.lnbd_handle.specs.Runs.{Acts, doing}
 use Rattle.lnbd_handle.specs.Seen.{IsSound, Stands, state_of, machine_of}
 use Rattle.lnbd_handle.specs.Turns.{Arrives, is_speaking}
@@ -47,6 +50,26 @@ created_none s seen w bytes is e = ignored_none bytes (sym (ap (λ t. shows_at t
 no_head : (head rest : List ℕ) → head ++ rest ≡ [] → length head ≤ simple_head_size
 no_head head rest e = let n = ap length e in omega (arith, n, length-append head rest)
 
+-- nor data
+pub not_some : (pending : Pending) → IsKept pending → held_in pending ≡ [] → 0 < pending.came → ⊥
+not_some pending kept none some =
+    let l = ap length none in
+    omega (arith, l, some, length-append pending.head.items (data_in pending), length-take pending.came pending.content.items, kept.within, pending.content.ok.0)
+
+-- Where no data are held none stand before their front.
+pub none_behind : (structured extended : Bool) (pending : Pending) → pending.came ≡ 0 → IsBehindFront structured extended pending
+none_behind structured extended pending none some = absurd (omega (arith, none, some))
+
+pub empty_behind : (structured extended : Bool) (pending : Pending) → IsKept pending → held_in pending ≡ [] → IsBehindFront structured extended pending
+empty_behind structured extended pending kept none some = absurd (not_some pending kept none some)
+
+pub held_behind : (structured extended : Bool) (old new : Pending) → IsKept old → held_in old ≡ [] → new.came ≡ old.came → IsBehindFront structured extended new
+held_behind structured extended old new kept none came some = absurd (not_some old kept none (subst (λ (n : ℕ). 0 < n) came some))
+
+pub same_behind : (structured extended : Bool) (old new : Pending) → new.came ≡ old.came → new.head.items ≡ old.head.items → IsBehindFront structured extended old → IsBehindFront structured extended new
+same_behind structured extended old new came head behind some =
+    let l = behind (subst (λ (n : ℕ). 0 < n) came some) in subst (λ (h : List ℕ). front_size (replies_by structured extended) ≤ length h) (sym head) l
+
 module _ {K : Type 0} where
   -- the same of a state
   abbrev pub PlacesAt : State K → Pending → Type 0
@@ -63,16 +86,16 @@ module _ {K : Type 0} where
   -- Nothing is held.
   pub places_empty : (stage : Stage) (phase : Phase) (structured extended : Bool) (rows : List (ℕ × Row K)) (pending : Pending) → IsKept pending → held_in pending ≡ [] → ReadsFit (vec_len pending.content) rows → AreOrdered structured extended →
       HasPlaces stage phase structured extended rows pending
-  places_empty stage phase structured extended rows pending kept empty fits ordered = record { kept = kept; fits = fits; split = λ simply. no_head pending.head.items _ empty; ordered = ordered }
+  places_empty stage phase structured extended rows pending kept empty fits ordered = record { kept = kept; fits = fits; split = λ simply. no_head pending.head.items _ empty; ordered = ordered; front = λ some. absurd (not_some pending kept empty some) }
 
   -- A buffer that has grown, and another read for which it has room.
-  pub places_grown : (state : State K) (old new : Pending) → vec_len old.content ≤ vec_len new.content → new.head ≡ old.head → IsKept new → PlacesAt state old → PlacesAt state new
-  places_grown state old new grows head kept p =
-      record { kept = kept; fits = fits_more (vec_len old.content) (vec_len new.content) state.rows grows p.fits; split = λ simply. let l = p.split simply in subst (λ h. length h.items ≤ simple_head_size) (sym head) l; ordered = p.ordered }
+  pub places_grown : (state : State K) (old new : Pending) → vec_len old.content ≤ vec_len new.content → new.head ≡ old.head → new.came ≡ old.came → IsKept new → PlacesAt state old → PlacesAt state new
+  places_grown state old new grows head came kept p =
+      record { kept = kept; fits = fits_more (vec_len old.content) (vec_len new.content) state.rows grows p.fits; split = λ simply. let l = p.split simply in subst (λ h. length h.items ≤ simple_head_size) (sym head) l; ordered = p.ordered; front = λ some. let l = p.front (subst (λ (n : ℕ). 0 < n) came some) in subst (λ h. front_size (replies_in state) ≤ length h.items) (sym head) l }
 
   pub places_issued : (command : Command K) (old new : State K) (pending : Pending) → new ≡ issued command old → (is_read command.kind ≡ true → command.length ≤ vec_len pending.content) → PlacesAt old pending → PlacesAt new pending
   places_issued command old new pending is fits p = subst (λ s. PlacesAt s pending) (sym is)
-      (record { kept = p.kept; fits = each_append (λ kind length flight. is_read kind ≡ true → length ≤ vec_len pending.content) old.rows ((old.issued + 1, new_row (request_of old.admitted command)) ∷ []) p.fits (fits, tt); split = p.split; ordered = p.ordered })
+      (record { kept = p.kept; fits = each_append (λ kind length flight. is_read kind ≡ true → length ≤ vec_len pending.content) old.rows ((old.issued + 1, new_row (request_of old.admitted command)) ∷ []) p.fits (fits, tt); split = p.split; ordered = p.ordered; front = p.front })
 
   pub places_as : (old new : State K) (pending : Pending) → new ≡ old → PlacesAt old pending → PlacesAt new pending
   places_as old new pending same p = subst (λ s. PlacesAt s pending) (sym same) p
@@ -83,8 +106,8 @@ module _ {K : Type 0} where
   places_fault steps command (Refused reason buf) old new pending before after f p = subst (λ (m : Machine K). PlacesAt m.known pending) (sym f.2.machine) p
 
   pub places_retired : (result : Completed) (cookie : ℕ) (old : Connection K) (commands : Commands K) (pending : Pending) → commands ≡ taking_result result cookie old.commands → PlacesAt (state_of old) pending → PlacesAt (state_of (record old { commands = commands })) pending
-  places_retired (Done bytes) cookie old commands pending is p = subst (λ c. PlacesAt (state_of (record old { commands = c })) pending) (sym is) (record { kept = p.kept; fits = each_without (λ kind length flight. is_read kind ≡ true → length ≤ vec_len pending.content) cookie old.commands.rows p.fits; split = p.split; ordered = p.ordered })
-  places_retired (Failed error bytes) cookie old commands pending is p = subst (λ c. PlacesAt (state_of (record old { commands = c })) pending) (sym is) (record { kept = p.kept; fits = each_without (λ kind length flight. is_read kind ≡ true → length ≤ vec_len pending.content) cookie old.commands.rows p.fits; split = p.split; ordered = p.ordered })
+  places_retired (Done bytes) cookie old commands pending is p = subst (λ c. PlacesAt (state_of (record old { commands = c })) pending) (sym is) (record { kept = p.kept; fits = each_without (λ kind length flight. is_read kind ≡ true → length ≤ vec_len pending.content) cookie old.commands.rows p.fits; split = p.split; ordered = p.ordered; front = p.front })
+  places_retired (Failed error bytes) cookie old commands pending is p = subst (λ c. PlacesAt (state_of (record old { commands = c })) pending) (sym is) (record { kept = p.kept; fits = each_without (λ kind length flight. is_read kind ≡ true → length ≤ vec_len pending.content) cookie old.commands.rows p.fits; split = p.split; ordered = p.ordered; front = p.front })
   places_retired NotYet cookie old commands pending is p = subst (λ c. PlacesAt (state_of (record old { commands = c })) pending) (sym is) p
   places_retired NoSuchCookie cookie old commands pending is p = subst (λ c. PlacesAt (state_of (record old { commands = c })) pending) (sym is) p
 
@@ -97,7 +120,7 @@ module _ {K : Type 0} where
   -- An option is asked, so no command is.
   pub places_asked : (option : ℕ) (old new : State K) (pending : Pending) → new ≡ turned (Opted option) old → PlacesAt old pending → PlacesAt new pending
   places_asked option old new pending is p = subst (λ s. PlacesAt s pending) (sym is)
-      (record { kept = p.kept; fits = p.fits; split = λ simply. let c : phase.Asked option ≡ phase.Ready = simply.ready in absurd (other c); ordered = p.ordered })
+      (record { kept = p.kept; fits = p.fits; split = λ simply. let c : phase.Asked option ≡ phase.Ready = simply.ready in absurd (other c); ordered = p.ordered; front = p.front })
     where
       other : phase.Asked option ≡ phase.Ready → ⊥
       other e = cc
@@ -110,10 +133,10 @@ module _ {K : Type 0} where
   -- Bytes arrived.
   pub places_arrived : {World : Type 0} (steps : World → List (Call K) → World → Type 0) (old new : Connection K) (pending now : Pending) (bytes : List ℕ) (before after : World) (result : Result (Unit {0}) Short) →
       Arrives steps old (held_in pending) before bytes result new (held_in now) after → IsKept now → vec_len now.content ≡ vec_len pending.content →
-      (RepliesSimply new.stage new.talk.phase new.talk.structured new.talk.extended → length now.head.items ≤ simple_head_size) → PlacesAt (state_of old) pending → PlacesAt (state_of new) now
-  places_arrived steps old new pending now bytes before after result a kept room split p =
+      (RepliesSimply new.stage new.talk.phase new.talk.structured new.talk.extended → length now.head.items ≤ simple_head_size) → IsBehindFront new.talk.structured new.talk.extended now → PlacesAt (state_of old) pending → PlacesAt (state_of new) now
+  places_arrived steps old new pending now bytes before after result a kept room split front p =
       let l = lasts result a in
-      record { kept = kept; fits = subst (λ n. ReadsFit n new.commands.rows) (sym room) l.0; split = split; ordered = l.1 }
+      record { kept = kept; fits = subst (λ n. ReadsFit n new.commands.rows) (sym room) l.0; split = split; ordered = l.1; front = front }
     where
       lasts : (r : Result (Unit {0}) Short) → Arrives steps old (held_in pending) before bytes r new (held_in now) after → ReadsFit (vec_len pending.content) new.commands.rows × AreOrdered new.talk.structured new.talk.extended
       lasts (Ok done) a = runs_lasting (λ kind length flight. is_read kind ≡ true → length ≤ vec_len pending.content) steps bytes (machine_of old (held_in pending)) (machine_of new (held_in now)) before after a (p.fits, p.ordered)

@@ -10,7 +10,7 @@ use Rattle.lnbd_history.specs.declared.kinds.Stage.{Stage}
 use Rattle.lnbd_history.specs.Commands.{Flight}
 use Rattle.lnbd_machine.specs.Machine.{Row, State}
 use Rattle.lnbd_machine.specs.Now.{state_now}
-use Rattle.lnbd_arrivals.specs.Frames.{front_size}
+use Rattle.lnbd_arrivals.specs.Frames.{front_size, replies_by}
 use Rattle.lnbd_arrivals.specs.declared.announced.Announced.{Announced}
 use Rattle.lnbd_arrivals.specs.declared.replies.Replies.TheVariants.{Extended}
 use Rattle.lnbd_handle.specs.declared.pending.Pending.{Pending}
@@ -47,6 +47,10 @@ abbrev pub AreWithin : Option Announced → Pending → List ℕ → Type 0
 AreWithin None pending front = IsHeadWithin pending front
 AreWithin (Some announced) pending front = pending.came + length front ≤ announced.size
 
+-- Data are held behind all that stands before them.
+abbrev pub IsBehindFront : (structured extended : Bool) → Pending → Type 0
+IsBehindFront structured extended pending = 0 < pending.came → front_size (replies_by structured extended) ≤ length pending.head.items
+
 module _ {K : Type 0} where
   abbrev pub IfFlies : (Kind → ℕ → Flight K → Type 0) → Kind → ℕ → Option (Flight K) → Type 0
   IfFlies holds kind length None = Unit {0}
@@ -71,6 +75,7 @@ module _ {K : Type 0} where
     pub fits : ReadsFit (vec_len pending.content) rows
     pub split : RepliesSimply stage phase structured extended → length pending.head.items ≤ simple_head_size
     pub ordered : AreOrdered structured extended
+    pub front : IsBehindFront structured extended pending
 
   -- Simple replies alone come, and no chunk callback makes a note.
   abbrev pub IsQuiet : State K → Type 0

@@ -9,7 +9,7 @@ use Rattle.lnbd_machine.specs.Machine.{State, Doing, table_rules, sight, waited}
 use Rattle.lnbd_arrivals.specs.declared.announced.Announced.{Announced}
 use Rattle.lnbd_arrivals.specs.declared.replies.Replies.{Replies}
 use Rattle.lnbd_arrivals.specs.declared.replies.Replies.TheVariants.{Simple}
-use Rattle.lnbd_arrivals.specs.Frames.{Announces, shows_by}
+use Rattle.lnbd_arrivals.specs.Frames.{Announces, replies_by, shows_by}
 use Rattle.lnbd_handle.specs.declared.connection.Connection.{Connection}
 use Rattle.lnbd_handle.specs.declared.kinds.Turn.{Turn}
 use Rattle.lnbd_handle.specs.declared.kinds.Turn.TheVariants as turn
@@ -59,6 +59,7 @@ module _ {K : Type 0} where
     pub ready : c.talk.phase ≡ phase.Ready
     pub replies : Replies
     pub agreed : AreAgreed c replies
+    pub is : replies ≡ replies_by c.talk.structured c.talk.extended
     pub simple : c.talk.structured ≡ false → c.talk.extended ≡ false → replies ≡ Simple
     pub announces : Announces replies (waited (state_of c)) front announced
 

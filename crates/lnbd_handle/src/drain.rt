@@ -8,7 +8,7 @@ ghost use Rattle.lnbd_commands.specs.Flights.{has_first};
 ghost use Rattle.lnbd_commands.specs.Rows.{flight_of_row};
 ghost use Rattle.lnbd_commands.specs.Takes.{IsReply, TakesReply};
 ghost use Rattle.lnbd_handle.specs.Held.{held_in};
-ghost use Rattle.lnbd_handle.specs.Room.{AreOrdered, AreWithin, HasPlaces, IsCalm, IsHeadWithin, IsKept, IsQuiet, NoneHears, ReadsFit, RepliesSimply};
+ghost use Rattle.lnbd_handle.specs.Room.{AreOrdered, AreWithin, HasPlaces, IsBehindFront, IsCalm, IsHeadWithin, IsKept, IsQuiet, NoneHears, ReadsFit, RepliesSimply};
 ghost use Rattle.lnbd_handle.specs.Seen.{IsSound, machine_of, state_of};
 ghost use Rattle.lnbd_handle.specs.Turns.{Arrives, Brings, Drained, HoldMeans, ShowsNothing, is_speaking};
 ghost use Rattle.lnbd_machine.specs.Laws.{IsPartial};
@@ -48,6 +48,7 @@ fn drain<K: Caller>(connection: &mut Connection<K>, world: &mut K::World, buffer
 }
 
 /// Takes bytes where none are held: records straight from what arrived.
+#[tactic(auto, using(crate::proofs::PlacesLemmas::empty_behind))]
 pub(crate) fn take_fresh<K: Caller>(
     connection: &mut Connection<K>,
     pending: &mut Pending,
@@ -64,6 +65,7 @@ pub(crate) fn take_fresh<K: Caller>(
     ensures kept { IsKept pending.new }
     ensures room { vec_len pending.new.content ≡ vec_len pending.old.content }
     ensures split { RepliesSimply connection.new.stage connection.new.talk.phase connection.new.talk.structured connection.new.talk.extended → length pending.new.head.items ≤ simple_head_size }
+    ensures front { IsBehindFront connection.new.talk.structured connection.new.talk.extended pending.new }
     ensures memory { IsCalm (state_of connection.old) → IsOk result }
 {
     let taken = drain(connection, world, bytes);
@@ -78,6 +80,7 @@ pub(crate) fn take_fresh<K: Caller>(
 }
 
 /// Holds the front of a record, where nothing is held: of a reply that brings data to a read the data apart.
+#[tactic(auto, using(crate::proofs::PlacesLemmas::held_behind, crate::proofs::HeadLemmas::head_behind))]
 fn hold_rest<K>(
     connection: &Connection<K>,
     pending: &mut Pending,
@@ -92,6 +95,7 @@ fn hold_rest<K>(
     ensures kept { IsKept pending.new }
     ensures room { vec_len pending.new.content ≡ vec_len pending.old.content }
     ensures split { RepliesSimply connection.now.stage connection.now.talk.phase connection.now.talk.structured connection.now.talk.extended → length pending.new.head.items ≤ simple_head_size }
+    ensures front { IsBehindFront connection.now.talk.structured connection.now.talk.extended pending.new }
     ensures memory { (is_speaking connection.now.stage ≡ true → RepliesSimply connection.now.stage connection.now.talk.phase connection.now.talk.structured connection.now.talk.extended) → IsOk result }
 {
     let (front, data) = rest.split_at(rest.len().min(front_size(connection)));
@@ -140,6 +144,7 @@ fn hold_front<K: Caller>(
 }
 
 /// The same of whatever is held.
+#[tactic(auto, using(crate::proofs::PlacesLemmas::none_behind, crate::proofs::PlacesLemmas::same_behind))]
 fn hold_record<K: Caller>(
     connection: &mut Connection<K>,
     pending: &mut Pending,
@@ -156,14 +161,16 @@ fn hold_record<K: Caller>(
     ensures room { vec_len pending.new.content ≡ vec_len pending.old.content }
     ensures memory { IsCalm (state_of connection.old) → IsHeadWithin pending.old front.now → result ≢ Holding.Short }
     ensures head { IsHeadWithin pending.old front.now → length pending.new.head.items ≤ simple_head_size }
+    ensures front { IsBehindFront connection.old.talk.structured connection.old.talk.extended pending.old → IsBehindFront connection.new.talk.structured connection.new.talk.extended pending.new }
 {
-    if pending.join().is_err() {
+    let Ok(()) = pending.join() else {
         return Holding::Short;
-    }
+    };
     hold_front(connection, &mut pending.head, world, front)
 }
 
 /// Holds data of a reply, and takes the reply that ends in them.
+#[tactic(auto, using(crate::proofs::PlacesLemmas::none_behind, crate::proofs::HeadLemmas::put_behind))]
 fn hold_content<K: Caller>(
     connection: &mut Connection<K>,
     pending: &mut Pending,
@@ -184,6 +191,7 @@ fn hold_content<K: Caller>(
     ensures room { vec_len pending.new.content ≡ vec_len pending.old.content }
     ensures memory { IsCalm (state_of connection.old) → result ≢ Holding.Short }
     ensures head { length pending.new.head.items ≤ length pending.old.head.items }
+    ensures front { IsBehindFront connection.old.talk.structured connection.old.talk.extended pending.old → IsBehindFront connection.new.talk.structured connection.new.talk.extended pending.new }
 {
     let before = pending.came;
     pending.put(front);
@@ -230,6 +238,7 @@ fn hold<K: Caller>(
     ensures room { vec_len pending.new.content ≡ vec_len pending.old.content }
     ensures memory { IsCalm (state_of connection.old) → AreWithin announced pending.old front.now → result ≢ Holding.Short }
     ensures split { length pending.old.head.items ≤ simple_head_size → AreWithin announced pending.old front.now → length pending.new.head.items ≤ simple_head_size }
+    ensures front { IsBehindFront connection.old.talk.structured connection.old.talk.extended pending.old → IsBehindFront connection.new.talk.structured connection.new.talk.extended pending.new }
 {
     match announced {
         Some(announced) if fits(pending, front, announced.size) => {
@@ -264,6 +273,7 @@ pub(crate) fn take_behind<K: Caller>(
     ensures kept { IsKept pending.new }
     ensures room { vec_len pending.new.content ≡ vec_len pending.old.content }
     ensures split { RepliesSimply connection.new.stage connection.new.talk.phase connection.new.talk.structured connection.new.talk.extended → length pending.new.head.items ≤ simple_head_size }
+    ensures front { IsBehindFront connection.new.talk.structured connection.new.talk.extended pending.new }
     ensures memory { IsQuiet (state_of connection.old) → IsOk result }
 {
     let mut used = 0;

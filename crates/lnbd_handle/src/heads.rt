@@ -4,6 +4,8 @@
 ghost use Rattle.std.specs.Prelude.{◌≡◌, ◌<◌, ◌≤◌, ◌++◌, ℕ, List, IfSome, length, true, false};
 ghost use Rattle.std.specs.Option.{IsSomeAnd};
 ghost use Rattle.lnbd_records.specs.Transmission.{simple_head_size};
+ghost use Rattle.lnbd_arrivals.specs.Frames.{front_size, replies_by};
+ghost use Rattle.lnbd_handle.specs.Placing.{announced_at};
 ghost use Rattle.lnbd_handle.specs.Room.{ReadsFit, RepliesSimply};
 ghost use Rattle.lnbd_handle.specs.Seen.{state_of};
 ghost use Rattle.lnbd_handle.specs.Turns.{Brings, ShowsNothing, is_speaking};
@@ -31,12 +33,14 @@ fn is_speaking(stage: Stage) -> bool
 pub(crate) fn front_size<K>(connection: &Connection<K>) -> usize
     ensures least { simple_head_size ≤ result }
     ensures simple { connection.now.talk.structured ≡ false → connection.now.talk.extended ≡ false → result ≡ simple_head_size }
+    ensures is { result ≡ front_size (replies_by connection.now.talk.structured connection.now.talk.extended) }
 {
     replies_of(connection).front_size()
 }
 
 /// The reply that brings data to a read, of which these bytes are all that stands before the data.
 pub(crate) fn announced_in<K>(connection: &Connection<K>, front: &[u8]) -> Option<Announced>
+    ensures exact { result ≡ announced_at (state_of connection.now) front.now }
     ensures brings { IfSome result (λ announced. Brings connection.now front.now announced) }
     ensures fits { (size : ℕ) → ReadsFit size connection.now.commands.rows → IfSome result (λ announced. announced.size ≤ size) }
 

@@ -53,6 +53,7 @@ impl Pending {
         requires { IsKept self.old }
         ensures empty { held_in self.new ≡ [] }
         ensures head { self.new.head.items ≡ [] }
+        ensures none { self.new.came ≡ 0 }
         ensures kept { IsKept self.new }
         ensures room { self.new.content ≡ self.old.content }
     {
@@ -64,6 +65,7 @@ impl Pending {
     pub(crate) fn join(&mut self) -> Result<(), NoMemory>
         requires { IsKept self.old }
         ensures ok { OnOk result (self.new.came ≡ 0) }
+        ensures err { OnErr result ((self.new.came ≡ self.old.came) × (self.new.head.items ≡ self.old.head.items)) }
         ensures same { held_in self.new ≡ held_in self.old }
         ensures kept { IsKept self.new }
         ensures room { self.new.content ≡ self.old.content }
@@ -89,6 +91,7 @@ impl Pending {
         ensures kept { IsKept self.new }
         ensures room { self.new.content ≡ self.old.content }
         ensures head { length self.new.head.items ≤ length front.now }
+        ensures came { self.new.came ≡ self.old.came }
         ensures memory { length front.now ≤ simple_head_size → IsOk result }
     {
         self.head.extend_from_slice(front)?;
@@ -134,6 +137,7 @@ impl Pending {
         requires { IsKept self.old }
         ensures held { held_in self.new ≡ held_in self.old }
         ensures head { self.new.head ≡ self.old.head }
+        ensures came { self.new.came ≡ self.old.came }
         ensures kept { IsKept self.new }
         ensures ok { OnOk result (size ≤ vec_len self.new.content) }
         ensures grows { vec_len self.old.content ≤ vec_len self.new.content }

@@ -136,6 +136,24 @@ impl Session {
         taken
     }
 
+    /// Hands in bytes one by one, in the place where the handle has one. Tells how many came there.
+    fn feed_in_place(&mut self, bytes: &[u8]) -> Option<usize> {
+        let mut placed: usize = 0;
+        for byte in bytes {
+            let place = self.handle.place();
+            if place.is_empty() {
+                if !self.feed(&[*byte]) {
+                    return None;
+                }
+            } else {
+                place[0] = *byte;
+                self.handle.placed(1);
+                placed = placed.saturating_add(1);
+            }
+        }
+        Some(placed)
+    }
+
     /// Whether this is offered next; it is taken.
     fn writes(&mut self, wanted: &[u8]) -> bool {
         let out = self.handle.out();

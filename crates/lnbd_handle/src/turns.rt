@@ -12,7 +12,7 @@ ghost use Rattle.lnbd_handle.specs.Seen.{IsSound, state_of};
 ghost use Rattle.lnbd_handle.specs.Turns.{AreAgreed, TurnMeans, is_speaking, takes_options};
 ghost use Rattle.lnbd_handle.specs.Room.{IsCalm, IsQuiet};
 ghost use Rattle.lnbd_arrivals.specs.declared.replies.Replies.TheVariants.{Simple};
-ghost use Rattle.lnbd_arrivals.specs.Frames.{IsChunk};
+ghost use Rattle.lnbd_arrivals.specs.Frames.{IsChunk, replies_by};
 
 use crate::aborting::turn_aborting;
 use crate::connection::Connection;
@@ -143,6 +143,7 @@ pub(crate) fn waiting_at<K>(connection: &Connection<K>, rest: &[u8]) -> Option<W
 pub(crate) fn replies_of<K>(connection: &Connection<K>) -> Replies
     ensures agreed { AreAgreed connection.now result }
     ensures simple { connection.now.talk.structured ≡ false → connection.now.talk.extended ≡ false → result ≡ Simple }
+    ensures is { result ≡ replies_by connection.now.talk.structured connection.now.talk.extended }
 {
     Replies::agreed(connection.talk.structured(), connection.talk.extended())
 }

@@ -176,36 +176,61 @@ fn a_read_with_a_gap_fails(rt: HostRuntime) -> Result<(), Fail> {
     Ok(())
 }
 
-// A read of four bytes: all at once; its end and then its beginning; its end and then all, which is over what was told.
+/// Chunks to a read of four bytes, how many of their data have a place, and what the read comes to.
+struct Line<'a> {
+    extended: bool,
+    chunks: &'a [u8],
+    placed: usize,
+    error: u32,
+    bytes: &'a [u8],
+}
+
+// All at once; the end and then the beginning; the end and then all, which is over what was told.
+const LINES: [Line<'static>; 3] = [
+    Line {
+        extended: true,
+        chunks: b"\x6e\x8a\x27\x8c\0\x01\0\x01\0\0\0\0\0\0\0\x01\0\0\0\0\0\0\0\0\0\0\0\0\0\0\0\x0c\0\0\0\0\0\0\0\0abcd",
+        placed: 3,
+        error: 0,
+        bytes: b"abcd",
+    },
+    Line {
+        extended: false,
+        chunks: b"\x66\x8e\x33\xef\0\0\0\x01\0\0\0\0\0\0\0\x01\0\0\0\x0a\0\0\0\0\0\0\0\x02cd\
+\x66\x8e\x33\xef\0\x01\0\x01\0\0\0\0\0\0\0\x01\0\0\0\x0a\0\0\0\0\0\0\0\0ab",
+        placed: 2,
+        error: 0,
+        bytes: b"abcd",
+    },
+    Line {
+        extended: false,
+        chunks: b"\x66\x8e\x33\xef\0\0\0\x01\0\0\0\0\0\0\0\x01\0\0\0\x0a\0\0\0\0\0\0\0\x02cd\
+\x66\x8e\x33\xef\0\x01\0\x01\0\0\0\0\0\0\0\x01\0\0\0\x0c\0\0\0\0\0\0\0\0abcd",
+        placed: 1,
+        error: 71,
+        bytes: &[0; 4],
+    },
+];
+
 #[test]
 fn data_of_chunks_come_byte_by_byte(rt: HostRuntime) -> Result<(), Fail> {
-    let lines: [(bool, &[u8], u32, &[u8]); 3] = [
-        (
-            true,
-            b"\x6e\x8a\x27\x8c\0\x01\0\x01\0\0\0\0\0\0\0\x01\0\0\0\0\0\0\0\0\0\0\0\0\0\0\0\x0c\0\0\0\0\0\0\0\0abcd",
-            0,
-            b"abcd",
-        ),
-        (
-            false,
-            b"\x66\x8e\x33\xef\0\0\0\x01\0\0\0\0\0\0\0\x01\0\0\0\x0a\0\0\0\0\0\0\0\x02cd\
-\x66\x8e\x33\xef\0\x01\0\x01\0\0\0\0\0\0\0\x01\0\0\0\x0a\0\0\0\0\0\0\0\0ab",
-            0,
-            b"abcd",
-        ),
-        (
-            false,
-            b"\x66\x8e\x33\xef\0\0\0\x01\0\0\0\0\0\0\0\x01\0\0\0\x0a\0\0\0\0\0\0\0\x02cd\
-\x66\x8e\x33\xef\0\x01\0\x01\0\0\0\0\0\0\0\x01\0\0\0\x0c\0\0\0\0\0\0\0\0abcd",
-            71,
-            &[0; 4],
-        ),
-    ];
-    for (extended, chunks, error, bytes) in lines {
-        let mut session = Session::chunked(&rt, rt.alloc(), extended)?;
+    for line in &LINES {
+        let mut session = Session::chunked(&rt, rt.alloc(), line.extended)?;
         assert_eq!(rt; session.pread_structured(4, 0), 1);
-        assert!(rt; session.feed_by_byte(chunks));
-        assert!(rt; session.came_to(1, error, bytes));
+        assert!(rt; session.feed_by_byte(line.chunks));
+        assert!(rt; session.came_to(1, line.error, line.bytes));
+        assert_eq!(rt; session.close(), (2, 2));
+    }
+    Ok(())
+}
+
+#[test]
+fn data_of_chunks_are_received_in_place(rt: HostRuntime) -> Result<(), Fail> {
+    for line in &LINES {
+        let mut session = Session::chunked(&rt, rt.alloc(), line.extended)?;
+        assert_eq!(rt; session.pread_structured(4, 0), 1);
+        assert_eq!(rt; session.feed_in_place(line.chunks), Some(line.placed));
+        assert!(rt; session.came_to(1, line.error, line.bytes));
         assert_eq!(rt; session.close(), (2, 2));
     }
     Ok(())

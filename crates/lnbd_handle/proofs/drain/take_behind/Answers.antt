@@ -3,7 +3,7 @@ use Rattle.std.specs.Prelude.{vec_len}
 use Rattle.std.proofs.lemmas.List.{length-drop, length-take}
 use Rattle.lnbd_model.specs.Kind.{is_read}
 use Rattle.lnbd_handle.specs.Held.{data_in, held_in}
-use Rattle.lnbd_handle.specs.Room.{HasPlaces, IsQuiet, ReadsFit}
+use Rattle.lnbd_handle.specs.Room.{HasPlaces, IsBehindFront, IsQuiet, ReadsFit}
 use Rattle.lnbd_handle.specs.Runs.{Runs}
 use Rattle.lnbd_handle.specs.Seen.{machine_of, state_of}
 use Rattle.lnbd_handle.specs.Turns.{arriving, Arrives, ShowsNothing}
@@ -37,6 +37,7 @@ loop-used-preserved g c =
             (λ whole. c.announced_in-announced.ensures.all (data_in c.loop-used.pending) simply whole (subst (λ h. ShowsNothing (state_of c.loop-used.connection) (h ++ data_in c.loop-used.pending)) (sym c.deref.ensures.value) c.loop-used.invariant.partial)) c.lacking.ensures.data c.lacking.ensures.head
             (omega (arith, ap length c.split_at-in-loop-used.ensures.front, length-take c.min-most.result c.split_at.result.1.now, c.min-most.ensures)));
         ordered = p.ordered;
+        front = subst (λ k. IsBehindFront k.talk.structured k.talk.extended c.hold.new.pending) same (c.in-More.ensures.front p.front);
       });
       partial = means.1;
       so_far = arrives_some g.K.Caller.steps g.met.K.Caller.empty g.met.K.Caller.append (machine_of c.args.connection.now (held_in c.args.pending.now)) now next c.args.world.now c.loop-used.world c.hold.new.world c.args.bytes.now c.loop-used.used c.loop-used.invariant.so_far

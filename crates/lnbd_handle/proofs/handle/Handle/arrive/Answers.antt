@@ -15,7 +15,7 @@ invariant_of-self g c = (
   c.take_fresh.ensures.sound,
   arrives_partial g.K.Caller.steps c.self.inside.connection c.take_fresh.new.connection (held_in c.self.inside.pending) (held_in c.take_fresh.new.pending) c.args.bytes.now c.args.world.now c.take_fresh.new.world c.take_fresh.result
       c.take_fresh.ensures.arrives c.self.invariant.1,
-  places_arrived g.K.Caller.steps c.self.inside.connection c.take_fresh.new.connection c.self.inside.pending c.take_fresh.new.pending c.args.bytes.now c.args.world.now c.take_fresh.new.world c.take_fresh.result c.take_fresh.ensures.arrives c.take_fresh.ensures.kept c.take_fresh.ensures.room c.take_fresh.ensures.split c.self.invariant.2,
+  places_arrived g.K.Caller.steps c.self.inside.connection c.take_fresh.new.connection c.self.inside.pending c.take_fresh.new.pending c.args.bytes.now c.args.world.now c.take_fresh.new.world c.take_fresh.result c.take_fresh.ensures.arrives c.take_fresh.ensures.kept c.take_fresh.ensures.room c.take_fresh.ensures.split c.take_fresh.ensures.front c.self.invariant.2,
 )
 
 pub invariant_of-self-else-is_empty : goal.invariant_of-self-else-is_empty
@@ -23,7 +23,7 @@ invariant_of-self-else-is_empty g c = (
   c.take_behind.ensures.sound,
   arrives_partial g.K.Caller.steps c.self.inside.connection c.take_behind.new.connection (held_in c.self.inside.pending) (held_in c.take_behind.new.pending) c.args.bytes.now c.args.world.now c.take_behind.new.world c.take_behind.result
       c.take_behind.ensures.arrives c.self.invariant.1,
-  places_arrived g.K.Caller.steps c.self.inside.connection c.take_behind.new.connection c.self.inside.pending c.take_behind.new.pending c.args.bytes.now c.args.world.now c.take_behind.new.world c.take_behind.result c.take_behind.ensures.arrives c.take_behind.ensures.kept c.take_behind.ensures.room c.take_behind.ensures.split c.self.invariant.2,
+  places_arrived g.K.Caller.steps c.self.inside.connection c.take_behind.new.connection c.self.inside.pending c.take_behind.new.pending c.args.bytes.now c.args.world.now c.take_behind.new.world c.take_behind.result c.take_behind.ensures.arrives c.take_behind.ensures.kept c.take_behind.ensures.room c.take_behind.ensures.split c.take_behind.ensures.front c.self.invariant.2,
 )
 
 pub returns-then-is_empty-clause-ok : goal.returns-then-is_empty-clause-ok
