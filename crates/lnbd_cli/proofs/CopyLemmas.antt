@@ -15,6 +15,7 @@ use Rattle.lnbd_plan.specs.declared.fault.CopyFault.TheVariants as copying
 use Rattle.lnbd_course.specs.Asks.{GrewBy, HasAskedOnce, WereDone}
 use Rattle.lnbd_course.specs.Copied.{Copies}
 use Rattle.lnbd_copy.specs.Copier as copier
+use Rattle.lnbd_copy.specs.Grounds.{IsGrounded}
 use Rattle.lnbd_cli.specs.declared.copying.Uncopied.{Uncopied}
 use Rattle.lnbd_cli.specs.declared.copying.Uncopied.TheVariants as why
 use Rattle.lnbd_cli.specs.Informs.{IsInfo, spelled}
@@ -141,3 +142,9 @@ pub done_by : (seen : copier.Seen) (from to : Place) (options : CopyOptions) (a 
     (seen.from ≢ seen.to → GrewBy (WereDone seen.from seen.to) a b) → from ≢ to → GrewBy (WereDone from to) a b
 done_by seen from to options a b what run two =
     subst (λ (p : Place). GrewBy (WereDone from p) a b) what.2 (subst (λ (p : Place). GrewBy (WereDone p seen.to) a b) what.1 (run (λ e. two (sym what.1 ∙ e ∙ what.2))))
+
+-- On which grounds it failed.
+pub grounded_by : (seen : copier.Seen) (from to : Place) (options : CopyOptions) (a b : Option (List Call)) (fault : CopyFault) → (seen.options ≡ options) × (seen.from ≡ from) × (seen.to ≡ to) →
+    IsGrounded a b seen.from seen.to fault → IsGrounded a b from to fault
+grounded_by seen from to options a b fault what shown =
+    subst (λ (p : Place). IsGrounded a b from p fault) what.2 (subst (λ (p : Place). IsGrounded a b p seen.to fault) what.1 shown)

@@ -12,6 +12,7 @@ use Rattle.lnbd_args.specs.declared.asked.Asked.TheVariants as asked
 use Rattle.lnbd_args.specs.Tools.{Asks, IsMisplaced, Reads, Wanted}
 use Rattle.lnbd_course.specs.Asks.{GrewBy, HasAskedOnce, WereDone}
 use Rattle.lnbd_course.specs.Copied.{Copies}
+use Rattle.lnbd_copy.specs.Grounds.{IsGrounded}
 use Rattle.lnbd_cli.specs.declared.copying.Transfer.{Transfer}
 use Rattle.lnbd_cli.specs.declared.copying.Uncopied.{Uncopied}
 use Rattle.lnbd_cli.specs.declared.copying.Uncopied.TheVariants as why
@@ -90,12 +91,17 @@ pub record HasCopied (words : List (String Global)) (told told' : Option (List C
   pub once : asked.transfer.from ≢ asked.transfer.to → GrewBy (HasAskedOnce asked.transfer.options.allocated asked.transfer.from asked.transfer.to) told told'
   pub done : asked.transfer.from ≢ asked.transfer.to → GrewBy (WereDone asked.transfer.from asked.transfer.to) told told'
 
+-- What the words ask to be copied did not come to its end, for a fault on the grounds that the calls show by which this transcript grew.
+pub record HasFailed (words : List (String Global)) (told told' : Option (List Call)) (fault : CopyFault) : Type 0 where
+  pub asked : IsTransfer words
+  pub grounds : IsGrounded told told' asked.transfer.from asked.transfer.to fault
+
 -- What the end of a run tells of the words and of the calls; the last says that nothing was called.
 abbrev pub CopyEnds : Result (Unit {0}) Uncopied → List (String Global) → (told told' : Option (List Call)) → (Uncalled : Type 0) → Type 0
 CopyEnds (Err why.Usage) words told told' Uncalled = ((wanted : Wanted) → ¬ Reads (spelled words) wanted) × Uncalled
 CopyEnds (Err (why.Uri fault)) words told told' Uncalled = IsMisplaced (spelled words) fault × Uncalled
 CopyEnds (Err why.NoMemory) words told told' Uncalled = Uncalled
-CopyEnds (Err (why.Copied fault)) words told told' Uncalled = IsTransfer words
+CopyEnds (Err (why.Copied fault)) words told told' Uncalled = HasFailed words told told' fault
 CopyEnds (Ok done) words told told' Uncalled = HasCopied words told told'
 
 -- A run of nbdcopy ended so, and its line was printed, unless that found no memory.

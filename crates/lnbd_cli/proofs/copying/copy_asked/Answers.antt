@@ -8,3 +8,9 @@ returns-in-Ok-copy-clause-ends g c = record {
   once = c.in-Ok-copy.ensures.once;
   done = c.in-Ok-copy.ensures.done;
 }
+
+pub returns-in-Err-copy-clause-ends : goal.returns-in-Err-copy-clause-ends
+returns-in-Err-copy-clause-ends g c = record {
+  asked = record { wish = c.in-Ok.wish; transfer = c.in-Some.what; asks = c.in-Ok.ensures.asked; is = sym c.in-Some.ensures };
+  grounds = c.in-Err-copy.ensures.grounds;
+}
