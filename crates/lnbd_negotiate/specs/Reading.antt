@@ -1,7 +1,11 @@
 -- What an option reply at the front of some bytes shows, and what its data tells.
 use Rattle.std.specs.Prelude.{◌^◌, nat_lt, if◌then◌else◌, ◌≡◌, ℕ, ◌+◌, ◌≤◌, Bool, true, ◌&&◌, List, length, take, drop, Option, Some, None, nat_le}
-use Rattle.lnbd_model.specs.declared.breach.Breach.TheVariants.{NotFixed, SizeTooBig}
+use Rattle.lnbd_model.specs.declared.breach.Breach.TheVariants.{BadOptionMagic, NotFixed, SizeTooBig}
 use Rattle.lnbd_records.specs.Numbers.{number_at}
+use Rattle.lnbd_records.specs.Handshake.{option_reply_magic}
+use Rattle.lnbd_options.specs.declared.head.OptionHead.{OptionHead}
+use Rattle.lnbd_options.specs.declared.head.Read64.{Read64}
+use Rattle.lnbd_options.specs.declared.head.Read64.TheVariants.{Value, NeedMore, BadMagic}
 use Rattle.lnbd_stream.specs.Grammar.{wants}
 use Rattle.lnbd_history.specs.declared.kinds.Phase.{Phase}
 use Rattle.lnbd_history.specs.Arrivals.{Shown, Hello, ExportReply, shows_hello, shows_by_name, has_bit, OptionReply, Broken, Sight, shows_option, reply_verdict, is_asked, counts, limit}
@@ -12,6 +16,20 @@ use Rattle.lnbd_negotiate.specs.declared.greeting.Greeted.TheVariants as greeted
 use Rattle.lnbd_negotiate.specs.declared.judge.Ruling.{Ruling}
 use Rattle.lnbd_negotiate.specs.declared.judge.Ruling.TheVariants as ruling
 use Rattle.lnbd_negotiate.specs.Told.{told_of}
+
+-- a whole head of an option reply, by the numbers that stand in the bytes
+pub record IsHeaded (bytes : List ℕ) (head : OptionHead) : Type 0 where
+  pub there : 20 ≤ length bytes
+  pub magic : number_at 0 8 bytes ≡ option_reply_magic
+  pub option : head.option ≡ number_at 8 4 bytes
+  pub kind : head.kind ≡ number_at 12 4 bytes
+  pub size : head.length ≡ number_at 16 4 bytes
+
+-- What was read of it is what the bytes show; of a whole head the option, the type and the length are still to be judged.
+abbrev pub IsHeadRead : List ℕ → Read64 OptionHead → Type 0
+IsHeadRead bytes (Value head) = IsHeaded bytes head
+IsHeadRead bytes NeedMore = (sight : Sight) → shows_option sight bytes ≡ None
+IsHeadRead bytes (BadMagic other) = (sight : Sight) → shows_option sight bytes ≡ Some (Broken BadOptionMagic)
 
 -- What was seen is what the bytes show; of a whole reply the data is still to be read.
 abbrev pub SeenAs : Sight → List ℕ → Seen → Type 0

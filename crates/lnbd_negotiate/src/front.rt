@@ -1,17 +1,14 @@
-//! An option reply at the front of a buffer.
+//! An option reply at the front of a buffer. Its head is read by `lnbd_options`; what is added here depends on the option that is asked.
 
 ghost use Rattle.std.specs.Prelude.{◌≡◌};
 ghost use Rattle.lnbd_records.specs.Requests.{is_info};
 ghost use Rattle.lnbd_history.specs.Arrivals.{Sight, is_asked, is_named};
-ghost use Rattle.lnbd_negotiate.specs.Reading.{SeenAs};
+ghost use Rattle.lnbd_negotiate.specs.Reading.{IsHeadRead, IsHeaded, SeenAs};
 
 use crate::options::{GO, INFO, LIST, SET_META_CONTEXT};
 use lnbd_history::Phase;
 use lnbd_model::Breach;
-use lnbd_options::OptionHead;
-use lnbd_records::{u32_at, u64_at};
-
-const MAGIC: u64 = 0x0003e889045565a9;
+use lnbd_options::{OptionHead, Read64, read_head};
 
 /// The most bytes that a reply's data may have.
 pub const LIMIT: u32 = 65536;
@@ -52,40 +49,42 @@ pub fn is_named(option: u32, kind: u32) -> bool
         || (kind == 4 && option == SET_META_CONTEXT)
 }
 
+/// The head at the front of the bytes.
+fn head_at(bytes: &[u8]) -> Read64<OptionHead>
+    ensures { IsHeadRead bytes.now result }
+{
+    read_head(bytes)
+}
+
 /// What the bytes at the front show, where negotiation stands at this phase (NBD protocol, "Option
 /// haggling").
-#[tactic(auto, unfolding(lnbd_history::specs::Arrivals::shows_option, lnbd_history::specs::Arrivals::reply_verdict, lnbd_stream::specs::Grammar::once, lnbd_stream::specs::Grammar::wants))]
 pub fn look(phase: Phase, bytes: &[u8]) -> Seen
     ensures { (sight : Sight) → sight.phase ≡ phase → SeenAs sight bytes.now result }
 {
-    if bytes.len() < 8 {
-        return Seen::Nothing;
+    match head_at(bytes) {
+        Read64::NeedMore => Seen::Nothing,
+        Read64::BadMagic(_) => Seen::Broken(Breach::BadOptionMagic),
+        Read64::Value(head) => look_reply(phase, head, bytes),
     }
-    let magic = u64_at(bytes, 0);
-    if magic != MAGIC {
-        return Seen::Broken(Breach::BadOptionMagic);
-    }
-    if bytes.len() < 20 {
-        return Seen::Nothing;
-    }
-    let option = u32_at(bytes, 8);
-    let kind = u32_at(bytes, 12);
-    let length = u32_at(bytes, 16);
-    if !is_asked(option, phase) {
+}
+
+/// The same of bytes that begin with this head.
+#[tactic(auto, unfolding(lnbd_history::specs::Arrivals::shows_option, lnbd_history::specs::Arrivals::reply_verdict, lnbd_stream::specs::Grammar::once, lnbd_stream::specs::Grammar::wants))]
+fn look_reply(phase: Phase, head: OptionHead, bytes: &[u8]) -> Seen
+    requires { IsHeaded bytes.now head }
+    ensures { (sight : Sight) → sight.phase ≡ phase → SeenAs sight bytes.now result }
+{
+    if !is_asked(head.option, phase) {
         return Seen::Broken(Breach::WrongOption);
     }
-    if length > LIMIT {
+    if head.length > LIMIT {
         return Seen::Broken(Breach::BadOptionLength);
     }
-    if !is_named(option, kind) {
+    if !is_named(head.option, head.kind) {
         return Seen::Broken(Breach::UnexpectedReply);
     }
-    if bytes.len() - 20 < length as usize {
+    if bytes.len() - 20 < head.length as usize {
         return Seen::Nothing;
     }
-    Seen::Whole(OptionHead {
-        option,
-        kind,
-        length,
-    })
+    Seen::Whole(head)
 }
