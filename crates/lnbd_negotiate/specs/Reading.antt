@@ -1,8 +1,11 @@
 -- What an option reply at the front of some bytes shows, and what its data tells.
-use Rattle.std.specs.Prelude.{◌^◌, nat_lt, if◌then◌else◌, ◌≡◌, ℕ, ◌+◌, ◌≤◌, Bool, true, ◌&&◌, List, length, take, drop, Option, Some, None, nat_le}
-use Rattle.lnbd_model.specs.declared.breach.Breach.TheVariants.{BadOptionMagic, NotFixed, SizeTooBig}
+use Rattle.std.specs.Prelude.{◌^◌, nat_lt, if◌then◌else◌, ◌≡◌, ◌==◌, ℕ, ◌+◌, ◌≤◌, Bool, true, ◌&&◌, List, length, take, drop, Option, Some, None, nat_le}
+use Rattle.lnbd_model.specs.declared.breach.Breach.{Breach}
+use Rattle.lnbd_model.specs.declared.breach.Breach.TheVariants.{BadHello, BadOptionMagic, NotFixed, OldStyle, SizeTooBig}
 use Rattle.lnbd_records.specs.Numbers.{number_at}
-use Rattle.lnbd_records.specs.Handshake.{option_reply_magic}
+use Rattle.lnbd_records.specs.Handshake.{oldstyle_magic, option_reply_magic}
+use Rattle.lnbd_wire.specs.declared.hello.HelloRead.{HelloRead}
+use Rattle.lnbd_wire.specs.declared.hello.HelloRead.TheVariants as read
 use Rattle.lnbd_options.specs.declared.head.OptionHead.{OptionHead}
 use Rattle.lnbd_options.specs.declared.head.Read64.{Read64}
 use Rattle.lnbd_options.specs.declared.head.Read64.TheVariants.{Value, NeedMore, BadMagic}
@@ -62,6 +65,18 @@ GreetedAs bytes greeted.Nothing = shows_hello bytes ≡ None
 GreetedAs bytes (greeted.Broken breach) = shows_hello bytes ≡ Some (Broken breach)
 GreetedAs bytes (greeted.Whole flags) =
     (18 ≤ length bytes) × (shows_hello bytes ≡ wants (has_bit 1 flags) (Broken NotFixed) (Some (Hello flags)))
+
+-- the breach of a second number that is not IHAVEOPT
+abbrev pub second_breach : (second : ℕ) → Breach
+second_breach second = if second == oldstyle_magic then OldStyle else BadHello
+
+-- What was read of it is what the bytes show; of a whole hello the flags are still to be judged, and of another second number which breach it is.
+abbrev pub IsHelloShown : List ℕ → HelloRead → Type 0
+IsHelloShown bytes (read.Value flags) =
+    (18 ≤ length bytes) × (shows_hello bytes ≡ wants (has_bit 1 flags) (Broken NotFixed) (Some (Hello flags)))
+IsHelloShown bytes read.NeedMore = shows_hello bytes ≡ None
+IsHelloShown bytes (read.BadFirst other) = shows_hello bytes ≡ Some (Broken BadHello)
+IsHelloShown bytes (read.BadSecond other) = shows_hello bytes ≡ Some (Broken (second_breach other))
 
 -- What was seen is what the bytes show of the reply to EXPORT_NAME, whose size is still to be judged.
 abbrev pub NamedAs : Bool → List ℕ → Option (ℕ × ℕ) → Type 0

@@ -1,19 +1,15 @@
-//! The two replies that are no option replies: the server's hello, and the reply to EXPORT_NAME.
+//! The two replies that are no option replies: the server's hello, and the reply to EXPORT_NAME. The hello is read by
+//! `lnbd_wire`; what is added here is the breach that another number is.
 
 ghost use Rattle.std.specs.Prelude.{◌≡◌};
 ghost use Rattle.lnbd_history.specs.Arrivals.{shows_hello, shows_by_name};
-ghost use Rattle.lnbd_negotiate.specs.Reading.{GreetedAs, NamedAs};
+ghost use Rattle.lnbd_negotiate.specs.Reading.{GreetedAs, IsHelloShown, NamedAs, second_breach};
 
 use lnbd_model::Breach;
 use lnbd_records::{u16_at, u64_at};
+use lnbd_wire::{HelloRead, read_hello};
 
-/// NBDMAGIC.
-const FIRST: u64 = 0x4e42444d41474943;
-
-/// IHAVEOPT.
-const SECOND: u64 = 0x49484156454f5054;
-
-/// In its place where the server speaks the oldstyle negotiation.
+/// In the place of IHAVEOPT where the server speaks the oldstyle negotiation.
 const OLDSTYLE: u64 = 0x0000420281861253;
 
 /// What the bytes at the front show of a hello.
@@ -27,31 +23,34 @@ pub enum Greeted {
     Broken(Breach),
 }
 
+/// The hello at the front of the bytes.
+fn hello_at(bytes: &[u8]) -> HelloRead
+    ensures { IsHelloShown bytes.now result }
+{
+    read_hello(bytes)
+}
+
+/// The breach of a second number that is not IHAVEOPT.
+fn second_breach(second: u64) -> Breach
+    ensures { result ≡ second_breach second }
+{
+    if second == OLDSTYLE {
+        Breach::OldStyle
+    } else {
+        Breach::BadHello
+    }
+}
+
 /// What the bytes at the front show of the server's hello (NBD protocol, "Fixed newstyle negotiation").
-#[tactic(auto, unfolding(lnbd_history::specs::Arrivals::shows_hello, lnbd_stream::specs::Grammar::once, lnbd_stream::specs::Grammar::wants))]
 pub fn look_hello(bytes: &[u8]) -> Greeted
     ensures { GreetedAs bytes.now result }
 {
-    if bytes.len() < 8 {
-        return Greeted::Nothing;
+    match hello_at(bytes) {
+        HelloRead::NeedMore => Greeted::Nothing,
+        HelloRead::BadFirst(_) => Greeted::Broken(Breach::BadHello),
+        HelloRead::BadSecond(second) => Greeted::Broken(second_breach(second)),
+        HelloRead::Value(flags) => Greeted::Whole(flags),
     }
-    if u64_at(bytes, 0) != FIRST {
-        return Greeted::Broken(Breach::BadHello);
-    }
-    if bytes.len() < 16 {
-        return Greeted::Nothing;
-    }
-    let second = u64_at(bytes, 8);
-    if second == OLDSTYLE {
-        return Greeted::Broken(Breach::OldStyle);
-    }
-    if second != SECOND {
-        return Greeted::Broken(Breach::BadHello);
-    }
-    if bytes.len() < 18 {
-        return Greeted::Nothing;
-    }
-    Greeted::Whole(u16_at(bytes, 16))
 }
 
 /// The size and the transmission flags that the bytes at the front tell, which `Talk::export_told`
