@@ -6,15 +6,7 @@ use Rattle.lnbd_callbacks.specs.Calls.{Call}
 use Rattle.lnbd_callbacks.specs.Calls as call
 use Rattle.lnbd_history.specs.Entries.{Act, Chunk, Extents, Complete, Free, Entry, Filed, Freed, Cleared, acts_of, call_of, calls, free_acts, frees, note_of, notes, own}
 use Rattle.lnbd_script.specs.declared.keeper.Keeper.{Keeper}
-use Rattle.lnbd_script.specs.Kept.{counted_on, freed_by}
-
--- how often a callback was freed
-abbrev pub frees_in : List (Call Keeper) → ℕ
-frees_in [] = 0
-frees_in (call.Free callback ∷ more) = 1 + frees_in more
-frees_in (call.Chunk callback bytes offset status error heard ∷ more) = frees_in more
-frees_in (call.Extents callback context offset entries error heard ∷ more) = frees_in more
-frees_in (call.Complete callback error bytes verdict ∷ more) = frees_in more
+use Rattle.lnbd_script.specs.Kept.{counted_on, freed_by, frees_in}
 
 frees_in_on : (xs ys : List (Call Keeper)) → frees_in (xs ++ ys) ≡ frees_in xs + frees_in ys
 frees_in_on [] ys = omega arith

@@ -1,5 +1,5 @@
 -- What the issue of a command leaves, from what the handle answered.
-use Rattle.std.proofs.Common.{arith, ◌≡◌, ◌∙◌, inl, inr, ℕ, [], length, vec_len, Option, Some, None, Result, Ok, Err, IfOk, OnErr, refl, sym, ap, subst}
+use Rattle.std.proofs.Common.{arith, ◌≡◌, ◌∙◌, inl, inr, ℕ, List, [], length, vec_len, Option, Some, None, Result, Ok, Err, IfOk, OnErr, refl, sym, ap, subst}
 use Rattle.lnbd_model.specs.declared.fault.NoMemory.{NoMemory}
 use Rattle.lnbd_model.specs.declared.refusal.Why.{Why}
 use Rattle.lnbd_history.specs.Commands.{Command}
@@ -25,7 +25,7 @@ use Rattle.lnbd_lines.specs.declared.command.Command.TheVariants as command
 use Rattle.lnbd_lines.specs.declared.command.Manner.{Manner}
 use Rattle.lnbd_script.specs.Kept.{Heeds, Tally, joined, keeper_of}
 use Rattle.lnbd_script.specs.Seen.{Seen, IsAt, adding, issued_in}
-use Rattle.lnbd_script.specs.Lines.{Does as Line_does, Issues, command_of, issue_of}
+use Rattle.lnbd_script.specs.Lines.{Does as Line_does, HasBytes, Issues, command_of, issue_of}
 use Rattle.lnbd_script.specs.Steps.{Answered, Becomes, Issued, IsWorld, Joins, halted, issue_told}
 use Rattle.lnbd_script.proofs.LineLemmas.{quiet, same_at}
 use Rattle.lnbd_script.proofs.SeenLemmas.{add, add_with}
@@ -35,15 +35,15 @@ abbrev after_issue : Session → Handled Keeper → Heeded → Session
 after_issue old handle heeded = record { handle = handle; link = old.link; heeded = heeded; first = old.first }
 
 -- so many bytes go out as a write says
-has_bytes : (keeper : Keeper) (asking : Asked) → HasItsBytes (command_of keeper asking)
-has_bytes keeper (command.Pread range) = λ writes. absurd (false≢true writes)
-has_bytes keeper (command.PreadStructured range) = λ writes. absurd (false≢true writes)
-has_bytes keeper (command.Pwrite payload offset flags) = λ writes. refl
-has_bytes keeper (command.Flush flags) = λ writes. absurd (false≢true writes)
-has_bytes keeper (command.Trim range) = λ writes. absurd (false≢true writes)
-has_bytes keeper (command.Zero range) = λ writes. absurd (false≢true writes)
-has_bytes keeper (command.Cache range) = λ writes. absurd (false≢true writes)
-has_bytes keeper (command.BlockStatus range) = λ writes. absurd (false≢true writes)
+has_bytes : (keeper : Keeper) (bytes : List ℕ) (asking : Asked) → HasItsBytes (command_of keeper bytes asking)
+has_bytes keeper bytes (command.Pread range) = λ writes. absurd (false≢true writes)
+has_bytes keeper bytes (command.PreadStructured range) = λ writes. absurd (false≢true writes)
+has_bytes keeper bytes (command.Pwrite payload offset flags) = λ writes. refl
+has_bytes keeper bytes (command.Flush flags) = λ writes. absurd (false≢true writes)
+has_bytes keeper bytes (command.Trim range) = λ writes. absurd (false≢true writes)
+has_bytes keeper bytes (command.Zero range) = λ writes. absurd (false≢true writes)
+has_bytes keeper bytes (command.Cache range) = λ writes. absurd (false≢true writes)
+has_bytes keeper bytes (command.BlockStatus range) = λ writes. absurd (false≢true writes)
 
 -- A session stands where it stood, with a world of which the same is said.
 pub same_world : (seen : Seen) (old : Session) (heeded : Heeded) → IsAt seen old → IsWorld (λ t. t) old.heeded heeded → IsAt seen (record { handle = old.handle; link = old.link; heeded = heeded; first = old.first })
@@ -108,24 +108,24 @@ issued_is seen old number at is =
     let size = ap (λ (t : Tally). length t.failed) at.tally in
     omega (arith, is, size, old.heeded.failed.ok.0)
 
-told_as : (manner : Manner) (asking : Asked) (keeper : Keeper) (number : ℕ) (old : Session) (room : Heeded) (new : Session) (answer : Result Told NoMemory) → keeper ≡ keeper_of number manner → number ≡ vec_len old.heeded.failed
-    → IsWorld (λ t. t) old.heeded room → IfOk answer (λ tells. Issued_as (command_of keeper asking) (with_room old room) new tells) → IfOk answer (λ tells. Issued manner asking old new tells)
-told_as manner asking keeper number old room new (Ok tells) is count same goes = λ seen at.
-    let command : command_of keeper asking ≡ issue_of manner asking seen.history = ap (λ (k : Keeper). command_of k asking) (is ∙ ap (λ (n : ℕ). keeper_of n manner) (issued_is seen old number at count)) in
+told_as : (manner : Manner) (asking : Asked) (bytes : List ℕ) → HasBytes asking bytes → (keeper : Keeper) (number : ℕ) (old : Session) (room : Heeded) (new : Session) (answer : Result Told NoMemory) → keeper ≡ keeper_of number manner → number ≡ vec_len old.heeded.failed
+    → IsWorld (λ t. t) old.heeded room → IfOk answer (λ tells. Issued_as (command_of keeper bytes asking) (with_room old room) new tells) → IfOk answer (λ tells. Issued manner asking old new tells)
+told_as manner asking bytes has keeper number old room new (Ok tells) is count same goes = λ seen at.
+    let command : command_of keeper bytes asking ≡ issue_of manner bytes asking seen.history = ap (λ (k : Keeper). command_of k bytes asking) (is ∙ ap (λ (n : ℕ). keeper_of n manner) (issued_is seen old number at count)) in
     let g = goes seen (same_world seen old room at same) in (
       g.0,
-      subst (λ (c : Command Keeper). Issues (refusal_after 1024 seen.history c) c seen [] g.0 (Ok tells)) command g.1,
+      (bytes, has, subst (λ (c : Command Keeper). Issues (refusal_after 1024 seen.history c) c seen [] g.0 (Ok tells)) command g.1),
       g.2,
     )
-told_as manner asking keeper number old room new (Err lacks) is count same goes = tt
+told_as manner asking bytes has keeper number old room new (Err lacks) is count same goes = tt
 
-pub issue_ok : (manner : Manner) (asking : Asked) (keeper : Keeper) (number : ℕ) (old : Session) (room : Heeded) (new : Session) (heeded : Heeded) (answer : Result ℕ (IssueFault Keeper)) → keeper ≡ keeper_of number manner → number ≡ vec_len old.heeded.failed
-    → IsWorld (λ t. t) old.heeded room → Answered (command_of keeper asking) (with_room old room) new answer → Joins answer new.heeded heeded
+pub issue_ok : (manner : Manner) (asking : Asked) (bytes : List ℕ) → HasBytes asking bytes → (keeper : Keeper) (number : ℕ) (old : Session) (room : Heeded) (new : Session) (heeded : Heeded) (answer : Result ℕ (IssueFault Keeper)) → keeper ≡ keeper_of number manner → number ≡ vec_len old.heeded.failed
+    → IsWorld (λ t. t) old.heeded room → Answered (command_of keeper bytes asking) (with_room old room) new answer → Joins answer new.heeded heeded
     → IfOk (issue_told answer) (λ tells. Issued manner asking old (answered_session new heeded) tells)
-issue_ok manner asking keeper number old room new heeded answer is count same h joins =
-    told_as manner asking keeper number old room (answered_session new heeded) (issue_told answer) is count same
-    (subst (λ (s : Session). IfOk (issue_told answer) (λ tells. Issued_as (command_of keeper asking) (with_room old room) s tells)) (after_is (with_room old room) new heeded h.same)
-    (issues_ok (command_of keeper asking) (with_room old room) new heeded answer (has_bytes keeper asking) h joins))
+issue_ok manner asking bytes has keeper number old room new heeded answer is count same h joins =
+    told_as manner asking bytes has keeper number old room (answered_session new heeded) (issue_told answer) is count same
+    (subst (λ (s : Session). IfOk (issue_told answer) (λ tells. Issued_as (command_of keeper bytes asking) (with_room old room) s tells)) (after_is (with_room old room) new heeded h.same)
+    (issues_ok (command_of keeper bytes asking) (with_room old room) new heeded answer (has_bytes keeper bytes asking) h joins))
 
 pub issue_lacks : (command : Command Keeper) (old : Session) (room : Heeded) (new : Session) (heeded : Heeded) (answer : Result ℕ (IssueFault Keeper)) → IsWorld (λ t. t) old.heeded room → Answered command (with_room old room) new answer → Joins answer new.heeded heeded
     → OnErr (issue_told answer) (Becomes old (answered_session new heeded) (λ before after. after ≡ before))

@@ -63,15 +63,16 @@ heeds_extents callback context offset entries error heard first a b c answered i
       freed = both.freed;
     })
 
-pub heeds_completion : (callback : Keeper) (error : ℕ) (bytes : List ℕ) (verdict : Verdict) (a b c : Heeded) → verdict ≡ verdict_of callback.retires error bytes
-    → Notes a b (λ t. t) (complete_text error bytes ++ codes "\n") → Notes b c (λ t. settling callback.command error t) []
-    → Heeds a (Complete callback error bytes verdict ∷ []) c
-heeds_completion callback error bytes verdict a b c answered one two =
+pub heeds_completion : (callback : Keeper) (error : ℕ) (bytes : List ℕ) (verdict : Verdict) (a b c d : Heeded) → verdict ≡ verdict_of callback.retires error bytes
+    → Notes a b (λ t. t) (complete_text error bytes ++ codes "\n") → Notes b c (λ t. settling callback.command error t) [] → Notes c d (λ t. t) []
+    → Heeds a (Complete callback error bytes verdict ∷ []) d
+heeds_completion callback error bytes verdict a b c d answered one two three =
     let line = complete_text error bytes ++ codes "\n" in
     let both = notes_on a b c (λ t. t) (λ t. settling callback.command error t) line [] one two in
-    heeds_one (Complete callback error bytes verdict) a c answered refl (record {
-      tally = both.tally;
-      hears = both.hears;
-      heard = λ e. both.heard e ∙ ap (λ (t : List ℕ). string_bytes a.heard ++ t) (append-nil line);
-      freed = both.freed;
+    let all = notes_on a c d (λ t. settling callback.command error t) (λ t. t) (line ++ []) [] both three in
+    heeds_one (Complete callback error bytes verdict) a d answered refl (record {
+      tally = all.tally;
+      hears = all.hears;
+      heard = λ e. all.heard e ∙ ap (λ (t : List ℕ). string_bytes a.heard ++ t) (append-nil (line ++ []) ∙ append-nil line);
+      freed = all.freed;
     })

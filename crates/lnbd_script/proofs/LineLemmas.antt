@@ -23,7 +23,6 @@ use Rattle.lnbd_handle.specs.Placing.{Handled}
 use Rattle.lnbd_machine.specs.Machine.{Machine, step, calls}
 use Rattle.lnbd_machine.specs.Now.{direction_now, state_now, out_now, completed_now}
 use Rattle.lnbd_standing.specs.Standing.{May, is_result}
-use Rattle.lnbd_history.specs.Laws.{is_closed}
 use Rattle.lnbd_handle.specs.declared.kinds.OptFault.{OptFault}
 use Rattle.lnbd_handle.specs.declared.kinds.OptFault.TheVariants as opt
 use Rattle.lnbd_lines.specs.declared.negotiation.Opt.{Opt as Asked_option}

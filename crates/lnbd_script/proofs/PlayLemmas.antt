@@ -4,6 +4,7 @@ use Rattle.std.proofs.lemmas.Bool.{false≢true}
 use Rattle.std.proofs.lemmas.List.{append-nil}
 use Rattle.std.proofs.lemmas.List.Elements.{All-cons, All-nil}
 use Rattle.lnbd_history.specs.Events.{History, Set, StrictMode, Start, Opt, Abort, Issue, Refuse, Disconnect, Wrote, Arrived, End, LinkFailed, Retire, ClearLog, Close}
+use Rattle.lnbd_history.specs.History.{reading}
 use Rattle.lnbd_history.specs.Laws.{AllFreed, is_closed}
 use Rattle.lnbd_history.proofs.Freed.{close_frees_all}
 use Rattle.lnbd_link.specs.Call.{Call}
@@ -30,6 +31,7 @@ use Rattle.lnbd_script.specs.Scenes.{AllClosed, Held, IsClosedWell, Scene, admit
 use Rattle.lnbd_script.specs.Steps.{AllPlayed, AreHeld, Begun, Finishes, GoesOver, IsHeld, IsOver, IsSum, LinesPlayed, Shows, Stands, Stopped, current_place, stop_of, stop_unshown}
 use Rattle.lnbd_script.specs.Streams.{TakesFront}
 use Rattle.lnbd_script.specs.Texts.{ended, last_text, text_of}
+use Rattle.lnbd_script.proofs.FreedLemmas.{calls_same}
 use Rattle.lnbd_script.proofs.SceneLemmas.{at_current}
 
 -- what is shown of a line where the script then stands
@@ -221,7 +223,8 @@ closed_if false held e = refl
 closed_well : (held : Held) → IsClosedWell (ended_held held)
 closed_well held =
     let closed = closed_if (is_closed held.history) held refl in
-    (closed, closed_freed (ended_held held).history closed)
+    let freed = closed_freed (ended_held held).history closed in
+    (closed, freed, calls_same (reading (ended_held held).history).known.entries ∙ freed.all)
 
 all_closed_well : (handles : List Held) → All IsClosedWell (map ended_held handles)
 all_closed_well [] = All-nil IsClosedWell

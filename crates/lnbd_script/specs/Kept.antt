@@ -139,6 +139,14 @@ line_of (Free callback) = []
 abbrev pub lines_of : List (Call Keeper) → List ℕ
 lines_of calls = flat_map line_of calls
 
+-- how many of the calls free a callback
+abbrev pub frees_in : List (Call Keeper) → ℕ
+frees_in [] = 0
+frees_in (Free callback ∷ calls) = 1 + frees_in calls
+frees_in (Chunk callback bytes offset status error heard ∷ calls) = frees_in calls
+frees_in (Extents callback context offset entries error heard ∷ calls) = frees_in calls
+frees_in (Complete callback error bytes verdict ∷ calls) = frees_in calls
+
 -- a count that stands still at its end
 abbrev pub counted_on : ℕ → ℕ
 counted_on count = min (count + 1) (2 ^ 64 - 1)

@@ -97,25 +97,41 @@ abbrev pub payload_of : Payload → List ℕ
 payload_of (payload.Hex bytes) = bytes
 payload_of (payload.Fill byte size) = replicate size byte
 
--- what a line issues with this callback, a read into a buffer of zeroes
-abbrev pub command_of : Keeper → Asked → Command Keeper
-command_of keeper (command.Pread range) = read_of (replicate range.length 0) range.offset keeper range.flags
-command_of keeper (command.PreadStructured range) = structured_read_of (replicate range.length 0) range.offset keeper keeper range.flags
-command_of keeper (command.Pwrite payload offset flags) = write_of (payload_of payload) offset keeper flags
-command_of keeper (command.Flush flags) = flush_of keeper flags
-command_of keeper (command.Trim range) = trim_of range.length range.offset keeper range.flags
-command_of keeper (command.Zero range) = zero_of range.length range.offset keeper range.flags
-command_of keeper (command.Cache range) = cache_of range.length range.offset keeper range.flags
-command_of keeper (command.BlockStatus range) = block_status_of range.length range.offset keeper keeper range.flags
+-- The bytes that a command has: a read those of its buffer, as many as it asks for, whatever they are; a write those that it sends.
+abbrev pub HasBytes : Asked → List ℕ → Type 0
+HasBytes (command.Pread range) bytes = length bytes ≡ range.length
+HasBytes (command.PreadStructured range) bytes = length bytes ≡ range.length
+HasBytes (command.Pwrite payload offset flags) bytes = bytes ≡ payload_of payload
+HasBytes (command.Flush flags) bytes = bytes ≡ []
+HasBytes (command.Trim range) bytes = bytes ≡ []
+HasBytes (command.Zero range) bytes = bytes ≡ []
+HasBytes (command.Cache range) bytes = bytes ≡ []
+HasBytes (command.BlockStatus range) bytes = bytes ≡ []
+
+-- what a line issues with this callback and these bytes
+abbrev pub command_of : Keeper → List ℕ → Asked → Command Keeper
+command_of keeper bytes (command.Pread range) = read_of bytes range.offset keeper range.flags
+command_of keeper bytes (command.PreadStructured range) = structured_read_of bytes range.offset keeper keeper range.flags
+command_of keeper bytes (command.Pwrite payload offset flags) = write_of bytes offset keeper flags
+command_of keeper bytes (command.Flush flags) = flush_of keeper flags
+command_of keeper bytes (command.Trim range) = trim_of range.length range.offset keeper range.flags
+command_of keeper bytes (command.Zero range) = zero_of range.length range.offset keeper range.flags
+command_of keeper bytes (command.Cache range) = cache_of range.length range.offset keeper range.flags
+command_of keeper bytes (command.BlockStatus range) = block_status_of range.length range.offset keeper keeper range.flags
 
 -- the same after a history, with callbacks that answer so
-abbrev pub issue_of : Manner → Asked → History Keeper → Command Keeper
-issue_of manner asking history = command_of (keeper_of (issued_in history) manner) asking
+abbrev pub issue_of : Manner → List ℕ → Asked → History Keeper → Command Keeper
+issue_of manner bytes asking history = command_of (keeper_of (issued_in history) manner) bytes asking
 
 -- A command is issued under the next cookie, or refused for this reason.
 abbrev pub Issues : Option Why → Command Keeper → Seen → List Call → Seen → LineEnd → Type 0
 Issues None command before calls after end = Adds (adding (Issue command) before) calls after end (told.Cookie ((asked before.history).issued + 1))
 Issues (Some why) command before calls after end = Adds (adding (Refuse command why) before) calls after end (told.Refused why)
+
+-- So a line issues its command, with callbacks that answer so.
+abbrev pub IssuesAs : Manner → Asked → Seen → List Call → Seen → LineEnd → Type 0
+IssuesAs manner asking before calls after end =
+    (bytes : List ℕ) × HasBytes asking bytes × Issues (refusal_after max_unretired before.history (issue_of manner bytes asking before.history)) (issue_of manner bytes asking before.history) before calls after end
 
 -- what a read and a write tell
 abbrev pub told_read : ReadTold → Told
@@ -236,8 +252,7 @@ closing before = record { history = Close ∷ before.history; shown = before.sho
 abbrev pub Does : Line → Seen → List Call → Seen → LineEnd → Type 0
 Does (line.Connect to) before calls after end = Connects (is_created (state_after before.history)) to before calls after end
 Does (line.ConnectUri place) before calls after end = ConnectsTo (is_created (state_after before.history)) place before calls after end ⊎ Lacks before calls after end
-Does (line.Command manner asking) before calls after end =
-    Issues (refusal_after max_unretired before.history (issue_of manner asking before.history)) (issue_of manner asking before.history) before calls after end ⊎ Lacks before calls after end
+Does (line.Command manner asking) before calls after end = IssuesAs manner asking before calls after end ⊎ Lacks before calls after end
 Does line.Settle before calls after end = ⊥
 Does (line.Handle number) before calls after end = ⊥
 Does line.Read before calls after end = ReadsOn (is_reading before.history) before.link before calls after end

@@ -92,7 +92,7 @@ IsTaken (Untold last) before after text = TakesAllAndFront before after text las
 IsTaken Short before after text = Takes before after text
 
 -- The calls that the wires tell and the text that was taken are those of the lines; at the end each handle is closed, and each
--- callback that was admitted was freed exactly once.
+-- callback that was admitted was freed exactly once, by a call that was made.
 pub record HasPlayed (lines : List Line) (old new : Option (List Call)) (before after : Option (List ℕ)) (how : How) (IsFirst : Option Event → Type 0) : Type 0 where
   pub calls : List Call
   pub text : List ℕ

@@ -8,7 +8,8 @@ use Rattle.lnbd_lines.specs.Grammar.{max_handles}
 use Rattle.lnbd_script.specs.declared.event.Event.{Event}
 use Rattle.lnbd_script.specs.declared.keeper.Keeper.{Keeper}
 use Rattle.lnbd_script.specs.Lines.{shut_calls}
-use Rattle.lnbd_script.specs.Seen.{Seen}
+use Rattle.lnbd_script.specs.Kept.{frees_in}
+use Rattle.lnbd_script.specs.Seen.{Seen, callbacks_of}
 
 -- One handle of a script: its own history, of its own lines and the calls on its own link.
 pub record Held : Type 0 where
@@ -83,9 +84,9 @@ abbrev pub admitted_on : List Held → ℕ
 admitted_on [] = 0
 admitted_on (held ∷ others) = (asked held.history).admitted + admitted_on others
 
--- Each handle is closed, and each callback that was admitted on it was freed exactly once.
+-- Each handle is closed, each callback that was admitted on it was freed exactly once, and as many calls that free one were made.
 abbrev pub IsClosedWell : Held → Type 0
-IsClosedWell held = (is_closed held.history ≡ true) × AllFreed held.history
+IsClosedWell held = (is_closed held.history ≡ true) × AllFreed held.history × (frees_in (callbacks_of held.history) ≡ (asked held.history).admitted)
 
 abbrev pub AllClosed : Scene → Type 0
 AllClosed scene = All IsClosedWell scene.handles

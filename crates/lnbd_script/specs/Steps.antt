@@ -50,7 +50,7 @@ use Rattle.lnbd_machine.specs.Machine.{step}
 use Rattle.lnbd_handle.specs.declared.kinds.OptFault.{OptFault}
 use Rattle.lnbd_handle.specs.declared.kinds.OptFault.TheVariants as opt
 use Rattle.lnbd_lines.specs.declared.negotiation.Opt.{Opt as Asked_option}
-use Rattle.lnbd_script.specs.Lines.{Issues, asking, issue_of, lacks_structured, LineEnd, told_read, told_write}
+use Rattle.lnbd_script.specs.Lines.{IssuesAs, asking, lacks_structured, LineEnd, told_read, told_write}
 use Rattle.lnbd_history.specs.Commands.{Command}
 use Rattle.lnbd_history.specs.Events.{Issue}
 use Rattle.lnbd_machine.specs.Now.{refusal_now}
@@ -59,7 +59,6 @@ use Rattle.lnbd_lines.specs.declared.command.Command.{Command as Asked}
 use Rattle.lnbd_lines.specs.declared.command.Manner.{Manner}
 use Rattle.lnbd_script.specs.declared.keeper.Heeded.{Heeded}
 use Rattle.lnbd_script.specs.Kept.{Heeds, Tally, joined, tally_of}
-use Rattle.lnbd_history.specs.Refusals.{refusal_after}
 use Rattle.lnbd_handle.specs.Histories.{max_unretired}
 use Rattle.lnbd_handle.specs.declared.issue.IssueFault.{IssueFault}
 use Rattle.lnbd_handle.specs.declared.issue.IssueFault.TheVariants as fault
@@ -91,8 +90,7 @@ pub record Answered (command : Command Keeper) (old new : Session) (answer : Res
 
 -- a command was issued with callbacks that answer so, or refused, and so much is told of it
 abbrev pub Issued : Manner → Asked → Session → Session → Told → Type 0
-Issued manner asking old new tells =
-    Becomes old new (λ before after. Issues (refusal_after max_unretired before.history (issue_of manner asking before.history)) (issue_of manner asking before.history) before [] after (Ok tells))
+Issued manner asking old new tells = Becomes old new (λ before after. IssuesAs manner asking before [] after (Ok tells))
 
 -- what the handle's answer to an issue comes to
 abbrev pub issue_told : Result ℕ (IssueFault Keeper) → Result Told NoMemory

@@ -1,12 +1,14 @@
 //! Commands of a script, issued on its handle. No text is made here.
 
-ghost use Rattle.std.specs.Prelude.{◌≡◌, ◌<◌, IfOk, IsOk, OnErr, replicate, vec_capacity, vec_len};
+ghost use Rattle.std.specs.Prelude.{◌≡◌, ◌<◌, [], IfOk, IsOk, OnErr, replicate, vec_capacity, vec_len};
 ghost use Rattle.lnbd_lines.specs.declared.command.Command.TheVariants as command;
-ghost use Rattle.lnbd_script.specs.Lines.{command_of, payload_of};
+ghost use Rattle.lnbd_handle.specs.Issues.{write_of};
+ghost use Rattle.lnbd_script.specs.Lines.{HasBytes, command_of, payload_of};
 ghost use Rattle.lnbd_script.specs.Steps.{Answered, Becomes, Issued, Joins, issue_told};
 
 use crate::keeper::{Heeded, Keeper};
 use crate::session::Session;
+use crate::spare::read_buffer;
 use crate::told::Told;
 use lnbd_handle::IssueFault;
 use lnbd_lines::{Command, Manner, Payload, Range};
@@ -67,75 +69,99 @@ fn payload_bytes(alloc: Global, payload: &Payload) -> Result<Vec<u8>, NoMemory>
     }
 }
 
+/// No bytes. It takes no memory.
+fn none(alloc: Global) -> Bytes
+    ensures { result ≡ [] }
+{
+    Bytes::from_vec(Vec::new(alloc))
+}
+
+/// The bytes of a command: room for what a read asks for, or what a write sends. A write lets go of a buffer that is free in exchange.
+pub(crate) fn bytes_of(
+    spare: &mut Vec<Vec<u8>>,
+    alloc: Global,
+    command: &Command,
+) -> Result<Bytes, NoMemory>
+    ensures { IfOk result (λ bytes. HasBytes command.now bytes) }
+{
+    match command {
+        Command::Pread(range) => read_buffer(spare, alloc, range.length as usize),
+        Command::PreadStructured(range) => read_buffer(spare, alloc, range.length as usize),
+        Command::Pwrite { payload, .. } => {
+            let _freed = spare.pop();
+            let bytes = payload_bytes(alloc, payload)?;
+            Ok(Bytes::from_vec(bytes))
+        }
+        Command::Flush { .. } => Ok(none(alloc)),
+        Command::Trim(_) => Ok(none(alloc)),
+        Command::Zero(_) => Ok(none(alloc)),
+        Command::Cache(_) => Ok(none(alloc)),
+        Command::BlockStatus(_) => Ok(none(alloc)),
+    }
+}
+
 impl Session {
-    /// Issues a read into a buffer of zeroes.
+    /// Issues a read into a buffer.
     fn issue_read(
         &mut self,
-        alloc: Global,
         keeper: Keeper,
+        buf: Bytes,
         range: Range,
-    ) -> Result<Result<u64, IssueFault<Keeper>>, NoMemory>
-        ensures ok { IfOk result (λ answer. Answered (command_of keeper (command.Pread range)) self.old self.new answer) }
-        ensures lacks { OnErr result (self.new ≡ self.old) }
+    ) -> Result<u64, IssueFault<Keeper>>
+        ensures { Answered (command_of keeper buf (command.Pread range)) self.old self.new result }
     {
-        let buf = filled(alloc, 0, range.length)?;
-        let answer = self
-            .handle
-            .aio_pread(buf, range.offset, keeper, range.flags, &mut self.heeded);
-        Ok(answer)
+        self.handle.aio_pread(
+            buf.into_vec(),
+            range.offset,
+            keeper,
+            range.flags,
+            &mut self.heeded,
+        )
     }
 
-    /// Issues a read into a buffer of zeroes, each piece of which a callback hears.
+    /// Issues a read into a buffer, each piece of which a callback hears.
     fn issue_structured_read(
         &mut self,
-        alloc: Global,
         keeper: Keeper,
+        buf: Bytes,
         range: Range,
-    ) -> Result<Result<u64, IssueFault<Keeper>>, NoMemory>
-        ensures ok { IfOk result (λ answer. Answered (command_of keeper (command.PreadStructured range)) self.old self.new answer) }
-        ensures lacks { OnErr result (self.new ≡ self.old) }
+    ) -> Result<u64, IssueFault<Keeper>>
+        ensures { Answered (command_of keeper buf (command.PreadStructured range)) self.old self.new result }
     {
-        let buf = filled(alloc, 0, range.length)?;
-        let answer = self.handle.aio_pread_structured(
-            buf,
+        self.handle.aio_pread_structured(
+            buf.into_vec(),
             range.offset,
             keeper,
             keeper,
             range.flags,
             &mut self.heeded,
-        );
-        Ok(answer)
+        )
     }
 
     /// Issues a write.
     fn issue_write(
         &mut self,
-        alloc: Global,
         keeper: Keeper,
-        payload: &Payload,
+        buf: Bytes,
         offset: u64,
         flags: u32,
-    ) -> Result<Result<u64, IssueFault<Keeper>>, NoMemory>
-        ensures ok { IfOk result (λ answer. Answered (command_of keeper (command.Pwrite payload.now offset flags)) self.old self.new answer) }
-        ensures lacks { OnErr result (self.new ≡ self.old) }
+    ) -> Result<u64, IssueFault<Keeper>>
+        ensures { Answered (write_of buf offset keeper flags) self.old self.new result }
     {
-        let buf = payload_bytes(alloc, payload)?;
-        let answer = self
-            .handle
-            .aio_pwrite(buf, offset, keeper, flags, &mut self.heeded);
-        Ok(answer)
+        self.handle
+            .aio_pwrite(buf.into_vec(), offset, keeper, flags, &mut self.heeded)
     }
 
     /// Issues a flush.
     fn issue_flush(&mut self, keeper: Keeper, flags: u32) -> Result<u64, IssueFault<Keeper>>
-        ensures { Answered (command_of keeper (command.Flush flags)) self.old self.new result }
+        ensures { Answered (command_of keeper [] (command.Flush flags)) self.old self.new result }
     {
         self.handle.aio_flush(keeper, flags, &mut self.heeded)
     }
 
     /// Issues a trim.
     fn issue_trim(&mut self, keeper: Keeper, range: Range) -> Result<u64, IssueFault<Keeper>>
-        ensures { Answered (command_of keeper (command.Trim range)) self.old self.new result }
+        ensures { Answered (command_of keeper [] (command.Trim range)) self.old self.new result }
     {
         let Range {
             length,
@@ -148,7 +174,7 @@ impl Session {
 
     /// Issues a write of zeroes.
     fn issue_zero(&mut self, keeper: Keeper, range: Range) -> Result<u64, IssueFault<Keeper>>
-        ensures { Answered (command_of keeper (command.Zero range)) self.old self.new result }
+        ensures { Answered (command_of keeper [] (command.Zero range)) self.old self.new result }
     {
         let Range {
             length,
@@ -161,7 +187,7 @@ impl Session {
 
     /// Issues a read ahead.
     fn issue_cache(&mut self, keeper: Keeper, range: Range) -> Result<u64, IssueFault<Keeper>>
-        ensures { Answered (command_of keeper (command.Cache range)) self.old self.new result }
+        ensures { Answered (command_of keeper [] (command.Cache range)) self.old self.new result }
     {
         let Range {
             length,
@@ -178,7 +204,7 @@ impl Session {
         keeper: Keeper,
         range: Range,
     ) -> Result<u64, IssueFault<Keeper>>
-        ensures { Answered (command_of keeper (command.BlockStatus range)) self.old self.new result }
+        ensures { Answered (command_of keeper [] (command.BlockStatus range)) self.old self.new result }
     {
         let Range {
             length,
@@ -189,29 +215,26 @@ impl Session {
             .aio_block_status(length, offset, keeper, keeper, flags, &mut self.heeded)
     }
 
-    /// Issues a command with this callback.
+    /// Issues a command with this callback and these bytes.
     fn hand_over(
         &mut self,
-        alloc: Global,
         keeper: Keeper,
         command: &Command,
-    ) -> Result<Result<u64, IssueFault<Keeper>>, NoMemory>
-        ensures ok { IfOk result (λ answer. Answered (command_of keeper command.now) self.old self.new answer) }
-        ensures lacks { OnErr result (self.new ≡ self.old) }
+        bytes: Bytes,
+    ) -> Result<u64, IssueFault<Keeper>>
+        ensures { Answered (command_of keeper bytes command.now) self.old self.new result }
     {
         match command {
-            Command::Pread(range) => self.issue_read(alloc, keeper, *range),
-            Command::PreadStructured(range) => self.issue_structured_read(alloc, keeper, *range),
-            Command::Pwrite {
-                payload,
-                offset,
-                flags,
-            } => self.issue_write(alloc, keeper, payload, *offset, *flags),
-            Command::Flush { flags } => Ok(self.issue_flush(keeper, *flags)),
-            Command::Trim(range) => Ok(self.issue_trim(keeper, *range)),
-            Command::Zero(range) => Ok(self.issue_zero(keeper, *range)),
-            Command::Cache(range) => Ok(self.issue_cache(keeper, *range)),
-            Command::BlockStatus(range) => Ok(self.issue_block_status(keeper, *range)),
+            Command::Pread(range) => self.issue_read(keeper, bytes, *range),
+            Command::PreadStructured(range) => self.issue_structured_read(keeper, bytes, *range),
+            Command::Pwrite { offset, flags, .. } => {
+                self.issue_write(keeper, bytes, *offset, *flags)
+            }
+            Command::Flush { flags } => self.issue_flush(keeper, *flags),
+            Command::Trim(range) => self.issue_trim(keeper, *range),
+            Command::Zero(range) => self.issue_zero(keeper, *range),
+            Command::Cache(range) => self.issue_cache(keeper, *range),
+            Command::BlockStatus(range) => self.issue_block_status(keeper, *range),
         }
     }
 
@@ -227,8 +250,8 @@ impl Session {
         ensures first { self.new.first ≡ self.old.first }
     {
         let keeper = Keeper::new(self.heeded.count(), manner);
-        self.heeded.reserve()?;
-        let answer = self.hand_over(alloc, keeper, command)?;
+        let bytes = self.heeded.prepare(alloc, command)?;
+        let answer = self.hand_over(keeper, command, bytes);
         count_in(&mut self.heeded, &answer);
         told_of(answer)
     }

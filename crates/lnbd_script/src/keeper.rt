@@ -1,14 +1,17 @@
 //! The callbacks of a script's commands: what they answer, and what they leave in their world.
 
-ghost use Rattle.std.specs.Prelude.{◌≡◌, ◌<◌, ◌||◌, ◌++◌, ◌∷◌, [], Bool, List, OnOk, codes, false, get_or, set, string_bytes, true, vec_capacity, vec_len};
+ghost use Rattle.std.specs.Prelude.{◌≡◌, ◌<◌, ◌||◌, ◌++◌, ◌∷◌, [], Bool, IfOk, List, OnOk, codes, false, get_or, set, string_bytes, true, vec_capacity, vec_len};
 ghost use Rattle.lnbd_texts.specs.Heard.{chunk_text, complete_text, extents_text};
 ghost use Rattle.lnbd_script.specs.Kept.{Heeds, Notes, Tally, failure_of, fails_first, heard_of, is_faulty, is_own, joined, keeper_of, marking, no_tally, or_first, origin_of, settling, tally_of, told_by, verdict_of};
 ghost use Rattle.lnbd_script.specs.KeptLaws.{heeds_none, heeds_on};
+ghost use Rattle.lnbd_script.specs.Lines.{HasBytes};
 ghost use Rattle.lnbd_script.specs.Steps.{IsWorld};
 
+use crate::issuing::bytes_of;
+use crate::spare::keep_buffer;
 use lnbd_callbacks::{Caller, Heard, Verdict};
-use lnbd_lines::Manner;
-use lnbd_model::{Bytes, ENOTCONN, EPROTO, Extent, Failure, Origin};
+use lnbd_lines::{Command, Manner};
+use lnbd_model::{Bytes, ENOTCONN, EPROTO, Extent, Failure, NoMemory, Origin};
 use lnbd_texts::{push_chunk, push_complete, push_extents};
 use std::alloc::{AllocError, Global};
 use std::str::from_utf8;
@@ -28,6 +31,8 @@ pub(crate) struct Heeded {
     pub(crate) heard: String,
     /// How many callbacks were freed.
     pub(crate) freed: u64,
+    /// Buffers of commands that are over, for reads to come.
+    pub(crate) spare: Vec<Vec<u8>>,
 }
 
 /// The first of two errors, where there is one.
@@ -185,15 +190,18 @@ impl Heeded {
             hears,
             heard: String::new(alloc),
             freed: 0,
+            spare: Vec::new(alloc),
         }
     }
 
-    /// Makes room for one command more.
-    pub(crate) fn reserve(&mut self) -> Result<(), AllocError>
+    /// Makes room for one command more, and gives its bytes.
+    pub(crate) fn prepare(&mut self, alloc: Global, command: &Command) -> Result<Bytes, NoMemory>
         ensures room { OnOk result (vec_len self.new.failed < vec_capacity self.new.failed) }
+        ensures bytes { IfOk result (λ bytes. HasBytes command.now bytes) }
         ensures same { IsWorld (λ tally. tally) self.old self.new }
     {
-        self.failed.reserve(1)
+        self.failed.reserve(1)?;
+        bytes_of(&mut self.spare, alloc, command)
     }
 
     /// A command joins, which was issued.
@@ -268,6 +276,20 @@ impl Heeded {
         self.error = or_first(self.error, told_by(failure));
         self.faulty = either(self.faulty, is_faulty(failure));
     }
+
+    /// What a completion answers. The buffer of a command that it retires is kept for a read to come.
+    fn give(&mut self, retires: bool, error: u32, buf: Bytes) -> Verdict
+        ensures verdict { result ≡ verdict_of retires error buf }
+        ensures notes { Notes self.old self.new (λ tally. tally) [] }
+    {
+        match retires {
+            false => Verdict::Keep { error, buf },
+            true => {
+                keep_buffer(&mut self.spare, buf);
+                Verdict::Retire
+            }
+        }
+    }
 }
 
 /// A callback of a script's command.
@@ -303,16 +325,6 @@ impl Keeper {
         match self.fails {
             None => Heard::Going,
             Some(error) => Heard::Fail(error),
-        }
-    }
-
-    /// What a completion answers.
-    fn verdict(&self, error: u32, buf: Bytes) -> Verdict
-        ensures { result ≡ verdict_of self.now.retires error buf }
-    {
-        match self.retires {
-            false => Verdict::Keep { error, buf },
-            true => Verdict::Retire,
         }
     }
 }
@@ -353,7 +365,7 @@ impl Caller for Keeper {
     fn complete(&self, world: &mut Heeded, error: u32, buf: Bytes) -> Verdict {
         world.hear_completion(error, &buf);
         world.settle(self.command, error);
-        self.verdict(error, buf)
+        world.give(self.retires, error, buf)
     }
 
     fn free(self, world: &mut Heeded) {

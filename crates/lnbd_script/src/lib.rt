@@ -13,6 +13,7 @@ mod reach;
 mod rounds;
 mod session;
 mod sessions;
+mod spare;
 mod streams;
 mod texts;
 mod told;

@@ -1,4 +1,4 @@
-use Rattle.std.proofs.Common.{arith, ◌∙◌}
+use Rattle.std.proofs.Common.{◌∙◌}
 use Rattle.lnbd_script.proofs.PlaceLemmas.{over_is, shut_is}
 use Rattle.lnbd_script.proofs.place.close.Goals as goal
 

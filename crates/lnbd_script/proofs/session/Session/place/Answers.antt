@@ -1,4 +1,4 @@
-use Rattle.std.proofs.Common.{[], None, arith, length, refl, take}
+use Rattle.std.proofs.Common.{[], None, arith, refl, take}
 use Rattle.std.proofs.lemmas.List.{length-take-le}
 use Rattle.lnbd_history.specs.Events.{Arrived}
 use Rattle.lnbd_script.proofs.LineLemmas.{quiet}
