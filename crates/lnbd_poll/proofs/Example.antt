@@ -3,7 +3,7 @@ use Rattle.std.proofs.Common.{◌≡◌, ◌<◌, ℕ, true, false, List, [], �
 use Rattle.lnbd_callbacks.specs.Calls.{Call}
 use Rattle.lnbd_history.specs.Events.{History, Start, LinkFailed}
 use Rattle.lnbd_handle.specs.Histories.{Plays}
-use Rattle.lnbd_handle.specs.Placing.{place_size}
+use Rattle.lnbd_handle.specs.Placing.{data_to_come, place_size}
 use Rattle.lnbd_link.specs.Call.{Read, Write, Moved, Unready, Sent}
 use Rattle.lnbd_poll.specs.declared.noticed.Noticed.TheVariants as noticed
 use Rattle.lnbd_poll.specs.declared.noticed.Turn.TheVariants as turn
@@ -33,7 +33,7 @@ started_writes_nothing : WritesOnce 7 noticed.Idle started.history [] started.hi
 started_writes_nothing = (refl, refl, refl)
 
 nothing_has_come : ReadsOnce none noticed.NotReady started 0 (Read 7 65536 Unready ∷ []) started 0
-unfolding place_size
+unfolding place_size data_to_come
 nothing_has_come = (Unready, refl, (refl, (refl, refl)))
 
 -- Three bytes on one link and a failure of another make three; a failure alone is no stillness.
