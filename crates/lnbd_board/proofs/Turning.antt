@@ -161,14 +161,14 @@ filed_keeps how ticket.Extents buf board source destination source2 destination2
 filed_keeps how ticket.Flush buf board source destination source2 destination2 e h = other_answered how ticket.Flush buf board.rows source destination source2 destination2 refl h
 
 heard_rows : (is : Bool) (entries : List Extent) (board board2 : Seen) → Hears is entries board board2 → board2.rows ≡ board.rows
-heard_rows true entries board board2 (inl h) = ap (λ (b : Seen). b.rows) h
+heard_rows true entries board board2 (inl h) = ap (λ (b : Seen). b.rows) h.1
 heard_rows true entries board board2 (inr h) = ap (λ (b : Seen). b.rows) h
 heard_rows false entries board board2 h = ap (λ (b : Seen). b.rows) h
 
 -- An error that was told stays.
 
 heard_error : (is : Bool) (entries : List Extent) (board board2 : Seen) → Hears is entries board board2 → board2.error ≡ board.error
-heard_error true entries board board2 (inl h) = ap (λ (b : Seen). b.error) h
+heard_error true entries board board2 (inl h) = ap (λ (b : Seen). b.error) h.1
 heard_error true entries board board2 (inr h) = ap (λ (b : Seen). b.error) h
 heard_error false entries board board2 h = ap (λ (b : Seen). b.error) h
 

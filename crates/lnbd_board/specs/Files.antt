@@ -25,7 +25,7 @@ pub record Seen : Type 0 where
   pub came : List ℕ
   -- the first error that was told
   pub error : Option ℕ
-  -- the extents that were told last, whether there was no memory for some, and whether that request was answered
+  -- the extents that were told last, whether there was no memory for some or some were told twice, and whether that request was answered
   pub told : List Extent
   pub short : Bool
   pub mapped : Bool
@@ -91,9 +91,9 @@ is_map (ticket.Slice n) context = false
 is_map ticket.Extents context = bytes_eq context (codes "base:allocation")
 is_map ticket.Flush context = false
 
--- extents are kept, or there was no memory for them
+-- extents are kept where none were, or there was no memory for them
 abbrev pub Hears : Bool → List Extent → Seen → Seen → Type 0
-Hears true entries old new = (new ≡ record old { told = entries }) ⊎ (new ≡ record old { told = []; short = true })
+Hears true entries old new = ((old.told ≡ []) × (new ≡ record old { told = entries })) ⊎ (new ≡ record old { told = []; short = true })
 Hears false entries old new = new ≡ old
 
 -- One call: it answers that all is well, and that the command is to be retired.

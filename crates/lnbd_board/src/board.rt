@@ -198,7 +198,7 @@ impl Board {
         &self.told
     }
 
-    /// Whether there was no memory for extents that were told.
+    /// Whether there was no memory for extents that were told, or they were told twice.
     pub fn is_short(&self) -> bool
         ensures { result ≡ self.now.short }
     {
@@ -284,11 +284,16 @@ impl Board {
         }
     }
 
-    /// Keeps the extents that were told, or says that there was no memory for them.
+    /// Keeps the extents that were told, or says that there was no memory for them. Extents that are told when some were
+    /// told already, which no server does that keeps to the protocol, count as if there were none for them.
     pub(crate) fn hear(&mut self, entries: &[Extent])
         ensures { Hears true entries.now self.old self.new }
     {
-        self.told.clear();
+        if !self.told.is_empty() {
+            self.told.clear();
+            self.short = true;
+            return;
+        }
         if self.told.extend_from_slice(entries).is_err() {
             self.short = true;
         }

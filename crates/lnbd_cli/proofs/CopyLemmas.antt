@@ -14,6 +14,7 @@ use Rattle.lnbd_plan.specs.declared.fault.CopyFault.{CopyFault}
 use Rattle.lnbd_plan.specs.declared.fault.CopyFault.TheVariants as copying
 use Rattle.lnbd_course.specs.Asks.{GrewBy, HasAskedOnce, WereDone}
 use Rattle.lnbd_course.specs.Copied.{Copies}
+use Rattle.lnbd_course.specs.Spares.{SparesZeros}
 use Rattle.lnbd_copy.specs.Copier as copier
 use Rattle.lnbd_copy.specs.Grounds.{IsGrounded}
 use Rattle.lnbd_cli.specs.declared.copying.Uncopied.{Uncopied}
@@ -142,6 +143,11 @@ pub done_by : (seen : copier.Seen) (from to : Place) (options : CopyOptions) (a 
     (seen.from ≢ seen.to → GrewBy (WereDone seen.from seen.to) a b) → from ≢ to → GrewBy (WereDone from to) a b
 done_by seen from to options a b what run two =
     subst (λ (p : Place). GrewBy (WereDone from p) a b) what.2 (subst (λ (p : Place). GrewBy (WereDone p seen.to) a b) what.1 (run (λ e. two (sym what.1 ∙ e ∙ what.2))))
+
+pub spared_by : (seen : copier.Seen) (from to : Place) (options : CopyOptions) (a b : Option (List Call)) → (seen.options ≡ options) × (seen.from ≡ from) × (seen.to ≡ to) →
+    (seen.from ≢ seen.to → GrewBy (SparesZeros seen.from) a b) → from ≢ to → GrewBy (SparesZeros from) a b
+spared_by seen from to options a b what run two =
+    subst (λ (p : Place). GrewBy (SparesZeros p) a b) what.1 (run (λ e. two (sym what.1 ∙ e ∙ what.2)))
 
 -- On which grounds it failed.
 pub grounded_by : (seen : copier.Seen) (from to : Place) (options : CopyOptions) (a b : Option (List Call)) (fault : CopyFault) → (seen.options ≡ options) × (seen.from ≡ from) × (seen.to ≡ to) →

@@ -12,6 +12,7 @@ use Rattle.lnbd_args.specs.declared.asked.Asked.TheVariants as asked
 use Rattle.lnbd_args.specs.Tools.{Asks, IsMisplaced, Reads, Wanted}
 use Rattle.lnbd_course.specs.Asks.{GrewBy, HasAskedOnce, WereDone}
 use Rattle.lnbd_course.specs.Copied.{Copies}
+use Rattle.lnbd_course.specs.Spares.{SparesZeros}
 use Rattle.lnbd_copy.specs.Grounds.{IsGrounded}
 use Rattle.lnbd_cli.specs.declared.copying.Transfer.{Transfer}
 use Rattle.lnbd_cli.specs.declared.copying.Uncopied.{Uncopied}
@@ -84,12 +85,14 @@ pub record IsTransfer (words : List (String Global)) : Type 0 where
   pub asks : Asks (spelled words) wish
   pub is : transfer_of wish ≡ Some transfer
 
--- What the words ask to be copied, from one place to another, was copied by the calls that this transcript grew by; nothing was asked twice, and all of it was done.
+-- What the words ask to be copied, from one place to another, was copied by the calls that this transcript grew by; nothing was asked twice, all of it was done, and
+-- what was told as zero was not read.
 pub record HasCopied (words : List (String Global)) (told told' : Option (List Call)) : Type 0 where
   pub asked : IsTransfer words
   pub copied : asked.transfer.from ≢ asked.transfer.to → Copies asked.transfer.from asked.transfer.to asked.transfer.options.destination_is_zero told told'
   pub once : asked.transfer.from ≢ asked.transfer.to → GrewBy (HasAskedOnce asked.transfer.options.allocated asked.transfer.from asked.transfer.to) told told'
   pub done : asked.transfer.from ≢ asked.transfer.to → GrewBy (WereDone asked.transfer.from asked.transfer.to) told told'
+  pub spares : asked.transfer.from ≢ asked.transfer.to → GrewBy (SparesZeros asked.transfer.from) told told'
 
 -- What the words ask to be copied did not come to its end, for a fault on the grounds that the calls show by which this transcript grew.
 pub record HasFailed (words : List (String Global)) (told told' : Option (List Call)) (fault : CopyFault) : Type 0 where

@@ -217,7 +217,7 @@ further_kept copy mid sides first now now' held held' a b kept further =
 
 -- What is settled begins.
 pub begins_job : (copy : Seen) (start told : Option (List wire.Call)) (terms : Terms) (j : job.Seen) (now : board.Seen) → HasMet copy start told terms → copy.board.error ≡ None → now.rows ≡ [] → now.begun ≡ 0 → HasNotCounted now → now.how ≡ terms.how → j.terms ≡ terms → j.phase ≡ Copying →
-    ((way : Way) (b : board.Seen) → way.size ≡ Some terms.size → b.how ≡ terms.how → way.how ≡ terms.how → way.sides ≡ terms.sides → way.slices ≡ [] → way.asked ≡ None → job.IsJob j way b) → IsOnItsWay start told (record copy { board = now; job = Some j })
+    ((way : Way) (b : board.Seen) → way.size ≡ Some terms.size → b.how ≡ terms.how → way.how ≡ terms.how → way.sides ≡ terms.sides → way.slices ≡ [] → way.asked ≡ None → ((block p : ℕ) → way.whole block p ≡ false) → job.IsJob j way b) → IsOnItsWay start told (record copy { board = now; job = Some j })
 begins_job copy start told terms j now met well empty new uncounted writes same copying is =
     let way = beginning copy (Some terms.size) terms.how terms.sides in
     record {
@@ -230,7 +230,7 @@ begins_job copy start told terms j now met well empty new uncounted writes same 
       wished = subst (λ (t : Terms). IsWished copy.options t.how) (sym same) met.wished;
       limited = subst (IsLimited copy.options) (sym same) met.limited;
       most = subst (λ (rows : List (ℕ × Row)). length rows ≤ j.terms.limit) (sym empty) (omega arith);
-      is = is way now refl writes refl refl refl refl;
+      is = is way now refl writes refl refl refl refl (λ block p. refl);
       on = told_as start told
           (λ calls on. subst (λ (p : Bool). IsUnderWay p way now calls copy.held) (sym (ap job.is_parting copying)) (settled way terms.how copy.board now calls copy.held refl refl met.blank.rows well empty new uncounted on))
           met.on;

@@ -53,8 +53,8 @@ module _ {X Y : Type 0} (r : Result X Y) (sides : Sides) (index : ℕ) (old new 
       on_ok_weaker r of asked
 
 -- told no more of extents
-alike_of : (old new : board.Seen) → new.told ≡ old.told → new.mapped ≡ old.mapped → ToldAlike old new
-alike_of old new told mapped = record { told = told; mapped = mapped }
+alike_of : (old new : board.Seen) → new.told ≡ old.told → new.mapped ≡ old.mapped → new.short ≡ old.short → ToldAlike old new
+alike_of old new told mapped short = record { told = told; mapped = mapped; short = short }
 
 -- a change of a slice tells no extents
 change_tells_none : (n : ℕ) (one : Change) → asks_extents (Issue (without_buffer (command_of n one))) ≡ false
@@ -82,11 +82,11 @@ module _ (how : How) (sides : Sides) where
   pub on_over : (n source destination : ℕ) (old new : board.Seen) (held : List (Held Ticket)) → EndsRow how n source destination old new → Keeps how sides [] old new held held
   on_over n source destination old new held over =
       board_keeps how sides old new held (ap (λ (s : board.Seen). s.begun) over.now) (ap (λ (s : board.Seen). s.error) over.now)
-      (record { read = ap (λ (s : board.Seen). s.read) over.now; written = ap (λ (s : board.Seen). s.written) over.now; zeroed = ap (λ (s : board.Seen). s.zeroed) over.now }) (alike_of old new (ap (λ (s : board.Seen). s.told) over.now) (ap (λ (s : board.Seen). s.mapped) over.now)) (over_asks_nothing how n old new over.goes)
+      (record { read = ap (λ (s : board.Seen). s.read) over.now; written = ap (λ (s : board.Seen). s.written) over.now; zeroed = ap (λ (s : board.Seen). s.zeroed) over.now }) (alike_of old new (ap (λ (s : board.Seen). s.told) over.now) (ap (λ (s : board.Seen). s.mapped) over.now) (ap (λ (s : board.Seen). s.short) over.now)) (over_asks_nothing how n old new over.goes)
 
   pub on_asks : (n destination : ℕ) (one : Change) (old new : board.Seen) (held held' : List (Held Ticket)) → AsksOn how n destination one old new → IsAskedOf sides false (command_of n one) held held' → Keeps how sides [] old new held held'
   on_asks n destination one old new held held' goes asked =
-      destination_keeps how sides [] (command_of n one) old new held held' (no_more old.begun new.begun (ap (λ (s : board.Seen). s.begun) goes.now)) (change_tells_none n one) (alike_of old new (ap (λ (s : board.Seen). s.told) goes.now) (ap (λ (s : board.Seen). s.mapped) goes.now))
+      destination_keeps how sides [] (command_of n one) old new held held' (no_more old.begun new.begun (ap (λ (s : board.Seen). s.begun) goes.now)) (change_tells_none n one) (alike_of old new (ap (λ (s : board.Seen). s.told) goes.now) (ap (λ (s : board.Seen). s.mapped) goes.now) (ap (λ (s : board.Seen). s.short) goes.now))
       (λ slices count. subst (λ (more : List Slice). AsksDestination how (without_buffer (command_of n one)) slices more old new) (sym (append-nil slices))
       (going_asks how n one slices old new (λ none. sym (ap (λ (s : board.Seen). s.error) goes.now) ∙ none)
       (record { read = ap (λ (s : board.Seen). s.read) goes.now; written = ap (λ (s : board.Seen). s.written) goes.now; zeroed = ap (λ (s : board.Seen). s.zeroed) goes.now }) goes.goes)) asked
@@ -119,7 +119,7 @@ begun_keeps how sides sides' slice n row one old mid new held held' both number 
     let asked' : IsAskedFirst sides old.begun one held held' = subst (λ (m : ℕ). IsAskedFirst sides m one held held') number (subst (λ (x : Sides). IsAskedFirst x n one held held') both asked) in
     subst (λ (s : board.Seen). Keeps how sides (slice ∷ []) old s held held') (sym same)
     (first_keeps how sides slice one old mid held held' (ap (λ (s : board.Seen). s.begun) is) (ap (λ (s : board.Seen). s.error) is)
-    (record { read = ap (λ (s : board.Seen). s.read) is; written = ap (λ (s : board.Seen). s.written) is; zeroed = ap (λ (s : board.Seen). s.zeroed) is }) (alike_of old mid (ap (λ (s : board.Seen). s.told) is) (ap (λ (s : board.Seen). s.mapped) is)) begins asked')
+    (record { read = ap (λ (s : board.Seen). s.read) is; written = ap (λ (s : board.Seen). s.written) is; zeroed = ap (λ (s : board.Seen). s.zeroed) is }) (alike_of old mid (ap (λ (s : board.Seen). s.told) is) (ap (λ (s : board.Seen). s.mapped) is) (ap (λ (s : board.Seen). s.short) is)) begins asked')
 
 -- one after another, as the board says how and the bindings how many
 pub keeps_on : (sides sides' : Sides) (a b c : board.Seen) (i j k : List (Held Ticket)) → sides' ≡ sides → HasGoneOn a b → Keeps a.how sides [] a b i j → Keeps b.how sides' [] b c j k → Keeps a.how sides [] a c i k

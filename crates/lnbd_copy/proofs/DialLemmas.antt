@@ -32,7 +32,7 @@ use Rattle.lnbd_course.proofs.Opening.{opens_between}
 use Rattle.lnbd_course.proofs.Telling.{opening_tells, others_tell}
 use Rattle.lnbd_copy.specs.declared.sides.Sides.{Sides}
 use Rattle.lnbd_copy.specs.Opening.{Dials, base_allocation, context_of, opened, place_of, with_context}
-use Rattle.lnbd_copy.specs.Way.{AreSided, IsOn, Way, is_source}
+use Rattle.lnbd_copy.specs.Way.{AreSided, IsOn, Way, is_source, known_of}
 use Rattle.lnbd_copy.proofs.StepLemmas.{nothing_stands, settling_stands}
 use Rattle.lnbd_copy.proofs.TurnLemmas.{at_count, none_some, since_on, some_same}
 
@@ -110,7 +110,7 @@ sided_more sides has seens last apart sided = λ index seen is. go index seen (l
 
 -- How the last handle begins.
 
-module _ (how : How) (has : ℕ → Bool) (slices : List Slice) (now : board.Seen) (calls : List wire.Call) (seens : List (Seen Ticket)) (asked : Option (ℕ × ℕ)) (zero : ℕ → Bool) where
+module _ (how : How) (has : ℕ → Bool) (slices : List Slice) (now : board.Seen) (calls : List wire.Call) (seens : List (Seen Ticket)) (asked : Option (ℕ × ℕ)) (zero : course.Known) where
   -- what was told as zero stays with a last handle of this history
   abbrev Ends : ℕ → History Ticket → Type 0
   Ends link history = course.Told how has slices now calls (seens ++ record { link = link; history = history; unread = [] } ∷ []) asked zero
@@ -169,8 +169,8 @@ dialed way now calls held place link extents handle there on new short stands =
       stands = record {
         between = subst (λ (p : Place). Between way.from way.to way.size way.how (with_link link side on.has) way.slices now (calls ++ wire.Connect p.to (Some link) ∷ []) (on.seens ++ last ∷ [])) at_place
             (opens_between way.from way.to way.size way.how on.has way.slices now calls on.seens link side history on.stands.between new sets (opened_name place.name extents ∙ ap (λ (p : Place). p.name) (sym at_place)));
-        told = ends_all way.how (with_link link side on.has) way.slices now (calls ++ wire.Connect place.to (Some link) ∷ []) on.seens way.asked way.zero link history sets
-            (opening_tells way.how on.has way.slices now calls on.seens way.asked way.zero place.to link side on.stands.told new);
+        told = ends_all way.how (with_link link side on.has) way.slices now (calls ++ wire.Connect place.to (Some link) ∷ []) on.seens way.asked (known_of way) link history sets
+            (opening_tells way.how on.has way.slices now calls on.seens way.asked (known_of way) place.to link side on.stands.told new);
       };
     }
 

@@ -19,10 +19,13 @@ use Rattle.lnbd_course.specs.Asks.{GrewBy, HasAskedOnce, WereDone}
 use Rattle.lnbd_course.specs.Between.{Between}
 use Rattle.lnbd_course.specs.Copied.{Copied, Copies}
 use Rattle.lnbd_course.specs.Course.{IsPlannedWhole}
+use Rattle.lnbd_course.specs.Spares.{SparesZeros}
+use Rattle.lnbd_course.specs.Told as course
 use Rattle.lnbd_course.proofs.Holding.{take_drop}
 use Rattle.lnbd_course.proofs.Once.{ended_are_done, ended_asks_once}
 use Rattle.lnbd_course.proofs.Placing.{taking_keeps_between}
 use Rattle.lnbd_course.proofs.Placed.{ended_copies, links_are_of_sides}
+use Rattle.lnbd_course.proofs.Sparing.{ended_spares}
 use Rattle.lnbd_course.proofs.Telling.{known_was_told, sides_are_of_source}
 use Rattle.lnbd_copy.specs.declared.job.Phase.{Phase}
 use Rattle.lnbd_copy.specs.declared.job.Phase.TheVariants.{Copying, Flushing, Parting}
@@ -35,7 +38,7 @@ use Rattle.lnbd_copy.specs.Job as job
 use Rattle.lnbd_copy.specs.Leaving.{Leaves}
 use Rattle.lnbd_copy.specs.Limit.{IsLimited}
 use Rattle.lnbd_copy.specs.Windows as windows
-use Rattle.lnbd_copy.specs.Way.{Filed, Goes, IsLeaving, IsOn, IsUnderWay, Stands, Told, Way}
+use Rattle.lnbd_copy.specs.Way.{Filed, Goes, IsLeaving, IsOn, IsUnderWay, Stands, Told, Way, known_of}
 use Rattle.lnbd_copy.proofs.CopierLemmas.{told_as}
 use Rattle.lnbd_copy.proofs.PartLemmas.{on_leaving}
 
@@ -52,6 +55,8 @@ job_filed j way now now' filed is = record {
   ends = is.ends;
   zeros = is.zeros;
   planned = is.planned;
+  block = is.block;
+  spared = is.spared;
   asked = is.asked;
   over = λ past. let over = is.over past in record { planned = over.planned; handed = over.handed; heard = over.heard; rows = filed.none over.rows };
 }
@@ -203,7 +208,7 @@ planned_whole j way now calls is over has s two =
     record {
       are = sym (append-nil way.slices) ∙ ap (λ (l : List Slice). way.slices ++ l) (sym over.handed) ∙ is.planned.are;
       whole = is.planned.end ∙ over.planned;
-      told = λ p less zero. known_was_told way.from way.how has way.slices now calls way.asked way.zero s.told source p (is.planned.told p zero);
+      told = λ p less zero. known_was_told way.from way.how has way.slices now calls way.asked (known_of way) s.told source p (is.planned.told p zero);
       left_out = λ none. ap (λ (h : How). h.skip) is.how ∙ not_false j.terms.how.skip (sym is.zeros ∙ none);
     }
 
@@ -252,6 +257,25 @@ way_asks copy start told well on two =
     (under_way_asks on.job on.way copy.board (job.is_parting on.job.phase) calls copy.held on.is well is apart))))
     on.on
 
+-- No block of the source was read that one answer told as zero whole.
+way_spares : (j : job.Seen) (way : Way) (now : board.Seen) (calls : List wire.Call) → (is : job.IsJob j way now) → job.IsOver j now → (has : ℕ → Bool) → Stands way has now calls [] → now.error ≡ None → way.from ≢ way.to → SparesZeros way.from calls
+way_spares j way now calls is over has s well two =
+    let b = between_sized way j.terms.size has now calls is.size s in
+    let sides = (links_are_of_sides way.from way.to j.terms.size way.how has way.slices now calls b two).0 in
+    let unasked : way.asked ≡ None = is.asked ∙ ap (λ (b : Bool). if b then windows.wanted j.windows else None) over.heard in
+    let told = subst (λ (o : Option (ℕ × ℕ)). course.Told way.how has way.slices now calls [] o (known_of way)) unasked s.told in
+    let ends = over.planned in
+    let sized = is.ends in
+    record {
+      block = j.windows.grain;
+      least = is.block;
+      reads = ended_spares way.from way.how has way.slices j.windows.plan.slices now calls (known_of way) j.windows.plan.cells (told_by 0 is.spared.parts) j.windows.plan.end j.windows.grain told well sides.source
+          (λ p.
+          subst (λ (l : List Slice). IsPlannedOnce j.windows.plan.cells (told_by 0 is.spared.parts) 0 j.windows.plan.end p l) (sym is.spared.are)
+          (subst (λ (n : ℕ). IsPlannedOnce j.windows.plan.cells (told_by 0 is.spared.parts) 0 n p (windows_slices j.windows.plan.cells 0 is.spared.parts)) is.spared.end (all_planned_once j.windows.plan.cells 0 is.spared.parts p)))
+          (λ p e. let inside = is.spared.inside p e in is.spared.planned p e (omega (arith, inside, ends, sized)));
+    }
+
 pub finished : (copy : Seen) (start told : Option (List wire.Call)) (j : job.Seen) → copy.job ≡ Some j → job.is_parting j.phase ≡ true → copy.held ≡ [] → copy.board.error ≡ None → IsOnItsWay start told copy → IsDone start told copy
 finished copy start told j there parts none well on =
     let same : on.job ≡ j = some_same on.job j (sym on.there ∙ there) in
@@ -271,6 +295,15 @@ finished copy start told j there parts none well on =
           subst (λ (t : Place). WereDone copy.from t calls) on.to
           (subst (λ (f : Place). WereDone f on.way.to calls) on.from
           (ended_are_done on.way.from on.way.to on.job.terms.size on.way.how leaving.has on.way.slices copy.board calls (between_sized on.way on.job.terms.size leaving.has copy.board calls on.is.size s) over.rows well apart)))
+          on.on;
+      spares = λ two.
+          let apart : on.way.from ≢ on.way.to = λ e. two (sym on.from ∙ e ∙ on.to) in
+          told_as start told
+          (λ calls is.
+          let leaving : IsLeaving on.way copy.board calls [] =
+          subst (λ (h : List (Held Ticket)). IsLeaving on.way copy.board calls h) none (subst (λ (p : Bool). IsUnderWay p on.way copy.board calls copy.held) parting is) in
+          let s = stands_alone on.way copy.board calls leaving in
+          subst (λ (f : Place). SparesZeros f calls) on.from (way_spares on.job on.way copy.board calls on.is over leaving.has s well apart))
           on.on;
       copied = λ two.
           let apart : on.way.from ≢ on.way.to = λ e. two (sym on.from ∙ e ∙ on.to) in
@@ -322,3 +355,9 @@ pub done_whole : (copy new : Seen) (a b c : Option (List wire.Call)) → new ≡
 done_whole copy new a b c kept same two done =
     let so = subst (λ (s : Seen). IsDone a b s) kept done in
     subst (λ (t : Option (List wire.Call)). GrewBy (WereDone copy.from copy.to) a t) (sym same) (told_part a b (so.done two))
+
+-- It read no block that was told as zero whole.
+pub done_spares : (copy new : Seen) (a b c : Option (List wire.Call)) → new ≡ record copy { start = new.start; held = new.held; board = new.board; job = new.job } → c ≡ b → copy.from ≢ copy.to → IsDone a b new → GrewBy (SparesZeros copy.from) a c
+done_spares copy new a b c kept same two done =
+    let so = subst (λ (s : Seen). IsDone a b s) kept done in
+    subst (λ (t : Option (List wire.Call)). GrewBy (SparesZeros copy.from) a t) (sym same) (told_part a b (so.spares two))

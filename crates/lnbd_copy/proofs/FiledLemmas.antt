@@ -63,7 +63,7 @@ completed_filed true by error buf old = done_filed by buf old
 completed_filed false by error buf old = error_filed old error
 
 hears_filed : (is : Bool) (entries : List Extent) (old new : board.Seen) → Hears is entries old new → Filed old new
-hears_filed true entries old new (inl e) = subst (Filed old) (sym e) (record { how = refl; begun = refl; none = λ e. e; many = refl; error = λ e. e; read = refl; written = refl; zeroed = refl })
+hears_filed true entries old new (inl e) = subst (Filed old) (sym e.1) (record { how = refl; begun = refl; none = λ e. e; many = refl; error = λ e. e; read = refl; written = refl; zeroed = refl })
 hears_filed true entries old new (inr e) = subst (Filed old) (sym e) (record { how = refl; begun = refl; none = λ e. e; many = refl; error = λ e. e; read = refl; written = refl; zeroed = refl })
 hears_filed false entries old new e = filed_same old new e
 

@@ -24,6 +24,7 @@ use Rattle.lnbd_board.proofs.Turning.{extents_kept, flush_kept}
 use Rattle.lnbd_course.specs.Counted.{is_zero, up_to_end}
 use Rattle.lnbd_course.specs.Laws.{AsksSource, AsksDestination}
 use Rattle.lnbd_course.proofs.Counting.{bytes_beside}
+use Rattle.lnbd_course.specs.Spares.{IsLeastBlock}
 use Rattle.lnbd_course.specs.Taken.{without_buffer}
 use Rattle.lnbd_tracks.specs.Laws.{asked_by}
 use Rattle.lnbd_tracks.specs.Mapping.{HoldsZero}
@@ -34,7 +35,10 @@ use Rattle.lnbd_copy.specs.Asked.{IsAsked}
 use Rattle.lnbd_copy.specs.Dealing.{Begins}
 use Rattle.lnbd_copy.specs.Job.{Acts, AreOfOne, IsJob, IsOver, Seen, with_asked, with_heard}
 use Rattle.lnbd_copy.specs.Way.{IsOn, Keeps, Stand, Stands, Way, with_slices}
+use Rattle.lnbd_copy.specs.Spared.{IsSpared, whole_heard, whole_within}
 use Rattle.lnbd_copy.specs.Windows as windows
+use Rattle.lnbd_copy.proofs.SparedLemmas.{spared_none}
+use Rattle.lnbd_copy.proofs.WindowLemmas.{or_first, or_second}
 use Rattle.lnbd_copy.proofs.StepLemmas.{extents_ask_stand, hearing_stands, unheard_stands}
 use Rattle.lnbd_copy.proofs.WayLemmas.{destination_keeps, sided_after}
 
@@ -72,13 +76,15 @@ both false b e = absurd (false≢true e)
 heard_in : (way : Way) (range : ℕ × ℕ) (now : board.Seen) (p : ℕ) → (way.zero p || windows.zero_within range now.told p) ≡ true → (way.zero p ≡ true) ⊎ HoldsZero range now p
 heard_in way range now p e = elim (or_heard (way.zero p) (windows.zero_within range now.told p) e) [ inl was ↦ inl was | inr here ↦ let h = both (within range p) (zero_in range.0 now.told p) here in inr (record { has = h.0; zero = h.1 }) ]
 
-heard_stands : (way : Way) (asked : Option (ℕ × ℕ)) → way.asked ≡ asked → (has : ℕ → Bool) (now : board.Seen) (calls : List wire.Call) (seens : List (poll.Seen Ticket)) → now.mapped ≡ true → Stands way has now calls seens →
-    Stands (record way { zero = λ p. way.zero p || windows.zero_heard asked now.told p; asked = None }) has now calls seens
-heard_stands way None none has now calls seens mapped s = unheard_stands way has now calls seens (λ p. way.zero p || false) none s (λ p e. elim (or_heard (way.zero p) false e) [ inl was ↦ was | inr e ↦ absurd (false≢true e) ])
-heard_stands way (Some range) some has now calls seens mapped s = hearing_stands way has now calls seens range (λ p. way.zero p || windows.zero_within range now.told p) some s mapped (heard_in way range now)
+heard_stands : (way : Way) (asked : Option (ℕ × ℕ)) → way.asked ≡ asked → (has : ℕ → Bool) (now : board.Seen) (calls : List wire.Call) (seens : List (poll.Seen Ticket)) → now.mapped ≡ true → now.short ≡ false → Stands way has now calls seens →
+    Stands (record way { zero = λ p. way.zero p || windows.zero_heard asked now.told p; whole = λ block p. way.whole block p || whole_heard block asked now.told p; asked = None }) has now calls seens
+heard_stands way None none has now calls seens mapped short s = unheard_stands way has now calls seens (λ p. way.zero p || false) (λ block p. way.whole block p || false) none s (λ p e. elim (or_heard (way.zero p) false e) [ inl was ↦ was | inr e ↦ absurd (false≢true e) ]) (λ block p e. or_first (way.whole block p) false e)
+heard_stands way (Some range) some has now calls seens mapped short s =
+    hearing_stands way has now calls seens range (λ p. way.zero p || windows.zero_within range now.told p) (λ block p. way.whole block p || whole_within block range now.told p) some s mapped short (heard_in way range now)
+    (λ block p e. or_first (way.whole block p) _ e) (λ block p e. or_second (way.whole block p) _ e)
 
-heard_on : (way : Way) (now : board.Seen) (calls : List wire.Call) (held : List (Held Ticket)) → now.mapped ≡ true → IsOn way now calls held → IsOn (with_heard now.told way) now calls held
-heard_on way now calls held mapped on = record { has = on.has; seens = on.seens; at = on.at; sided = on.sided; begun = on.begun; stands = heard_stands way way.asked refl on.has now calls on.seens mapped on.stands }
+heard_on : (way : Way) (now : board.Seen) (calls : List wire.Call) (held : List (Held Ticket)) → now.mapped ≡ true → now.short ≡ false → IsOn way now calls held → IsOn (with_heard now.told way) now calls held
+heard_on way now calls held mapped short on = record { has = on.has; seens = on.seens; at = on.at; sided = on.sided; begun = on.begun; stands = heard_stands way way.asked refl on.has now calls on.seens mapped short on.stands }
 
 -- no slice more was begun
 none_on : (how : How) (sides : Sides) (now now' : board.Seen) (held held' : List (Held Ticket)) → Keeps how sides [] now now' held held' → (way : Way) (calls : List wire.Call) → way.how ≡ how → way.sides ≡ sides →
@@ -116,7 +122,7 @@ asked_on way now now' calls held held' offset size none is asked on =
       sided = sided_after way.sides on.has 0 (Issue command) on.seens on.sided;
       begun = on.begun ∙ ap (λ (b : board.Seen). b.begun) (sym is);
       stands = extents_ask_stand way on.has now now' calls on.seens (offset, size) 0 was.seen command none on.stands was.there (on.sided 0 was.seen was.there) was.spells (extents_ask way.how now now' offset size way.slices is)
-          (record { kind = refl; offset = refl; length_ = refl }) (ap (λ (b : board.Seen). b.told) is) (ap (λ (b : board.Seen). b.mapped) is);
+          (record { asks = record { kind = refl; offset = refl; length_ = refl }; first = refl }) (ap (λ (b : board.Seen). b.told) is) (ap (λ (b : board.Seen). b.mapped) is);
     }
 
 -- Slices go on.
@@ -131,18 +137,19 @@ acts_keeps job how sides now now' held held' h s copying writes keeps = record {
   on = λ way had. record {
     way' = way;
     one = one_same way;
-    job' = record { size = had.size; how = had.how; writes = writes ∙ had.writes; sides = had.sides; ends = had.ends; zeros = had.zeros; planned = had.planned; asked = had.asked; over = λ other. absurd (other copying) };
+    job' = record { size = had.size; how = had.how; writes = writes ∙ had.writes; sides = had.sides; ends = had.ends; zeros = had.zeros; planned = had.planned; block = had.block; spared = had.spared; asked = had.asked; over = λ other. absurd (other copying) };
     on = λ calls on. none_on how sides now now' held held' keeps way calls (had.how ∙ sym h) (had.sides ∙ sym s) on;
   };
 }
 
 -- Extents are heard, and asked for.
 
-pub acts_heard : (job job' : Seen) (windows' : windows.Seen) (now : board.Seen) (held : List (Held Ticket)) → job.phase ≡ Copying → job.asked ≡ true → now.mapped ≡ true → job' ≡ record job { windows = windows'; asked = false } →
-    windows'.plan.cells ≡ job.windows.plan.cells → windows'.size ≡ job.windows.size →
+pub acts_heard : (job job' : Seen) (windows' : windows.Seen) (now : board.Seen) (held : List (Held Ticket)) → job.phase ≡ Copying → job.asked ≡ true → now.mapped ≡ true → now.short ≡ false → job' ≡ record job { windows = windows'; asked = false } →
+    windows'.plan.cells ≡ job.windows.plan.cells → windows'.size ≡ job.windows.size → windows'.grain ≡ job.windows.grain →
+    ((whole : ℕ → Bool) (slices : List Slice) → IsSpared job.windows whole slices → IsSpared windows' (λ p. whole p || whole_heard job.windows.grain (windows.wanted job.windows) now.told p) slices) →
     ((blank : ℕ → Bool) (slices : List Slice) → windows.IsPlanned job.windows blank slices → windows.IsPlanned windows' (λ p. blank p || windows.zero_heard (windows.wanted job.windows) now.told p) slices) →
     Acts job job' now now held held
-acts_heard job job' windows' now held copying asked mapped is cells size hears = subst (λ (j : Seen). Acts job j now now held held) (sym is) (record {
+acts_heard job job' windows' now held copying asked mapped short is cells size grain spares hears = subst (λ (j : Seen). Acts job j now now held held) (sym is) (record {
   stand = λ s. s;
   on = λ way had.
       let range : way.asked ≡ windows.wanted job.windows = had.asked ∙ ap (λ (b : Bool). if b then windows.wanted job.windows else None) asked in
@@ -157,10 +164,13 @@ acts_heard job job' windows' now held copying asked mapped is cells size hears =
           ends = size ∙ had.ends;
           zeros = ap (λ (c : Cells). c.zeros) cells ∙ had.zeros;
           planned = subst (λ (r : Option (ℕ × ℕ)). windows.IsPlanned windows' (λ p. way.zero p || windows.zero_heard r now.told p) way.slices) (sym range) (hears way.zero way.slices had.planned);
+          block = subst IsLeastBlock (sym grain) had.block;
+          spared = subst (λ (g : ℕ). IsSpared windows' (λ p. way.whole g p || whole_heard g way.asked now.told p) way.slices) (sym grain)
+              (subst (λ (r : Option (ℕ × ℕ)). IsSpared windows' (λ p. way.whole job.windows.grain p || whole_heard job.windows.grain r now.told p) way.slices) (sym range) (spares (way.whole job.windows.grain) way.slices had.spared));
           asked = refl;
           over = λ other. absurd (other copying);
         };
-        on = λ calls on. heard_on way now calls held mapped on;
+        on = λ calls on. heard_on way now calls held mapped short on;
       };
 })
 
@@ -176,7 +186,7 @@ acts_asked job job' now now' held held' offset size copying none range is forget
       record {
         way' = with_asked (Some (offset, size)) way;
         one = record { from = refl; to = refl; how = refl; sides = refl };
-        job' = record { size = had.size; how = had.how; writes = ap (λ (b : board.Seen). b.how) forgets ∙ had.writes; sides = had.sides; ends = had.ends; zeros = had.zeros; planned = had.planned; asked = sym range; over = λ other. absurd (other copying) };
+        job' = record { size = had.size; how = had.how; writes = ap (λ (b : board.Seen). b.how) forgets ∙ had.writes; sides = had.sides; ends = had.ends; zeros = had.zeros; planned = had.planned; block = had.block; spared = had.spared; asked = sym range; over = λ other. absurd (other copying) };
         on = λ calls on. asked_on way now now' calls held held' offset size blank forgets asked on;
       };
 })
@@ -197,6 +207,17 @@ handed_planned plan plan' blank slices more handed others planned = subst (λ (w
   under_way = planned.under_way;
 })
 
+handed_spared : (plan plan' : windows.Seen) (whole : (block p : ℕ) → Bool) (slices more : List Slice) → plan.plan.slices ≡ more ++ plan'.plan.slices → plan' ≡ with_left plan plan'.plan.slices → IsSpared plan (whole plan.grain) slices →
+    IsSpared plan' (whole plan'.grain) (slices ++ more)
+handed_spared plan plan' whole slices more handed others spared = subst (λ (w : windows.Seen). IsSpared w (whole w.grain) (slices ++ more)) (sym others) (record {
+  parts = spared.parts;
+  are = append_assoc slices more plan'.plan.slices ∙ ap (λ (l : List Slice). slices ++ l) (sym handed) ∙ spared.are;
+  end = spared.end;
+  planned = spared.planned;
+  under_way = spared.under_way;
+  inside = spared.inside;
+})
+
 pub acts_begun : (job job' : Seen) (windows' : windows.Seen) (how : How) (sides : Sides) (now now' : board.Seen) (held held' : List (Held Ticket)) → job.phase ≡ Copying → how ≡ job.terms.how → sides ≡ job.terms.sides → job' ≡ record job { windows = windows' } →
     Begins how sides job.windows windows' now now' held held' → Acts job job' now now' held held'
 acts_begun job job' windows' how sides now now' held held' copying h s is begins = subst (λ (j : Seen). Acts job j now now' held held') (sym is) (record {
@@ -212,6 +233,8 @@ acts_begun job job' windows' how sides now now' held held' copying h s is begins
       ends = ap (λ (w : windows.Seen). w.size) begins.others ∙ had.ends;
       zeros = ap (λ (w : windows.Seen). w.plan.cells.zeros) begins.others ∙ had.zeros;
       planned = handed_planned job.windows windows' way.zero way.slices begins.more begins.handed begins.others had.planned;
+      block = subst IsLeastBlock (sym (ap (λ (w : windows.Seen). w.grain) begins.others)) had.block;
+      spared = handed_spared job.windows windows' way.whole way.slices begins.more begins.handed begins.others had.spared;
       asked = had.asked ∙ ap (λ (w : windows.Seen). if job.asked then windows.wanted w else None) (sym begins.others);
       over = λ other. absurd (other copying);
     };
@@ -237,6 +260,8 @@ acts_over job job' phase' now now' held held' is rows writes over keeps = subst 
       ends = had.ends;
       zeros = had.zeros;
       planned = had.planned;
+      block = had.block;
+      spared = had.spared;
       asked = had.asked;
       over = λ other. let was = over way had in record { planned = was.planned; handed = was.handed; heard = was.heard; rows = rows ∙ was.rows };
     };
@@ -276,13 +301,13 @@ pub acts_flushing : (job job' : Seen) (phase' : Phase) (now now' : board.Seen) (
 acts_flushing job job' phase' now now' held held' is over same asked =
     let begun : now'.begun ≡ now.begun = ap (λ (b : board.Seen). b.begun) same in
     acts_over job job' phase' now now' held held' is (ap (λ (b : board.Seen). b.rows) same) (ap (λ (b : board.Seen). b.how) same) (λ way had. over)
-    (destination_keeps job.terms.how job.terms.sides [] (flush_of ticket.Flush 0) now now' held held' (omega (arith, begun)) refl (record { told = ap (λ (b : board.Seen). b.told) same; mapped = ap (λ (b : board.Seen). b.mapped) same }) (λ slices count. flush_asks job.terms.how now now' slices same)
+    (destination_keeps job.terms.how job.terms.sides [] (flush_of ticket.Flush 0) now now' held held' (omega (arith, begun)) refl (record { told = ap (λ (b : board.Seen). b.told) same; mapped = ap (λ (b : board.Seen). b.mapped) same; short = ap (λ (b : board.Seen). b.short) same }) (λ slices count. flush_asks job.terms.how now now' slices same)
     (record { index = 1; side = refl; asked = asked }))
 
 -- A job begins.
-pub job_begins : (job : Seen) (way : Way) (now : board.Seen) → job.asked ≡ false → job.phase ≡ Copying → job.windows.plan.cells.zeros ≡ not job.terms.how.skip → job.windows.size ≡ job.terms.size → ((blank : ℕ → Bool) → windows.IsPlanned job.windows blank []) →
-    way.size ≡ Some job.terms.size → now.how ≡ job.terms.how → way.how ≡ job.terms.how → way.sides ≡ job.terms.sides → way.slices ≡ [] → way.asked ≡ None → IsJob job way now
-job_begins job way now none copying zeros ends planned z w h s blank asked = record {
+pub job_begins : (job : Seen) (way : Way) (now : board.Seen) → job.asked ≡ false → job.phase ≡ Copying → job.windows.plan.cells.zeros ≡ not job.terms.how.skip → job.windows.size ≡ job.terms.size → job.windows.grain ≡ job.terms.grain → IsLeastBlock job.terms.grain → ((blank : ℕ → Bool) → windows.IsPlanned job.windows blank []) →
+    way.size ≡ Some job.terms.size → now.how ≡ job.terms.how → way.how ≡ job.terms.how → way.sides ≡ job.terms.sides → way.slices ≡ [] → way.asked ≡ None → ((block p : ℕ) → way.whole block p ≡ false) → IsJob job way now
+job_begins job way now none copying zeros ends grain least planned z w h s blank asked unknown = record {
   size = z;
   how = h;
   writes = w;
@@ -290,6 +315,8 @@ job_begins job way now none copying zeros ends planned z w h s blank asked = rec
   ends = ends;
   zeros = zeros;
   planned = subst (λ (l : List Slice). windows.IsPlanned job.windows way.zero l) (sym blank) (planned way.zero);
+  block = subst IsLeastBlock (sym grain) least;
+  spared = subst (λ (l : List Slice). IsSpared job.windows (way.whole job.windows.grain) l) (sym blank) (spared_none job.windows way.zero (way.whole job.windows.grain) [] (unknown job.windows.grain) (planned way.zero));
   asked = asked ∙ ap (λ (b : Bool). if b then windows.wanted job.windows else None) (sym none);
   over = λ other. absurd (other copying);
 }

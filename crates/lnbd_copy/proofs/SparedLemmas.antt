@@ -16,7 +16,7 @@ use Rattle.lnbd_plan.specs.Plans.{Planned, window_slices}
 use Rattle.lnbd_plan.specs.Laws.{Window, windows_slices, windows_end, told_by}
 use Rattle.lnbd_asked.specs.Transcript.{is_zero, zero_in}
 use Rattle.lnbd_copy.specs.Spared.{HaveOneFlag, IsInside, IsSpared, whole_heard, whole_within}
-use Rattle.lnbd_copy.specs.Windows.{Seen, wanted, window, window_end, zero_within}
+use Rattle.lnbd_copy.specs.Windows.{IsPlanned, Seen, wanted, window, window_end, zero_within}
 use Rattle.lnbd_copy.proofs.WindowLemmas.{Joins, Walks, and_left, and_right, both_true, end_behind, less_or_more, or_cases, or_first, slices_behind, walk_here, walk_on}
 
 -- Blocks.
@@ -362,3 +362,14 @@ module _ (windows : Seen) (start end block : ℕ) (told list : List Extent) (now
         ]
         | inr h ↦ (let heard = heard_is p h in let low = heard.low in told_now p (omega (arith, low, ahead)) heard.high heard.zero)
       ]
+
+-- Before any is known each is spared.
+pub spared_none : (windows : Seen) (blank whole : ℕ → Bool) (slices : List Slice) → ((p : ℕ) → whole p ≡ false) → IsPlanned windows blank slices → IsSpared windows whole slices
+spared_none windows blank whole slices unknown planned = record {
+  parts = planned.parts;
+  are = planned.are;
+  end = planned.end;
+  planned = λ p e. absurd (false≢true (sym (unknown p) ∙ e));
+  under_way = λ p e. absurd (false≢true (sym (unknown p) ∙ e));
+  inside = λ p e. absurd (false≢true (sym (unknown p) ∙ e));
+}

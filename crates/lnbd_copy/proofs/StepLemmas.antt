@@ -19,20 +19,21 @@ use Rattle.lnbd_board.specs.declared.ticket.Ticket.{Ticket}
 use Rattle.lnbd_board.specs.Asks.{Keeps}
 use Rattle.lnbd_board.specs.Files as board
 use Rattle.lnbd_board.specs.Requests.{Request}
-use Rattle.lnbd_tracks.specs.Mapping.{AsksRange, HoldsZero, ToldAlike, asks_extents}
+use Rattle.lnbd_tracks.specs.Mapping.{HoldsZero, ToldAlike, asks_extents}
+use Rattle.lnbd_tracks.specs.Heeding.{ListensTo, holds_whole}
 use Rattle.lnbd_course.specs.Between.{Between, IsSetting}
 use Rattle.lnbd_course.specs.Counted.{CountsSame, HasNotCounted}
 use Rattle.lnbd_course.specs.Told as course
 use Rattle.lnbd_course.specs.Laws.{AsksDestination, AsksSource}
 use Rattle.lnbd_course.proofs.Placing.{board_moves_keep_between, calls_keep_between, destination_asks_keep_between, nothing_is_between, others_keep_between, settling_keeps_between, source_asks_keep_between, taking_keeps_between, turns_keep_between}
 use Rattle.lnbd_course.proofs.Telling.{board_moves_tell, calls_tell, destination_asks_tell, extents_ask_tell, fewer_tell, hearing_tells, nothing_is_told, others_tell, settling_tells, source_asks_tell, taking_tells, turns_tell, unasked_moves_tell}
-use Rattle.lnbd_copy.specs.Way.{Stands, Way}
+use Rattle.lnbd_copy.specs.Way.{Stands, Way, known_of}
 
 module _ (way : Way) (has : ℕ → Bool) where
   pub nothing_stands : (now : board.Seen) → way.size ≡ None → way.slices ≡ [] → way.asked ≡ None → ((p : ℕ) → way.zero p ≡ false) → now.rows ≡ [] → HasNotCounted now → Stands way has now [] []
   nothing_stands now unsettled none unasked unknown empty uncounted = record {
     between = subst (λ (o : Option ℕ). Between way.from way.to o way.how has way.slices now [] []) (sym unsettled) (subst (λ (l : List Slice). Between way.from way.to None way.how has l now [] []) (sym none) (nothing_is_between way.from way.to way.how has now empty uncounted));
-    told = subst (λ (o : Option (ℕ × ℕ)). course.Told way.how has way.slices now [] [] o way.zero) (sym unasked) (subst (λ (l : List Slice). course.Told way.how has l now [] [] None way.zero) (sym none) (nothing_is_told way.how has now way.zero empty uncounted unknown));
+    told = subst (λ (o : Option (ℕ × ℕ)). course.Told way.how has way.slices now [] [] o (known_of way)) (sym unasked) (subst (λ (l : List Slice). course.Told way.how has l now [] [] None (known_of way)) (sym none) (nothing_is_told way.how has now (known_of way) empty uncounted unknown));
   }
 
   pub settling_stands : (how : How) (now now' : board.Seen) (calls : List wire.Call) (seens : List (Seen Ticket)) → way.slices ≡ [] → way.asked ≡ None → Stands way has now calls seens → now.rows ≡ [] → now.error ≡ None → now'.rows ≡ [] → HasNotCounted now' →
@@ -40,22 +41,22 @@ module _ (way : Way) (has : ℕ → Bool) where
   settling_stands how now now' calls seens none unasked s empty well empty' uncounted = record {
     between = subst (λ (l : List Slice). Between way.from way.to way.size how has l now' calls seens) (sym none)
         (settling_keeps_between way.from way.to way.size way.how how has now now' calls seens (subst (λ (l : List Slice). Between way.from way.to way.size way.how has l now calls seens) none s.between) empty well empty' uncounted);
-    told = subst (λ (o : Option (ℕ × ℕ)). course.Told how has way.slices now' calls seens o way.zero) (sym unasked) (subst (λ (l : List Slice). course.Told how has l now' calls seens None way.zero) (sym none)
-        (settling_tells way.how how has now now' calls seens way.zero
-        (subst (λ (o : Option (ℕ × ℕ)). course.Told way.how has [] now calls seens o way.zero) unasked (subst (λ (l : List Slice). course.Told way.how has l now calls seens way.asked way.zero) none s.told)) empty well empty' uncounted));
+    told = subst (λ (o : Option (ℕ × ℕ)). course.Told how has way.slices now' calls seens o (known_of way)) (sym unasked) (subst (λ (l : List Slice). course.Told how has l now' calls seens None (known_of way)) (sym none)
+        (settling_tells way.how how has now now' calls seens (known_of way)
+        (subst (λ (o : Option (ℕ × ℕ)). course.Told way.how has [] now calls seens o (known_of way)) unasked (subst (λ (l : List Slice). course.Told way.how has l now calls seens way.asked (known_of way)) none s.told)) empty well empty' uncounted));
   }
 
   pub turns_stand : (now now' : board.Seen) (calls part : List wire.Call) (before after : List (Seen Ticket)) (moved : Option ℕ) → Stands way has now calls before → Turns (OneByOne board.Files) before now part after now' (Whole moved) →
       Stands way has now' (calls ++ part) after
   turns_stand now now' calls part before after moved s turns = record {
     between = turns_keep_between way.from way.to way.size way.how has way.slices now now' calls part before after moved s.between turns;
-    told = turns_tell way.how has way.slices now now' calls part before after way.asked way.zero moved s.told turns;
+    told = turns_tell way.how has way.slices now now' calls part before after way.asked (known_of way) moved s.told turns;
   }
 
   pub calls_stand : (now : board.Seen) (calls more : List wire.Call) (seens : List (Seen Ticket)) → Stands way has now calls seens → ((link : ℕ) → calls_on link more ≡ []) → ((link : ℕ) → is_given link more ≡ false) → Stands way has now (calls ++ more) seens
   calls_stand now calls more seens s none given = record {
     between = calls_keep_between way.from way.to way.size way.how has way.slices now calls more seens s.between none given;
-    told = calls_tell way.how has way.slices now calls more seens way.asked way.zero s.told none;
+    told = calls_tell way.how has way.slices now calls more seens way.asked (known_of way) s.told none;
   }
 
   pub source_asks_stand : (slices' : List Slice) (now now' : board.Seen) (calls : List wire.Call) (seens : List (Seen Ticket)) (index : ℕ) (seen : Seen Ticket) (command : Command Ticket) →
@@ -63,7 +64,7 @@ module _ (way : Way) (has : ℕ → Bool) where
       asks_extents (Issue command) ≡ false → ToldAlike now now' → Stands (record way { slices = slices' }) has now' calls (with_event index (Issue command) seens)
   source_asks_stand slices' now now' calls seens index seen command s there side spells asks other alike = record {
     between = source_asks_keep_between way.from way.to way.size way.how has way.slices slices' now now' calls seens index seen command s.between there side spells asks;
-    told = source_asks_tell way.how has way.slices slices' now now' calls seens way.asked way.zero index seen command s.told there side spells asks other alike;
+    told = source_asks_tell way.how has way.slices slices' now now' calls seens way.asked (known_of way) index seen command s.told there side spells asks other alike;
   }
 
   pub destination_asks_stand : (slices' : List Slice) (now now' : board.Seen) (calls : List wire.Call) (seens : List (Seen Ticket)) (index : ℕ) (seen : Seen Ticket) (command : Command Ticket) →
@@ -71,22 +72,22 @@ module _ (way : Way) (has : ℕ → Bool) where
       asks_extents (Issue command) ≡ false → ToldAlike now now' → Stands (record way { slices = slices' }) has now' calls (with_event index (Issue command) seens)
   destination_asks_stand slices' now now' calls seens index seen command s there side spells asks other alike = record {
     between = destination_asks_keep_between way.from way.to way.size way.how has way.slices slices' now now' calls seens index seen command s.between there side spells asks;
-    told = destination_asks_tell way.how has way.slices slices' now now' calls seens way.asked way.zero index seen command s.told there side spells asks other alike;
+    told = destination_asks_tell way.how has way.slices slices' now now' calls seens way.asked (known_of way) index seen command s.told there side spells asks other alike;
   }
 
   pub extents_ask_stand : (now now' : board.Seen) (calls : List wire.Call) (seens : List (Seen Ticket)) (range : ℕ × ℕ) (index : ℕ) (seen : Seen Ticket) (command : Command Ticket) → way.asked ≡ None →
       Stands way has now calls seens → slice_get seens index ≡ Some seen → has seen.link ≡ true → Spells seen.history (Issue command) → AsksSource way.how command way.slices way.slices now now' →
-      AsksRange range command → now'.told ≡ [] → now'.mapped ≡ false → Stands (record way { asked = Some range }) has now' calls (with_event index (Issue command) seens)
+      ListensTo range command → now'.told ≡ [] → now'.mapped ≡ false → Stands (record way { asked = Some range }) has now' calls (with_event index (Issue command) seens)
   extents_ask_stand now now' calls seens range index seen command none s there side spells asks asked blank unmapped = record {
     between = source_asks_keep_between way.from way.to way.size way.how has way.slices way.slices now now' calls seens index seen command s.between there side spells asks;
-    told = extents_ask_tell way.how has way.slices way.slices now now' calls seens range way.zero index seen command (subst (λ (o : Option (ℕ × ℕ)). course.Told way.how has way.slices now calls seens o way.zero) none s.told) there side spells asks asked blank unmapped;
+    told = extents_ask_tell way.how has way.slices way.slices now now' calls seens range (known_of way) index seen command (subst (λ (o : Option (ℕ × ℕ)). course.Told way.how has way.slices now calls seens o (known_of way)) none s.told) there side spells asks asked blank unmapped;
   }
 
   pub board_moves_stand : (now now' : board.Seen) (calls : List wire.Call) (seens : List (Seen Ticket)) → Stands way has now calls seens → (now'.error ≡ None → now.error ≡ None) → CountsSame now now' →
       ((source destination : List Request) → Keeps way.how now.rows source destination now'.rows source destination) → ToldAlike now now' → Stands way has now' calls seens
   board_moves_stand now now' calls seens s earlier same keeps alike = record {
     between = board_moves_keep_between way.from way.to way.size way.how has way.slices now now' calls seens s.between earlier same keeps;
-    told = board_moves_tell way.how has way.slices now now' calls seens way.asked way.zero s.told earlier same keeps alike;
+    told = board_moves_tell way.how has way.slices now now' calls seens way.asked (known_of way) s.told earlier same keeps alike;
   }
 
   -- Where no extents are waited for, it does not matter what the board was told of them.
@@ -94,34 +95,35 @@ module _ (way : Way) (has : ℕ → Bool) where
       ((source destination : List Request) → Keeps way.how now.rows source destination now'.rows source destination) → Stands way has now' calls seens
   unasked_moves_stand now now' calls seens none s earlier same keeps = record {
     between = board_moves_keep_between way.from way.to way.size way.how has way.slices now now' calls seens s.between earlier same keeps;
-    told = subst (λ (o : Option (ℕ × ℕ)). course.Told way.how has way.slices now' calls seens o way.zero) (sym none) (unasked_moves_tell way.how has way.slices now now' calls seens way.zero (subst (λ (o : Option (ℕ × ℕ)). course.Told way.how has way.slices now calls seens o way.zero) none s.told) earlier same keeps);
+    told = subst (λ (o : Option (ℕ × ℕ)). course.Told way.how has way.slices now' calls seens o (known_of way)) (sym none) (unasked_moves_tell way.how has way.slices now now' calls seens (known_of way) (subst (λ (o : Option (ℕ × ℕ)). course.Told way.how has way.slices now calls seens o (known_of way)) none s.told) earlier same keeps);
   }
 
   pub others_stand : (now : board.Seen) (calls : List wire.Call) (seens : List (Seen Ticket)) (index : ℕ) (seen : Seen Ticket) (event : Event Ticket) → Stands way has now calls seens → slice_get seens index ≡ Some seen →
       IsSetting seen.history event → is_naming event ≡ false → Stands way has now calls (with_event index event seens)
   others_stand now calls seens index seen event s there sets unnamed = record {
     between = others_keep_between way.from way.to way.size way.how has way.slices now calls seens index seen event s.between there sets unnamed;
-    told = others_tell way.how has way.slices now calls seens way.asked way.zero index seen event s.told there sets.inward sets.unasked sets.still sets.spelled sets.mode;
+    told = others_tell way.how has way.slices now calls seens way.asked (known_of way) index seen event s.told there sets.inward sets.unasked sets.still sets.spelled sets.mode;
   }
 
-  pub hearing_stands : (now : board.Seen) (calls : List wire.Call) (seens : List (Seen Ticket)) (range : ℕ × ℕ) (known : ℕ → Bool) → way.asked ≡ Some range → Stands way has now calls seens → now.mapped ≡ true →
-      ((p : ℕ) → known p ≡ true → (way.zero p ≡ true) ⊎ HoldsZero range now p) → Stands (record way { asked = None; zero = known }) has now calls seens
-  hearing_stands now calls seens range known asked s mapped knows = record {
+  pub hearing_stands : (now : board.Seen) (calls : List wire.Call) (seens : List (Seen Ticket)) (range : ℕ × ℕ) (known : ℕ → Bool) (whole : (block p : ℕ) → Bool) → way.asked ≡ Some range → Stands way has now calls seens → now.mapped ≡ true → now.short ≡ false →
+      ((p : ℕ) → known p ≡ true → (way.zero p ≡ true) ⊎ HoldsZero range now p) → ((block p : ℕ) → way.whole block p ≡ true → whole block p ≡ true) → ((block p : ℕ) → holds_whole range now block p ≡ true → whole block p ≡ true) →
+      Stands (record way { asked = None; zero = known; whole = whole }) has now calls seens
+  hearing_stands now calls seens range known whole asked s mapped short knows more holds = record {
     between = s.between;
-    told = hearing_tells way.how has way.slices now calls seens range way.zero known (subst (λ (o : Option (ℕ × ℕ)). course.Told way.how has way.slices now calls seens o way.zero) asked s.told) mapped knows;
+    told = hearing_tells way.how has way.slices now calls seens range (known_of way) (record { zero = known; whole = whole }) (subst (λ (o : Option (ℕ × ℕ)). course.Told way.how has way.slices now calls seens o (known_of way)) asked s.told) mapped short knows more holds;
   }
 
   -- Where no extents are waited for, fewer positions may be known.
-  pub unheard_stands : (now : board.Seen) (calls : List wire.Call) (seens : List (Seen Ticket)) (known : ℕ → Bool) → way.asked ≡ None → Stands way has now calls seens → ((p : ℕ) → known p ≡ true → way.zero p ≡ true) →
-      Stands (record way { zero = known; asked = None }) has now calls seens
-  unheard_stands now calls seens known none s fewer = record {
+  pub unheard_stands : (now : board.Seen) (calls : List wire.Call) (seens : List (Seen Ticket)) (known : ℕ → Bool) (whole : (block p : ℕ) → Bool) → way.asked ≡ None → Stands way has now calls seens → ((p : ℕ) → known p ≡ true → way.zero p ≡ true) → ((block p : ℕ) → way.whole block p ≡ true → whole block p ≡ true) →
+      Stands (record way { zero = known; whole = whole; asked = None }) has now calls seens
+  unheard_stands now calls seens known whole none s fewer more = record {
     between = s.between;
-    told = fewer_tell way.how has way.slices now calls seens None way.zero known (subst (λ (o : Option (ℕ × ℕ)). course.Told way.how has way.slices now calls seens o way.zero) none s.told) fewer;
+    told = fewer_tell way.how has way.slices now calls seens None (known_of way) (record { zero = known; whole = whole }) (subst (λ (o : Option (ℕ × ℕ)). course.Told way.how has way.slices now calls seens o (known_of way)) none s.told) fewer more;
   }
 
   pub taking_stands : (now : board.Seen) (calls : List wire.Call) (seens : List (Seen Ticket)) (index : ℕ) (seen : Seen Ticket) (limit : ℕ) (handle : Machine Ticket) → Stands way has now calls seens → slice_get seens index ≡ Some seen →
       StandsFor limit seen.history handle → Stands way has now calls (take index seens ++ drop (index + 1) seens)
   taking_stands now calls seens index seen limit handle s there stands = record {
     between = taking_keeps_between way.from way.to way.size way.how has way.slices now calls seens index seen limit handle s.between there stands;
-    told = taking_tells way.how has way.slices now calls seens way.asked way.zero index seen limit handle s.told there stands;
+    told = taking_tells way.how has way.slices now calls seens way.asked (known_of way) index seen limit handle s.told there stands;
   }

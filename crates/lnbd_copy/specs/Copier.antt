@@ -10,6 +10,7 @@ use Rattle.lnbd_board.specs.Files as board
 use Rattle.lnbd_course.specs.Asks.{HasAskedOnce, WereDone}
 use Rattle.lnbd_course.specs.Copied.{Copied}
 use Rattle.lnbd_course.specs.Counted.{HasNotCounted}
+use Rattle.lnbd_course.specs.Spares.{SparesZeros}
 use Rattle.lnbd_copy.specs.declared.copier.Progress.{Progress}
 use Rattle.lnbd_copy.specs.declared.copier.Progress.TheVariants as progress
 use Rattle.lnbd_copy.specs.declared.counts.Counts.{Counts}
@@ -43,7 +44,7 @@ pub record HasNotBegun (copy : Seen) : Type 0 where
 
 -- no slice is begun, of a copy that writes so
 abbrev pub beginning : Seen → (size : Option ℕ) → How → Sides → Way
-beginning copy size how sides = record { from = copy.from; to = copy.to; size = size; how = how; sides = sides; slices = []; zero = λ p. false; asked = None }
+beginning copy size how sides = record { from = copy.from; to = copy.to; size = size; how = how; sides = sides; slices = []; zero = λ p. false; whole = λ block p. false; asked = None }
 
 -- no slice was begun
 pub record IsBlank (now : board.Seen) : Type 0 where
@@ -104,6 +105,7 @@ pub record IsDone (start told : Option (List wire.Call)) (copy : Seen) : Type 0 
   pub parted : copy.held ≡ []
   pub asked : copy.from ≢ copy.to → Told start told (HasAskedOnce copy.options.allocated copy.from copy.to)
   pub done : copy.from ≢ copy.to → Told start told (WereDone copy.from copy.to)
+  pub spares : copy.from ≢ copy.to → Told start told (SparesZeros copy.from)
   pub copied : copy.from ≢ copy.to → Told start told (Copied copy.from copy.to copy.options.destination_is_zero)
 
 -- After a turn it is on its way still, or it is finished.

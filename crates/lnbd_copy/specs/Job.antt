@@ -5,10 +5,12 @@ use Rattle.lnbd_model.specs.declared.export.Extent.{Extent}
 use Rattle.lnbd_poll.specs.Held.{Held}
 use Rattle.lnbd_board.specs.Files as board
 use Rattle.lnbd_board.specs.declared.ticket.Ticket.{Ticket}
+use Rattle.lnbd_course.specs.Spares.{IsLeastBlock}
 use Rattle.lnbd_copy.specs.declared.job.Phase.{Phase}
 use Rattle.lnbd_copy.specs.declared.job.Phase.TheVariants.{Copying, Flushing, Parting}
 use Rattle.lnbd_copy.specs.declared.sides.Sides.{Sides}
 use Rattle.lnbd_copy.specs.declared.terms.Terms.{Terms}
+use Rattle.lnbd_copy.specs.Spared.{IsSpared, whole_heard}
 use Rattle.lnbd_copy.specs.Way.{Way, IsOn, Stand}
 use Rattle.lnbd_copy.specs.Windows as windows
 
@@ -41,6 +43,8 @@ pub record IsJob (job : Seen) (way : Way) (now : board.Seen) : Type 0 where
   pub ends : job.windows.size ≡ job.terms.size
   pub zeros : job.windows.plan.cells.zeros ≡ not job.terms.how.skip
   pub planned : windows.IsPlanned job.windows way.zero way.slices
+  pub block : IsLeastBlock job.windows.grain
+  pub spared : IsSpared job.windows (way.whole job.windows.grain) way.slices
   pub asked : way.asked ≡ (if job.asked then windows.wanted job.windows else None)
   pub over : job.phase ≢ Copying → IsOver job now
 
@@ -71,7 +75,7 @@ pub record Acts (job job' : Seen) (now now' : board.Seen) (held held' : List (He
 
 -- the extents were heard that had been asked for
 abbrev pub with_heard : List Extent → Way → Way
-with_heard told way = record way { zero = λ p. way.zero p || windows.zero_heard way.asked told p; asked = None }
+with_heard told way = record way { zero = λ p. way.zero p || windows.zero_heard way.asked told p; whole = λ block p. way.whole block p || whole_heard block way.asked told p; asked = None }
 
 -- extents of this range are asked for
 abbrev pub with_asked : Option (ℕ × ℕ) → Way → Way

@@ -1,15 +1,12 @@
 -- What a copy spares of its source: the blocks that one answer told as zero whole.
 use Rattle.std.specs.Prelude.{◌≡◌, ◌<◌, ◌≤◌, ℕ, ◌+◌, ◌*◌, ◌/◌, Bool, true, false, List, ◌++◌, Option, Some, None}
 use Rattle.lnbd_model.specs.declared.export.Extent.{Extent}
-use Rattle.lnbd_extents.specs.Positions.{all_at, holds}
+use Rattle.lnbd_extents.specs.Positions.{holds}
 use Rattle.lnbd_extents.specs.Lists.{flags_at}
 use Rattle.lnbd_plan.specs.declared.grid.Slice.{Slice}
 use Rattle.lnbd_plan.specs.Laws.{Window, windows_slices, windows_end, told_by}
+use Rattle.lnbd_tracks.specs.Heeding.{is_whole}
 use Rattle.lnbd_copy.specs.Windows.{Seen, zero_within, window_end}
-
--- each position is so of the block of this size that has this one
-abbrev pub is_whole : (block : ℕ) → (test : ℕ → Bool) → ℕ → Bool
-is_whole block test p = all_at test (p / block * block) block
 
 -- These extents, laid from the range's beginning on, tell as zero the whole block of this size that has the position, within the range.
 abbrev pub whole_within : (block : ℕ) → (range : ℕ × ℕ) → List Extent → ℕ → Bool

@@ -44,14 +44,20 @@ pub record Way : Type 0 where
   pub slices : List Slice
   -- the positions of the source that were told as zero
   pub zero : ℕ → Bool
+  -- and by the size of blocks those of the blocks that one answer told as zero whole
+  pub whole : (block p : ℕ) → Bool
   -- the range whose extents were asked for, until they are heard: where it begins, and its length
   pub asked : Option (ℕ × ℕ)
+
+-- what is known of the source's zeros
+abbrev pub known_of : Way → course.Known
+known_of way = record { zero = way.zero; whole = way.whole }
 
 -- By these calls of its own the handles of a copy did what it is so far, with these links of the source: what they were asked is what the board's rows say, each link is
 -- of its side's export, and the positions known as zero were told so.
 pub record Stands (way : Way) (has : ℕ → Bool) (now : board.Seen) (calls : List wire.Call) (seens : List (Seen Ticket)) : Type 0 where
   pub between : Between way.from way.to way.size way.how has way.slices now calls seens
-  pub told : course.Told way.how has way.slices now calls seens way.asked way.zero
+  pub told : course.Told way.how has way.slices now calls seens way.asked (known_of way)
 
 -- After these calls of its own a copy is so far, its board is this, and these are its handles. Once it is parting they are taken out one by one.
 pub record IsUnderWay (parting : Bool) (way : Way) (now : board.Seen) (calls : List wire.Call) (held : List (Held Ticket)) : Type 0 where

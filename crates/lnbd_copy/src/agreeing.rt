@@ -4,6 +4,7 @@ ghost use Rattle.std.specs.Prelude.{◌≡◌, ◌<◌, ◌≤◌, ◌^◌, true
 ghost use Rattle.lnbd_handle.specs.Histories.{ForEach};
 ghost use Rattle.lnbd_history.specs.Answers.{direction_after, state_after};
 ghost use Rattle.lnbd_model.specs.declared.state.State.TheVariants as state;
+ghost use Rattle.lnbd_course.specs.Spares.{IsLeastBlock};
 ghost use Rattle.lnbd_copy.specs.Agreed.{AreAgreed, AreQuiet, Tells};
 ghost use Rattle.lnbd_copy.specs.Causes.{tells_no_count};
 ghost use Rattle.lnbd_copy.specs.Grounds.{AllSame, AreSame, Finds, Happens, IsFound, IsShown, needs_no_ground};
@@ -66,6 +67,7 @@ pub(crate) fn agree(handles: &Handles<Ticket>, options: CopyOptions) -> Result<T
     requires both { 1 < length handles.now }
     requires quiet { AreQuiet handles.now }
     ensures cells { IfOk result (λ terms. (0 < terms.cell) × (0 < terms.zero_cell) × (0 < terms.grain)) }
+    ensures block { IfOk result (λ terms. IsLeastBlock terms.grain) }
     ensures size { IfOk result (λ terms. terms.size ≤ 2 ^ 63) }
     ensures agrees { IfOk result (λ terms. AreAgreed options terms handles.now) }
     ensures free { IfErr result (λ told. tells_no_count told ≡ true) }

@@ -5,6 +5,7 @@ ghost use Rattle.lnbd_link.specs.Call.{Call};
 ghost use Rattle.lnbd_course.specs.Asks.{GrewBy, HasAskedOnce, WereDone};
 ghost use Rattle.lnbd_course.specs.Copied.{Copies};
 ghost use Rattle.lnbd_course.specs.Counts.{Summarizes};
+ghost use Rattle.lnbd_course.specs.Spares.{IsLeastBlock, SparesZeros};
 ghost use Rattle.lnbd_copy.specs.Agreed.{AreQuiet};
 ghost use Rattle.lnbd_copy.specs.Causes.{GoesOn, HasCause};
 ghost use Rattle.lnbd_copy.specs.Copier.{GoesFurther, HasJob, HasMet, HasNotBegun, HasTurned, IsDone, IsGoing, IsOnItsWay, IsParting, Seen};
@@ -156,6 +157,7 @@ impl Copier {
         ensures two { OnOk result (length self.new.held ≡ 2) }
         ensures many { IfOk result (λ terms. 0 < terms.sides.source) }
         ensures cells { IfOk result (λ terms. (0 < terms.cell) × (0 < terms.zero_cell) × (0 < terms.grain)) }
+        ensures block { IfOk result (λ terms. IsLeastBlock terms.grain) }
         ensures size { IfOk result (λ terms. terms.size ≤ 2 ^ 63) }
         ensures causes { IfErr result (λ told. HasCause self.old.start (W.faults wires.new) (W.idles wires.new) told) }
         ensures grounds { IfErr result (λ told. IsGrounded (W.told wires.old) (W.told wires.new) self.old.from self.old.to told) }
@@ -172,6 +174,7 @@ impl Copier {
     /// Makes ready what is done once all connections stand.
     fn set_up(&mut self, terms: Terms) -> Result<(), NoMemory>
         requires cells { (0 < terms.cell) × (0 < terms.zero_cell) × (0 < terms.grain) }
+        requires block { IsLeastBlock terms.grain }
         requires size { terms.size ≤ 2 ^ 63 }
         requires well { self.old.board.error ≡ None }
         ensures kept { self.new ≡ record self.old { held = self.new.held; board = self.new.board; job = self.new.job } }
@@ -442,6 +445,9 @@ impl Copier {
 
         // The summary has the bytes that were asked to be read, written and zeroed, and those that nothing was asked for.
         ensures summary { self.from ≢ self.to → IfOk result (λ told. GrewBy (Summarizes self.from self.to told) (W.told wires.old) (W.told wires.new)) }
+        // For blocks of a size that the smallest of an export may have: none was read of the source that one answer told as
+        // zero whole.
+        ensures spares { self.from ≢ self.to → OnOk result (GrewBy (SparesZeros self.from) (W.told wires.old) (W.told wires.new)) }
         // What the calls show of a fault.
         ensures grounds { IfErr result (λ told. IsGrounded (W.told wires.old) (W.told wires.new) self.from self.to told) }
 

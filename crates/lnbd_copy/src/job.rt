@@ -6,6 +6,7 @@ ghost use Rattle.lnbd_poll.specs.Held.{Held};
 ghost use Rattle.lnbd_board.specs.declared.ticket.Ticket.{Ticket as Tag};
 ghost use Rattle.lnbd_board.specs.Files.{Seen as Kept};
 ghost use Rattle.lnbd_board.specs.Rows.{busy};
+ghost use Rattle.lnbd_course.specs.Spares.{IsLeastBlock};
 ghost use Rattle.lnbd_copy.specs.UnderWay.{HasAsked, HasFilled, HaveLooked, IsPast, Refills, unfinished};
 ghost use Rattle.lnbd_copy.specs.Way.{Keeps, Way};
 ghost use Rattle.lnbd_copy.specs.Windows.{IsPlanned};
@@ -60,10 +61,11 @@ impl Job {
     #[tactic(auto, using(crate::proofs::JobLemmas::job_begins))]
     pub(crate) fn new(alloc: Global, terms: Terms, extents: bool) -> Result<Job, NoMemory>
         requires cells { (0 < terms.cell) × (0 < terms.zero_cell) × (0 < terms.grain) }
+        requires block { IsLeastBlock terms.grain }
         requires size { terms.size ≤ 2 ^ 63 }
         ensures terms { IfOk result (λ job. job.terms ≡ terms) }
         ensures begins { IfOk result (λ job. job.phase ≡ phase.Copying) }
-        ensures job { IfOk result (λ job. (way : Way) (now : Kept) → way.size ≡ Some terms.size → now.how ≡ terms.how → way.how ≡ terms.how → way.sides ≡ terms.sides → way.slices ≡ [] → way.asked ≡ None → IsJob job way now) }
+        ensures job { IfOk result (λ job. (way : Way) (now : Kept) → way.size ≡ Some terms.size → now.how ≡ terms.how → way.how ≡ terms.how → way.sides ≡ terms.sides → way.slices ≡ [] → way.asked ≡ None → ((block p : ℕ) → way.whole block p ≡ false) → IsJob job way now) }
     {
         let bindings = Bindings::new(alloc, terms)?;
         let windows = first_windows(alloc, terms, extents)?;
@@ -157,7 +159,7 @@ impl Job {
         Ok(went)
     }
 
-    /// Takes extents that were told.
+    /// Takes extents that were told, if the board had memory for them.
     #[tactic(auto, using(crate::proofs::JobLemmas::acts_none))]
     fn hear(&mut self, board: &Board) -> Result<bool, NoMemory>
         requires { self.old.phase ≡ phase.Copying }
@@ -168,6 +170,9 @@ impl Job {
     {
         if !self.has_come(board) {
             return Ok(false);
+        }
+        if board.is_short() {
+            return Err(NoMemory);
         }
         self.asked = false;
         self.windows.hear(board.told())?;
@@ -291,6 +296,7 @@ fn first_windows(alloc: Global, terms: Terms, extents: bool) -> Result<Windows, 
     requires size { terms.size ≤ 2 ^ 63 }
     ensures planned { IfOk result (λ windows. (zero : ℕ → Bool) → IsPlanned windows zero []) }
     ensures size { IfOk result (λ windows. windows.size ≡ terms.size) }
+    ensures grain { IfOk result (λ windows. windows.grain ≡ terms.grain) }
     ensures zeros { IfOk result (λ windows. windows.plan.cells.zeros ≡ not terms.how.skip) }
 {
     let mut windows = Windows::new(alloc, terms);

@@ -2,7 +2,9 @@
 //! which slices are cut.
 
 ghost use Rattle.std.specs.Prelude.{◌≡◌, ◌<◌, ◌≤◌, ◌^◌, ◌*◌, ◌/◌, true, false, Some, None, IfOk, IfErr, max, min};
+ghost use Rattle.lnbd_records.specs.Limits.{max_minimum_block};
 ghost use Rattle.lnbd_records.specs.Numbers.{has_bit};
+ghost use Rattle.lnbd_course.specs.Spares.{IsLeastBlock};
 ghost use Rattle.lnbd_copy.specs.Agreed.{IsWished};
 ghost use Rattle.lnbd_copy.specs.Limit.{IsLimited, max_under_way};
 ghost use Rattle.lnbd_copy.specs.Terms.{broken_rule, grain, least_block, limit, most_bytes};
@@ -60,6 +62,7 @@ fn has(info: &ExportInfo, flag: u16) -> bool {
 fn least_block(told: Option<Blocks>) -> u32
     ensures value { result ≡ least_block told }
     ensures some { 0 < result }
+    ensures most { result ≤ max_minimum_block }
 {
     match told {
         Some(blocks) => {
@@ -153,6 +156,7 @@ fn sparse_block(options: CopyOptions, destination: &ExportInfo, cell: u32) -> u3
 /// What is settled, where the rules hold.
 pub(crate) fn settled(options: CopyOptions, source: &ExportInfo, destination: &ExportInfo) -> Terms
     ensures cells { (0 < result.cell) × (0 < result.zero_cell) × (0 < result.grain) }
+    ensures block { IsLeastBlock result.grain }
     ensures size { result.size ≡ source.now.size }
     ensures wished { IsWished options result.how }
     ensures limited { IsLimited options result }

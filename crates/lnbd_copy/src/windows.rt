@@ -81,6 +81,7 @@ impl Windows {
         ensures whole { OnOk result (self.new.plan.end ≡ self.old.size) }
         ensures cells { self.new.plan.cells ≡ self.old.plan.cells }
         ensures size { self.new.size ≡ self.old.size }
+        ensures grain { self.new.grain ≡ self.old.grain }
     {
         self.plan
             .window(self.start, self.size - self.start, &self.zero)?;

@@ -220,7 +220,7 @@ completed_same true by error buf old = done_same by buf old
 completed_same false by error buf old = record { read = refl; written = refl; zeroed = refl }
 
 hears_same : (is : Bool) (entries : List Extent) (old new : board.Seen) → Hears is entries old new → CountsSame old new
-hears_same true entries old new (inl e) = subst (CountsSame old) (sym e) (record { read = refl; written = refl; zeroed = refl })
+hears_same true entries old new (inl e) = subst (CountsSame old) (sym e.1) (record { read = refl; written = refl; zeroed = refl })
 hears_same true entries old new (inr e) = subst (CountsSame old) (sym e) (record { read = refl; written = refl; zeroed = refl })
 hears_same false entries old new e = same_is old new e
 

@@ -15,3 +15,5 @@ pub mod Placed
 pub mod Once
 pub mod Tallying
 pub mod Summing
+pub mod Sparing
+pub mod Dense

@@ -27,11 +27,13 @@ use Rattle.lnbd_board.specs.Holds.{WasToldZero}
 use Rattle.lnbd_tracks.specs.Laws.{is_coming}
 use Rattle.lnbd_tracks.specs.Mapping.{IsWanted, Maps, IsToldZero, ToldAlike}
 use Rattle.lnbd_tracks.specs.Tracks.{NoneFails, Histories, Happens, is_issue}
+use Rattle.lnbd_tracks.specs.Heeding.{Heeds}
+use Rattle.lnbd_tracks.proofs.Heeding.{asking_heeds, coming_heeds, hearing_heeds, heeds_more, nothing_heeds, others_heed}
 use Rattle.lnbd_tracks.proofs.Mapped.{nothing_maps, not_issued, coming_maps, others_map, asking_maps, hearing_maps, zeroes_stay}
 use Rattle.lnbd_tracks.proofs.Written.{done_is_written}
 use Rattle.lnbd_course.specs.Counted.{CountsSame}
 use Rattle.lnbd_course.specs.Course.{Stood, beside, with_link}
-use Rattle.lnbd_course.specs.Told.{Told, AreOfSource, NothingIsTold, OpeningTells, SettlingTells, TurnsTell, CallsTell, SourceAsksTell, DestinationAsksTell, ExtentsAskTell, BoardMovesTell, OthersTell, HearingTells, FewerTell, WindowsTell, TakingTells, KnownWasTold, SidesAreOfSource}
+use Rattle.lnbd_course.specs.Told.{Known, Told, AreOfSource, NothingIsTold, OpeningTells, SettlingTells, TurnsTell, CallsTell, SourceAsksTell, DestinationAsksTell, ExtentsAskTell, BoardMovesTell, OthersTell, HearingTells, FewerTell, WindowsTell, TakingTells, KnownWasTold, SidesAreOfSource}
 use Rattle.lnbd_course.proofs.Asking.{goes_on, source_asks_keep, destination_asks_keep, others_keep, board_moves_keep, then}
 use Rattle.lnbd_course.proofs.Holding.{nothing_is_on_course, opens_on_course, settling_keeps, calls_keep, turned_keeps, removed, removed_keeps, take_drop}
 use Rattle.lnbd_course.proofs.Standing.{on_here, event_stood, quiet_stood, with_happens}
@@ -75,12 +77,13 @@ module _ (sources sources2 : ℕ → Bool) (histories : Histories) (same : (link
 
 -- One event.
 
-module _ (how : How) (has : ℕ → Bool) (slices : List Slice) (wanted : Option (ℕ × ℕ)) (known : ℕ → Bool) where
+module _ (how : How) (has : ℕ → Bool) (slices : List Slice) (wanted : Option (ℕ × ℕ)) (known : Known) where
   -- what stands of the board and of all histories, and what is known
   pub record Both (now : board.Seen) (histories : Histories) : Type 0 where
     pub stood : Stood how has slices now histories
     pub maps : Maps has histories wanted now
-    pub knows : (p : ℕ) → known p ≡ true → IsToldZero has histories p
+    pub knows : (p : ℕ) → known.zero p ≡ true → IsToldZero has histories p
+    pub heeds : Heeds histories wanted known.whole now
 
   -- no callback answered an error
   none_fails : (now : board.Seen) (histories : Histories) (link : ℕ) → Stood how has slices now histories → NoneFails (reading (histories link)).known.entries
@@ -96,13 +99,15 @@ module _ (how : How) (has : ℕ → Bool) (slices : List Slice) (wanted : Option
       stood = event_stood how has slices link event before after happens now now' b.stood other plays;
       maps = coming_maps has link event before after wanted plays.calls now now' b.maps (none_fails now before link b.stood) other happens plays.told plays.world;
       knows = λ p k. zeroes_stay has link event before after p happens (b.knows p k);
+      heeds = coming_heeds link event before after wanted known.whole plays.calls now now' b.heeds other happens plays.told plays.world;
     }
 
     quiet_both : (now : board.Seen) → Both now before → is_issue event ≡ false → is_coming event ≡ false → Both now after
     quiet_both now b other none = record {
       stood = quiet_stood how has slices link event before after happens now b.stood other none;
-      maps = others_map has link event before after wanted now now b.maps (not_issued event other) happens (record { told = refl; mapped = refl });
+      maps = others_map has link event before after wanted now now b.maps (not_issued event other) happens (record { told = refl; mapped = refl; short = refl });
       knows = λ p k. zeroes_stay has link event before after p happens (b.knows p k);
+      heeds = others_heed link event before after wanted known.whole now now b.heeds (not_issued event other) none happens (record { told = refl; mapped = refl; short = refl });
     }
 
 -- The beginning.
@@ -113,6 +118,7 @@ nothing_is_told how has now known none uncounted unknown = record {
   course = nothing_is_on_course how has now none uncounted;
   maps = nothing_maps has now;
   knows = λ p k. absurd (false≢true (sym (unknown p) ∙ k));
+  heeds = nothing_heeds known.whole now;
 }
 
 pub opening_tells : OpeningTells
@@ -121,6 +127,7 @@ opening_tells how has slices now calls seens wanted known to link source t new =
   course = opens_on_course how has slices now calls seens to link source t.course new;
   maps = sides_maps has (with_link link source has) t.course.histories same wanted now t.maps;
   knows = λ p k. sides_zero has (with_link link source has) t.course.histories same p (t.knows p k);
+  heeds = t.heeds;
 }
   where
     none_some : (asks : Request Ticket) → None ≡ Some asks → ⊥
@@ -136,7 +143,7 @@ opening_tells how has slices now calls seens wanted known to link source t new =
 pub settling_tells : SettlingTells
 unfolding settling_keeps
 settling_tells how how' has now now' calls seens known t none well none' uncounted =
-    record { course = settling_keeps how how' has now now' calls seens t.course none well none' uncounted; maps = t.maps; knows = t.knows }
+    record { course = settling_keeps how how' has now now' calls seens t.course none well none' uncounted; maps = t.maps; knows = t.knows; heeds = t.heeds }
 
 -- Turns.
 
@@ -145,16 +152,17 @@ unfolding turned_keeps
 turns_tell how has slices now now' calls part before after wanted known moved t turns =
     let S : board.Seen → Histories → Type 0 = Both how has slices wanted known in
     let u = turns_all S (event_both how has slices wanted known) (quiet_both how has slices wanted known) before now part after now' (Whole moved) t.course.histories turns t.course.drive.own t.course.held
-    (record { stood = t.course.stood; maps = t.maps; knows = t.knows }) in
+    (record { stood = t.course.stood; maps = t.maps; knows = t.knows; heeds = t.heeds }) in
     record {
       course = turned_keeps how has slices now now' calls part before after moved t.course turns S u (λ histories b. b.stood);
       maps = u.stood.maps;
       knows = u.stood.knows;
+      heeds = u.stood.heeds;
     }
 
 pub calls_tell : CallsTell
 unfolding calls_keep
-calls_tell how has slices now calls more seens wanted known t none = record { course = calls_keep how has slices now calls more seens t.course none; maps = t.maps; knows = t.knows }
+calls_tell how has slices now calls more seens wanted known t none = record { course = calls_keep how has slices now calls more seens t.course none; maps = t.maps; knows = t.knows; heeds = t.heeds }
 
 -- Asking.
 
@@ -167,7 +175,8 @@ unfolding source_asks_keep goes_on
 source_asks_tell how has slices slices' now now' calls seens wanted known index seen command t there is spells asks none alike = record {
   course = source_asks_keep how has slices slices' now now' calls seens index seen command t.course there is spells asks;
   maps = others_map has seen.link (Issue command) t.course.histories ((then) (Issue command) t.course.histories seen.link) wanted now now' t.maps none (with_happens seen.link (Issue command) t.course.histories) alike;
-  knows = then_knows has t.course.histories seen.link (Issue command) known t.knows;
+  knows = then_knows has t.course.histories seen.link (Issue command) known.zero t.knows;
+  heeds = others_heed seen.link (Issue command) t.course.histories ((then) (Issue command) t.course.histories seen.link) wanted known.whole now now' t.heeds none refl (with_happens seen.link (Issue command) t.course.histories) alike;
 }
 
 pub destination_asks_tell : DestinationAsksTell
@@ -175,15 +184,17 @@ unfolding destination_asks_keep goes_on
 destination_asks_tell how has slices slices' now now' calls seens wanted known index seen command t there is spells asks none alike = record {
   course = destination_asks_keep how has slices slices' now now' calls seens index seen command t.course there is spells asks;
   maps = others_map has seen.link (Issue command) t.course.histories ((then) (Issue command) t.course.histories seen.link) wanted now now' t.maps none (with_happens seen.link (Issue command) t.course.histories) alike;
-  knows = then_knows has t.course.histories seen.link (Issue command) known t.knows;
+  knows = then_knows has t.course.histories seen.link (Issue command) known.zero t.knows;
+  heeds = others_heed seen.link (Issue command) t.course.histories ((then) (Issue command) t.course.histories seen.link) wanted known.whole now now' t.heeds none refl (with_happens seen.link (Issue command) t.course.histories) alike;
 }
 
 pub extents_ask_tell : ExtentsAskTell
 unfolding source_asks_keep goes_on
 extents_ask_tell how has slices slices' now now' calls seens range known index seen command t there is spells asks wants forgotten unmapped = record {
   course = source_asks_keep how has slices slices' now now' calls seens index seen command t.course there is spells asks;
-  maps = asking_maps has seen.link command range t.course.histories ((then) (Issue command) t.course.histories seen.link) now now' t.maps is wants (with_happens seen.link (Issue command) t.course.histories) forgotten unmapped;
-  knows = then_knows has t.course.histories seen.link (Issue command) known t.knows;
+  maps = asking_maps has seen.link command range t.course.histories ((then) (Issue command) t.course.histories seen.link) now now' t.maps is wants.asks (with_happens seen.link (Issue command) t.course.histories) forgotten unmapped;
+  knows = then_knows has t.course.histories seen.link (Issue command) known.zero t.knows;
+  heeds = asking_heeds seen.link command range t.course.histories ((then) (Issue command) t.course.histories seen.link) known.whole now now' t.heeds wants (with_happens seen.link (Issue command) t.course.histories);
 }
 
 -- the same of another board, which was told the same
@@ -203,35 +214,56 @@ alike_maps has histories (Some range) now now' alike m = record {
   answered = λ e. m.answered (sym alike.mapped ∙ e);
 }
 
+alike_heeds : (histories : Histories) (wanted : Option (ℕ × ℕ)) (known : (block p : ℕ) → Bool) (now now' : board.Seen) → ToldAlike now now' → Heeds histories wanted known now → Heeds histories wanted known now'
+alike_heeds histories None known now now' alike m = m
+alike_heeds histories (Some range) known now now' alike m = record {
+  link = m.link;
+  cookie = m.cookie;
+  asks = m.asks;
+  asked = m.asked;
+  first = m.first;
+  offset = m.offset;
+  length_ = m.length_;
+  others = m.others;
+  held = λ short none p z. ap (λ (l : List Extent). zero_in range.0 l p) alike.told ∙ m.held (sym alike.short ∙ short) none p z;
+}
+
 pub board_moves_tell : BoardMovesTell
 unfolding board_moves_keep
 board_moves_tell how has slices now now' calls seens wanted known t earlier same keeps alike =
-    record { course = board_moves_keep how has slices now now' calls seens t.course earlier same keeps; maps = alike_maps has t.course.histories wanted now now' alike t.maps; knows = t.knows }
+    record { course = board_moves_keep how has slices now now' calls seens t.course earlier same keeps; maps = alike_maps has t.course.histories wanted now now' alike t.maps; knows = t.knows; heeds = alike_heeds t.course.histories wanted known.whole now now' alike t.heeds }
 
 -- Where no extents are waited for, it does not matter what the board was told of them.
-pub unasked_moves_tell : (how : How) (has : ℕ → Bool) (slices : List Slice) (now now' : board.Seen) (calls : List wire.Call) (seens : List (Seen Ticket)) (known : ℕ → Bool) → Told how has slices now calls seens None known → (now'.error ≡ None → now.error ≡ None) → CountsSame now now' →
+pub unasked_moves_tell : (how : How) (has : ℕ → Bool) (slices : List Slice) (now now' : board.Seen) (calls : List wire.Call) (seens : List (Seen Ticket)) (known : Known) → Told how has slices now calls seens None known → (now'.error ≡ None → now.error ≡ None) → CountsSame now now' →
     ((source destination : List sides.Request) → Keeps how now.rows source destination now'.rows source destination) → Told how has slices now' calls seens None known
 unfolding board_moves_keep
 unasked_moves_tell how has slices now now' calls seens known t earlier same keeps =
-    record { course = board_moves_keep how has slices now now' calls seens t.course earlier same keeps; maps = t.maps; knows = t.knows }
+    record { course = board_moves_keep how has slices now now' calls seens t.course earlier same keeps; maps = t.maps; knows = t.knows; heeds = t.heeds }
 
 pub others_tell : OthersTell
 unfolding others_keep goes_on
 others_tell how has slices now calls seens wanted known index seen event t there inward other none spells off = record {
   course = others_keep how has slices now calls seens index seen event t.course there inward other none spells off;
-  maps = others_map has seen.link event t.course.histories ((then) event t.course.histories seen.link) wanted now now t.maps (not_issued event other) (with_happens seen.link event t.course.histories) (record { told = refl; mapped = refl });
-  knows = then_knows has t.course.histories seen.link event known t.knows;
+  maps = others_map has seen.link event t.course.histories ((then) event t.course.histories seen.link) wanted now now t.maps (not_issued event other) (with_happens seen.link event t.course.histories) (record { told = refl; mapped = refl; short = refl });
+  knows = then_knows has t.course.histories seen.link event known.zero t.knows;
+  heeds = others_heed seen.link event t.course.histories ((then) event t.course.histories seen.link) wanted known.whole now now t.heeds (not_issued event other) none (with_happens seen.link event t.course.histories) (record { told = refl; mapped = refl; short = refl });
 }
 
 -- Hearing.
 
 pub hearing_tells : HearingTells
-hearing_tells how has slices now calls seens range known known' t answered more =
+hearing_tells how has slices now calls seens range known known' t answered short more whole holds =
     let h = hearing_maps has t.course.histories range now t.maps answered in
-    record { course = t.course; maps = h.0; knows = λ p k. elim (more p k) [ inl was ↦ t.knows p was | inr here ↦ h.1 p here ] }
+    record {
+      course = t.course;
+      maps = h.0;
+      knows = λ p k. elim (more p k) [ inl was ↦ t.knows p was | inr here ↦ h.1 p here ];
+      heeds = hearing_heeds has t.course.histories range known.whole known'.whole now t.heeds t.maps (λ link. none_fails how has slices (Some range) known now t.course.histories link t.course.stood) answered short whole holds;
+    }
 
 pub fewer_tell : FewerTell
-fewer_tell how has slices now calls seens wanted known known' t fewer = record { course = t.course; maps = t.maps; knows = λ p k. t.knows p (fewer p k) }
+fewer_tell how has slices now calls seens wanted known known' t fewer more =
+    record { course = t.course; maps = t.maps; knows = λ p k. t.knows p (fewer p k); heeds = heeds_more t.course.histories wanted known.whole known'.whole now more t.heeds }
 
 pub windows_tell : WindowsTell
 windows_tell start [] window p e = go (nat_lt p (start + window.count)) e
@@ -255,11 +287,11 @@ windows_tell start (first ∷ windows) window p e = go (nat_lt p (start + first.
 
 -- The end.
 
-removed_tells : (how : How) (has : ℕ → Bool) (slices : List Slice) (now : board.Seen) (calls : List wire.Call) (seens : List (Seen Ticket)) (wanted : Option (ℕ × ℕ)) (known : ℕ → Bool) (index : ℕ) (seen : Seen Ticket) (limit : ℕ) (handle : Machine Ticket) →
+removed_tells : (how : How) (has : ℕ → Bool) (slices : List Slice) (now : board.Seen) (calls : List wire.Call) (seens : List (Seen Ticket)) (wanted : Option (ℕ × ℕ)) (known : Known) (index : ℕ) (seen : Seen Ticket) (limit : ℕ) (handle : Machine Ticket) →
     Told how has slices now calls seens wanted known → slice_get seens index ≡ Some seen → StandsFor limit seen.history handle → Told how has slices now calls (removed index seens) wanted known
 unfolding removed_keeps
 removed_tells how has slices now calls seens wanted known index seen limit handle t there stands =
-    record { course = removed_keeps how has slices now calls seens index seen limit handle t.course there stands; maps = t.maps; knows = t.knows }
+    record { course = removed_keeps how has slices now calls seens index seen limit handle t.course there stands; maps = t.maps; knows = t.knows; heeds = t.heeds }
 
 pub taking_tells : TakingTells
 taking_tells how has slices now calls seens wanted known index seen limit handle t there stands =

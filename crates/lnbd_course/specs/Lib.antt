@@ -9,3 +9,4 @@ pub mod Between
 pub mod Betweens
 pub mod Asks
 pub mod Counts
+pub mod Spares

@@ -4,6 +4,7 @@ ghost use Rattle.lnbd_course.specs.Asks.{EndedAreDone, EndedAsksOnce};
 ghost use Rattle.lnbd_course.specs.Counts.{EndedSums};
 ghost use Rattle.lnbd_course.specs.Laws.{NothingIsOnCourse, OpensOnCourse, SettlingKeeps, TurnsKeep, CallsKeep, SourceAsksKeep, DestinationAsksKeep, BoardMovesKeep, OthersKeep, TakingKeeps, FinishedCopies};
 ghost use Rattle.lnbd_course.specs.Betweens.{NothingIsBetween, OpensBetween, SettlingKeepsBetween, AgreeingSettles, TurnsKeepBetween, CallsKeepBetween, SourceAsksKeepBetween, DestinationAsksKeepBetween, BoardMovesKeepBetween, OthersKeepBetween, TakingKeepsBetween, LinksAreOfSides, EndedCopies};
+ghost use Rattle.lnbd_course.specs.Spares.{EndedAreDense, EndedSpares};
 ghost use Rattle.lnbd_course.specs.Orders.{BeginningAsks, GoingAsks, OverAsksNothing};
 ghost use Rattle.lnbd_course.specs.Taken.{BuffersAreNoMatter, TakenAreSpelled};
 ghost use Rattle.lnbd_course.specs.Told.{NothingIsTold, OpeningTells, SettlingTells, TurnsTell, CallsTell, SourceAsksTell, DestinationAsksTell, ExtentsAskTell, BoardMovesTell, OthersTell, HearingTells, FewerTell, WindowsTell, TakingTells, KnownWasTold, SidesAreOfSource};
@@ -165,4 +166,11 @@ pub fn ended_asks_once()
 /// Where all slices are over, what the board counted is the summary of a copy's calls.
 pub fn ended_sums()
     ensures { EndedSums }
+{}
+
+/// No READ covers a block of the source that one answer told as zero whole, and no WRITE contains a block of
+/// zeros that was found.
+pub fn ended_spares()
+    ensures reads { EndedSpares }
+    ensures writes { EndedAreDense }
 {}

@@ -1,5 +1,5 @@
 -- What the calls of one filing tell a board of extents.
-use Rattle.std.proofs.Common.{◌≡◌, ℕ, ◌-◌, Bool, true, false, ◌&&◌, ◌||◌, List, [], ◌∷◌, ◌++◌, map, Option, Some, None, refl, ap, sym, subst, ◌∙◌, arith, nat_le, bytes_eq, codes, ◌==◌, if◌then◌else◌, ◌⊎◌, inl, inr}
+use Rattle.std.proofs.Common.{◌≡◌, ℕ, Bool, true, false, ◌&&◌, List, [], ◌∷◌, ◌++◌, map, Option, Some, None, refl, ap, sym, subst, ◌∙◌, arith, nat_le, bytes_eq, codes, ◌==◌, if◌then◌else◌, inl, inr}
 use Rattle.std.proofs.lemmas.Bool.{false≢true, or_parts}
 use Rattle.std.proofs.lemmas.Bool.Decides.{nat_tests}
 use Rattle.std.proofs.lemmas.Grind.{common_steps}
@@ -22,9 +22,9 @@ use Rattle.lnbd_outcome.specs.Outcome.{error_number, failure}
 use Rattle.lnbd_history.specs.Commands.{Flight}
 use Rattle.lnbd_history.specs.Entries.{Act, Item, Framed, Lost, Dropped, completes, call_of, act_of, first_acts, first_free_acts, free_acts, completion_acts, end_acts, filing_acts}
 use Rattle.lnbd_history.specs.Entries as act
-use Rattle.lnbd_history.specs.Events.{Answer, Hears, Decides}
+use Rattle.lnbd_history.specs.Events.{Answer}
 use Rattle.lnbd_history.specs.History.{next_verdict}
-use Rattle.lnbd_asked.specs.Transcript.{is_allocation, extents_in, is_zero, zero_in}
+use Rattle.lnbd_asked.specs.Transcript.{is_allocation, extents_in, zero_in}
 use Rattle.lnbd_board.specs.declared.ticket.Ticket.{Ticket}
 use Rattle.lnbd_board.specs.declared.ticket.Ticket.TheVariants as ticket
 use Rattle.lnbd_board.specs.Files.{Seen, filed, filed_done, is_unfit, rows_with, came_with, or_error, is_map, Files}
@@ -68,7 +68,7 @@ module _ (start : ℕ) (Z : ℕ → Type 0) (M : Type 0) where
   Suits (Free by) = Unit {0}
 
   hears_known : (b : Bool) (entries : List Extent) (before after : Seen) → (b ≡ true → (p : ℕ) → zero_in start entries p ≡ true → Z p) → board.Hears b entries before after → Knows before → Knows after
-  hears_known true entries before after s (inl e) k = subst Knows (sym e) (record { zero = s refl; answered = k.answered })
+  hears_known true entries before after s (inl e) k = subst Knows (sym e.1) (record { zero = s refl; answered = k.answered })
   hears_known true entries before after s (inr e) k = subst Knows (sym e) (record { zero = λ p z. absurd (none_zero start p z); answered = k.answered })
   hears_known false entries before after s e k = subst Knows (sym e) k
 

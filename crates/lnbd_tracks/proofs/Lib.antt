@@ -14,3 +14,4 @@ pub mod Along
 pub mod Heard
 pub mod Staying
 pub mod Mapped
+pub mod Heeding

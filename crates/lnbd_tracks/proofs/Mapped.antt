@@ -1,5 +1,5 @@
 -- What a board knows of extents is kept.
-use Rattle.std.proofs.Common.{◌≡◌, ◌≢◌, ℕ, ◌+◌, Bool, true, false, ◌||◌, List, [], ◌∷◌, map, Option, Some, None, refl, ap, sym, subst, ◌∙◌, arith, ◌⊎◌, inl, inr}
+use Rattle.std.proofs.Common.{◌≡◌, ◌≢◌, ℕ, ◌+◌, Bool, true, false, ◌||◌, List, [], ◌∷◌, map, Option, Some, None, refl, ap, sym, subst, ◌∙◌, ◌⊎◌, inl, inr}
 use Rattle.std.proofs.lemmas.Bool.{cases_eq, false≢true}
 use Rattle.lnbd_model.specs.declared.export.Context.{Context as MetaContext}
 use Rattle.lnbd_model.specs.declared.export.Extent.{Extent}
@@ -13,21 +13,19 @@ use Rattle.lnbd_history.specs.Commands as commands
 use Rattle.lnbd_history.specs.Entries.{Item, Filing, Entry, Filed, Freed, Cleared, completes, hears, own, is_ended, pieces, error_in, bytes_in, hearing_in, call_of, acts_of, free_acts}
 use Rattle.lnbd_history.specs.Events.{Answer, Event, History, Set, StrictMode, Start, Opt, Abort, Issue, Refuse, Disconnect, Wrote, Arrived, End, LinkFailed, Retire, ClearLog, Close}
 use Rattle.lnbd_history.specs.History.{asked, request, left, filing_of, reading}
-use Rattle.lnbd_history.proofs.Cookies.{request_past}
 use Rattle.lnbd_asked.specs.Driven.{outcome_after, zero_after}
 use Rattle.lnbd_asked.specs.Transcript.{outcome_of, extents_in, zero_in, zero_by, zero_told}
 use Rattle.lnbd_board.specs.declared.ticket.Ticket.{Ticket}
 use Rattle.lnbd_board.specs.Files.{Seen, Files}
-use Rattle.lnbd_board.specs.Requests.{Each}
 use Rattle.lnbd_tracks.specs.Laws.{IsDone}
-use Rattle.lnbd_tracks.specs.Mapping.{is_extents, tells_extents, is_extents_if, asks_extents, is_over, NoneAsked, IsWanted, Maps, IsToldZero, HoldsZero, ToldAlike, AsksRange, NothingMaps, ComingMaps, OthersMap, AskingMaps, HearingMaps, ZeroesStay}
+use Rattle.lnbd_tracks.specs.Mapping.{is_extents, tells_extents, is_extents_if, asks_extents, is_over, NoneAsked, IsWanted, IsToldZero, HoldsZero, AsksRange, NothingMaps, ComingMaps, OthersMap, AskingMaps, HearingMaps, ZeroesStay}
 use Rattle.lnbd_tracks.specs.Tracks.{NoneFails, Histories, Happens, Adds, is_issue}
 use Rattle.lnbd_tracks.proofs.Along.{along}
 use Rattle.lnbd_tracks.proofs.Calling.{files_well, heard_well}
-use Rattle.lnbd_tracks.proofs.Heard.{none_zero, map_context, Knows, Suits, all_known, frees_suit, FirstSuits, filing_suits, deaf_suits, knows_more, item_told}
-use Rattle.lnbd_tracks.proofs.Outcomes.{NoneFailed, own_well, waits, comes_done}
-use Rattle.lnbd_tracks.proofs.Staying.{or_right, or_left, Issues, issue_is, next_here, next_beside, asked_stays, ended_more, ended_stays, zero_stays, done_stays, done_over}
-use Rattle.lnbd_tracks.proofs.Unfiled.{own_same, own_other, request_stays, unfiled}
+use Rattle.lnbd_tracks.proofs.Heard.{none_zero, map_context, Knows, all_known, frees_suit, FirstSuits, filing_suits, deaf_suits, knows_more, item_told}
+use Rattle.lnbd_tracks.proofs.Outcomes.{own_well, waits, comes_done}
+use Rattle.lnbd_tracks.proofs.Staying.{or_right, or_left, issue_is, next_here, next_beside, asked_stays, ended_more, ended_stays, zero_stays, done_stays, done_over}
+use Rattle.lnbd_tracks.proofs.Unfiled.{own_same, own_other, request_stays}
 
 -- On the link of the block status.
 
@@ -202,14 +200,14 @@ told_before before event c q none tells is = go (is_issue event) refl
 
 module _ (link : ℕ) (event : Event Ticket) (histories histories2 : Histories) (happens : Happens link event histories histories2) where
   -- A handle's history is as it was, or with the event.
-  at : (other : ℕ) (Before After : History Ticket → Type 0) → ((h : History Ticket) → Before h → After (event ∷ h)) → ((h : History Ticket) → Before h → After h) → Before (histories other) → After (histories2 other)
+  pub at : (other : ℕ) (Before After : History Ticket → Type 0) → ((h : History Ticket) → Before h → After (event ∷ h)) → ((h : History Ticket) → Before h → After h) → Before (histories other) → After (histories2 other)
   at other Before After moved still b = go (cases_eq link other)
     where
       go : (link ≡ other) ⊎ (link ≡ other → ⊥) → After (histories2 other)
       go (inl same) = subst (λ (h : History Ticket). After h) (sym (ap histories2 (sym same) ∙ happens.here ∙ ap (λ x. event ∷ histories x) same)) (moved (histories other) b)
       go (inr differ) = subst (λ (h : History Ticket). After h) (sym (happens.others other (λ e. differ (sym e)))) (still (histories other) b)
 
-  asked_at : (other c : ℕ) (q : Request Ticket) → request (histories other) c ≡ Some q → request (histories2 other) c ≡ Some q
+  pub asked_at : (other c : ℕ) (q : Request Ticket) → request (histories other) c ≡ Some q → request (histories2 other) c ≡ Some q
   asked_at other c q = at other (λ h. request h c ≡ Some q) (λ h. request h c ≡ Some q) (λ h is. asked_stays h event c q is) (λ h is. is)
 
   over_at : (other c : ℕ) → is_over (histories other) c ≡ true → is_over (histories2 other) c ≡ true
@@ -221,7 +219,7 @@ module _ (link : ℕ) (event : Event Ticket) (histories histories2 : Histories) 
   done_at : (other c : ℕ) (q : Request Ticket) → request (histories other) c ≡ Some q → IsDone (outcome_after (histories other) c) → IsDone (outcome_after (histories2 other) c)
   done_at other c q is d = at other (λ h. (request h c ≡ Some q) × IsDone (outcome_after h c)) (λ h. IsDone (outcome_after h c)) (λ h b. done_stays h event c q b.0 b.1) (λ h b. b.1) (is, d)
 
-  told_at : asks_extents event ≡ false → (other c : ℕ) (q : Request Ticket) → tells_extents q.flight ≡ true → request (histories2 other) c ≡ Some q → request (histories other) c ≡ Some q
+  pub told_at : asks_extents event ≡ false → (other c : ℕ) (q : Request Ticket) → tells_extents q.flight ≡ true → request (histories2 other) c ≡ Some q → request (histories other) c ≡ Some q
   told_at none other c q tells is = go (cases_eq link other)
     where
       go : (link ≡ other) ⊎ (link ≡ other → ⊥) → request (histories other) c ≡ Some q

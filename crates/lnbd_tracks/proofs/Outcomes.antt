@@ -43,7 +43,7 @@ module _ {K : Type 0} where
   heard_as f n = record { item = f.item; contexts = f.contexts; heard = n }
 
   -- then it counts for nothing that they were asked
-  heard_alike : (filings : List (Filing K)) → NoneFailed filings → silent_pieces filings ≡ pieces filings
+  pub heard_alike : (filings : List (Filing K)) → NoneFailed filings → silent_pieces filings ≡ pieces filings
   unfolding heard_as
   heard_alike [] w = refl
   heard_alike (f ∷ earlier) w = ap (λ (n : ℕ). heard_as f n ∷ silent_pieces earlier) (sym w.0) ∙ ap (λ (ps : List Piece). piece_of f ∷ ps) (heard_alike earlier w.1)

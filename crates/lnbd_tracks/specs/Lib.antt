@@ -2,3 +2,4 @@ pub mod Tracks
 pub mod Laws
 pub mod Dealing
 pub mod Mapping
+pub mod Heeding

@@ -93,6 +93,7 @@ pub record HoldsZero (range : ℕ × ℕ) (now : Seen) (p : ℕ) : Type 0 where
 pub record ToldAlike (before after : Seen) : Type 0 where
   pub told : after.told ≡ before.told
   pub mapped : after.mapped ≡ before.mapped
+  pub short : after.short ≡ before.short
 
 -- a block status of this range, with both callbacks for its extents
 pub record AsksRange (range : ℕ × ℕ) (command : Command Ticket) : Type 0 where

@@ -2,6 +2,7 @@
 
 ghost use Rattle.lnbd_tracks.specs.Laws.{NothingTracks, OpeningTracks, OneHappens, IssueTracks, OthersTrack, BytesComeBack, SourceKeeps, DestinationKeeps, FinishedAreDone, FinishedTracks};
 ghost use Rattle.lnbd_tracks.specs.Dealing.{DoneIsWritten, TrackedAreDealt};
+ghost use Rattle.lnbd_tracks.specs.Heeding.{NothingHeeds, ComingHeeds, OthersHeed, AskingHeeds, HearingHeeds};
 ghost use Rattle.lnbd_tracks.specs.Mapping.{NothingMaps, ComingMaps, OthersMap, AskingMaps, HearingMaps, ZeroesStay};
 
 /// Before any handle was asked anything, nothing was asked; and a handle that begins changes nothing.
@@ -70,4 +71,13 @@ pub fn mapped_are_told()
 /// What a block status that is done told as zero stays told.
 pub fn zeroes_stay()
     ensures { ZeroesStay }
+{}
+
+/// All that is told of extents is held by the board, whatever happens, and then known.
+pub fn heeding_keeps()
+    ensures nothing { NothingHeeds }
+    ensures coming { ComingHeeds }
+    ensures others { OthersHeed }
+    ensures asking { AskingHeeds }
+    ensures hearing { HearingHeeds }
 {}

@@ -7,6 +7,7 @@ returns-in-Ok-copy-clause-ends g c = record {
   copied = c.in-Ok-copy.ensures.copies;
   once = c.in-Ok-copy.ensures.once;
   done = c.in-Ok-copy.ensures.done;
+  spares = c.in-Ok-copy.ensures.spares;
 }
 
 pub returns-in-Err-copy-clause-ends : goal.returns-in-Err-copy-clause-ends

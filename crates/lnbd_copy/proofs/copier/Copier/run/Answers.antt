@@ -1,6 +1,6 @@
 use Rattle.std.proofs.Common.{ap}
 use Rattle.std.proofs.lemmas.Result.{on_ok_weaker}
-use Rattle.lnbd_copy.proofs.EndLemmas.{done_asks, done_copies, done_whole}
+use Rattle.lnbd_copy.proofs.EndLemmas.{done_asks, done_copies, done_spares, done_whole}
 use Rattle.lnbd_copy.proofs.SummedLemmas.{done_sums}
 use Rattle.lnbd_copy.proofs.GroundLemmas.{grounded_later, if_err_leads}
 use Rattle.lnbd_copy.proofs.copier.Copier.run.Goals as goal
@@ -21,6 +21,12 @@ pub returns-clause-done : goal.returns-clause-done
 returns-clause-done g c two =
     on_ok_weaker c.copy-told.result
     (λ done. done_whole c.args.self c.copy-told.new.self _ _ _ c.copy-told.ensures.kept (ap g.W.Wires.told (c.end.ensures.parted done.parted)) two done)
+    c.copy-told.ensures.done
+
+pub returns-clause-spares : goal.returns-clause-spares
+returns-clause-spares g c two =
+    on_ok_weaker c.copy-told.result
+    (λ done. done_spares c.args.self c.copy-told.new.self _ _ _ c.copy-told.ensures.kept (ap g.W.Wires.told (c.end.ensures.parted done.parted)) two done)
     c.copy-told.ensures.done
 
 pub returns-clause-summary : goal.returns-clause-summary
