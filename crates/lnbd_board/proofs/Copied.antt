@@ -1,26 +1,23 @@
 -- A copy whose slices are all over holds the source, where both servers are honest.
-use Rattle.std.proofs.Common.{◌≡◌, ◌≢◌, ℕ, ◌+◌, ◌-◌, ◌<◌, ◌≤◌, ◌⊎◌, inl, inr, List, [], ◌∷◌, ◌++◌, Bool, true, false, not, ◌&&◌, ◌||◌, cond, refl, ap, sym, subst, ◌∙◌, arith, length, get_or, take, drop, length-take, length-drop, replicate, Some}
-use Rattle.std.proofs.lemmas.Grind.{common_steps, same_number_lists}
-use Rattle.std.proofs.lemmas.Bool.{cases_lt}
+use Rattle.std.proofs.Common.{◌≡◌, ℕ, ◌+◌, ◌-◌, ◌<◌, ◌≤◌, inr, List, [], ◌∷◌, Bool, true, false, not, ◌||◌, refl, ap, sym, subst, ◌∙◌, arith, length, get_or, take, drop, length-take, length-drop, Some}
+use Rattle.std.proofs.lemmas.Grind.{same_number_lists}
 use Rattle.std.proofs.lemmas.List.{get_or-take, get_or-drop}
 use Rattle.std.proofs.Math.ListN.{get_or-replicate}
-use Rattle.lnbd_model.specs.declared.kind.Kind.TheVariants.{Read}
 use Rattle.lnbd_outcome.specs.Outcome as outcome
 use Rattle.lnbd_history.specs.Commands.{Command}
 use Rattle.lnbd_asked.specs.Link.{Nobody}
 use Rattle.lnbd_asked.specs.Transcript.{Dealt}
-use Rattle.lnbd_asked.specs.Honest.{Honest, Untouched, OnlyOne, Done, has, covers}
+use Rattle.lnbd_asked.specs.Honest.{Honest, Untouched, OnlyOne, has, covers}
 use Rattle.lnbd_plan.specs.declared.grid.Slice.{Slice}
 use Rattle.lnbd_plan.specs.declared.cells.Cells.{Cells}
-use Rattle.lnbd_plan.specs.Laws.{slices_at, IsInOne, IsPlannedOnce}
+use Rattle.lnbd_plan.specs.Laws.{slices_at, IsInOne}
 use Rattle.lnbd_board.specs.declared.how.How.{How}
-use Rattle.lnbd_board.specs.declared.row.Row.{Row}
-use Rattle.lnbd_board.specs.Requests.{Said, Request, own, over, over_said, done, Each, IsIn, Under, IsDealt}
+use Rattle.lnbd_board.specs.Requests.{Said, Request, own, over, over_said, done, Each, IsDealt}
 use Rattle.lnbd_board.specs.Pieces.{spell, spell1, ask_of}
 use Rattle.lnbd_board.specs.Rows.{slice_at, lies_in, AsksOfSource, Stands, IsOver, KnownBy}
-use Rattle.lnbd_board.specs.Holds.{Holds, HoldsIfHonest, CopiedIsHeld, IsCopied, WasToldZero}
-use Rattle.lnbd_board.proofs.Lists.{in_each, none_covers, OneOver, one_over, own_first}
-use Rattle.lnbd_board.proofs.Spelling.{within_at, within_true, Found, found, Covered, Once, Never, covered, leaves_piece}
+use Rattle.lnbd_board.specs.Holds.{CopiedIsHeld, IsCopied, WasToldZero}
+use Rattle.lnbd_board.proofs.Lists.{in_each, none_covers, one_over, own_first}
+use Rattle.lnbd_board.proofs.Spelling.{within_at, within_true, found, Covered, Once, Never, covered, leaves_piece}
 use Rattle.lnbd_board.proofs.Inside.{not_changed, over_slice, over_nowhere}
 
 -- The source isn't touched.

@@ -1,10 +1,9 @@
 -- The pieces of a slice that was read.
-use Rattle.std.proofs.Common.{◌≡◌, ◌≢◌, ℕ, zero, suc, ◌+◌, ◌-◌, ◌<◌, ◌≤◌, List, [], ◌∷◌, ◌++◌, Bool, true, false, not, ◌&&◌, cond, refl, ap, sym, subst, ◌∙◌, arith, length, take, drop, Option, Some, None, slice_get, option_to_list, IfNone}
-use Rattle.std.proofs.lemmas.Grind.{common_steps}
+use Rattle.std.proofs.Common.{◌≡◌, ℕ, ◌+◌, ◌-◌, ◌<◌, ◌≤◌, List, [], ◌∷◌, ◌++◌, Bool, true, false, ◌&&◌, refl, sym, subst, ◌∙◌, arith, length, Option, Some, None, slice_get, option_to_list, IfNone}
 use Rattle.lnbd_plan.specs.declared.grid.Slice.{Slice}
 use Rattle.lnbd_plan.specs.Blocks.{in_zero_block}
 use Rattle.lnbd_plan.specs.Slices.{slices_of}
-use Rattle.lnbd_plan.specs.Laws.{LieBetween, AreWhole, IsWhole}
+use Rattle.lnbd_plan.specs.Laws.{AreWhole}
 use Rattle.lnbd_plan.proofs.LongestLaws.{longest, end_is}
 use Rattle.lnbd_board.specs.declared.how.How.{How}
 use Rattle.lnbd_board.specs.Pieces.{detects, is_told, AreLeft}
@@ -12,7 +11,7 @@ use Rattle.lnbd_board.specs.declared.row.Stage.{Stage}
 use Rattle.lnbd_board.specs.declared.row.Stage.TheVariants.{Reading, Last, Came, Writing, Holding, Finished}
 use Rattle.lnbd_board.specs.Rows.{is_busy}
 use Rattle.lnbd_board.specs.Asks.{IsCut, IsFirst, IsReady, StartsKept, PassesFirst, bytes_of, cutting, is_cut, is_over}
-use Rattle.lnbd_board.proofs.Moves.{FirstLeft, first_left}
+use Rattle.lnbd_board.proofs.Moves.{first_left}
 
 whole_same : (told told2 cut : ℕ → Bool) → ((p : ℕ) → told p ≡ told2 p) → (ss : List Slice) → AreWhole told cut ss → AreWhole told2 cut ss
 whole_same told told2 cut f [] h = tt

@@ -1,6 +1,5 @@
 -- What the calls of a board do to the invariant.
-use Rattle.std.proofs.Common.{◌≡◌, ◌≢◌, ℕ, zero, suc, ◌+◌, ◌<◌, ◌≤◌, ◌^◌, List, [], ◌∷◌, ◌++◌, Bool, true, false, cond, refl, ap, sym, subst, ◌∙◌, arith, length, Option, Some, None, replicate, is_none}
-use Rattle.std.proofs.lemmas.Grind.{common_steps}
+use Rattle.std.proofs.Common.{◌≡◌, ℕ, List, [], ◌∷◌, ◌++◌, true, false, refl, ap, sym, subst, ◌∙◌, length, Option, Some, None, is_none}
 use Rattle.lnbd_keyed.specs.Keyed.{value_at, with_value, without}
 use Rattle.lnbd_keyed.proofs.KeyedLemmas.{value_at_with, without_with}
 use Rattle.lnbd_plan.specs.declared.grid.Slice.{Slice}
@@ -11,11 +10,9 @@ use Rattle.lnbd_board.specs.declared.how.How.{How}
 use Rattle.lnbd_board.specs.declared.row.Row.{Row}
 use Rattle.lnbd_board.specs.declared.row.Stage.{Stage}
 use Rattle.lnbd_board.specs.declared.row.Stage.TheVariants.{Reading, Last, Came, Writing, Holding, Finished}
-use Rattle.lnbd_board.specs.declared.ticket.Ticket.TheVariants as ticket
-use Rattle.lnbd_board.specs.Requests.{Request, own, asking, Answers}
-use Rattle.lnbd_board.specs.Pieces.{ask_of}
-use Rattle.lnbd_board.specs.Rows.{is_busy, Known, IsHere, IsHeld, IsOver, StandsAt, Stands, slice_at}
-use Rattle.lnbd_board.specs.Asks.{Keeps, Advances, Goes, Begins, changed_with, source_with, destination_with, is_over, IsFirstAsk, WritesZeros, first_stage, change_of, read_at, written_by, zeroed_by}
+use Rattle.lnbd_board.specs.Requests.{Request, own}
+use Rattle.lnbd_board.specs.Rows.{is_busy, IsOver, StandsAt, slice_at}
+use Rattle.lnbd_board.specs.Asks.{Goes, Begins, is_over, IsFirstAsk, first_stage, read_at, written_by, zeroed_by}
 use Rattle.lnbd_board.specs.Board.{WentOn, IsOverAt, IsBoundTo, AsksOn, EndsRow, looked_at, risen}
 use Rattle.lnbd_board.specs.Files.{Seen}
 use Rattle.lnbd_board.proofs.Steps.{row_stands, ended, began_read, began_zero}

@@ -1,8 +1,5 @@
 -- What is asked over a position is asked for its slice.
-use Rattle.std.proofs.Common.{◌≡◌, ◌≢◌, ℕ, ◌+◌, ◌<◌, ◌≤◌, ◌⊎◌, inl, inr, List, [], ◌∷◌, ◌++◌, Bool, true, false, not, ◌&&◌, ◌||◌, cond, refl, ap, sym, subst, ◌∙◌, arith, length}
-use Rattle.std.proofs.lemmas.Grind.{common_steps}
-use Rattle.lnbd_model.specs.declared.kind.Kind.{Kind}
-use Rattle.lnbd_model.specs.declared.kind.Kind.TheVariants.{Read, Write, Zero, Flush, BlockStatus}
+use Rattle.std.proofs.Common.{◌≡◌, ℕ, ◌<◌, ◌≤◌, List, [], Bool, true, false, ◌&&◌, refl, ap, sym, subst, arith, length}
 use Rattle.lnbd_model.specs.Kind.{is_read}
 use Rattle.lnbd_history.specs.Commands.{Command}
 use Rattle.lnbd_asked.specs.Link.{Nobody}
@@ -13,7 +10,7 @@ use Rattle.lnbd_board.specs.declared.how.How.{How}
 use Rattle.lnbd_board.specs.declared.ticket.Ticket.{Ticket}
 use Rattle.lnbd_board.specs.declared.ticket.Ticket.TheVariants as ticket
 use Rattle.lnbd_board.specs.Requests.{Request, own, over, reads, reads_over, over_said, reads_over_said, Each, is_of}
-use Rattle.lnbd_board.specs.Rows.{slice_at, lies_in, IsInside, AsksOfSource, AsksOfDestination, IsChange}
+use Rattle.lnbd_board.specs.Rows.{slice_at, lies_in, IsInside, AsksOfSource, AsksOfDestination}
 use Rattle.lnbd_board.proofs.Lists.{Each-map, over_own, reads_over_own, over_none, reads_over_none, is_same}
 use Rattle.lnbd_board.proofs.Spelling.{apart, some_at}
 

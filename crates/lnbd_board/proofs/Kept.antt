@@ -1,10 +1,10 @@
 -- What a board keeps through its changes.
-use Rattle.std.proofs.Common.{◌≡◌, ◌≢◌, ℕ, zero, suc, ◌+◌, ◌-◌, ◌<◌, ◌≤◌, ◌^◌, List, [], ◌∷◌, ◌++◌, Bool, true, false, not, ◌&&◌, cond, refl, ap, sym, subst, ◌∙◌, arith, length, Option, Some, None, ◌==◌, nat_eq, length-append, is_some, slice_get, drop}
+use Rattle.std.proofs.Common.{◌≡◌, ◌≢◌, ℕ, ◌+◌, ◌≤◌, ◌^◌, List, [], ◌∷◌, ◌++◌, Bool, true, false, not, ◌&&◌, cond, refl, ap, sym, subst, ◌∙◌, arith, length, Option, Some, None, ◌==◌, length-append, is_some, slice_get, drop}
 use Rattle.std.proofs.lemmas.Grind.{common_steps}
 use Rattle.std.proofs.lemmas.Bool.Decides.{nat_tests}
 use Rattle.lnbd_keyed.specs.Keyed.{value_at, with_value, without, IsBelow, IsRising}
 use Rattle.lnbd_keyed.proofs.KeyedLemmas.{value_at_with, value_at_with_other, value_at_without, value_at_without_other, value_at_last, value_at_last_other, value_at_below, value_at_head, value_at_tail, IsAbove_at, IsBelow_append, IsBelow_without, IsBelow_with, IsBelow_less, IsRising_with, IsRising_without, IsRising_append}
-use Rattle.lnbd_inflight.specs.Done.{is_done, IsOnce}
+use Rattle.lnbd_inflight.specs.Done.{is_done}
 use Rattle.lnbd_inflight.proofs.Order.{done_last, done_before_last, once_append}
 use Rattle.lnbd_board.specs.declared.ask.Change.{Change}
 use Rattle.lnbd_board.specs.declared.how.How.{How}
@@ -18,7 +18,7 @@ use Rattle.lnbd_plan.specs.declared.grid.Slice.{Slice}
 use Rattle.lnbd_board.specs.Asks.{Sits, first_stage}
 use Rattle.lnbd_board.specs.Board.{IsIdle, IsKept, WentOn}
 use Rattle.lnbd_board.proofs.Lists.{eq_true, eq_false, Each-append}
-use Rattle.lnbd_board.proofs.Steps.{busy1, busy_last, busy_with, busy_without, busy_few, busy_some}
+use Rattle.lnbd_board.proofs.Steps.{busy1, busy_last, busy_with, busy_without, busy_few}
 
 pub by_key : (n m : ℕ) (P : ℕ → Type 0) → P n → (m ≢ n → P m) → P m
 by_key n m P h k = elim (m == n) as (λ b. (m == n) ≡ b → P m) [ true ↦ λ e. subst P (sym (eq_true n m e)) h | false ↦ λ e. k (eq_false n m e) ] refl

@@ -1,7 +1,7 @@
 -- The first of the least.
-use Rattle.std.proofs.Common.{◌≡◌, ℕ, ◌+◌, ◌<◌, ◌≤◌, ◌⊎◌, inl, inr, List, length, slice_index, subst, sym, arith}
+use Rattle.std.proofs.Common.{◌≡◌, ℕ, ◌+◌, ◌<◌, ◌≤◌, ◌⊎◌, inl, inr, List, slice_index, subst, sym, arith}
 use Rattle.std.proofs.lemmas.Bool.{cases_lt}
-use Rattle.lnbd_board.specs.Bound.{IsLeastOf, IsFewest}
+use Rattle.lnbd_board.specs.Bound.{IsLeastOf}
 
 last_or : (i n : ℕ) → i < n + 1 → (i < n) ⊎ (i ≡ n)
 last_or i n l = elim (cases_lt i n) [ inl k ↦ inl k | inr k ↦ inr (omega (arith, l, k)) ]

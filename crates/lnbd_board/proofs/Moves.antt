@@ -1,5 +1,5 @@
 -- What a row asks for next keeps the invariant.
-use Rattle.std.proofs.Common.{◌≡◌, ◌≢◌, ℕ, zero, suc, ◌+◌, ◌-◌, ◌*◌, ◌/◌, ◌<◌, ◌≤◌, List, [], ◌∷◌, ◌++◌, Bool, true, false, not, ◌&&◌, ◌==◌, ◌⊎◌, inl, inr, cond, refl, ap, sym, subst, ◌∙◌, arith, length, get_or, take, drop, Option, Some, None, length-take, length-drop, length-append, replicate, if◌then◌else◌, Result, Ok, Err, OnErr}
+use Rattle.std.proofs.Common.{◌≡◌, ℕ, zero, suc, ◌+◌, ◌-◌, ◌*◌, ◌/◌, ◌<◌, ◌≤◌, List, [], ◌∷◌, ◌++◌, Bool, true, false, not, ◌&&◌, ◌==◌, inl, inr, refl, ap, sym, subst, ◌∙◌, arith, length, get_or, take, drop, Option, Some, None, length-take, length-drop, replicate, Result, Ok, Err, OnErr}
 use Rattle.std.proofs.lemmas.Grind.{common_steps, same_number_lists}
 use Rattle.std.proofs.lemmas.List.{get_or-take, get_or-drop}
 use Rattle.std.proofs.Math.ListN.{length-replicate, get_or-replicate}
@@ -14,10 +14,8 @@ use Rattle.lnbd_asked.specs.Link.{Nobody}
 use Rattle.lnbd_asked.specs.Honest.{has}
 use Rattle.lnbd_plan.specs.declared.grid.Slice.{Slice}
 use Rattle.lnbd_plan.specs.Blocks.{in_zero_block}
-use Rattle.lnbd_plan.specs.Slices.{slices_of}
-use Rattle.lnbd_plan.specs.Laws.{LieBetween, AreWhole, IsWhole}
+use Rattle.lnbd_plan.specs.Laws.{LieBetween}
 use Rattle.lnbd_plan.proofs.BlockLaws.{zeros_mean, zeros_from}
-use Rattle.lnbd_plan.proofs.LongestLaws.{longest}
 use Rattle.lnbd_plan.proofs.OnceLaws.{ends_up}
 use Rattle.lnbd_board.specs.declared.ask.Change.{Change}
 use Rattle.lnbd_board.specs.declared.ask.Change.TheVariants as change
@@ -25,12 +23,11 @@ use Rattle.lnbd_board.specs.declared.how.How.{How}
 use Rattle.lnbd_board.specs.declared.row.Row.{Row}
 use Rattle.lnbd_board.specs.declared.row.Stage.{Stage}
 use Rattle.lnbd_board.specs.declared.row.Stage.TheVariants.{Reading, Last, Came, Writing, Holding, Finished}
-use Rattle.lnbd_board.specs.declared.ticket.Ticket.TheVariants as ticket
 use Rattle.lnbd_board.specs.Files.{rows_with}
-use Rattle.lnbd_board.specs.Requests.{Said, Request, own, waiting, asking}
+use Rattle.lnbd_board.specs.Requests.{Said, own, waiting}
 use Rattle.lnbd_board.specs.Pieces.{Piece, Bytes, Zeros, spell, spell1, ask_of, is_passed, wrote, zero_flags, detects, is_told, AreLeft, IsDense}
-use Rattle.lnbd_board.specs.Rows.{is_busy, IsHere, IsHeld, IsWritten, IsEnding, IsOver, StandsAt, Stands, slice_at, IsInside, AsksOfDestination, IsChange}
-use Rattle.lnbd_board.specs.Asks.{change_of, changed_with, Keeps, Advances, IsCut, Sits, Cuts, Passes, cutting, StartsKept, PassesFirst, IsReady, bytes_of, IsFirst, IsPart}
+use Rattle.lnbd_board.specs.Rows.{is_busy, IsHeld, IsWritten, IsEnding, StandsAt, slice_at, IsInside, IsChange}
+use Rattle.lnbd_board.specs.Asks.{change_of, Advances, Sits, Cuts, Passes, cutting, bytes_of}
 use Rattle.lnbd_board.proofs.Spelling.{within_at, within_true, has_piece, spell_more, wrote_passed}
 use Rattle.lnbd_board.proofs.Steps.{row_stands, regarded, asked}
 

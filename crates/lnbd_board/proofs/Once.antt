@@ -1,14 +1,11 @@
 -- No position is asked for twice.
-use Rattle.std.proofs.Common.{◌≡◌, ◌≢◌, ℕ, zero, suc, ◌+◌, ◌-◌, ◌<◌, ◌≤◌, ◌⊎◌, inl, inr, List, [], ◌∷◌, ◌++◌, Bool, true, false, not, ◌&&◌, ◌||◌, cond, refl, ap, sym, subst, ◌∙◌, arith, length, Option, Some, None, length-append}
-use Rattle.std.proofs.lemmas.Grind.{common_steps}
+use Rattle.std.proofs.Common.{◌≡◌, ℕ, ◌+◌, ◌≤◌, inl, inr, List, [], ◌∷◌, ◌++◌, Bool, true, false, not, ◌||◌, cond, refl, ap, sym, ◌∙◌, arith, length, Option, Some, None, length-append}
 use Rattle.std.proofs.lemmas.Bool.{cases_lt}
 use Rattle.lnbd_outcome.specs.Outcome.{Outcome, Unfinished, Done}
-use Rattle.lnbd_history.specs.Commands.{Command}
-use Rattle.lnbd_asked.specs.Link.{Nobody}
 use Rattle.lnbd_asked.specs.Honest.{covers}
 use Rattle.lnbd_plan.specs.declared.grid.Slice.{Slice}
 use Rattle.lnbd_plan.specs.declared.cells.Cells.{Cells}
-use Rattle.lnbd_plan.specs.Laws.{slices_at, IsInOne, IsPlannedOnce}
+use Rattle.lnbd_plan.specs.Laws.{slices_at, IsPlannedOnce}
 use Rattle.lnbd_plan.proofs.OnceLaws.{at_both}
 use Rattle.lnbd_board.specs.declared.how.How.{How}
 use Rattle.lnbd_board.specs.declared.row.Row.{Row}
@@ -16,8 +13,8 @@ use Rattle.lnbd_board.specs.declared.row.Stage.{Stage}
 use Rattle.lnbd_board.specs.declared.row.Stage.TheVariants.{Reading, Last, Came, Writing, Holding, Finished}
 use Rattle.lnbd_board.specs.Requests.{Said, Request, reads, over, over_said, reads_over, reads_over_said, waiting}
 use Rattle.lnbd_board.specs.Pieces.{Piece, spell, spell1, ask_of, wrote}
-use Rattle.lnbd_board.specs.Rows.{slice_at, lies_in, Stands, StandsAs, StandsAt, KnownBy, IsRead}
-use Rattle.lnbd_board.specs.Holds.{IsOnce, IsWithin, EachIsAskedOnce}
+use Rattle.lnbd_board.specs.Rows.{slice_at, Stands, StandsAs, StandsAt, KnownBy, IsRead}
+use Rattle.lnbd_board.specs.Holds.{EachIsAskedOnce}
 use Rattle.lnbd_board.proofs.Spelling.{Found, found, Covered, Once, Never, covered, wrote_before, wrote_after, covers_piece, within_below}
 use Rattle.lnbd_board.proofs.Inside.{reads_slice, reads_nowhere, over_slice, over_nowhere}
 

@@ -1,16 +1,14 @@
 -- Lemmas on slices and the pieces of their bytes.
-use Rattle.std.proofs.Common.{◌≡◌, ◌≢◌, ℕ, zero, suc, ◌+◌, ◌-◌, ◌<◌, ◌≤◌, List, [], ◌∷◌, ◌++◌, Bool, true, false, cond, refl, ap, sym, subst, ◌∙◌, arith, length, get_or, take, append_assoc, length-append, replicate, if◌then◌else◌}
+use Rattle.std.proofs.Common.{◌≡◌, ℕ, zero, suc, ◌+◌, ◌-◌, ◌<◌, ◌≤◌, List, [], ◌∷◌, ◌++◌, Bool, true, false, cond, refl, ap, sym, ◌∙◌, arith, length, get_or, append_assoc, length-append}
 use Rattle.std.proofs.lemmas.Grind.{common_steps}
 use Rattle.std.proofs.lemmas.Bool.Decides.{nat_tests}
 use Rattle.std.proofs.Math.ListN.{length-replicate, get_or-replicate}
 use Rattle.lnbd_extents.specs.Positions.{within}
-use Rattle.lnbd_history.specs.Commands.{Command}
-use Rattle.lnbd_asked.specs.Link.{Nobody}
 use Rattle.lnbd_asked.specs.Honest.{covers, has, Leaves}
 use Rattle.lnbd_plan.specs.declared.grid.Slice.{Slice}
 use Rattle.lnbd_plan.specs.Laws.{slices_at}
 use Rattle.lnbd_board.specs.declared.how.How.{How}
-use Rattle.lnbd_board.specs.Requests.{Said, done, done_with, waiting, over_said, reads, said_unanswered, Suits}
+use Rattle.lnbd_board.specs.Requests.{Said, done, done_with, over_said, said_unanswered, Suits}
 use Rattle.lnbd_board.specs.Pieces.{Piece, Bytes, Zeros, spell, spell1, ask_of, is_passed, wrote}
 use Rattle.lnbd_board.specs.Rows.{slice_at, lies_in}
 

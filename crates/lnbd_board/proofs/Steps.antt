@@ -1,31 +1,27 @@
 -- Each step of a copy keeps the invariant: it changes one row, and what was asked for one slice.
-use Rattle.std.proofs.Common.{◌≡◌, ◌≢◌, ℕ, zero, suc, ◌+◌, ◌-◌, ◌<◌, ◌≤◌, ◌⊎◌, inl, inr, List, [], ◌∷◌, ◌++◌, Bool, true, false, cond, refl, ap, sym, subst, ◌∙◌, arith, length, take, drop, ◌==◌, Option, Some, None, append_assoc, length-append, replicate}
+use Rattle.std.proofs.Common.{◌≡◌, ◌≢◌, ℕ, ◌+◌, ◌<◌, ◌≤◌, ◌⊎◌, inl, inr, List, [], ◌∷◌, ◌++◌, Bool, true, false, cond, refl, ap, sym, subst, ◌∙◌, arith, length, ◌==◌, Some, length-append, replicate}
 use Rattle.std.proofs.lemmas.Grind.{common_steps}
 use Rattle.std.proofs.lemmas.Bool.{cases_lt}
-use Rattle.std.proofs.lemmas.Bool.Decides.{nat_tests}
 use Rattle.std.proofs.Math.ListN.{length-replicate, get_or-append}
-use Rattle.std.proofs.Math.Seq.{take-add}
-use Rattle.lnbd_keyed.specs.Keyed.{value_at, with_value, without, IsRising, IsBelow, IsAbove}
-use Rattle.lnbd_keyed.proofs.KeyedLemmas.{IsRising_append, IsRising_without, IsRising_with, value_at_with, value_at_with_other, value_at_without, value_at_without_other, value_at_last, value_at_last_other, value_at_below, IsBelow_append, IsBelow_without, IsBelow_with, IsBelow_less, IsBelow_at, IsAbove_at}
+use Rattle.lnbd_keyed.specs.Keyed.{value_at, with_value, without, IsBelow}
+use Rattle.lnbd_keyed.proofs.KeyedLemmas.{IsRising_append, IsRising_without, IsRising_with, value_at_with, value_at_with_other, value_at_without, value_at_without_other, value_at_last, value_at_last_other, IsBelow_append, IsBelow_without, IsBelow_with, IsBelow_less, IsBelow_at}
 use Rattle.lnbd_model.specs.declared.kind.Kind.TheVariants.{Read}
 use Rattle.lnbd_model.specs.Kind.{is_read}
 use Rattle.lnbd_extents.specs.Positions.{within}
-use Rattle.lnbd_outcome.specs.Outcome.{Outcome, Unfinished, Done}
+use Rattle.lnbd_outcome.specs.Outcome.{Done}
 use Rattle.lnbd_history.specs.Commands.{Command}
 use Rattle.lnbd_asked.specs.Link.{Nobody}
-use Rattle.lnbd_asked.specs.Honest.{has}
 use Rattle.lnbd_plan.specs.declared.grid.Slice.{Slice}
 use Rattle.lnbd_board.specs.declared.how.How.{How}
 use Rattle.lnbd_board.specs.declared.row.Row.{Row}
-use Rattle.lnbd_board.specs.declared.row.Stage.{Stage}
 use Rattle.lnbd_board.specs.declared.row.Stage.TheVariants.{Reading, Last, Came, Writing, Holding, Finished}
 use Rattle.lnbd_board.specs.declared.ticket.Ticket.{Ticket}
 use Rattle.lnbd_board.specs.declared.ticket.Ticket.TheVariants as ticket
-use Rattle.lnbd_board.specs.Requests.{Said, Request, own, is_of, unanswered, said_unanswered, Each, waiting, done, done_with, asking, Suits, Answers}
-use Rattle.lnbd_board.specs.Pieces.{Piece, Bytes, Zeros, spell, spell1, ask_of, is_passed, wrote, AreLeft, IsDense}
-use Rattle.lnbd_board.specs.Rows.{is_busy, busy, IsRead, KnownBy, Known, IsReading, IsEnding, IsHere, IsHeld, IsWritten, IsOver, StandsAt, StandsAs, slice_at, IsInside, AsksOfSource, AsksOfDestination, IsChange, Stands}
-use Rattle.lnbd_board.proofs.Lists.{eq_true, eq_false, not_same, Each-append, Each-map, own_asking, own_asking_other, own_answers, own_answers_other, answers_wait, each_answers, unanswered_asking, unanswered_answers}
-use Rattle.lnbd_board.proofs.Spelling.{has_piece, spell_more, wrote_more, wrote_passed, wrote_idle, suits_piece}
+use Rattle.lnbd_board.specs.Requests.{Said, Request, own, is_of, unanswered, said_unanswered, Each, waiting, asking, Answers}
+use Rattle.lnbd_board.specs.Pieces.{Piece, spell, spell1, ask_of, is_passed, wrote, IsDense}
+use Rattle.lnbd_board.specs.Rows.{is_busy, busy, IsRead, KnownBy, IsReading, IsEnding, IsHere, IsHeld, IsWritten, IsOver, StandsAt, StandsAs, slice_at, IsInside, AsksOfSource, AsksOfDestination, IsChange, Stands}
+use Rattle.lnbd_board.proofs.Lists.{eq_true, eq_false, not_same, Each-append, Each-map, own_asking, own_asking_other, own_answers, own_answers_other, each_answers, unanswered_asking, unanswered_answers}
+use Rattle.lnbd_board.proofs.Spelling.{has_piece, spell_more, wrote_more, wrote_idle, suits_piece}
 
 -- The number of busy rows.
 

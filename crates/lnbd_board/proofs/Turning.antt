@@ -1,6 +1,5 @@
 -- What is answered keeps the invariant, and what is asked beside the slices.
-use Rattle.std.proofs.Common.{◌≡◌, ◌≢◌, ℕ, zero, suc, ◌+◌, ◌<◌, ◌≤◌, List, [], ◌∷◌, ◌++◌, Bool, true, false, cond, refl, ap, sym, subst, ◌∙◌, arith, length, Option, Some, None, ◌⊎◌, inl, inr, ◌==◌}
-use Rattle.std.proofs.lemmas.Grind.{common_steps}
+use Rattle.std.proofs.Common.{◌≡◌, ℕ, ◌<◌, List, [], ◌∷◌, Bool, true, false, cond, refl, ap, sym, subst, ◌∙◌, arith, length, Option, Some, None, inl, inr, ◌==◌}
 use Rattle.std.proofs.lemmas.Bool.{cases_lt}
 use Rattle.lnbd_keyed.specs.Keyed.{value_at, with_value}
 use Rattle.lnbd_model.specs.declared.export.Extent.{Extent}
@@ -17,7 +16,7 @@ use Rattle.lnbd_board.specs.Requests.{Said, Request, own, unanswered, said_unans
 use Rattle.lnbd_board.specs.Files.{Seen, Files, Hears, received, rows_with, came_with, filed, filed_done, or_error, is_map, is_unfit}
 use Rattle.lnbd_board.specs.Rows.{is_busy, IsOver, StandsAt, StandsAs, Stands, slice_at, AsksOfSource, AsksOfDestination}
 use Rattle.lnbd_board.specs.Asks.{Keeps}
-use Rattle.lnbd_board.specs.Turns.{IsAnswered, Tells, TellAll, CallsAreKept, NothingStands, ExtentsAreKept, FlushIsKept}
+use Rattle.lnbd_board.specs.Turns.{IsAnswered, Tells, CallsAreKept, NothingStands, ExtentsAreKept, FlushIsKept}
 use Rattle.lnbd_board.proofs.Lists.{eq_true, answers_wait, Each-append, each_answers, own_answers_none, own_asking_none, unanswered_answers_none, unanswered_asking_none}
 use Rattle.lnbd_board.proofs.Spelling.{wrote_idle}
 use Rattle.lnbd_board.proofs.Steps.{row_stands, known_idle, own_source, own_destination, read_came, last_came, write_came}

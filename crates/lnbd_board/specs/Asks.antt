@@ -1,5 +1,5 @@
 -- What a call of the board does to the invariant, for whatever slices, other rows and requests there are.
-use Rattle.std.specs.Prelude.{◌≡◌, ◌⊎◌, ℕ, ◌+◌, ◌-◌, ◌≤◌, ◌^◌, Bool, true, false, take, drop, List, [], ◌∷◌, ◌++◌, length, replicate, Option, Some, None, if◌then◌else◌}
+use Rattle.std.specs.Prelude.{◌≡◌, ℕ, ◌-◌, ◌≤◌, Bool, true, false, take, drop, List, [], ◌∷◌, ◌++◌, length, replicate, Option, Some, None, if◌then◌else◌}
 use Rattle.lnbd_model.specs.declared.kind.Kind.TheVariants as kind
 use Rattle.lnbd_keyed.specs.Keyed.{value_at, with_value}
 use Rattle.lnbd_history.specs.Commands.{Command}

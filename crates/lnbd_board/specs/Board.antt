@@ -1,6 +1,5 @@
 -- What a board's fields show and keep, and what its calls answer.
-use Rattle.std.specs.Prelude.{◌≡◌, ℕ, ◌+◌, ◌<◌, ◌≤◌, ◌^◌, Bool, true, false, not, List, [], ◌∷◌, ◌++◌, length, Option, Some, None, min, is_some, is_none}
-use Rattle.std.specs.VecDeque.{deque_capacity}
+use Rattle.std.specs.Prelude.{◌≡◌, ℕ, ◌+◌, ◌≤◌, ◌^◌, true, false, List, [], ◌∷◌, ◌++◌, length, Option, Some, None, min, is_some, is_none}
 use Rattle.lnbd_keyed.specs.Keyed.{value_at, with_value, without, IsBelow, IsRising}
 use Rattle.lnbd_inflight.specs.Done.{is_done, IsOnce}
 use Rattle.lnbd_plan.specs.declared.grid.Slice.{Slice}

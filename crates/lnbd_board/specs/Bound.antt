@@ -1,5 +1,5 @@
 -- The connection with the fewest bound slices.
-use Rattle.std.specs.Prelude.{◌≡◌, ℕ, ◌<◌, ◌≤◌, List, length, slice_index}
+use Rattle.std.specs.Prelude.{ℕ, ◌<◌, ◌≤◌, List, length, slice_index}
 
 -- It is the first of the least, among so many.
 pub record IsLeastOf (counts : List ℕ) (n : ℕ) (best : ℕ) : Type 0 where

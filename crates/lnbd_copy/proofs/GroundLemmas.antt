@@ -1,10 +1,9 @@
 -- What the connections of a copy were told for which it does not end well is told by the calls on the wires.
-use Rattle.std.proofs.Common.{◌≡◌, ◌<◌, ◌≤◌, ◌+◌, ◌⊎◌, inl, inr, ℕ, zero, suc, Bool, true, false, List, [], ◌∷◌, ◌++◌, length, Option, Some, None, Result, Ok, Err, IfErr, slice_get, if◌then◌else◌, refl, ap, sym, subst, ◌∙◌, arith}
+use Rattle.std.proofs.Common.{◌≡◌, ◌≤◌, ◌+◌, inl, inr, ℕ, zero, suc, Bool, true, false, List, [], ◌∷◌, ◌++◌, length, Option, Some, None, Result, Ok, Err, IfErr, slice_get, if◌then◌else◌, refl, ap, sym, subst, ◌∙◌, arith}
 use Rattle.std.proofs.lemmas.Bool.{cases_lt, false≢true}
 use Rattle.std.proofs.lemmas.List.{append_assoc, append-nil}
 use Rattle.std.specs.Option.{option_map}
 use Rattle.std.specs.Prelude.{IsErrAnd}
-use Rattle.lnbd_model.specs.declared.breach.Broken.{Broken}
 use Rattle.lnbd_model.specs.declared.breach.Broken.TheVariants as broken
 use Rattle.lnbd_model.specs.declared.export.ExportInfo.{ExportInfo}
 use Rattle.lnbd_model.specs.declared.state.Cause.{Cause}
@@ -28,7 +27,6 @@ use Rattle.lnbd_drives.specs.Driving.{AllDrive}
 use Rattle.lnbd_plan.specs.declared.fault.CopyFault.{CopyFault}
 use Rattle.lnbd_plan.specs.declared.fault.CopyFault.TheVariants as fault
 use Rattle.lnbd_plan.specs.declared.fault.Rule.{Rule}
-use Rattle.lnbd_board.specs.declared.how.How.{How}
 use Rattle.lnbd_board.specs.declared.ticket.Ticket.{Ticket}
 use Rattle.lnbd_board.specs.Files as board
 use Rattle.lnbd_course.specs.Between.{place_of}
@@ -41,7 +39,7 @@ use Rattle.lnbd_copy.specs.Job as work
 use Rattle.lnbd_copy.specs.Copier as copier
 use Rattle.lnbd_copy.specs.Grounds.{AllSame, AreSame, AtSome, Blames, Differ, Drove, FailsOn, Finds, FindsBeside, FindsDead, FindsOther, Happened, Happens, HasDied, IsDead, IsFound, IsGrounded, IsShown, Lasts, Settle, fault_of, first_of, needs_no_ground}
 use Rattle.lnbd_copy.specs.Opening.{Dials}
-use Rattle.lnbd_copy.specs.Way.{Goes, IsOn, IsUnderWay, Stand, Told, Way, is_source}
+use Rattle.lnbd_copy.specs.Way.{Goes, IsOn, IsUnderWay, Told, Way, is_source}
 use Rattle.lnbd_copy.proofs.CopierLemmas.{first_on, kept_then, no_handles, second_on, told_as, two_on, with_held}
 
 -- By the handles.

@@ -1,5 +1,5 @@
 -- The summary of a copy that is finished is that of its calls.
-use Rattle.std.proofs.Common.{◌≡◌, ◌≢◌, ◌≤◌, ℕ, Bool, true, List, [], Option, Some, None, Result, Ok, Err, IfOk, OnOk, refl, ap, sym, subst, ◌∙◌, arith}
+use Rattle.std.proofs.Common.{◌≡◌, ◌≢◌, ◌≤◌, ℕ, Bool, true, List, [], Option, Some, None, Result, Ok, Err, IfOk, OnOk, ap, sym, subst, ◌∙◌, arith}
 use Rattle.lnbd_model.specs.declared.target.Place.{Place}
 use Rattle.lnbd_link.specs.Call as wire
 use Rattle.lnbd_plan.specs.declared.summary.Summary.{Summary}
@@ -7,7 +7,7 @@ use Rattle.lnbd_plan.specs.Laws.{told_by}
 use Rattle.lnbd_poll.specs.Held.{Held}
 use Rattle.lnbd_board.specs.declared.ticket.Ticket.{Ticket}
 use Rattle.lnbd_course.specs.Asks.{GrewBy}
-use Rattle.lnbd_course.specs.Counts.{Summarizes, summary_of}
+use Rattle.lnbd_course.specs.Counts.{Summarizes}
 use Rattle.lnbd_course.proofs.Summing.{ended_sums}
 use Rattle.lnbd_copy.specs.Copier.{IsDone, IsOnItsWay, Seen}
 use Rattle.lnbd_copy.specs.declared.copier.Progress.{Progress}

@@ -1,8 +1,8 @@
 -- What is under way after the steps of a job: slices go on, extents are asked for, and slices are begun up to the limit.
-use Rattle.std.proofs.Common.{◌≡◌, ◌≢◌, ◌↔◌, inl, inr, ℕ, ◌+◌, ◌*◌, ◌/◌, ◌<◌, ◌≤◌, Bool, true, false, List, [], ◌∷◌, ◌++◌, length, length-append, min, Option, Some, None, IsSome, is_some, option_to_list, if◌then◌else◌, refl, ap, sym, subst, ◌∙◌, arith}
+use Rattle.std.proofs.Common.{◌≡◌, ◌≢◌, ◌↔◌, inl, inr, ℕ, ◌+◌, ◌/◌, ◌<◌, ◌≤◌, Bool, true, false, List, [], ◌∷◌, ◌++◌, length, length-append, min, Option, Some, None, IsSome, is_some, option_to_list, if◌then◌else◌, refl, ap, sym, subst, ◌∙◌, arith}
 use Rattle.std.proofs.Math.Nat.{div-le_self}
 use Rattle.std.proofs.lemmas.Bool.{cases_lt, false≢true}
-use Rattle.lnbd_keyed.specs.Keyed.{value_at, with_value, without}
+use Rattle.lnbd_keyed.specs.Keyed.{with_value, without}
 use Rattle.lnbd_keyed.proofs.KeyedLemmas.{length_with, length_without}
 use Rattle.lnbd_link.specs.Call as wire
 use Rattle.lnbd_plan.specs.declared.grid.Slice.{Slice}

@@ -1,6 +1,5 @@
 -- What the connections of a copy were told for which it does not end well: by the handles that are held, and by the calls on the wires.
 use Rattle.std.specs.Prelude.{◌≡◌, ◌<◌, ℕ, Bool, true, false, ◌⊎◌, List, ◌++◌, Option, Some, None, slice_get, if◌then◌else◌}
-use Rattle.lnbd_model.specs.declared.breach.Breach.{Breach}
 use Rattle.lnbd_model.specs.declared.breach.Broken.{Broken}
 use Rattle.lnbd_model.specs.declared.breach.Broken.TheVariants as broken
 use Rattle.lnbd_model.specs.declared.export.ExportInfo.{ExportInfo}

@@ -1,5 +1,5 @@
 -- What is under way in a copy between two turns: how many slices, their requests, and the question for extents.
-use Rattle.std.specs.Prelude.{◌≡◌, ◌≢◌, ◌<◌, ◌≤◌, ℕ, ◌+◌, Bool, true, false, List, [], length, min, Option, Some, is_some}
+use Rattle.std.specs.Prelude.{◌≡◌, ◌≢◌, ◌<◌, ◌≤◌, ℕ, ◌+◌, Bool, true, false, [], length, min, Option, Some, is_some}
 use Rattle.lnbd_board.specs.Files as board
 use Rattle.lnbd_board.specs.Rows.{busy}
 use Rattle.lnbd_copy.specs.declared.job.Phase.TheVariants.{Copying}

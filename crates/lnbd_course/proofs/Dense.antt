@@ -1,10 +1,9 @@
 -- No WRITE contains a block of zeros that was found.
-use Rattle.std.proofs.Common.{◌≡◌, ℕ, Bool, List, [], sym, subst, ◌∙◌}
+use Rattle.std.proofs.Common.{◌≡◌, List, sym, subst, ◌∙◌}
 use Rattle.lnbd_model.specs.declared.kind.Kind.{Kind}
 use Rattle.lnbd_model.specs.declared.kind.Kind.TheVariants.{Flush, Write}
 use Rattle.lnbd_history.specs.Commands.{Command}
 use Rattle.lnbd_asked.specs.Link.{Nobody}
-use Rattle.lnbd_asked.specs.Transcript.{dealt_with}
 use Rattle.lnbd_plan.specs.declared.grid.Slice.{Slice}
 use Rattle.lnbd_board.specs.declared.how.How.{How}
 use Rattle.lnbd_board.specs.declared.ticket.Ticket.{Ticket}

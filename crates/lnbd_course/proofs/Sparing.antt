@@ -1,12 +1,10 @@
 -- No READ covers a block that was told as zero whole.
-use Rattle.std.proofs.Common.{◌≡◌, ◌⊎◌, inl, inr, ℕ, ◌+◌, ◌<◌, ◌≤◌, Bool, true, false, not, ◌&&◌, ◌||◌, List, [], ◌∷◌, ◌++◌, cond, length, Option, Some, None, refl, ap, sym, subst, ◌∙◌, arith, nat_le, if◌then◌else◌}
+use Rattle.std.proofs.Common.{◌≡◌, ◌⊎◌, inl, inr, ℕ, ◌<◌, ◌≤◌, Bool, true, false, not, ◌&&◌, ◌||◌, List, [], ◌∷◌, ◌++◌, cond, length, Option, Some, None, refl, ap, sym, subst, ◌∙◌, arith, nat_le, if◌then◌else◌}
 use Rattle.std.proofs.lemmas.Bool.{cases_lt, false≢true}
 use Rattle.std.specs.Option.{option_map}
-use Rattle.lnbd_model.specs.declared.kind.Kind.{Kind}
 use Rattle.lnbd_model.specs.declared.kind.Kind.TheVariants.{BlockStatus, Read}
 use Rattle.lnbd_model.specs.declared.target.Place.{Place}
 use Rattle.lnbd_keyed.specs.Keyed.{value_at}
-use Rattle.lnbd_extents.specs.Positions.{within}
 use Rattle.lnbd_outcome.specs.Outcome.{Done, Unfinished}
 use Rattle.lnbd_link.specs.Call as wire
 use Rattle.lnbd_history.specs.Commands as commands
@@ -32,15 +30,13 @@ use Rattle.lnbd_board.specs.Requests.{Each, IsIn, Request, Said, own, reads, rea
 use Rattle.lnbd_board.specs.Requests as asked
 use Rattle.lnbd_board.specs.Rows.{AsksOfSource, KnownBy, Stands, StandsAs, StandsAt, slice_at}
 use Rattle.lnbd_board.proofs.Inside.{reads_nowhere, reads_slice}
-use Rattle.lnbd_board.proofs.Lists.{Each-back, in_each}
+use Rattle.lnbd_board.proofs.Lists.{Each-back}
 use Rattle.lnbd_board.proofs.Spelling.{found}
-use Rattle.lnbd_tracks.specs.Heeding.{is_whole, zero_asked}
-use Rattle.lnbd_tracks.specs.Laws.{IsDone}
-use Rattle.lnbd_tracks.specs.Mapping.{first_tells, is_extents, tells_extents}
+use Rattle.lnbd_tracks.specs.Heeding.{is_whole}
+use Rattle.lnbd_tracks.specs.Mapping.{first_tells, is_extents}
 use Rattle.lnbd_tracks.specs.Tracks.{Histories}
 use Rattle.lnbd_tracks.specs.Tracks as tracks
 use Rattle.lnbd_tracks.proofs.Under as under
-use Rattle.lnbd_course.specs.Course.{on_side}
 use Rattle.lnbd_course.specs.Spares.{EndedSpares, WasToldWhole}
 use Rattle.lnbd_course.specs.Told.{Known, Told}
 use Rattle.lnbd_course.proofs.Standing.{on_here}

@@ -1,40 +1,33 @@
 -- In the end what a board counted is a summary of the calls of its copy.
-use Rattle.std.proofs.Common.{◌≡◌, inl, inr, ℕ, ◌+◌, ◌-◌, ◌≤◌, Bool, true, false, ◌&&◌, ◌==◌, List, [], ◌∷◌, ◌++◌, cond, length, min, Option, Some, None, refl, ap, sym, subst, ◌∙◌, arith}
+use Rattle.std.proofs.Common.{◌≡◌, inl, inr, ℕ, ◌+◌, ◌-◌, ◌≤◌, Bool, true, false, ◌&&◌, ◌==◌, List, [], ◌∷◌, cond, length, min, Option, Some, None, refl, ap, sym, subst, ◌∙◌, arith}
 use Rattle.std.proofs.lemmas.Bool.{false≢true}
 use Rattle.lnbd_model.specs.Kind.{is_read, is_write}
 use Rattle.lnbd_model.specs.declared.kind.Kind.{Kind}
 use Rattle.lnbd_model.specs.declared.kind.Kind.TheVariants.{Flush, Write, Zero, Read, Trim, Cache, BlockStatus}
-use Rattle.lnbd_model.specs.declared.target.Place.{Place}
 use Rattle.lnbd_outcome.specs.Outcome.{Outcome}
-use Rattle.lnbd_link.specs.Call.{Call}
 use Rattle.lnbd_history.specs.Commands.{Command}
 use Rattle.lnbd_history.specs.Commands as commands
 use Rattle.lnbd_history.specs.History as history_of
 use Rattle.lnbd_asked.specs.Driven.{outcome_after}
 use Rattle.lnbd_asked.specs.Honest.{changes, covers}
 use Rattle.lnbd_asked.specs.Link.{Nobody}
-use Rattle.lnbd_asked.specs.Transcript.{dealt_with}
-use Rattle.lnbd_plan.specs.declared.cells.Cells.{Cells}
 use Rattle.lnbd_plan.specs.declared.grid.Slice.{Slice}
-use Rattle.lnbd_plan.specs.Laws.{IsPlannedOnce}
 use Rattle.lnbd_board.specs.declared.how.How.{How}
 use Rattle.lnbd_board.specs.declared.row.Row.{Row}
 use Rattle.lnbd_board.specs.declared.ticket.Ticket.{Ticket}
 use Rattle.lnbd_board.specs.declared.ticket.Ticket.TheVariants as ticket
-use Rattle.lnbd_board.specs.Files as board
 use Rattle.lnbd_board.specs.Requests.{Each, IsIn, Request, Said, over, reads, reads_over}
 use Rattle.lnbd_board.specs.Rows.{AsksOfDestination, IsChange, Stands}
 use Rattle.lnbd_board.proofs.Once.{once}
 use Rattle.lnbd_tracks.specs.Laws.{IsDone, moves_bytes}
 use Rattle.lnbd_tracks.specs.Tracks.{AllTrack, Histories, request_of, under}
 use Rattle.lnbd_tracks.proofs.Finished.{finished_are_done}
-use Rattle.lnbd_course.specs.Between.{Between}
-use Rattle.lnbd_course.specs.Counted.{IsCounted, bytes_of, is_zero, up_to_end}
-use Rattle.lnbd_course.specs.Counts.{AreAll, EndedSums, Summarizes, summary_of, uncovered}
+use Rattle.lnbd_course.specs.Counted.{bytes_of, is_zero}
+use Rattle.lnbd_course.specs.Counts.{EndedSums, uncovered}
 use Rattle.lnbd_course.specs.Course.{beside, on_side}
 use Rattle.lnbd_course.proofs.Ending.{destination_dealt, done_out, gone_out, is_out, out_stands, source_dealt}
 use Rattle.lnbd_course.proofs.Placed.{links_are_of_sides}
-use Rattle.lnbd_course.proofs.Tallying.{bytes_fit, bytes_rest, touches, touching}
+use Rattle.lnbd_course.proofs.Tallying.{bytes_fit, bytes_rest, touching}
 
 -- What went out has all bytes.
 

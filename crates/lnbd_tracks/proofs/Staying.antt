@@ -1,12 +1,12 @@
 -- What stays of a command whatever happens: what was asked, that it has ended, that it is done, and what it told as zero.
-use Rattle.std.proofs.Common.{◌≡◌, ◌≢◌, ℕ, ◌+◌, Bool, true, false, ◌||◌, List, [], ◌∷◌, Option, Some, None, refl, ap, sym, subst, ◌∙◌, arith, ◌==◌, ◌⊎◌, inl, inr, if◌then◌else◌}
+use Rattle.std.proofs.Common.{◌≡◌, ◌≢◌, ℕ, ◌+◌, Bool, true, false, ◌||◌, List, ◌∷◌, Some, None, refl, ap, sym, subst, ◌∙◌, arith, ◌==◌, ◌⊎◌, inl, inr, if◌then◌else◌}
 use Rattle.std.proofs.lemmas.Bool.{cases_eq, false≢true, eq-eqb, ne_eqb}
 use Rattle.lnbd_model.specs.declared.export.Context.{Context as MetaContext}
 use Rattle.lnbd_outcome.specs.Outcome.{Unfinished, Done}
 use Rattle.lnbd_outcome.specs.Pieces.{content_of}
 use Rattle.lnbd_history.specs.Commands.{Command, Flight, Request}
 use Rattle.lnbd_history.specs.Commands as commands
-use Rattle.lnbd_history.specs.Entries.{Item, Filing, Entry, Filed, Freed, Cleared, ends, own, is_ended, pieces}
+use Rattle.lnbd_history.specs.Entries.{Item, Filing, Entry, Filed, ends, own, is_ended, pieces}
 use Rattle.lnbd_history.specs.Events.{Answer, Event, History, Set, StrictMode, Start, Opt, Abort, Issue, Refuse, Disconnect, Wrote, Arrived, End, LinkFailed, Retire, ClearLog, Close}
 use Rattle.lnbd_history.specs.History.{asked, request, filing_of, reading}
 use Rattle.lnbd_history.proofs.Cookies.{request_past}

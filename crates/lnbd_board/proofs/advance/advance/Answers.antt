@@ -1,5 +1,5 @@
-use Rattle.std.proofs.Common.{◌≡◌, None, Result, Ok, Err, OnErr}
-use Rattle.lnbd_board.specs.Asks.{Advances, Sits, cutting}
+use Rattle.std.proofs.Common.{None}
+use Rattle.lnbd_board.specs.Asks.{Advances}
 use Rattle.lnbd_board.proofs.Moves.{advances_none, advances_then, cut_steps, cut_sits, on_err}
 use Rattle.lnbd_board.proofs.advance.advance.Goals as goal
 

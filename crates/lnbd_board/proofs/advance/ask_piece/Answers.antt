@@ -1,4 +1,3 @@
-use Rattle.std.proofs.Common.{◌≡◌}
 use Rattle.lnbd_board.proofs.Cutting.{unskipped, cut_rest}
 use Rattle.lnbd_board.proofs.Moves.{zero_step, part_step, last_step}
 use Rattle.lnbd_board.proofs.advance.ask_piece.Goals as goal

@@ -1,4 +1,4 @@
-use Rattle.std.proofs.Common.{◌≡◌, sym, ◌∙◌, arith}
+use Rattle.std.proofs.Common.{sym, ◌∙◌, arith}
 use Rattle.lnbd_board.proofs.Cutting.{first_fits}
 use Rattle.lnbd_board.proofs.advance.copy_first.Goals as goal
 

@@ -1,4 +1,4 @@
-use Rattle.std.proofs.Common.{◌≡◌, refl}
+use Rattle.std.proofs.Common.{refl}
 use Rattle.lnbd_board.proofs.Cutting.{ready_other}
 use Rattle.lnbd_board.proofs.Moves.{advances_none}
 use Rattle.lnbd_board.proofs.advance.pass.Goals as goal

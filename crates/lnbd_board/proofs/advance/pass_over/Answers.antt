@@ -1,7 +1,7 @@
-use Rattle.std.proofs.Common.{◌≡◌, sym, subst, List}
+use Rattle.std.proofs.Common.{sym, subst, List}
 use Rattle.lnbd_plan.specs.declared.grid.Slice.{Slice}
 use Rattle.lnbd_board.specs.Asks.{Passes}
-use Rattle.lnbd_board.proofs.Cutting.{TookPassed, took_passed, fewer_left}
+use Rattle.lnbd_board.proofs.Cutting.{took_passed, fewer_left}
 use Rattle.lnbd_board.proofs.Moves.{passes_none, passes_first, passes_then}
 use Rattle.lnbd_board.proofs.advance.pass_over.Goals as goal
 

@@ -1,4 +1,4 @@
-use Rattle.std.proofs.Common.{◌≡◌, ◌++◌, List, [], ◌∷◌, false, ap, sym, ◌∙◌, length}
+use Rattle.std.proofs.Common.{◌++◌, List, [], ◌∷◌, false, ap, sym, ◌∙◌, length}
 use Rattle.lnbd_plan.specs.declared.grid.Slice.{Slice}
 use Rattle.lnbd_plan.specs.Blocks.{in_zero_block}
 use Rattle.lnbd_plan.specs.Slices.{slices_of}

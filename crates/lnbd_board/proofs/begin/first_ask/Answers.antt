@@ -1,6 +1,6 @@
-use Rattle.std.proofs.Common.{◌≡◌, ℕ, Bool, true, false, not, ◌&&◌, ◌||◌, ◌==◌, refl, ap, sym, inl, inr}
+use Rattle.std.proofs.Common.{◌≡◌, Bool, true, false, not, ◌&&◌, ◌||◌, ◌==◌, refl, inl, inr}
 use Rattle.lnbd_model.specs.declared.kind.Kind.TheVariants.{Write, Zero}
-use Rattle.lnbd_board.specs.Pieces.{Bytes, Zeros, detects, ask_of}
+use Rattle.lnbd_board.specs.Pieces.{Bytes, Zeros}
 use Rattle.lnbd_board.proofs.begin.first_ask.Goals as goal
 
 not_false : (b : Bool) → not b ≡ false → b ≡ true

@@ -1,4 +1,4 @@
-use Rattle.std.proofs.Common.{◌≡◌, arith, sym, ◌∙◌, deque_len}
+use Rattle.std.proofs.Common.{arith, sym, ◌∙◌}
 use Rattle.lnbd_board.proofs.Steps.{busy_some}
 use Rattle.lnbd_board.proofs.Moves.{not_waiting}
 use Rattle.lnbd_board.proofs.board.receive.Goals as goal

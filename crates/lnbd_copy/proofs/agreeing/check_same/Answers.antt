@@ -1,4 +1,4 @@
-use Rattle.lnbd_copy.proofs.GroundLemmas.{none_same, same_all, same_more}
+use Rattle.lnbd_copy.proofs.GroundLemmas.{none_same}
 use Rattle.lnbd_copy.proofs.agreeing.check_same.Goals as goal
 
 pub further-init : goal.further-init

@@ -1,10 +1,9 @@
-use Rattle.std.proofs.Common.{◌≡◌, ℕ, ◌+◌, List, refl, ap, sym, subst, ◌∙◌, length, arith, deque_len, deque_capacity}
+use Rattle.std.proofs.Common.{refl, ap, sym, subst, ◌∙◌, arith, deque_capacity}
 use Rattle.lnbd_board.specs.declared.row.Row.{Row}
 use Rattle.lnbd_board.specs.Files.{Seen}
 use Rattle.lnbd_board.specs.Rows.{is_busy}
 use Rattle.lnbd_board.specs.declared.row.Stage.{Stage}
 use Rattle.lnbd_board.specs.Asks.{Begins, Sits}
-use Rattle.lnbd_board.specs.Board.{IsKept}
 use Rattle.lnbd_board.proofs.Kept.{kept_begun, first_busy, first_sits}
 use Rattle.lnbd_board.proofs.Going.{begins_as}
 use Rattle.lnbd_board.proofs.board.Board.begin.Goals as goal

@@ -1,4 +1,4 @@
-use Rattle.std.proofs.Common.{◌≡◌, ap, subst, ◌∙◌, [], length}
+use Rattle.std.proofs.Common.{◌≡◌, ap, subst, ◌∙◌, length}
 use Rattle.lnbd_board.specs.Files.{Seen}
 use Rattle.lnbd_board.specs.Rows.{busy}
 use Rattle.lnbd_board.proofs.Kept.{all_busy}

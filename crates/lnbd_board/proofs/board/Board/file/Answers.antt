@@ -1,4 +1,4 @@
-use Rattle.std.proofs.Common.{◌≡◌, sym, ◌∙◌}
+use Rattle.std.proofs.Common.{sym, ◌∙◌}
 use Rattle.lnbd_board.proofs.Kept.{kept_received}
 use Rattle.lnbd_board.proofs.board.Board.file.Goals as goal
 

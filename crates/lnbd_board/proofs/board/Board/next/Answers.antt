@@ -1,4 +1,4 @@
-use Rattle.std.proofs.Common.{◌≡◌, ℕ, List, [], ◌∷◌, Option, Some, None, ap, sym, subst, ◌∙◌, refl, length, IsSome, is_some, OnErr, Ok, Err, Result, deque_capacity}
+use Rattle.std.proofs.Common.{ℕ, List, None, ap, sym, subst, ◌∙◌, refl, is_some, deque_capacity}
 use Rattle.lnbd_board.specs.Files.{Seen}
 use Rattle.lnbd_board.specs.Asks.{Goes}
 use Rattle.lnbd_board.specs.Board.{IsKept, risen}
