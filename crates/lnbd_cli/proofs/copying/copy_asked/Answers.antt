@@ -10,8 +10,8 @@ returns-in-Ok-copy-clause-ends g c = record {
   spares = c.in-Ok-copy.ensures.spares;
 }
 
-pub returns-in-Err-copy-clause-ends : goal.returns-in-Err-copy-clause-ends
-returns-in-Err-copy-clause-ends g c = record {
+pub returns-in-Err-clause-ends : goal.returns-in-Err-clause-ends
+returns-in-Err-clause-ends g c = record {
   asked = record { wish = c.in-Ok.wish; transfer = c.in-Some.what; asks = c.in-Ok.ensures.asked; is = sym c.in-Some.ensures };
-  grounds = c.in-Err-copy.ensures.grounds;
+  grounds = c.in-Err.ensures.grounds;
 }
