@@ -96,7 +96,7 @@ impl Session {
 
     /// Hands in bytes, where the handle reads.
     fn feed(&mut self, bytes: &[u8]) -> bool {
-        self.handle.direction() != 0 && self.handle.arrive(bytes, &mut self.counts).is_ok()
+        self.handle.is_reading() && self.handle.arrive(bytes, &mut self.counts).is_ok()
     }
 
     /// Takes all that waits.

@@ -60,7 +60,7 @@ fn drive(
     let mut asked = 0;
     let _ = handle.start();
     for _ in 0..u64::MAX {
-        if handle.direction() == 0 {
+        if !handle.is_reading() {
             break;
         }
         poll.poll(&mut events, None)?;
@@ -117,7 +117,7 @@ fn send(handle: &mut Handle<Adding>, sums: &mut Sums, stream: &mut UnixStream) {
 fn receive(handle: &mut Handle<Adding>, sums: &mut Sums, stream: &mut UnixStream) {
     let mut buffer = [0; PIECE as usize];
     for _ in 0..u64::MAX {
-        if handle.direction() == 0 {
+        if !handle.is_reading() {
             return;
         }
         let more = match read_placed(handle, stream) {

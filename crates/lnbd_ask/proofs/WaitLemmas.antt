@@ -49,15 +49,9 @@ pub at_handle : {K : Type 0} (all : List (Held K)) (handle : Machine K) (seen : 
 at_handle [] handle seen is at = absurd at
 at_handle {K} (held ∷ others) handle seen is at = let same : held.handle ≡ handle = cc is in subst (λ (m : Machine K). StandsFor 1024 seen.history m) same at.0.stands
 
-pub awaited_is : {K : Type 0} (all : List (Held K)) (handle : Machine K) (awaited : Awaited) (b : Bool) (s : State) (n d : ℕ) → option_map (λ held. held.handle) (slice_get all 0) ≡ Some handle
-    → ForEach handle (λ history. s ≡ state_after history) → ForEach handle (λ history. n ≡ in_flight_after history) → ForEach handle (λ history. d ≡ direction_after history)
-    → b ≡ is_to_come awaited s n d → (seen : Seen K) → Holds all seen → b ≡ is_awaited awaited seen.history
-awaited_is all handle awaited b s n d is states flights directions to_come seen at =
-    let stands = at_handle all handle seen is at in
-    to_come
-    ∙ ap (λ (x : State). is_to_come awaited x n d) (states seen.history stands)
-    ∙ ap (λ (x : ℕ). is_to_come awaited (state_after seen.history) x d) (flights seen.history stands)
-    ∙ ap (λ (x : ℕ). is_to_come awaited (state_after seen.history) (in_flight_after seen.history) x) (directions seen.history stands)
+pub awaited_is : {K : Type 0} (all : List (Held K)) (handle : Machine K) (awaited : Awaited) (b : Bool) → option_map (λ held. held.handle) (slice_get all 0) ≡ Some handle
+    → ForEach handle (λ history. b ≡ is_awaited awaited history) → (seen : Seen K) → Holds all seen → b ≡ is_awaited awaited seen.history
+awaited_is all handle awaited b is to_come seen at = to_come seen.history (at_handle all handle seen is at)
 
 module _ {K World : Type 0} (steps : World → List (Call K) → World → Type 0) (awaited : Awaited) where
   -- The turns so far: whatever the others do goes on from here.

@@ -2,13 +2,15 @@
 //! matter here.
 
 ghost use Rattle.std.specs.Prelude.{◌≡◌, ◌≤◌, ◌<◌, ◌+◌, IfOk, OnErr, Err, length, true, false};
+ghost use Rattle.lnbd_handle.specs.Histories.{ForEach};
 ghost use Rattle.lnbd_link.specs.Contents.{Keeps};
 ghost use Rattle.lnbd_link.specs.Count.{Rises};
 ghost use Rattle.lnbd_poll.specs.Seen.{Goes, Seen};
 ghost use Rattle.lnbd_poll.specs.Steps.{TookEnough, TookShort};
-ghost use Rattle.lnbd_ask.specs.Waits.{Holds, Waited, is_awaited, is_closing, is_negotiating, is_to_come, patience};
+ghost use Rattle.lnbd_ask.specs.Waits.{Holds, Waited, is_awaited, is_closing, is_negotiating, patience};
 
 use lnbd_callbacks::Caller;
+use lnbd_handle::Handle;
 use lnbd_link::Wires;
 use lnbd_model::{NoMemory, State};
 use lnbd_poll::{Handles, Turn};
@@ -48,14 +50,14 @@ fn is_closing(state: State) -> bool
     matches!(state, State::Closing)
 }
 
-/// Whether it is to come, in this state, with so many commands in flight and in this direction.
-fn is_to_come(awaited: Awaited, state: State, in_flight: usize, direction: u32) -> bool
-    ensures { result ≡ is_to_come awaited state in_flight direction }
+/// Whether it is still to come to a handle.
+fn is_to_come<K>(handle: &Handle<K>, awaited: Awaited) -> bool
+    ensures { ForEach handle.now.machine (λ history. result ≡ is_awaited awaited history) }
 {
     match awaited {
-        Awaited::Answers => is_negotiating(state) || in_flight != 0,
-        Awaited::Written => direction == 3,
-        Awaited::End => is_closing(state),
+        Awaited::Answers => is_negotiating(handle.state()) || handle.in_flight() != 0,
+        Awaited::Written => handle.is_waiting(),
+        Awaited::End => is_closing(handle.state()),
     }
 }
 
@@ -64,13 +66,7 @@ fn is_awaited<K>(handles: &Handles<K>, awaited: Awaited) -> bool
     requires { length handles.now ≡ 1 }
     ensures { (seen : Seen K) → Holds handles.now seen → result ≡ is_awaited awaited seen.history }
 {
-    let handle = handles.get(0);
-    is_to_come(
-        awaited,
-        handle.state(),
-        handle.in_flight(),
-        handle.direction(),
-    )
+    is_to_come(handles.get(0), awaited)
 }
 
 /// Whether the waiting rose by as much as is borne.

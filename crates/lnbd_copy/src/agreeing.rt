@@ -46,7 +46,7 @@ fn is_quiet(handle: &Handle<Ticket>) -> bool
     ensures ready { result ≡ true → ForEach handle.now.machine (λ history. state_after history ≡ state.Ready) }
     ensures quiet { result ≡ true → ForEach handle.now.machine (λ history. direction_after history ≡ 1) }
 {
-    matches!(handle.state(), State::Ready) && handle.direction() == 1
+    matches!(handle.state(), State::Ready) && handle.is_reading() && !handle.is_waiting()
 }
 
 /// Whether all connections may make requests, and have nothing to write.

@@ -30,7 +30,7 @@ fn has_parted(handles: &Handles<Ticket>, index: usize) -> bool
 {
     let handle = handles.get(index);
     match handle.state() {
-        State::Closing => handle.direction() != 3,
+        State::Closing => !handle.is_waiting(),
         State::Closed => true,
         _ => false,
     }

@@ -1,7 +1,7 @@
 //! The turns of negotiation that change a connection: the server's hello, an option reply, and the reply
 //! to EXPORT_NAME. For want of memory none of them changes anything.
 
-ghost use Rattle.std.specs.Prelude.{◌≡◌, ◌<◌, ◌++◌, ◌∷◌, [], ℕ, List, Bool, true, false, Some, OnOk, OnErr, IfOk, IfErr, map, length};
+ghost use Rattle.std.specs.Prelude.{◌≡◌, ◌<◌, ◌++◌, ◌∷◌, [], ℕ, List, Bool, true, false, None, Some, OnOk, OnErr, IfOk, IfErr, map, length};
 ghost use Rattle.std.specs.List.{concat};
 ghost use Rattle.lnbd_history.specs.declared.kinds.Phase.{Phase};
 ghost use Rattle.lnbd_history.specs.declared.kinds.Phase.TheVariants.{Greeting, AskedByName};
@@ -9,6 +9,7 @@ ghost use Rattle.lnbd_history.specs.declared.kinds.Stage.TheVariants.{Open};
 ghost use Rattle.lnbd_history.specs.Arrivals.{reply_verdict};
 ghost use Rattle.lnbd_history.specs.Outgoing.{client_flags, plain, request_at};
 ghost use Rattle.lnbd_machine.specs.Machine.{greeted, sight};
+ghost use Rattle.lnbd_negotiate.specs.Reading.{broken_by};
 ghost use Rattle.lnbd_outgoing.specs.Pieces.{Writes};
 ghost use Rattle.lnbd_outgoing.specs.Queue.{waits, AllFit};
 ghost use Rattle.lnbd_handle.specs.Greets.{Greets, Replies};
@@ -62,7 +63,7 @@ pub(crate) fn greet<K>(connection: &mut Connection<K>, flags: u16) -> Result<(),
     Ok(())
 }
 
-/// Takes a whole option reply.
+/// Takes a whole option reply, whose head breaks nothing.
 pub(crate) fn take_reply<K>(
     connection: &mut Connection<K>,
     head: &OptionHead,
@@ -70,12 +71,13 @@ pub(crate) fn take_reply<K>(
 ) -> Result<(), TalkFault>
     requires sound { IsSound connection.old }
     requires open { connection.old.stage ≡ Open }
+    requires seen { broken_by connection.old.talk.phase head.now ≡ None }
     ensures replies { Replies (state_of connection.old) (reply_verdict (sight (state_of connection.old)) head.now.option head.now.kind head.now.length body.now) result (state_of connection.new) }
     ensures sound { IsSound connection.new }
 {
     connection.queue.reserve(1)?;
     let mut request = Vec::new(connection.alloc);
-    match connection.talk.apply(head, body, &mut request) {
+    match connection.talk.apply_seen(head, body, &mut request) {
         Err(TalkFault::NoMemory) => Err(TalkFault::NoMemory),
         Err(TalkFault::Cause(cause)) => {
             push_request(&mut connection.queue, request);

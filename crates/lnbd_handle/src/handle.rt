@@ -1,6 +1,6 @@
 //! The calls of a handle.
 
-ghost use Rattle.std.specs.Prelude.{◌≡◌, [], ◌≤◌, ◌≢◌, true, false, Some, None, length, take, IfOk, IsOk, OnOk, OnErr, IfErr};
+ghost use Rattle.std.specs.Prelude.{◌≡◌, ◌==◌, [], ◌≤◌, ◌≢◌, not, true, false, Some, None, length, take, IfOk, IsOk, OnOk, OnErr, IfErr};
 ghost use Rattle.std.specs.Option.{option_copied};
 ghost use Rattle.lnbd_model.specs.declared.state.State.TheVariants as state;
 ghost use Rattle.lnbd_history.specs.declared.kinds.Stage.TheVariants.{Created};
@@ -159,6 +159,22 @@ impl<K> Handle<K> {
         ensures told { ForEach self.now.machine (λ history. result ≡ direction_after history) }
     {
         direction_of(self.connection.stage, self.out())
+    }
+
+    /// Whether bytes may be read: the connection is open.
+    pub fn is_reading(&self) -> bool
+        ensures value { result ≡ not (direction_now self.now.machine.known == 0) }
+        ensures told { ForEach self.now.machine (λ history. result ≡ not (direction_after history == 0)) }
+    {
+        self.direction() != 0
+    }
+
+    /// Whether bytes wait to be written.
+    pub fn is_waiting(&self) -> bool
+        ensures value { result ≡ (direction_now self.now.machine.known == 3) }
+        ensures told { ForEach self.now.machine (λ history. result ≡ (direction_after history == 3)) }
+    {
+        self.direction() == 3
     }
 
     /// What was told of the export, with what is agreed now.

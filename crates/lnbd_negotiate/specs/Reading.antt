@@ -1,7 +1,8 @@
 -- What an option reply at the front of some bytes shows, and what its data tells.
-use Rattle.std.specs.Prelude.{◌^◌, nat_lt, if◌then◌else◌, ◌≡◌, ◌==◌, ℕ, ◌+◌, ◌≤◌, Bool, true, ◌&&◌, List, length, take, drop, Option, Some, None, nat_le}
+use Rattle.std.specs.Prelude.{◌^◌, nat_lt, if◌then◌else◌, ◌≡◌, ◌==◌, ℕ, ◌+◌, ◌≤◌, Bool, ◌&&◌, List, length, take, drop, Option, Some, None, nat_le}
 use Rattle.lnbd_model.specs.declared.breach.Breach.{Breach}
-use Rattle.lnbd_model.specs.declared.breach.Breach.TheVariants.{BadHello, BadOptionMagic, NotFixed, OldStyle, SizeTooBig}
+use Rattle.lnbd_model.specs.declared.breach.Breach.TheVariants.{BadHello, BadOptionLength, BadOptionMagic, NotFixed, OldStyle, SizeTooBig, UnexpectedReply, WrongOption}
+use Rattle.lnbd_records.specs.Limits.{max_option_reply}
 use Rattle.lnbd_records.specs.Numbers.{number_at}
 use Rattle.lnbd_records.specs.Handshake.{oldstyle_magic, option_reply_magic}
 use Rattle.lnbd_wire.specs.declared.hello.HelloRead.{HelloRead}
@@ -11,7 +12,7 @@ use Rattle.lnbd_options.specs.declared.head.Read64.{Read64}
 use Rattle.lnbd_options.specs.declared.head.Read64.TheVariants.{Value, NeedMore, BadMagic}
 use Rattle.lnbd_stream.specs.Grammar.{wants}
 use Rattle.lnbd_history.specs.declared.kinds.Phase.{Phase}
-use Rattle.lnbd_history.specs.Arrivals.{Shown, Hello, ExportReply, shows_hello, shows_by_name, has_bit, OptionReply, Broken, Sight, shows_option, reply_verdict, is_asked, counts, limit}
+use Rattle.lnbd_history.specs.Arrivals.{Shown, Hello, ExportReply, shows_hello, shows_by_name, has_bit, OptionReply, Broken, Sight, shows_option, reply_verdict, is_asked, is_named, counts, limit}
 use Rattle.lnbd_negotiate.specs.declared.front.Seen.{Seen}
 use Rattle.lnbd_negotiate.specs.declared.front.Seen.TheVariants as seen
 use Rattle.lnbd_negotiate.specs.declared.greeting.Greeted.{Greeted}
@@ -34,7 +35,16 @@ IsHeadRead bytes (Value head) = IsHeaded bytes head
 IsHeadRead bytes NeedMore = (sight : Sight) → shows_option sight bytes ≡ None
 IsHeadRead bytes (BadMagic other) = (sight : Sight) → shows_option sight bytes ≡ Some (Broken BadOptionMagic)
 
--- What was seen is what the bytes show; of a whole reply the data is still to be read.
+-- what the head of a reply alone breaks, if anything: its option is the one that is unanswered, its data are no more than may come, and its type is one that
+-- the option has
+unfoldable pub broken_by : Phase → OptionHead → Option Breach
+broken_by phase head =
+    wants (is_asked head.option phase) WrongOption
+    (wants (nat_le head.length max_option_reply) BadOptionLength
+    (wants (is_named head.option head.kind) UnexpectedReply
+    None))
+
+-- What was seen is what the bytes show; of a whole reply, whose head breaks nothing, the data is still to be read.
 abbrev pub SeenAs : Sight → List ℕ → Seen → Type 0
 SeenAs sight bytes seen.Nothing = shows_option sight bytes ≡ None
 SeenAs sight bytes (seen.Broken breach) = shows_option sight bytes ≡ Some (Broken breach)
@@ -42,6 +52,7 @@ SeenAs sight bytes (seen.Whole head) =
     (head.length ≡ number_at 16 4 bytes)
     × (20 + head.length ≤ length bytes)
     × (shows_option sight bytes ≡ reply_verdict sight head.option head.kind head.length (take head.length (drop 20 bytes)))
+    × (broken_by sight.phase head ≡ None)
 
 -- more replies of this type to this option don't count
 abbrev pub is_over : ℕ → ℕ → ℕ → Bool
@@ -52,12 +63,6 @@ abbrev pub JudgedAs : Option Shown → Ruling → Type 0
 JudgedAs verdict ruling.NoMemory = Unit {0}
 JudgedAs verdict (ruling.Broken breach) = verdict ≡ Some (Broken breach)
 JudgedAs verdict (ruling.Told told) = verdict ≡ Some (OptionReply (told_of told))
-
--- What is told is told to the option that is unanswered.
-abbrev pub IsToldTo : ℕ → Phase → Ruling → Type 0
-IsToldTo option phase ruling.NoMemory = Unit {0}
-IsToldTo option phase (ruling.Broken breach) = Unit {0}
-IsToldTo option phase (ruling.Told told) = is_asked option phase ≡ true
 
 -- What was seen is what the bytes show of the server's hello; of a whole one the flags are still to be judged.
 abbrev pub GreetedAs : List ℕ → Greeted → Type 0

@@ -3,7 +3,7 @@
 ghost use Rattle.std.specs.Prelude.{◌≡◌};
 ghost use Rattle.lnbd_records.specs.Requests.{is_info};
 ghost use Rattle.lnbd_history.specs.Arrivals.{Sight, is_asked, is_named};
-ghost use Rattle.lnbd_negotiate.specs.Reading.{IsHeadRead, IsHeaded, SeenAs};
+ghost use Rattle.lnbd_negotiate.specs.Reading.{IsHeadRead, IsHeaded, SeenAs, broken_by};
 
 use crate::options::{GO, INFO, LIST, SET_META_CONTEXT};
 use lnbd_history::Phase;
@@ -11,14 +11,14 @@ use lnbd_model::Breach;
 use lnbd_options::{OptionHead, Read64, read_head};
 
 /// The most bytes that a reply's data may have.
-pub const LIMIT: u32 = 65536;
+const LIMIT: u32 = 65536;
 
 /// What the bytes at the front show of an option reply.
 #[derive(Clone, Copy, Debug, PartialEq, Eq)]
 pub enum Seen {
     /// Nothing yet: more bytes are needed.
     Nothing,
-    /// A whole reply, whose data is still to be read.
+    /// A whole reply, whose head breaks nothing and whose data is still to be read (`Talk::apply_seen`).
     Whole(OptionHead),
     /// A breach, which the magic or the head shows.
     Broken(Breach),
@@ -49,6 +49,23 @@ pub fn is_named(option: u32, kind: u32) -> bool
         || (kind == 4 && option == SET_META_CONTEXT)
 }
 
+/// What the head of a reply alone breaks at this phase, if anything.
+#[tactic(auto, unfolding(crate::specs::Reading::broken_by, lnbd_stream::specs::Grammar::wants))]
+pub fn broken_by(phase: Phase, head: &OptionHead) -> Option<Breach>
+    ensures { result ≡ broken_by phase head.now }
+{
+    if !is_asked(head.option, phase) {
+        return Some(Breach::WrongOption);
+    }
+    if head.length > LIMIT {
+        return Some(Breach::BadOptionLength);
+    }
+    if !is_named(head.option, head.kind) {
+        return Some(Breach::UnexpectedReply);
+    }
+    None
+}
+
 /// The head at the front of the bytes.
 fn head_at(bytes: &[u8]) -> Read64<OptionHead>
     ensures { IsHeadRead bytes.now result }
@@ -69,22 +86,18 @@ pub fn look(phase: Phase, bytes: &[u8]) -> Seen
 }
 
 /// The same of bytes that begin with this head.
-#[tactic(auto, unfolding(lnbd_history::specs::Arrivals::shows_option, lnbd_history::specs::Arrivals::reply_verdict, lnbd_stream::specs::Grammar::once, lnbd_stream::specs::Grammar::wants))]
 fn look_reply(phase: Phase, head: OptionHead, bytes: &[u8]) -> Seen
     requires { IsHeaded bytes.now head }
     ensures { (sight : Sight) → sight.phase ≡ phase → SeenAs sight bytes.now result }
 {
-    if !is_asked(head.option, phase) {
-        return Seen::Broken(Breach::WrongOption);
+    match broken_by(phase, &head) {
+        Some(breach) => Seen::Broken(breach),
+        None => {
+            if bytes.len() - 20 < head.length as usize {
+                Seen::Nothing
+            } else {
+                Seen::Whole(head)
+            }
+        }
     }
-    if head.length > LIMIT {
-        return Seen::Broken(Breach::BadOptionLength);
-    }
-    if !is_named(head.option, head.kind) {
-        return Seen::Broken(Breach::UnexpectedReply);
-    }
-    if bytes.len() - 20 < head.length as usize {
-        return Seen::Nothing;
-    }
-    Seen::Whole(head)
 }

@@ -1,14 +1,13 @@
 //! What a whole option reply tells, or does wrong.
 
-ghost use Rattle.std.specs.Prelude.{◌≡◌, is_none, not};
+ghost use Rattle.std.specs.Prelude.{◌≡◌, None, is_none, not};
 ghost use Rattle.lnbd_history.specs.Arrivals.{Sight, limit, is_too_big, is_ack, reply_verdict};
 ghost use Rattle.lnbd_negotiate.specs.Told.{told_of};
-ghost use Rattle.lnbd_negotiate.specs.Reading.{JudgedAs, IsToldTo, is_over};
+ghost use Rattle.lnbd_negotiate.specs.Reading.{JudgedAs, broken_by, is_over};
 
-use crate::front::{LIMIT, is_asked, is_info, is_named};
+use crate::front::is_info;
 use crate::options::LIST;
 use crate::told::{Told, read_told};
-use lnbd_history::Phase;
 use lnbd_model::Breach;
 use lnbd_options::{OptionFault, OptionHead};
 use std::alloc::Global;
@@ -61,30 +60,13 @@ fn is_too_big(told: &Told) -> bool
     }
 }
 
-/// Judges a whole reply, where negotiation stands at this phase, so many replies came to the option
-/// before, and a size was told by them or wasn't. Of two faults the one with the lower number counts.
-#[tactic(auto, unfolding(lnbd_history::specs::Arrivals::reply_verdict, lnbd_stream::specs::Grammar::wants))]
-pub fn judge(
-    alloc: Global,
-    phase: Phase,
-    count: u32,
-    sized: bool,
-    head: &OptionHead,
-    body: &[u8],
-) -> Ruling
-    ensures verdict { (sight : Sight) → sight.phase ≡ phase → sight.count ≡ count → not (is_none sight.size) ≡ sized
+/// Judges a whole reply whose head breaks nothing, where so many replies came to the option before, and a size was told by
+/// them or wasn't. Of two faults the one with the lower number counts.
+#[tactic(auto, unfolding(lnbd_stream::specs::Grammar::wants), using(crate::proofs::Judged::unbroken_verdict))]
+pub fn judge(alloc: Global, count: u32, sized: bool, head: &OptionHead, body: &[u8]) -> Ruling
+    ensures { (sight : Sight) → broken_by sight.phase head.now ≡ None → sight.count ≡ count → not (is_none sight.size) ≡ sized
         → JudgedAs (reply_verdict sight head.now.option head.now.kind head.now.length body.now) result }
-    ensures asked { IsToldTo head.now.option phase result }
 {
-    if !is_asked(head.option, phase) {
-        return Ruling::Broken(Breach::WrongOption);
-    }
-    if head.length > LIMIT {
-        return Ruling::Broken(Breach::BadOptionLength);
-    }
-    if !is_named(head.option, head.kind) {
-        return Ruling::Broken(Breach::UnexpectedReply);
-    }
     let over = is_over(head.option, head.kind, count);
     match read_told(alloc, head.kind, body) {
         Err(OptionFault::NoMemory) => Ruling::NoMemory,

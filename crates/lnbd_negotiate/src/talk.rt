@@ -1,6 +1,6 @@
 //! Negotiation, one turn at a time.
 
-ghost use Rattle.std.specs.Prelude.{◌≡◌, ◌++◌, ◌≤◌, ◌<◌, [], Some, if◌then◌else◌, OnOk, OnErr, length, true, not, ◌&&◌, ◌||◌, ◌==◌};
+ghost use Rattle.std.specs.Prelude.{◌≡◌, ◌++◌, ◌≤◌, ◌<◌, [], None, Some, if◌then◌else◌, OnOk, OnErr, length, true, not, ◌&&◌, ◌||◌, ◌==◌};
 ghost use Rattle.std.specs.List.{concat};
 ghost use Rattle.std.specs.Option.{option_copied};
 ghost use Rattle.lnbd_records.specs.Limits.{max_contexts};
@@ -8,13 +8,14 @@ ghost use Rattle.lnbd_records.specs.Requests.{is_info};
 ghost use Rattle.lnbd_history.specs.declared.kinds.Phase.TheVariants.{Greeting, AskedByName, OptMode};
 ghost use Rattle.lnbd_history.specs.Events as setting;
 ghost use Rattle.lnbd_history.specs.Agreement.{Turn, Hello, Replied, Set, Opted, export_of, opt_answer_of, after_answer, settles_replies};
-ghost use Rattle.lnbd_history.specs.Arrivals.{Sight, is_asked, reply_verdict};
+ghost use Rattle.lnbd_history.specs.Arrivals.{OptionReply, Sight, is_asked, reply_verdict};
 ghost use Rattle.lnbd_history.specs.Outgoing.{request_at};
 ghost use Rattle.lnbd_history.specs.Talk.{Talk, taking, pending_with, answered};
 ghost use Rattle.lnbd_negotiate.specs.Told.{told_of, end};
+ghost use Rattle.lnbd_negotiate.specs.Reading.{broken_by};
 ghost use Rattle.lnbd_negotiate.specs.Means.{begun_with, Takes, Stays, Greets, IsSeenBy, Applies, ToldByName, next_of, asked_at, info_of, IsNext};
 
-use crate::front::is_info;
+use crate::front::{broken_by, is_info};
 use crate::judge::{Ruling, judge};
 use crate::kinds::{Config, Next, TalkFault};
 use crate::options::{EXPORT_NAME, EXTENDED_HEADERS, LIST, SET_META_CONTEXT};
@@ -168,7 +169,8 @@ impl Talk {
     }
 
     /// Takes a whole option reply, and appends the next request to `out` where the reply ends an answer
-    /// and another option follows.
+    /// and another option follows. Its head is judged too.
+    #[tactic(auto, using(crate::proofs::Judged::broken_verdict, crate::proofs::Judged::broken_at))]
     pub fn apply(
         &mut self,
         head: &OptionHead,
@@ -178,21 +180,29 @@ impl Talk {
         ensures { (sight : Sight) → IsSeenBy sight self.old
             → Applies self.old (reply_verdict sight head.now.option head.now.kind head.now.length body.now) out.old.items result self.new out.new.items }
     {
+        match broken_by(self.phase, head) {
+            Some(breach) => Err(TalkFault::Cause(Cause::Broke(breach))),
+            None => self.apply_seen(head, body, out),
+        }
+    }
+
+    /// The same of a reply whose head breaks nothing, as `look` tells.
+    #[tactic(auto, using(crate::proofs::Judged::unbroken_asked, crate::proofs::Judged::unbroken_at))]
+    pub fn apply_seen(
+        &mut self,
+        head: &OptionHead,
+        body: &[u8],
+        out: &mut Vec<u8>,
+    ) -> Result<Next, TalkFault>
+        requires { broken_by self.old.phase head.now ≡ None }
+        ensures { (sight : Sight) → IsSeenBy sight self.old
+            → Applies self.old (reply_verdict sight head.now.option head.now.kind head.now.length body.now) out.old.items result self.new out.new.items }
+    {
         let sized = self.pending.size.is_some();
-        match judge(
-            self.alloc,
-            self.phase,
-            self.pending.count,
-            sized,
-            head,
-            body,
-        ) {
+        match judge(self.alloc, self.pending.count, sized, head, body) {
             Ruling::NoMemory => Err(TalkFault::NoMemory),
             Ruling::Broken(breach) => Err(TalkFault::Cause(Cause::Broke(breach))),
-            Ruling::Told(told) => {
-                self.take(head.option, told, out)?;
-                self.next(head.option)
-            }
+            Ruling::Told(told) => self.take_told(head.option, told, out),
         }
     }
 
@@ -296,6 +306,15 @@ impl Talk {
         ensures limit { result ≤ max_contexts }
     {
         self.wanted.len()
+    }
+
+    /// Takes one option reply that does nothing wrong, and tells what comes next.
+    fn take_told(&mut self, option: u32, told: Told, out: &mut Vec<u8>) -> Result<Next, TalkFault>
+        requires { is_asked option self.old.phase ≡ true }
+        ensures { Applies self.old (Some (OptionReply (told_of told))) out.old.items result self.new out.new.items }
+    {
+        self.take(option, told, out)?;
+        self.next(option)
     }
 
     /// Takes one option reply that does nothing wrong, and asks the next option where it ends an answer.

@@ -154,14 +154,13 @@ impl<K> Held<K> {
     fn want(&self) -> Option<Want>
         ensures { result ≡ want_now (seen_held self.now) }
     {
-        let direction = self.handle.direction();
         let wants = is_on_its_way(self.handle.state())
             || self.handle.in_flight() != 0
-            || direction == 3;
+            || self.handle.is_waiting();
         if wants {
             Some(Want {
                 link: self.link,
-                direction,
+                direction: self.handle.direction(),
             })
         } else {
             None

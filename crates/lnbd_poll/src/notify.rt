@@ -118,7 +118,7 @@ fn is_reading<K>(handle: &Handle<K>) -> bool
     ensures living { result ≡ true → is_living handle.now.machine.known.stage ≡ true }
     ensures no { result ≡ false → (direction_now handle.now.machine.known == 0) ≡ true }
 {
-    handle.direction() != 0
+    handle.is_reading()
 }
 
 /// Whether bytes of a handle wait to go out.
@@ -126,7 +126,7 @@ fn is_waiting<K>(handle: &Handle<K>) -> bool
     ensures value { result ≡ (direction_now handle.now.machine.known == 3) }
     ensures some { result ≡ true → 0 < length (out_now handle.now.machine.known) }
 {
-    handle.direction() == 3
+    handle.is_waiting()
 }
 
 /// Hands the handle what the inbox holds (libnbd, nbd_aio_notify_read). Where it holds nothing it reads once, straight into the

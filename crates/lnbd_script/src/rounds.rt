@@ -49,12 +49,14 @@ impl Session {
     fn want(&self, link: u32) -> Option<Want>
         ensures { result ≡ want_of link (state_now self.now.handle.machine.known) (in_flight_now self.now.handle.machine.known) (direction_now self.now.handle.machine.known) }
     {
-        let direction = self.handle.direction();
         let wants = is_on_its_way(self.handle.state())
             || self.handle.in_flight() != 0
-            || direction == 3;
+            || self.handle.is_waiting();
         if wants {
-            Some(Want { link, direction })
+            Some(Want {
+                link,
+                direction: self.handle.direction(),
+            })
         } else {
             None
         }

@@ -242,7 +242,7 @@ impl Session {
         ensures value { result ≡ (direction_now self.now.handle.machine.known == 3) }
         ensures some { result ≡ true → 0 < length (out_now self.now.handle.machine.known) }
     {
-        self.handle.direction() == 3
+        self.handle.is_waiting()
     }
 
     /// Whether the handle reads.
@@ -251,7 +251,7 @@ impl Session {
         ensures living { result ≡ true → is_living self.now.handle.machine.known.stage ≡ true }
         ensures no { result ≡ false → (direction_now self.now.handle.machine.known == 0) ≡ true }
     {
-        self.handle.direction() != 0
+        self.handle.is_reading()
     }
 
     /// Whether the handle negotiates, has commands in flight or bytes to send.
@@ -259,6 +259,6 @@ impl Session {
         ensures { result ≡ is_busy_now self.now.handle.machine }
     {
         let negotiates = matches!(self.handle.state(), State::Negotiating);
-        negotiates || self.handle.in_flight() != 0 || self.handle.direction() == 3
+        negotiates || self.handle.in_flight() != 0 || self.handle.is_waiting()
     }
 }

@@ -8,6 +8,9 @@ use Rattle.lnbd_handle.specs.Seen.{state_of}
 use Rattle.lnbd_handle.proofs.TurnLemmas.{shown_option, turn_broken, turn_replied, turn_refused}
 use Rattle.lnbd_handle.proofs.turns.turn_option.Goals as goal
 
+pub take_reply-requires-clause-seen : goal.take_reply-requires-clause-seen
+take_reply-requires-clause-seen g c = (c.in-Whole.ensures (sight (state_of c.args.connection.now)) (sym c.phase.ensures)).3
+
 pub split_at-requires : goal.split_at-requires
 split_at-requires g c =
     let whole = c.in-Whole.ensures (sight (state_of c.args.connection.now)) (sym c.phase.ensures) in

@@ -1,0 +1,5 @@
+use Rattle.std.proofs.Common.{ℕ, ◌==◌, not, ap}
+use Rattle.lnbd_handle.proofs.handle.Handle.is_reading.Goals as goal
+
+pub returns-clause-told : goal.returns-clause-told
+returns-clause-told g c history stands = ap (λ (d : ℕ). not (d == 0)) (c.direction.ensures.told history stands)
