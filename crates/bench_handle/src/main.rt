@@ -2,8 +2,8 @@
 //! `read BLOCKS PIECE`, one read of so many times 64 KiB, whose reply comes in pieces of so many bytes;
 //! `orders ROUNDS COMMANDS BACKWARDS`, so many rounds of so many reads in flight at once, answered in order, or backwards where
 //! the last word is 1;
-//! `stream READS`, so many reads of 256 KiB, one after another, in pieces of 64 KiB;
-//! `copies READS`, the same bytes copied from piece to buffer, and nothing else;
+//! `stream READS PIECE`, so many reads of 256 KiB, one after another, whose replies come in pieces of so many bytes;
+//! `copies READS PIECE`, the same bytes copied from piece to buffer, and nothing else;
 //! `deaths ROUNDS COMMANDS`, so many handles that die with so many reads in flight.
 //! With no words the first four and a death are done once, small.
 #![tactic(auto)]
@@ -32,9 +32,11 @@ enum Work {
     },
     Stream {
         reads: u32,
+        piece: u32,
     },
     Copies {
         reads: u32,
+        piece: u32,
     },
     Deaths {
         rounds: u32,
@@ -56,8 +58,14 @@ fn work_of(word: &str, numbers: [u32; 3]) -> Work {
             commands: second,
             backwards: third == 1,
         },
-        "stream" => Work::Stream { reads: first },
-        "copies" => Work::Copies { reads: first },
+        "stream" => Work::Stream {
+            reads: first,
+            piece: second,
+        },
+        "copies" => Work::Copies {
+            reads: first,
+            piece: second,
+        },
         "deaths" => Work::Deaths {
             rounds: first,
             commands: second,
@@ -104,14 +112,14 @@ fn take_part(session: &mut Session, work: Work) {
                 session.round(commands, backwards);
             }
         }
-        Work::Stream { reads } => session.stream(reads),
+        Work::Stream { reads, piece } => session.stream(reads, piece),
         Work::Copies { .. } => {}
         Work::Deaths { .. } => {}
         Work::Each => {
             session.read(1, 1000);
             session.round(1024, false);
             session.round(1024, true);
-            session.stream(2);
+            session.stream(2, 65536);
             session.die(3);
         }
     }
@@ -120,8 +128,8 @@ fn take_part(session: &mut Session, work: Work) {
 /// Does the work, and tells how many commands completed.
 fn run(alloc: Global, work: Work) -> Result<u64, NoMemory> {
     match work {
-        Work::Copies { reads } => {
-            copies(alloc, reads)?;
+        Work::Copies { reads, piece } => {
+            copies(alloc, reads, piece)?;
             Ok(0)
         }
         Work::Deaths { rounds, commands } => deaths(alloc, rounds, commands),

@@ -14,6 +14,9 @@ const GO: [u8; 52] =
     *b"\0\x03\xe8\x89\x04\x55\x65\xa9\0\0\0\x07\0\0\0\x03\0\0\0\x0c\0\0\0\0\0\0\x04\0\0\0\0\x01\
 \0\x03\xe8\x89\x04\x55\x65\xa9\0\0\0\x07\0\0\0\x01\0\0\0\0";
 
+/// How many bytes the head of a reply has.
+const HEAD: usize = 16;
+
 /// How many bytes each read of a round has.
 const SMALL: usize = 512;
 
@@ -76,6 +79,13 @@ fn head(cookie: u64) -> [u8; 16] {
     head[..4].copy_from_slice(&[0x67, 0x44, 0x66, 0x98]);
     head[8..].copy_from_slice(&cookie.to_be_bytes());
     head
+}
+
+/// Puts the head of a reply in front of its data.
+fn begin(reply: &mut [u8], cookie: u64) {
+    if reply.len() >= HEAD {
+        reply[..HEAD].copy_from_slice(&head(cookie));
+    }
 }
 
 impl Session {
@@ -146,10 +156,10 @@ impl Session {
         self.handle.clear_log();
     }
 
-    /// Reads of 256 KiB, one after another, each into the buffer of the one before.
-    pub fn stream(&mut self, reads: u32) {
-        let (Ok(block), Ok(mut buffer)) = (
-            vec![in self.alloc; 0x5au8; BLOCK],
+    /// Reads of 256 KiB, one after another, each into the buffer of the one before, whose replies come in pieces of so many bytes.
+    pub fn stream(&mut self, reads: u32, piece: u32) {
+        let (Ok(mut reply), Ok(mut buffer)) = (
+            vec![in self.alloc; 0x5au8; HEAD + BLOCK * BLOCKS],
             vec![in self.alloc; 0u8; BLOCK * BLOCKS],
         ) else {
             return;
@@ -157,10 +167,8 @@ impl Session {
         for _ in 0..reads {
             let cookie = self.issue_into(buffer, Ending::Keep);
             self.write_all();
-            self.feed(&head(cookie));
-            for _ in 0..BLOCKS {
-                self.feed(&block);
-            }
+            begin(&mut reply, cookie);
+            self.feed_in(&reply, piece as usize);
             self.handle.clear_log();
             buffer = match self.handle.command_completed(cookie) {
                 Completed::Done(bytes) => bytes.into_vec(),

@@ -4,9 +4,7 @@ use Rattle.std.proofs.lemmas.Bool.{false≢true}
 use Rattle.std.proofs.lemmas.List.{append-nil}
 use Rattle.std.specs.Prelude.{slice_get}
 use Rattle.std.specs.Option.{option_map}
-use Rattle.lnbd_model.specs.declared.state.State.{State}
 use Rattle.lnbd_callbacks.specs.Calls.{Call}
-use Rattle.lnbd_history.specs.Answers.{state_after, in_flight_after, direction_after}
 use Rattle.lnbd_machine.specs.Machine.{Machine}
 use Rattle.lnbd_standing.specs.Standing.{StandsFor}
 use Rattle.lnbd_handle.specs.Histories.{ForEach}
@@ -25,7 +23,7 @@ use Rattle.lnbd_poll.proofs.TurnLemmas.{blames_on}
 use Rattle.lnbd_ask.specs.declared.conversation.Awaited.{Awaited}
 use Rattle.lnbd_ask.specs.declared.conversation.Halt.{Halt}
 use Rattle.lnbd_ask.specs.declared.conversation.Halt.TheVariants as halt
-use Rattle.lnbd_ask.specs.Waits.{Holds, Is_silent, Is_still, Is_there, Moves, Runs_short, Waited, Waits, is_awaited, is_to_come, want}
+use Rattle.lnbd_ask.specs.Waits.{Holds, Is_silent, Is_still, Is_there, Moves, Runs_short, Waited, Waits, is_awaited, want}
 use Rattle.lnbd_ask.proofs.StillLemmas.{still_same, wanted}
 
 pub blames_none : (f g : ℕ) → Blames [] f g
