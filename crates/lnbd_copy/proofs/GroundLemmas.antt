@@ -37,7 +37,7 @@ use Rattle.lnbd_copy.specs.declared.terms.Terms.{Terms}
 use Rattle.lnbd_copy.specs.Copier.{GoesFurther, HasMet, HasNotBegun, IsOnItsWay, beginning}
 use Rattle.lnbd_copy.specs.Job as work
 use Rattle.lnbd_copy.specs.Copier as copier
-use Rattle.lnbd_copy.specs.Grounds.{AllSame, AreSame, AtSome, Blames, Differ, Drove, FailsOn, Finds, FindsBeside, FindsDead, FindsOther, Happened, Happens, HasDied, IsDead, IsFound, IsGrounded, IsShown, Lasts, Settle, fault_of, first_of, needs_no_ground}
+use Rattle.lnbd_copy.specs.Grounds.{AllSame, Answers, AreSame, AtSome, Blames, Differ, Drove, FailsOn, Finds, FindsBeside, FindsDead, FindsOther, Happened, Happens, HasDied, IsDead, IsFound, IsGrounded, IsShown, Lasts, Settle, fault_by, fault_of, first_of, needs_no_ground}
 use Rattle.lnbd_copy.specs.Opening.{Dials}
 use Rattle.lnbd_copy.specs.Way.{Goes, IsOn, IsUnderWay, Told, Way, is_source}
 use Rattle.lnbd_copy.proofs.CopierLemmas.{first_on, kept_then, no_handles, second_on, told_as, two_on, with_held}
@@ -96,6 +96,12 @@ blames_free held why free = record { on = inl free }
 
 pub blames_dead : (held : List (Held Ticket)) (why : CopyFault) → FindsDead why held → Blames held why
 blames_dead held why dead = record { on = inr dead }
+
+pub answers_free : (now : board.Seen) (why : CopyFault) → needs_no_ground why ≡ true → Answers now why
+answers_free now why free = record { on = inl free }
+
+pub answers_error : (now : board.Seen) (error : ℕ) (why : CopyFault) → Some error ≡ now.error → why ≡ fault_by error → Answers now why
+answers_error now error why told is = record { on = inr (record { error = error; told = sym told; is = is }) }
 
 -- By the calls of the copy.
 
@@ -164,7 +170,7 @@ differs way now calls held finds on = record {
 }
 
 -- At the time itself.
-at_once : {Is : List wire.Call → Type 0} (calls : List wire.Call) → Is calls → AtSome Is calls
+pub at_once : {Is : List wire.Call → Type 0} (calls : List wire.Call) → Is calls → AtSome Is calls
 at_once calls is = record { before = calls; after = []; are = sym (append-nil calls); is = is }
 
 -- Grounds.
@@ -173,10 +179,10 @@ pub none_grounded : (start told : Option (List wire.Call)) (from to : Place) (wh
 none_grounded start told from to fault.NoMemory free = record { shown = tt }
 none_grounded start told from to (fault.Link before after) free = record { shown = tt }
 none_grounded start told from to (fault.Broke (broken.Breach breach)) free = absurd (false≢true free)
-none_grounded start told from to (fault.Broke broken.Content) free = record { shown = tt }
+none_grounded start told from to (fault.Broke broken.Content) free = absurd (false≢true free)
 none_grounded start told from to (fault.Broke broken.Ended) free = absurd (false≢true free)
 none_grounded start told from to (fault.Broke broken.Differs) free = absurd (false≢true free)
-none_grounded start told from to (fault.Peer None code) free = record { shown = tt }
+none_grounded start told from to (fault.Peer None code) free = absurd (false≢true free)
 none_grounded start told from to (fault.Peer (Some option) code) free = absurd (false≢true free)
 none_grounded start told from to (fault.Rule rule) free = absurd (false≢true free)
 none_grounded start told from to (fault.Silent idles) free = record { shown = tt }
@@ -240,10 +246,10 @@ pub grounded_later : (start a b : Option (List wire.Call)) (from to : Place) (wh
 grounded_later start a b from to fault.NoMemory lasts g = record { shown = tt }
 grounded_later start a b from to (fault.Link before after) lasts g = record { shown = tt }
 grounded_later start a b from to (fault.Broke (broken.Breach breach)) lasts g = record { shown = told_later start a b lasts g.shown }
-grounded_later start a b from to (fault.Broke broken.Content) lasts g = record { shown = tt }
+grounded_later start a b from to (fault.Broke broken.Content) lasts g = record { shown = told_later start a b lasts g.shown }
 grounded_later start a b from to (fault.Broke broken.Ended) lasts g = record { shown = told_later start a b lasts g.shown }
 grounded_later start a b from to (fault.Broke broken.Differs) lasts g = record { shown = told_later start a b lasts g.shown }
-grounded_later start a b from to (fault.Peer None code) lasts g = record { shown = tt }
+grounded_later start a b from to (fault.Peer None code) lasts g = record { shown = told_later start a b lasts g.shown }
 grounded_later start a b from to (fault.Peer (Some option) code) lasts g = record { shown = told_later start a b lasts g.shown }
 grounded_later start a b from to (fault.Rule rule) lasts g = record { shown = told_later start a b lasts g.shown }
 grounded_later start a b from to (fault.Silent idles) lasts g = record { shown = tt }

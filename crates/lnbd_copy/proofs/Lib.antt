@@ -18,3 +18,4 @@ pub mod EndLemmas
 pub mod SummedLemmas
 pub mod AgreeLemmas
 pub mod GroundLemmas
+pub mod FailLemmas

@@ -1,8 +1,10 @@
 -- What the connections of a copy were told for which it does not end well: by the handles that are held, and by the calls on the wires.
-use Rattle.std.specs.Prelude.{◌≡◌, ◌<◌, ℕ, Bool, true, false, ◌⊎◌, List, ◌++◌, Option, Some, None, slice_get, if◌then◌else◌}
+use Rattle.std.specs.Prelude.{◌≡◌, ◌==◌, ◌<◌, ℕ, Bool, true, false, ◌⊎◌, List, ◌++◌, Option, Some, None, slice_get, if◌then◌else◌}
 use Rattle.lnbd_model.specs.declared.breach.Broken.{Broken}
 use Rattle.lnbd_model.specs.declared.breach.Broken.TheVariants as broken
+use Rattle.lnbd_model.specs.declared.errors.TheConstants.{ENOTCONN, EPROTO}
 use Rattle.lnbd_model.specs.declared.export.ExportInfo.{ExportInfo}
+use Rattle.lnbd_model.specs.declared.failure.Origin.TheVariants as origin
 use Rattle.lnbd_model.specs.declared.state.Cause.{Cause}
 use Rattle.lnbd_model.specs.declared.state.Cause.TheVariants as cause
 use Rattle.lnbd_model.specs.declared.state.State.TheVariants as state
@@ -21,6 +23,7 @@ use Rattle.lnbd_poll.specs.Seen.{Seen}
 use Rattle.lnbd_board.specs.declared.ticket.Ticket.{Ticket}
 use Rattle.lnbd_board.specs.Files as board
 use Rattle.lnbd_course.specs.Between.{place_of}
+use Rattle.lnbd_course.specs.Failed.{SideFails}
 use Rattle.lnbd_copy.specs.declared.sides.Sides.{Sides}
 use Rattle.lnbd_copy.specs.Terms.{broken_rule}
 use Rattle.lnbd_copy.specs.Way.{IsUnderWay, Stand, Told, Way, is_source}
@@ -139,15 +142,16 @@ pub record HasDied (from to : Place) (why : Cause) (calls : List wire.Call) : Ty
   pub dead : Drove (place_of from to source) (IsDead why) calls
 
 -- What the calls of the transcript show of a fault: for a rule, that it is the first that does not hold between what both sides were told; that connections
--- differ, by two of one side that were told different exports; and of a breach, an end and a refused option, a connection that died of it.
+-- differ, by two of one side that were told different exports; of a breach, an end and a refused option, a connection that died of it; and of faulty content and
+-- an error that was told, a command of one of the places that came to it.
 abbrev pub BreakOf : (start told : Option (List wire.Call)) → (from to : Place) → Broken → Type 0
 BreakOf start told from to (broken.Breach breach) = Told start told (AtSome (HasDied from to (cause.Broke breach)))
-BreakOf start told from to broken.Content = Unit {0}
+BreakOf start told from to broken.Content = Told start told (AtSome (SideFails from to (record { origin = origin.Content; error = EPROTO })))
 BreakOf start told from to broken.Ended = Told start told (AtSome (HasDied from to cause.Ended))
 BreakOf start told from to broken.Differs = Told start told (AtSome (Differ from to))
 
 abbrev pub RefusalOf : (start told : Option (List wire.Call)) → (from to : Place) → Option ℕ → (code : ℕ) → Type 0
-RefusalOf start told from to None code = Unit {0}
+RefusalOf start told from to None code = Told start told (AtSome (SideFails from to (record { origin = origin.Told; error = code })))
 RefusalOf start told from to (Some option) code = Told start told (AtSome (HasDied from to (cause.Refused option code)))
 
 abbrev pub GroundOf : (start told : Option (List wire.Call)) → (from to : Place) → CopyFault → Type 0
@@ -162,21 +166,11 @@ pub record IsGrounded (start told : Option (List wire.Call)) (from to : Place) (
   pub shown : GroundOf start told from to why
 
 -- a fault of which nothing is to be shown so
-abbrev pub is_content : Broken → Bool
-is_content (broken.Breach breach) = false
-is_content broken.Content = true
-is_content broken.Ended = false
-is_content broken.Differs = false
-
-abbrev pub is_of_command : Option ℕ → Bool
-is_of_command None = true
-is_of_command (Some option) = false
-
 abbrev pub needs_no_ground : CopyFault → Bool
 needs_no_ground fault.NoMemory = true
 needs_no_ground (fault.Link before after) = true
-needs_no_ground (fault.Broke one) = is_content one
-needs_no_ground (fault.Peer option code) = is_of_command option
+needs_no_ground (fault.Broke one) = false
+needs_no_ground (fault.Peer option code) = false
 needs_no_ground (fault.Rule rule) = false
 needs_no_ground (fault.Silent idles) = true
 
@@ -201,6 +195,20 @@ pub record IsFound (sides : Sides) (held : List (Held Ticket)) (why : CopyFault)
 -- It is of a dead connection, or nothing is to be shown of it.
 pub record Blames (held : List (Held Ticket)) (why : CopyFault) : Type 0 where
   pub on : (needs_no_ground why ≡ true) ⊎ FindsDead why held
+
+-- the fault that a command's error is; a command is lost only with its connection, whose death is told first
+abbrev pub fault_by : (error : ℕ) → CopyFault
+fault_by error = if error == EPROTO then fault.Broke broken.Content else if error == ENOTCONN then fault.NoMemory else fault.Peer None error
+
+-- It is of the error that the board was told.
+pub record IsOfError (now : board.Seen) (why : CopyFault) : Type 0 where
+  pub error : ℕ
+  pub told : now.error ≡ Some error
+  pub is : why ≡ fault_by error
+
+-- It is so, or nothing is to be shown of it.
+pub record Answers (now : board.Seen) (why : CopyFault) : Type 0 where
+  pub on : (needs_no_ground why ≡ true) ⊎ IsOfError now why
 
 -- A step with calls on the wires fails on grounds, wherever on its way the copy was.
 pub record FailsOn (parting : Bool) (now : board.Seen) (held : List (Held Ticket)) (told told' : Option (List wire.Call)) (why : CopyFault) : Type 0 where

@@ -7,14 +7,15 @@ ghost use Rattle.lnbd_model.specs.declared.state.State.TheVariants as state;
 ghost use Rattle.lnbd_course.specs.Spares.{IsLeastBlock};
 ghost use Rattle.lnbd_copy.specs.Agreed.{AreAgreed, AreQuiet, Tells};
 ghost use Rattle.lnbd_copy.specs.Causes.{tells_no_count};
-ghost use Rattle.lnbd_copy.specs.Grounds.{AllSame, AreSame, Finds, Happens, IsFound, IsShown, needs_no_ground};
+ghost use Rattle.lnbd_copy.specs.Grounds.{AllSame, Answers, AreSame, Finds, Happens, IsFound, IsShown};
 ghost use Rattle.lnbd_copy.specs.declared.sides.Sides.{Sides as Both};
 
+use crate::counts::of_failure;
 use crate::sides::{FIRST_DESTINATION, FIRST_SOURCE};
 use crate::terms::{Terms, broken_rule, settled};
 use lnbd_board::{Board, Ticket};
 use lnbd_handle::Handle;
-use lnbd_model::{Broken, EPROTO, ExportInfo, NoMemory, State};
+use lnbd_model::{Broken, ExportInfo, NoMemory, State};
 use lnbd_plan::{CopyFault, CopyOptions};
 use lnbd_poll::Handles;
 
@@ -117,19 +118,31 @@ pub(crate) fn check_same(handles: &Handles<Ticket>, terms: Terms) -> Result<(), 
     Ok(())
 }
 
-/// Why the copy ends by what its commands came to, if so. A command that was lost with its connection is told by that
-/// connection's state before.
+/// Why the copy ends by what its commands came to, if so.
+#[tactic(auto, using(crate::proofs::GroundLemmas::answers_free, crate::proofs::GroundLemmas::answers_error))]
 pub(crate) fn check_answers(board: &Board) -> Result<(), CopyFault>
     ensures well { OnOk result (board.now.error ≡ None) }
     ensures free { IfErr result (λ told. tells_no_count told ≡ true) }
-    ensures unground { IfErr result (λ told. needs_no_ground told ≡ true) }
+    ensures answers { IfErr result (λ told. Answers board.now told) }
 {
     if board.is_short() {
         return Err(CopyFault::NoMemory);
     }
     match board.error() {
         None => Ok(()),
-        Some(EPROTO) => Err(CopyFault::Broke(Broken::Content)),
-        Some(code) => Err(CopyFault::Peer { option: None, code }),
+        Some(error) => Err(of_failure(error)),
+    }
+}
+
+/// No command came to an error so far. One that did would count as want of memory: the turn that told it has ended the copy.
+pub(crate) fn check_well(board: &Board) -> Result<(), NoMemory>
+    ensures { OnOk result (board.now.error ≡ None) }
+{
+    if board.is_short() {
+        return Err(NoMemory);
+    }
+    match board.error() {
+        None => Ok(()),
+        Some(_) => Err(NoMemory),
     }
 }

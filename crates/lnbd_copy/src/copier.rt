@@ -16,7 +16,7 @@ ghost use Rattle.lnbd_copy.specs.Summed.{HasSummed, IsTally};
 ghost use Rattle.lnbd_copy.specs.UnderWay.{IsBusy};
 ghost use Rattle.lnbd_copy.specs.Way.{Goes, Told};
 
-use crate::agreeing::{agree, check_answers, check_same, tells_extents};
+use crate::agreeing::{agree, check_answers, check_same, check_well, tells_extents};
 use crate::counts::Counts;
 use crate::dialing::{MAX_TURNS, check, dial, settle, wait};
 use crate::job::Job;
@@ -142,7 +142,7 @@ impl Copier {
         let terms = self.meet(wires)?;
         self.dial_further(wires, terms.sides)?;
         check_same(&self.handles, terms)?;
-        check_answers(&self.board)?;
+        check_well(&self.board)?;
         Ok(self.set_up(terms)?)
     }
 
@@ -349,7 +349,7 @@ impl Copier {
         let moved = self.take_turn(wires)?;
         let acted = self.act()?;
         let parted = self.part(wires);
-        check_answers(&self.board)?;
+        check_well(&self.board)?;
         if self.is_finished() {
             return Ok(Progress::Finished(self.summary()));
         }
@@ -366,6 +366,7 @@ impl Copier {
         ensures grounds { IfErr result (λ told. (start : Option (List Call)) → IsOnItsWay start (W.told wires.old) self.old → IsGrounded start (W.told wires.new) self.old.from self.old.to told) }
         ensures counts { GoesOn (W.faults wires.old) (W.faults wires.new) (W.idles wires.old) (W.idles wires.new) (W.contents wires.old) (W.contents wires.new) }
     {
+        check_well(&self.board)?;
         let moved = self.handles.turn(wires, &mut self.board)?;
         check(&self.handles, wires, self.start)?;
         check_answers(&self.board)?;

@@ -3,10 +3,10 @@
 ghost use Rattle.std.specs.Prelude.{◌≡◌, ◌≤◌, ◌<◌, true, false, IfErr, OnOk};
 ghost use Rattle.lnbd_link.specs.Count.{Rises};
 ghost use Rattle.lnbd_copy.specs.Causes.{HasCause, patience, tells_no_count};
-ghost use Rattle.lnbd_copy.specs.Grounds.{fault_of, needs_no_ground};
+ghost use Rattle.lnbd_copy.specs.Grounds.{fault_by, fault_of, needs_no_ground};
 
 use lnbd_link::Wires;
-use lnbd_model::{Broken, Cause};
+use lnbd_model::{Broken, Cause, ENOTCONN, EPROTO};
 use lnbd_plan::CopyFault;
 
 /// How many pauses are borne in which nothing came.
@@ -93,5 +93,18 @@ pub(crate) fn of_death(death: Cause) -> CopyFault
         },
         Cause::Ended => CopyFault::Broke(Broken::Ended),
         Cause::LinkFailed => CopyFault::NoMemory,
+    }
+}
+
+/// Why a copy ends where one of its commands came to this error. That one was lost is told by its connection's state before: where none is
+/// dead it would count as want of memory.
+pub(crate) fn of_failure(error: u32) -> CopyFault
+    ensures free { tells_no_count result ≡ true }
+    ensures value { result ≡ fault_by error }
+{
+    match error {
+        EPROTO => CopyFault::Broke(Broken::Content),
+        ENOTCONN => CopyFault::NoMemory,
+        code => CopyFault::Peer { option: None, code },
     }
 }

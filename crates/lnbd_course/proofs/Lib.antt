@@ -17,3 +17,4 @@ pub mod Tallying
 pub mod Summing
 pub mod Sparing
 pub mod Dense
+pub mod Failing

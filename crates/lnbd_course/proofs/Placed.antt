@@ -1,5 +1,5 @@
 -- Where no handle is held any more, each link is of its side's export, and both sides told their sizes.
-use Rattle.std.proofs.Common.{◌≡◌, ◌≢◌, ℕ, zero, suc, ◌≤◌, Bool, true, false, ◌&&◌, List, [], Some, None, refl, ap, sym, subst, ◌∙◌, arith, nat_le}
+use Rattle.std.proofs.Common.{◌≡◌, ◌≢◌, ℕ, zero, suc, ◌≤◌, Bool, true, false, ◌&&◌, List, [], Option, Some, None, refl, ap, sym, subst, ◌∙◌, arith, nat_le}
 use Rattle.std.proofs.lemmas.Bool.{leb-true}
 use Rattle.lnbd_model.specs.declared.target.Place.{Place}
 use Rattle.lnbd_model.specs.declared.target.Target.{Target}
@@ -13,6 +13,7 @@ use Rattle.lnbd_history.proofs.Cookies.{request_zero}
 use Rattle.lnbd_asked.specs.Driven.{written}
 use Rattle.lnbd_asked.specs.Exports.{name_set}
 use Rattle.lnbd_asked.specs.Transcript.{is_of, is_target, is_name, name_asked, on_link, only_if, size_told, dealt_with}
+use Rattle.lnbd_poll.specs.Seen.{Seen}
 use Rattle.lnbd_plan.specs.declared.grid.Slice.{Slice}
 use Rattle.lnbd_board.specs.declared.how.How.{How}
 use Rattle.lnbd_board.specs.declared.ticket.Ticket.{Ticket}
@@ -45,6 +46,30 @@ given_by_target link calls to e = go (is_given link calls) refl
     go true g = g
     go false g = absurd (none_some to (sym (target_none link calls g) ∙ e))
 
+-- of the handles that there are
+module _ (from to : Place) (size : Option ℕ) (how : How) (has : ℕ → Bool) (slices : List Slice) (now : board.Seen) (calls : List wire.Call) (seens : List (Seen Ticket)) (b : Between from to size how has slices now calls seens) where
+  -- a link that asks for its name is of its side's export
+  pub of_side : (link : ℕ) → is_given link calls ≡ true → name_asked (on_link link calls).wishes ≡ Some (name_set (b.course.histories link)) → is_of (place_of from to (has link)) calls link ≡ true
+  of_side link given asks =
+      let mine = place_of from to (has link) in
+      ap (λ t. is_target mine.to t && is_name mine.name (name_asked (on_link link calls).wishes)) (b.placed.address link given)
+      ∙ ap (λ c. c && is_name mine.name (name_asked (on_link link calls).wishes)) (is_there mine.to)
+      ∙ ap (is_name mine.name) (asks ∙ ap (λ n. Some n) (b.placed.name link given))
+      ∙ is_called mine.name
+
+  -- a link on which a command was issued was given
+  pub asked_given : (link cookie : ℕ) (asks : commands.Request Ticket) → request (b.course.histories link) cookie ≡ Some asks → is_given link calls ≡ true
+  asked_given link cookie asks e = go (is_given link calls) refl
+    where
+      go : (g : Bool) → is_given link calls ≡ g → is_given link calls ≡ true
+      go true g = g
+      go false g = absurd (none_some asks (sym (ap (λ (h : History Ticket). request h cookie) (b.course.unused link g).blank) ∙ e))
+
+-- and if it was wholly written, one was
+pub one_written : (history : History Ticket) (cookie : ℕ) (asks : commands.Request Ticket) → request history cookie ≡ Some asks → nat_le cookie (written history) ≡ true → 1 ≤ written history
+one_written history zero asks e out = absurd (none_some asks (sym (request_zero history) ∙ e))
+one_written history (suc n) asks e out = let l = leb-true (suc n) (written history) out in omega (arith, l)
+
 module _ (from to : Place) (size : ℕ) (how : How) (has : ℕ → Bool) (slices : List Slice) (now : board.Seen) (calls : List wire.Call) (b : Between from to (Some size) how has slices now calls []) where
   abbrev histories : Histories
   histories = b.course.histories
@@ -52,13 +77,8 @@ module _ (from to : Place) (size : ℕ) (how : How) (has : ℕ → Bool) (slices
   abbrev mine : ℕ → Place
   mine link = place_of from to (has link)
 
-  -- a link that asks for its name is of its side's export
-  of_side : (link : ℕ) → is_given link calls ≡ true → name_asked (on_link link calls).wishes ≡ Some (name_set (histories link)) → is_of (mine link) calls link ≡ true
-  of_side link given asks =
-      ap (λ t. is_target (mine link).to t && is_name (mine link).name (name_asked (on_link link calls).wishes)) (b.placed.address link given)
-      ∙ ap (λ c. c && is_name (mine link).name (name_asked (on_link link calls).wishes)) (is_there (mine link).to)
-      ∙ ap (is_name (mine link).name) (asks ∙ ap (λ n. Some n) (b.placed.name link given))
-      ∙ is_called (mine link).name
+  here : (link : ℕ) → is_given link calls ≡ true → name_asked (on_link link calls).wishes ≡ Some (name_set (histories link)) → is_of (mine link) calls link ≡ true
+  here = of_side from to (Some size) how has slices now calls [] b
 
   -- and of no other
   only_side : (other : Place) (link : ℕ) → is_of other calls link ≡ true → mine link ≡ other
@@ -69,22 +89,9 @@ module _ (from to : Place) (size : ℕ) (how : How) (has : ℕ → Bool) (slices
       let called = (b.parted link tt).name other.name (name_is other.name (name_asked (on_link link calls).wishes) c.1) in
       place_same (mine link) other (some_same (mine link).to other.to (sym (b.placed.address link given) ∙ there)) (sym (b.placed.name link given) ∙ sym called)
 
-  -- a link on which a command was issued was given
-  asked_given : (link cookie : ℕ) (asks : commands.Request Ticket) → request (histories link) cookie ≡ Some asks → is_given link calls ≡ true
-  asked_given link cookie asks e = go (is_given link calls) refl
-    where
-      go : (g : Bool) → is_given link calls ≡ g → is_given link calls ≡ true
-      go true g = g
-      go false g = absurd (none_some asks (sym (ap (λ (h : History Ticket). request h cookie) (b.course.unused link g).blank) ∙ e))
-
-  -- and if it was wholly written, one was
-  one_written : (link cookie : ℕ) (asks : commands.Request Ticket) → request (histories link) cookie ≡ Some asks → nat_le cookie (written (histories link)) ≡ true → 1 ≤ written (histories link)
-  one_written link zero asks e out = absurd (none_some asks (sym (request_zero (histories link)) ∙ e))
-  one_written link (suc n) asks e out = let l = leb-true (suc n) (written (histories link)) out in omega (arith, l)
-
   are_of_sides : from ≢ to → AreOfSides from to calls has b.course.histories
   are_of_sides two = record {
-    asked = λ link cookie asks e out. of_side link (asked_given link cookie asks e) ((b.parted link tt).asked (one_written link cookie asks e out)).0;
+    asked = λ link cookie asks e out. here link (asked_given from to (Some size) how has slices now calls [] b link cookie asks e) ((b.parted link tt).asked (one_written (histories link) cookie asks e out)).0;
     source = λ link e. source link (has link) refl (only_side from link e);
     destination = λ link e. destination link (has link) refl (only_side to link e);
   }
@@ -101,10 +108,10 @@ module _ (from to : Place) (size : ℕ) (how : How) (has : ℕ → Bool) (slices
   size_of source told s =
       let d = b.parted s.link tt in
       let said = d.told told s.told in
-      let here = of_side s.link s.given (d.size told said).0 in
+      let is = here s.link s.given (d.size told said).0 in
       record {
         link = s.link;
-        told = ap (λ (c : Bool). only_if c (size_told (on_link s.link calls))) (subst (λ (side : Bool). is_of (place_of from to side) calls s.link ≡ true) s.side here) ∙ said;
+        told = ap (λ (c : Bool). only_if c (size_told (on_link s.link calls))) (subst (λ (side : Bool). is_of (place_of from to side) calls s.link ≡ true) s.side is) ∙ said;
       }
 
   have_sizes : HaveSizes from to calls size

@@ -10,7 +10,7 @@ use Rattle.lnbd_asked.specs.Exports.{DrivenIsOf, WasTold, size_known}
 use Rattle.lnbd_asked.specs.Transcript.{on_link}
 use Rattle.lnbd_poll.specs.Alone.{AreApart}
 use Rattle.lnbd_poll.specs.Seen.{Seen}
-use Rattle.lnbd_poll.specs.Turns.{Whole}
+use Rattle.lnbd_poll.specs.Turns.{Turns, Whole}
 use Rattle.lnbd_drives.specs.Driving.{with_event}
 use Rattle.lnbd_drives.proofs.Exports.{handles_are_of, turns_give_none}
 use Rattle.lnbd_drives.proofs.Passing.{said_stays}
@@ -25,33 +25,33 @@ use Rattle.lnbd_course.specs.Betweens.{NothingIsBetween, SettlingKeepsBetween, A
 use Rattle.lnbd_course.specs.Course.{Course}
 use Rattle.lnbd_course.proofs.Address.{target_stays, given_stays}
 use Rattle.lnbd_course.proofs.Asking.{then, goes_on, source_asks_keep, destination_asks_keep, others_keep, board_moves_keep, was_apart, not_one}
-use Rattle.lnbd_course.proofs.Holding.{nothing_is_on_course, settling_keeps, turned_keeps, turns_keep, calls_keep, removed_keeps, removed, take_drop, apart_or, one_has}
+use Rattle.lnbd_course.proofs.Holding.{nothing_is_on_course, settling_keeps, turned_keeps, calls_keep, removed_keeps, removed, take_drop, apart_or, one_has}
 use Rattle.lnbd_course.proofs.Later.{IsLater, later_same, later_on, told_later}
 use Rattle.lnbd_course.specs.Course.{Stood}
 use Rattle.lnbd_course.proofs.Standing.{event_stood, quiet_stood, with_others}
-use Rattle.lnbd_course.proofs.Turning.{steps, turns_all}
+use Rattle.lnbd_course.proofs.Turning.{Turned, steps, turns_all}
 
 -- More calls: each link that was given is given, and where it was connected to stays.
-record Goes (calls calls' : List wire.Call) : Type 0 where
-  given : (n : ℕ) → is_given n calls' ≡ is_given n calls
-  target : (n : ℕ) → target_of n calls' ≡ target_of n calls
+pub record Goes (calls calls' : List wire.Call) : Type 0 where
+  pub given : (n : ℕ) → is_given n calls' ≡ is_given n calls
+  pub target : (n : ℕ) → target_of n calls' ≡ target_of n calls
 
 goes_same : (calls : List wire.Call) → Goes calls calls
 goes_same calls = record { given = λ n. refl; target = λ n. refl }
 
-goes_more : (calls more : List wire.Call) → ((n : ℕ) → is_given n more ≡ false) → Goes calls (calls ++ more)
+pub goes_more : (calls more : List wire.Call) → ((n : ℕ) → is_given n more ≡ false) → Goes calls (calls ++ more)
 goes_more calls more none = record { given = λ n. given_stays n calls more (none n); target = λ n. target_stays n calls more (none n) }
 
 -- On a link without a handle nothing happened.
-record Rests (calls calls' : List wire.Call) (before after : Histories) (n : ℕ) : Type 0 where
-  history : after n ≡ before n
-  said : on_link n calls' ≡ on_link n calls
+pub record Rests (calls calls' : List wire.Call) (before after : Histories) (n : ℕ) : Type 0 where
+  pub history : after n ≡ before n
+  pub said : on_link n calls' ≡ on_link n calls
 
 rests_same : (calls : List wire.Call) (before after : Histories) (n : ℕ) → after n ≡ before n → Rests calls calls before after n
 rests_same calls before after n e = record { history = e; said = refl }
 
 module _ (calls calls' : List wire.Call) (has : ℕ → Bool) (before after : Histories) (goes : Goes calls calls') (later : (n : ℕ) → IsLater (before n) (after n)) where
-  placed_later : (from to : Place) → ArePlaced from to calls has before → ArePlaced from to calls' has after
+  pub placed_later : (from to : Place) → ArePlaced from to calls has before → ArePlaced from to calls' has after
   placed_later from to p = record {
     address = λ n g. goes.target n ∙ p.address n (sym (goes.given n) ∙ g);
     name = λ n g. (later n).name ∙ p.name n (sym (goes.given n) ∙ g);
@@ -60,16 +60,16 @@ module _ (calls calls' : List wire.Call) (has : ℕ → Bool) (before after : Hi
   side_later : (source : Bool) (size : ℕ) → SideWasTold source size calls has before → SideWasTold source size calls' has after
   side_later source size s = record { link = s.link; given = goes.given s.link ∙ s.given; side = s.side; told = told_later (before s.link) (after s.link) size (later s.link) s.told }
 
-  settled_later : (size : Option ℕ) → AreSettled size calls has before → AreSettled size calls' has after
+  pub settled_later : (size : Option ℕ) → AreSettled size calls has before → AreSettled size calls' has after
   settled_later None t = tt
   settled_later (Some size) t = record { room = t.room; source = side_later true size t.source; destination = side_later false t.room t.destination; fits = t.fits }
 
-of_rests : (calls calls' : List wire.Call) (before after : Histories) (n : ℕ) → Rests calls calls' before after n → DrivenIsOf (before n) (on_link n calls) → DrivenIsOf (after n) (on_link n calls')
+pub of_rests : (calls calls' : List wire.Call) (before after : Histories) (n : ℕ) → Rests calls calls' before after n → DrivenIsOf (before n) (on_link n calls) → DrivenIsOf (after n) (on_link n calls')
 of_rests calls calls' before after n r d = subst (λ h. DrivenIsOf h (on_link n calls')) (sym r.history) (subst (DrivenIsOf (before n)) (sym r.said) d)
 
 -- A step keeps it that keeps the course.
 module _ (from to : Place) (size : Option ℕ) (has : ℕ → Bool) where
-  step_keeps : (how how' : How) (slices slices' : List Slice) (now now' : board.Seen) (calls calls' : List wire.Call) (seens seens' : List (Seen Ticket)) → (b : Between from to size how has slices now calls seens) → (c : Course how' has slices' now' calls' seens') →
+  unfoldable pub step_keeps : (how how' : How) (slices slices' : List Slice) (now now' : board.Seen) (calls calls' : List wire.Call) (seens seens' : List (Seen Ticket)) → (b : Between from to size how has slices now calls seens) → (c : Course how' has slices' now' calls' seens') →
       Goes calls calls' → ((n : ℕ) → IsLater (b.course.histories n) (c.histories n)) → ((n : ℕ) → AreApart n seens' → AreApart n seens × Rests calls calls' b.course.histories c.histories n) → Between from to size how' has slices' now' calls' seens'
   step_keeps how how' slices slices' now now' calls calls' seens seens' b c goes later rests = record {
     course = c;
@@ -80,16 +80,23 @@ module _ (from to : Place) (size : Option ℕ) (has : ℕ → Bool) where
 
 -- Turns and calls.
 
-pub turns_keep_between : TurnsKeepBetween
-unfolding turns_keep turned_keeps
-turns_keep_between from to size how has slices now now' calls part before after moved b turns =
-    let t = turns_all (Stood how has slices) (event_stood how has slices) (quiet_stood how has slices) before now part after now' (Whole moved) b.course.histories turns b.course.drive.own b.course.held b.course.stood in
-    step_keeps from to size has how how slices slices now now' calls (calls ++ part) before after b (turns_keep how has slices now now' calls part before after moved b.course turns)
+-- after a turn that keeps something in which the course stands
+unfoldable pub turned_between : (from to : Place) (size : Option ℕ) (how : How) (has : ℕ → Bool) (slices : List Slice) (now now' : board.Seen) (calls part : List wire.Call) (before after : List (Seen Ticket)) (moved : Option ℕ) (b : Between from to size how has slices now calls before) →
+    Turns steps before now part after now' (Whole moved) → (S : board.Seen → Histories → Type 0) → Turned S before after now' b.course.histories → ((histories : Histories) → S now' histories → Stood how has slices now' histories) →
+    Between from to size how has slices now' (calls ++ part) after
+unfolding step_keeps turned_keeps
+turned_between from to size how has slices now now' calls part before after moved b turns S t stood =
+    step_keeps from to size has how how slices slices now now' calls (calls ++ part) before after b (turned_keeps how has slices now now' calls part before after moved b.course turns S t stood)
     (goes_more calls part (λ n. turns_give_none steps n part before after now now' (Whole moved) turns))
     t.later
     (λ n apart.
     let was = t.was_apart n apart in
     (was, record { history = t.others n was; said = said_stays n calls part (turns_pass_others steps n part before after now now' (Whole moved) was turns) }))
+
+pub turns_keep_between : TurnsKeepBetween
+turns_keep_between from to size how has slices now now' calls part before after moved b turns =
+    turned_between from to size how has slices now now' calls part before after moved b turns (Stood how has slices)
+    (turns_all (Stood how has slices) (event_stood how has slices) (quiet_stood how has slices) before now part after now' (Whole moved) b.course.histories turns b.course.drive.own b.course.held b.course.stood) (λ histories s. s)
 
 pub calls_keep_between : CallsKeepBetween
 unfolding calls_keep

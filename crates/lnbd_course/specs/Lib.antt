@@ -10,3 +10,4 @@ pub mod Betweens
 pub mod Asks
 pub mod Counts
 pub mod Spares
+pub mod Failed

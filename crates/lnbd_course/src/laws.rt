@@ -2,6 +2,7 @@
 
 ghost use Rattle.lnbd_course.specs.Asks.{EndedAreDone, EndedAsksOnce};
 ghost use Rattle.lnbd_course.specs.Counts.{EndedSums};
+ghost use Rattle.lnbd_course.specs.Failed.{TurnsFail};
 ghost use Rattle.lnbd_course.specs.Laws.{NothingIsOnCourse, OpensOnCourse, SettlingKeeps, TurnsKeep, CallsKeep, SourceAsksKeep, DestinationAsksKeep, BoardMovesKeep, OthersKeep, TakingKeeps, FinishedCopies};
 ghost use Rattle.lnbd_course.specs.Betweens.{NothingIsBetween, OpensBetween, SettlingKeepsBetween, AgreeingSettles, TurnsKeepBetween, CallsKeepBetween, SourceAsksKeepBetween, DestinationAsksKeepBetween, BoardMovesKeepBetween, OthersKeepBetween, TakingKeepsBetween, LinksAreOfSides, EndedCopies};
 ghost use Rattle.lnbd_course.specs.Spares.{EndedAreDense, EndedSpares};
@@ -135,6 +136,12 @@ pub fn beginning_keeps_between()
 pub fn turns_keep_between()
     ensures turns { TurnsKeepBetween }
     ensures calls { CallsKeepBetween }
+{}
+
+/// An error that a board without one has after a turn, but that of a lost connection, is that of a command
+/// which the calls show.
+pub fn turns_fail()
+    ensures { TurnsFail }
 {}
 
 /// It stays so where a handle of a side is asked what the board says, where the board goes on, and where a

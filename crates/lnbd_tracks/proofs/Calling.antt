@@ -102,7 +102,7 @@ files_well (call ∷ calls) before after f = (well_one call before f.0 f.1.0, fi
 
 -- Where a board was told no error, it was told none before.
 
-hears_error : (b : Bool) (entries : List Extent) (before after : Seen) → board.Hears b entries before after → after.error ≡ before.error
+pub hears_error : (b : Bool) (entries : List Extent) (before after : Seen) → board.Hears b entries before after → after.error ≡ before.error
 hears_error true entries before after (inl e) = ap (λ (s : Seen). s.error) e.1
 hears_error true entries before after (inr e) = ap (λ (s : Seen). s.error) e
 hears_error false entries before after e = ap (λ (s : Seen). s.error) e

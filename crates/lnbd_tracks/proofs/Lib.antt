@@ -15,3 +15,4 @@ pub mod Heard
 pub mod Staying
 pub mod Mapped
 pub mod Heeding
+pub mod Failing

@@ -9,7 +9,7 @@ use Rattle.lnbd_model.specs.declared.state.Cause.TheVariants as cause
 use Rattle.lnbd_stream.specs.Stream.{Held}
 use Rattle.lnbd_stream.specs.Laws.{Lasts}
 use Rattle.lnbd_stream.proofs.Stream.{feed_lasts}
-use Rattle.lnbd_outcome.specs.Outcome.{Unfinished, Done, verdict, or_else, item_failure, failure, bytes}
+use Rattle.lnbd_outcome.specs.Outcome.{Unfinished, Done, verdict, or_else, item_failure, lack_failure, failure, failure_of, bytes}
 use Rattle.lnbd_outcome.specs.Pieces.{Query, Piece, is_completed}
 use Rattle.lnbd_history.specs.declared.kinds.Phase.{Phase}
 use Rattle.lnbd_history.specs.declared.kinds.Phase.TheVariants as phase
@@ -28,6 +28,7 @@ use Rattle.lnbd_asked.specs.Driven.{written}
 use Rattle.lnbd_asked.specs.InStep.{silent_pieces}
 use Rattle.lnbd_asked.specs.Transcript.{outcome_of}
 use Rattle.lnbd_tracks.specs.Dealing.{DoneIsWritten}
+use Rattle.lnbd_tracks.specs.Failing.{AnsweredIsWritten}
 use Rattle.lnbd_tracks.proofs.Unfiled.{own_same, own_other}
 
 -- Parts: as many commands are wholly written where more parts wait, and where more bytes went out.
@@ -256,3 +257,31 @@ module _ {K : Type 0} where
   pub done_is_written : DoneIsWritten K
   done_is_written history cookie bytes_ e =
       le-leb cookie (written history) ((all_framed_written history).each cookie (comes_done (request history cookie) (own cookie (reading history).known.entries) bytes_ e))
+
+  -- What failed otherwise than with its connection has a frame, too.
+
+  framed_failed : (query : Query) (filings : List (Filing K)) (why : Failure) → failure query (silent_pieces filings) ≡ Some why → why.origin ≢ from.Lost → has_frame filings ≡ true
+  framed_failed query [] why e other = absurd (cc)
+  framed_failed query (f ∷ earlier) why e other = go f.item (failure query (silent_pieces earlier)) refl e (λ before. framed_failed query earlier why before other)
+    where
+      go : (item : Item) (before : Option Failure) → failure query (silent_pieces earlier) ≡ before →
+          or_else (or_else (or_else before (item_failure query (silent_pieces earlier) f.contexts item)) None) (lack_failure query (silent_pieces earlier) (record { item = item; contexts = f.contexts; heard = 0 })) ≡ Some why →
+          (failure query (silent_pieces earlier) ≡ Some why → has_frame earlier ≡ true) → (is_frame item || has_frame earlier) ≡ true
+      go (Framed content last) before is k ih = refl
+      go Lost (Some first) is k ih = ih (is ∙ k)
+      go Lost None is k ih = let failed : lost ≡ Some why = k in absurd (other (cc))
+      go Dropped (Some first) is k ih = ih (is ∙ k)
+      go Dropped None is k ih = absurd (cc)
+
+  comes_framed : (asks : Option (Request K)) (filings : List (Filing K)) (why : Failure) → failure_of (outcome_of asks filings) ≡ Some why → why.origin ≢ from.Lost → has_frame filings ≡ true
+  comes_framed None filings why e other = absurd (cc)
+  comes_framed (Some q) filings why e other = go (is_completed (silent_pieces filings)) (failure (query_of q) (silent_pieces filings)) refl e
+    where
+      go : (b : Bool) (failed : Option Failure) → failure (query_of q) (silent_pieces filings) ≡ failed → failure_of (if b then verdict failed (bytes (query_of q) (silent_pieces filings)) else Unfinished) ≡ Some why → has_frame filings ≡ true
+      go true (Some first) is k = framed_failed (query_of q) filings why (is ∙ k) other
+      go true None is k = absurd (cc)
+      go false failed is k = absurd (cc)
+
+  pub answered_is_written : AnsweredIsWritten K
+  answered_is_written history cookie why e other =
+      le-leb cookie (written history) ((all_framed_written history).each cookie (comes_framed (request history cookie) (own cookie (reading history).known.entries) why e other))

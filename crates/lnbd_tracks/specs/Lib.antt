@@ -3,3 +3,4 @@ pub mod Laws
 pub mod Dealing
 pub mod Mapping
 pub mod Heeding
+pub mod Failing

@@ -2,6 +2,7 @@
 
 ghost use Rattle.lnbd_tracks.specs.Laws.{NothingTracks, OpeningTracks, OneHappens, IssueTracks, OthersTrack, BytesComeBack, SourceKeeps, DestinationKeeps, FinishedAreDone, FinishedTracks};
 ghost use Rattle.lnbd_tracks.specs.Dealing.{DoneIsWritten, TrackedAreDealt};
+ghost use Rattle.lnbd_tracks.specs.Failing.{AnsweredIsWritten, DestinationFails, FailuresAreKnown, FailuresStay, SourceFails};
 ghost use Rattle.lnbd_tracks.specs.Heeding.{NothingHeeds, ComingHeeds, OthersHeed, AskingHeeds, HearingHeeds};
 ghost use Rattle.lnbd_tracks.specs.Mapping.{NothingMaps, ComingMaps, OthersMap, AskingMaps, HearingMaps, ZeroesStay};
 
@@ -45,9 +46,23 @@ pub fn finished_tracks()
     ensures handles { FinishedTracks }
 {}
 
-/// A command that is done was wholly written.
+/// A command that is done was wholly written, and so was one that was answered and failed.
 pub fn done_is_written<K>()
-    ensures { DoneIsWritten K }
+    ensures done { DoneIsWritten K }
+    ensures answered { AnsweredIsWritten K }
+{}
+
+/// Where no callback has a say, a failure of a command is known by its number.
+pub fn failures_are_known<K>()
+    ensures { FailuresAreKnown K }
+{}
+
+/// An error that the board has, whatever happens on a handle of a copy but that it is asked, is one that a
+/// command came to. What a command came to stays.
+pub fn errors_are_told()
+    ensures source { SourceFails }
+    ensures destination { DestinationFails }
+    ensures stay { FailuresStay }
 {}
 
 /// What the handles of an export's links were asked is what was dealt with the export.

@@ -8,7 +8,7 @@ pub returns-then-is_finished-clause-turns : goal.returns-then-is_finished-clause
 returns-then-is_finished-clause-turns g c start on =
     let parting = c.if-is_finished.ensures.parting refl in
     let left = c.part-parted.ensures.on start (c.in_ok-acted.ensures.on start _ (c.in_ok-moved.ensures.on start on)) in
-    finished _ start _ parting.job parting.there parting.parts (c.if-is_finished.ensures.parted refl) (sym (ap (λ (s : Seen). s.board.error) c.self.view_is) ∙ c.in_ok-check_answers.ensures.well) left
+    finished _ start _ parting.job parting.there parting.parts (c.if-is_finished.ensures.parted refl) (sym (ap (λ (s : Seen). s.board.error) c.self.view_is) ∙ c.in_ok-check_well.ensures) left
 
 pub returns-clause-turns : goal.returns-clause-turns
 returns-clause-turns g c start on = c.progress_of.ensures.on start _ _ (c.part-parted.ensures.on start (c.in_ok-acted.ensures.on start _ (c.in_ok-moved.ensures.on start on)))
@@ -19,18 +19,18 @@ act-requires g c = has_job c.requires.going.start _ _ (c.in_ok-moved.ensures.on 
 pub returns-then-is_finished-clause-asks : goal.returns-then-is_finished-clause-asks
 returns-then-is_finished-clause-asks g c start on two =
     let left = c.part-parted.ensures.on start (c.in_ok-acted.ensures.on start _ (c.in_ok-moved.ensures.on start on)) in
-    way_asks _ start _ (sym (ap (λ (s : Seen). s.board.error) c.self.view_is) ∙ c.in_ok-check_answers.ensures.well) left two
+    way_asks _ start _ (sym (ap (λ (s : Seen). s.board.error) c.self.view_is) ∙ c.in_ok-check_well.ensures) left two
 
 pub returns-clause-asks : goal.returns-clause-asks
 returns-clause-asks g c start on two =
     let left = c.part-parted.ensures.on start (c.in_ok-acted.ensures.on start _ (c.in_ok-moved.ensures.on start on)) in
-    way_asks _ start _ (sym (ap (λ (s : Seen). s.board.error) c.self.view_is) ∙ c.in_ok-check_answers.ensures.well) left two
+    way_asks _ start _ (sym (ap (λ (s : Seen). s.board.error) c.self.view_is) ∙ c.in_ok-check_well.ensures) left two
 
 pub returns-then-is_finished-clause-sums : goal.returns-then-is_finished-clause-sums
 returns-then-is_finished-clause-sums g c start on two =
     let parting = c.if-is_finished.ensures.parting refl in
     let left = c.part-parted.ensures.on start (c.in_ok-acted.ensures.on start _ (c.in_ok-moved.ensures.on start on)) in
-    summed _ start _ c.summary.result parting.job c.summary.ensures.counted parting.there parting.parts (c.if-is_finished.ensures.parted refl) (sym (ap (λ (s : Seen). s.board.error) c.self.view_is) ∙ c.in_ok-check_answers.ensures.well) left two
+    summed _ start _ c.summary.result parting.job c.summary.ensures.counted parting.there parting.parts (c.if-is_finished.ensures.parted refl) (sym (ap (λ (s : Seen). s.board.error) c.self.view_is) ∙ c.in_ok-check_well.ensures) left two
 
 pub returns-clause-sums : goal.returns-clause-sums
 returns-clause-sums g c start on = c.progress_of.ensures.sums start (g.W.Wires.told c.part-parted.new.wires) c.part-parted.new.self
