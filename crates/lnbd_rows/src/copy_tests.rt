@@ -58,6 +58,57 @@ const ZEROED: Told<'static> = Told::Bytes("67446698 00000000 0000000000000001");
 
 const WRITTEN: Told<'static> = Told::Bytes("67446698 00000000 0000000000000002");
 
+/// The same of a source that agrees no context.
+const NONE_AGREED: Told<'static> = Told::Bytes(
+    "0003e889045565a9 0000000b 80000001 00000000 \
+     0003e889045565a9 00000008 00000001 00000000 \
+     0003e889045565a9 0000000a 00000001 00000000",
+);
+
+/// Of the extents the first command is told the first one alone, and the second command the other.
+const FIRST_EXTENT: Told<'static> = Told::Bytes(
+    "668e33ef 0001 0005 0000000000000001 0000000c 00000001 00000200 00000000",
+);
+
+const SECOND_EXTENT: Told<'static> = Told::Bytes(
+    "668e33ef 0001 0005 0000000000000002 0000000c 00000001 00000100 00000003",
+);
+
+/// The first command is done, and no extents were told of the context.
+const NO_EXTENT: Told<'static> = Told::Bytes("668e33ef 0001 0000 0000000000000001 00000000");
+
+/// The bytes of the third command, and all bytes for the first one.
+const THIRD_DATA: Told<'static> = Told::Bytes(
+    "668e33ef 0001 0001 0000000000000003 00000208 0000000000000000 ab*512",
+);
+
+const ALL_DATA: Told<'static> = Told::Bytes(
+    "668e33ef 0001 0001 0000000000000001 00000308 0000000000000000 ab*768",
+);
+
+/// GO's reply of a source that takes no more than 128 bytes at once.
+const NARROW_SOURCE: Told<'static> = Told::Bytes(
+    "0003e889045565a9 00000007 00000003 0000000c 0000 0000000000000300 0001 \
+     0003e889045565a9 00000007 00000003 0000000e 0003 00000001 00000001 00000080 \
+     0003e889045565a9 00000007 00000001 00000000",
+);
+
+/// Those of destinations with blocks of 256 bytes, and of 512.
+const BLOCKS_OF_256: Told<'static> = Told::Bytes(
+    "0003e889045565a9 00000007 00000003 0000000c 0000 0000000000000300 0041 \
+     0003e889045565a9 00000007 00000003 0000000e 0003 00000100 00001000 00010000 \
+     0003e889045565a9 00000007 00000001 00000000",
+);
+
+const BLOCKS_OF_512: Told<'static> = Told::Bytes(
+    "0003e889045565a9 00000007 00000003 0000000c 0000 0000000000000300 0041 \
+     0003e889045565a9 00000007 00000003 0000000e 0003 00000200 00001000 00010000 \
+     0003e889045565a9 00000007 00000001 00000000",
+);
+
+/// EIO for the destination's second command.
+const NOT_WRITTEN: Told<'static> = Told::Bytes("67446698 00000005 0000000000000002");
+
 /// The client's flags, and the options before GO.
 const SOURCE_OPTIONS: &str = "00000003 49484156454f5054 0000000b 00000000 \
      49484156454f5054 00000008 00000000 \
@@ -80,6 +131,15 @@ const WRITE: &str = "25609513 0000 0001 0000000000000002 0000000000000000 000002
 
 /// The same as the destination's first command.
 const WRITE_FIRST: &str = "25609513 0000 0001 0000000000000001 0000000000000000 00000200 ab*512";
+
+/// BLOCK_STATUS of the hole, READ of the data as the third command, and READ and WRITE of all as the first.
+const ASK_REST: &str = "25609513 0000 0007 0000000000000002 0000000000000200 00000100";
+
+const READ_THIRD: &str = "25609513 0000 0000 0000000000000003 0000000000000000 00000200";
+
+const READ_ALL: &str = "25609513 0000 0000 0000000000000001 0000000000000000 00000300";
+
+const WRITE_ALL: &str = "25609513 0000 0001 0000000000000001 0000000000000000 00000300 ab*768";
 
 /// DISC.
 const DISC: &str = "25609513 0000 0002 0000000000000000 0000000000000000 00000000";
@@ -173,7 +233,159 @@ fn nbdcopy_copies(rt: HostRuntime) -> Result<(), Fail> {
     play_all(&rt, rt.alloc(), &COPIED)
 }
 
-static NOT_COPIED: [Session<'static>; 4] = [
+static EXTENTS_ASKED: [Session<'static>; 2] = [
+    Session {
+        shows: "where the told extents end early the rest is asked for",
+        reads: &[
+            HELLO,
+            SOURCE_AGREED,
+            SOURCE,
+            Told::Nothing,
+            Told::Nothing,
+            Told::Nothing,
+            Told::Nothing,
+            FIRST_EXTENT,
+            SECOND_EXTENT,
+            THIRD_DATA,
+            Told::Nothing,
+        ],
+        second: &[
+            HELLO,
+            DESTINATION_AGREED,
+            DESTINATION,
+            Told::Nothing,
+            Told::Nothing,
+            Told::Nothing,
+            ZEROED,
+            WRITTEN,
+        ],
+        written: &[
+            SOURCE_OPTIONS,
+            GO,
+            DESTINATION_OPTIONS,
+            GO,
+            ASK_EXTENTS,
+            ASK_REST,
+            READ_THIRD,
+            ZERO,
+            WRITE,
+            DISC,
+            DISC,
+        ],
+        ..COPY
+    },
+    Session {
+        shows: "all is read where the context is not agreed",
+        reads: &[
+            HELLO,
+            NONE_AGREED,
+            SOURCE,
+            Told::Nothing,
+            Told::Nothing,
+            Told::Nothing,
+            Told::Nothing,
+            ALL_DATA,
+            Told::Nothing,
+        ],
+        second: &[
+            HELLO,
+            DESTINATION_AGREED,
+            DESTINATION,
+            Told::Nothing,
+            Told::Nothing,
+            ZEROED,
+        ],
+        written: &[
+            SOURCE_OPTIONS,
+            GO,
+            DESTINATION_OPTIONS,
+            GO,
+            READ_ALL,
+            WRITE_ALL,
+            DISC,
+            DISC,
+        ],
+        ..COPY
+    },
+];
+
+#[test]
+fn extents_are_asked_for_as_they_are_told(rt: HostRuntime) -> Result<(), Fail> {
+    play_all(&rt, rt.alloc(), &EXTENTS_ASKED)
+}
+
+static NOT_AGREED: [Session<'static>; 4] = [
+    Session {
+        shows: "no addresses",
+        words: &["nbdcopy"],
+        err: "lnbd: usage\n",
+        status: 1,
+        ..SESSION
+    },
+    Session {
+        shows: "a source that is no multiple of the destination's blocks",
+        reads: &[
+            HELLO,
+            SOURCE_AGREED,
+            SOURCE,
+            Told::Nothing,
+            Told::Nothing,
+            Told::Nothing,
+        ],
+        second: &[HELLO, DESTINATION_AGREED, BLOCKS_OF_512],
+        written: &[SOURCE_OPTIONS, GO, DESTINATION_OPTIONS, GO],
+        err: "lnbd: rule uneven 768 512\n",
+        status: 6,
+        ..COPY
+    },
+    Session {
+        shows: "a source that takes less at once than the destination's blocks have",
+        reads: &[
+            HELLO,
+            SOURCE_AGREED,
+            NARROW_SOURCE,
+            Told::Nothing,
+            Told::Nothing,
+            Told::Nothing,
+        ],
+        second: &[HELLO, DESTINATION_AGREED, BLOCKS_OF_256],
+        written: &[SOURCE_OPTIONS, GO, DESTINATION_OPTIONS, GO],
+        err: "lnbd: rule unfit 256 128\n",
+        status: 6,
+        ..COPY
+    },
+    Session {
+        shows: "an agreed context of which nothing is told",
+        reads: &[
+            HELLO,
+            SOURCE_AGREED,
+            SOURCE,
+            Told::Nothing,
+            Told::Nothing,
+            Told::Nothing,
+            Told::Nothing,
+            NO_EXTENT,
+        ],
+        second: &[
+            HELLO,
+            DESTINATION_AGREED,
+            DESTINATION,
+            Told::Nothing,
+            Told::Nothing,
+        ],
+        written: &[SOURCE_OPTIONS, GO, DESTINATION_OPTIONS, GO, ASK_EXTENTS],
+        err: "lnbd: peer broke Content\n",
+        status: 4,
+        ..COPY
+    },
+];
+
+#[test]
+fn nbdcopy_tells_what_does_not_fit(rt: HostRuntime) -> Result<(), Fail> {
+    play_all(&rt, rt.alloc(), &NOT_AGREED)
+}
+
+static NOT_COPIED: [Session<'static>; 5] = [
     Session {
         shows: "a destination that is smaller",
         reads: &[
@@ -219,6 +431,43 @@ static NOT_COPIED: [Session<'static>; 4] = [
             ASK_EXTENTS,
             READ,
             ZERO,
+        ],
+        err: "lnbd: peer error command 5\n",
+        status: 3,
+        ..COPY
+    },
+    Session {
+        shows: "a last write that is answered by an error",
+        reads: &[
+            HELLO,
+            SOURCE_AGREED,
+            SOURCE,
+            Told::Nothing,
+            Told::Nothing,
+            Told::Nothing,
+            Told::Nothing,
+            EXTENTS,
+            DATA,
+            Told::Nothing,
+        ],
+        second: &[
+            HELLO,
+            DESTINATION_AGREED,
+            DESTINATION,
+            Told::Nothing,
+            Told::Nothing,
+            ZEROED,
+            NOT_WRITTEN,
+        ],
+        written: &[
+            SOURCE_OPTIONS,
+            GO,
+            DESTINATION_OPTIONS,
+            GO,
+            ASK_EXTENTS,
+            READ,
+            ZERO,
+            WRITE,
         ],
         err: "lnbd: peer error command 5\n",
         status: 3,

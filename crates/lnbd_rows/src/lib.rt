@@ -8,6 +8,8 @@ mod copy_tests;
 #[cfg(test)]
 mod info_tests;
 #[cfg(test)]
+mod limit_tests;
+#[cfg(test)]
 mod link_tests;
 #[cfg(test)]
 mod list_tests;

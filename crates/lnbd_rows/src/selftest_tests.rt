@@ -35,6 +35,19 @@ fn selftest_copies_in_memory(rt: HostRuntime) -> Result<(), Fail> {
     play_all(&rt, rt.alloc(), &TESTED)
 }
 
+/// The most bytes that there may be. Of the 4,096 blocks of this seed 1,019 are zeros.
+static LARGEST: [Session<'static>; 1] = [Session {
+    shows: "as many bytes as there may be",
+    words: &["selftest", "5", "16777216"],
+    last: "seed 5 size 16777216 read 12603392 written 12603392 zeroed 4173824 equal",
+    ..SESSION
+}];
+
+#[test]
+fn selftest_copies_as_much_as_it_may(rt: HostRuntime) -> Result<(), Fail> {
+    play_all(&rt, rt.alloc(), &LARGEST)
+}
+
 static NOT_TESTED: [Session<'static>; 5] = [
     Session {
         shows: "one byte more than there may be",

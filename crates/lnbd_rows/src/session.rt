@@ -171,7 +171,7 @@ fn answers(alloc: Global, all: &[Told], cut: usize) -> Result<Vec<ReadAnswer>, F
 }
 
 /// How many bytes come together in these reads.
-fn count(alloc: Global, all: &[Told]) -> Result<usize, Fail> {
+pub fn count(alloc: Global, all: &[Told]) -> Result<usize, Fail> {
     let mut count = 0usize;
     for told in all {
         if let Told::Bytes(text) = told {
@@ -233,15 +233,48 @@ fn cut_read(alloc: Global, all: &[Told], cut: usize) -> Result<Option<Parted>, F
 
 /// The script, and all that is to be printed.
 #[derive(Drop)]
-struct Texts {
+pub struct Texts {
     script: String,
     answers: String,
 }
 
 impl Texts {
-    fn push(&mut self, line: &str, answer: &str) -> Result<(), Fail> {
+    pub fn new(alloc: Global) -> Texts {
+        Texts {
+            script: String::new(alloc),
+            answers: String::new(alloc),
+        }
+    }
+
+    /// A line, and its answer.
+    pub fn push(&mut self, line: &str, answer: &str) -> Result<(), Fail> {
         push_line(&mut self.script, line)?;
         push_line(&mut self.answers, answer)
+    }
+
+    /// Lines with their answers.
+    pub fn push_all(&mut self, lines: &[(&str, &str)]) -> Result<(), Fail> {
+        for (line, answer) in lines {
+            self.push(line, answer)?;
+        }
+        Ok(())
+    }
+
+    /// The line `read` that takes the bytes of this number, or two such lines where these come cut.
+    pub fn push_read(
+        &mut self,
+        alloc: Global,
+        session: &Session,
+        read: usize,
+        cut: usize,
+        answer: &str,
+    ) -> Result<(), Fail> {
+        match cut_read(alloc, session.reads, cut)? {
+            Some(parted) if parted.read == read && 0 < parted.front => {
+                self.push_parts(alloc, parted)
+            }
+            _ => self.push("read", answer),
+        }
     }
 
     /// Two lines `read`, of which each takes a part.
@@ -257,10 +290,7 @@ impl Texts {
 /// The texts of a session, whose first link's reads are cut behind so many bytes.
 fn texts_of(alloc: Global, session: &Session, cut: usize) -> Result<Texts, Fail> {
     let parted = cut_read(alloc, session.reads, cut)?;
-    let mut texts = Texts {
-        script: String::new(alloc),
-        answers: String::new(alloc),
-    };
+    let mut texts = Texts::new(alloc);
     let mut read = session.by_lines;
     for (line, answer) in session.talk {
         match parted {
@@ -287,9 +317,21 @@ pub fn words_of(alloc: Global, words: &[&str]) -> Result<Vec<String>, Fail> {
 
 /// Plays a session, the first link's reads cut behind so many bytes, and compares all that comes of it.
 fn play(rt: &impl Abort, alloc: Global, session: &Session, cut: usize) -> Result<(), Fail> {
+    let texts = texts_of(alloc, session, cut)?;
+    play_texts(rt, alloc, session, texts, cut)
+}
+
+/// The same with these texts in place of the session's own.
+pub fn play_texts(
+    rt: &impl Abort,
+    alloc: Global,
+    session: &Session,
+    texts: Texts,
+    cut: usize,
+) -> Result<(), Fail> {
     let shows = session.shows;
     let words = words_of(alloc, session.words)?;
-    let Texts { script, answers } = texts_of(alloc, session, cut)?;
+    let Texts { script, answers } = texts;
     let links = vec![in alloc;
         first_link(alloc, session, cut)?,
         second_link(alloc, session)?,
