@@ -29,7 +29,8 @@ pub record Seen : Type 0 where
   pub told : List Extent
   pub short : Bool
   pub mapped : Bool
-  -- whether a flush was answered
+  -- whether a flush was asked for, and whether one was answered
+  pub flushing : Bool
   pub flushed : Bool
   -- bytes that were asked to be read, written and zeroed
   pub read : ℕ

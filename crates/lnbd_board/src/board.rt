@@ -37,6 +37,7 @@ pub struct Board {
     told: Vec<Extent>,
     short: bool,
     mapped: bool,
+    flushing: bool,
     flushed: bool,
     read: u64,
     written: u64,
@@ -50,7 +51,7 @@ impl Model for Board {
 
     ghost Value = { Seen };
 
-    ghost view = { λ b. record { how = b.how; begun = b.begun; rows = b.rows.rows; came = b.came.items; error = b.error; told = b.told.items; short = b.short; mapped = b.mapped; flushed = b.flushed; read = b.read; written = b.written; zeroed = b.zeroed } };
+    ghost view = { λ b. record { how = b.how; begun = b.begun; rows = b.rows.rows; came = b.came.items; error = b.error; told = b.told.items; short = b.short; mapped = b.mapped; flushing = b.flushing; flushed = b.flushed; read = b.read; written = b.written; zeroed = b.zeroed } };
 
     ghost invariant = { λ b. IsKept b.how b.rows.rows b.came.items (deque_capacity b.came) b.begun };
 }
@@ -62,7 +63,7 @@ impl Board {
 
     /// A board with no slices, of a copy that writes so. It takes no memory.
     pub fn new(alloc: Global, how: How) -> Board
-        ensures { result ≡ record { how = how; begun = 0; rows = []; came = []; error = None; told = []; short = false; mapped = false; flushed = false; read = 0; written = 0; zeroed = 0 } }
+        ensures { result ≡ record { how = how; begun = 0; rows = []; came = []; error = None; told = []; short = false; mapped = false; flushing = false; flushed = false; read = 0; written = 0; zeroed = 0 } }
     {
         Board {
             how,
@@ -74,6 +75,7 @@ impl Board {
             told: Vec::new(alloc),
             short: false,
             mapped: false,
+            flushing: false,
             flushed: false,
             read: 0,
             written: 0,
@@ -220,6 +222,13 @@ impl Board {
         self.mapped = false;
     }
 
+    /// The destination is asked to flush.
+    pub fn begin_flush(&mut self)
+        ensures { self.new ≡ record self.old { flushing = true } }
+    {
+        self.flushing = true;
+    }
+
     /// Whether the flush was answered.
     pub fn is_flushed(&self) -> bool
         ensures { result ≡ self.now.flushed }
@@ -254,6 +263,7 @@ impl Board {
             told: _,
             short: _,
             mapped: _,
+            flushing: _,
             flushed: _,
             read: _,
             written: _,

@@ -80,7 +80,7 @@ to_second : (copy : Seen) (how : How) (sides : Sides) (n : ℕ) → n ≡ 1 → 
 to_second copy how sides n is = ap (λ (m : ℕ). place_of (beginning copy None how sides) m) is
 
 begins_on : (copy : Seen) (how : How) (sides : Sides) → HasNotBegun copy → IsOn (beginning copy None how sides) copy.board [] copy.held
-begins_on copy how sides none = subst (λ (held : List (Held Ticket)). IsOn (beginning copy None how sides) copy.board [] held) (sym none.held) (nothing_is_on (beginning copy None how sides) copy.board refl refl refl (λ p. refl) none.rows none.begun none.uncounted)
+begins_on copy how sides none = subst (λ (held : List (Held Ticket)). IsOn (beginning copy None how sides) copy.board [] held) (sym none.held) (nothing_is_on (beginning copy None how sides) copy.board refl refl refl (λ p. refl) none.rows none.begun none.uncounted refl)
 
 -- The first two handles agreed on the source's size.
 agreed_on : (copy : Seen) (size : ℕ) (how : How) (sides : Sides) (calls : List wire.Call) → Agrees size copy.held → IsOn (beginning copy None how sides) copy.board calls copy.held → IsOn (beginning copy (Some size) how sides) copy.board calls copy.held
@@ -96,6 +96,7 @@ agreed_on copy size how sides calls agrees on =
         between = agreeing_settles copy.from copy.to how on.has [] copy.board calls on.seens 0 1 a.source.seen a.destination.seen size a.room on.stands.between a.source.there (on.sided 0 a.source.seen a.source.there) a.source.told a.destination.there (on.sided 1 a.destination.seen a.destination.there) a.destination.told a.fits;
         told = on.stands.told;
       };
+      rest = tt;
     }
 
 pub first_on : (copy : Seen) (h : List (Held Ticket)) (t u : Option (List wire.Call)) (how : How) (sides : Sides) → HasNotBegun copy → Dials copy.from copy.board copy.held t h u → Told t u (λ calls. IsOn (beginning copy None how sides) copy.board calls h)
@@ -125,7 +126,7 @@ module _ (copy : Seen) (b c : board.Seen) (h i j k : List (Held Ticket)) (t u v 
       let both = second_on copy b h i j t u v w how sides none first one second in
       two.on false (beginning copy None how sides) t both.0 both.1
 
-  pub has_met : (terms : Terms) → IsWished copy.options terms.how → IsLimited copy.options terms → Agrees terms.size k → HasNotBegun copy → Dials copy.from copy.board copy.held t h u → Goes copy.board h u b i v → Dials copy.to b i v j w → Goes b j w c k x →
+  pub has_met : (terms : Terms) → IsWished copy.options terms → IsLimited copy.options terms → Agrees terms.size k → HasNotBegun copy → Dials copy.from copy.board copy.held t h u → Goes copy.board h u b i v → Dials copy.to b i v j w → Goes b j w c k x →
       HasMet (record copy { held = k; board = c }) t x terms
   has_met terms wished limited agrees none first one second two =
       let s0 = no_handles copy none in
@@ -135,7 +136,7 @@ module _ (copy : Seen) (b c : board.Seen) (h i j k : List (Held Ticket)) (t u v 
       let filed = filed_then copy.board b c (one.filed s1) (two.filed s3) in
       record {
         stand = two.stand s3;
-        blank = record { rows = filed.none none.rows; begun = filed.begun ∙ none.begun };
+        blank = record { rows = filed.none none.rows; begun = filed.begun ∙ none.begun; unflushed = filed.flushing ∙ none.uncounted.flushing };
         wished = wished;
         limited = limited;
         on =
@@ -182,7 +183,7 @@ meets s0 s1 s2 s3 s4 t u v w x options held terms k1 k2 k3 k4 b1 b3 same_options
     let second' : Dials s0.to s2.board s2.held v s3.held w = subst (λ (p : Place). Dials p s2.board s2.held v s3.held w) (ap (λ (s : Seen). s.to) k02) second in
     let two' : Goes s2.board s3.held w s4.board s4.held x = subst (λ (b : board.Seen). Goes b s3.held w s4.board s4.held x) b3 two in
     subst (λ (s : Seen). HasMet s t x terms) (sym k04)
-    (has_met s0 s2.board s4.board s1.held s2.held s3.held s4.held t u v w x terms (subst (λ (o : CopyOptions). IsWished o terms.how) (same_options ∙ ap (λ (s : Seen). s.options) k04) agreed.wished)
+    (has_met s0 s2.board s4.board s1.held s2.held s3.held s4.held t u v w x terms (subst (λ (o : CopyOptions). IsWished o terms) (same_options ∙ ap (λ (s : Seen). s.options) k04) agreed.wished)
     (subst (λ (o : CopyOptions). IsLimited o terms) (same_options ∙ ap (λ (s : Seen). s.options) k04) agreed.limited)
     (subst (Agrees terms.size) same_held agreed.size) none first one' second' two')
 
@@ -201,7 +202,7 @@ met_on copy now held t u v terms met two further =
     let filed = further.filed met.stand in
     record {
       stand = further.stand met.stand;
-      blank = record { rows = filed.none met.blank.rows; begun = filed.begun ∙ met.blank.begun };
+      blank = record { rows = filed.none met.blank.rows; begun = filed.begun ∙ met.blank.begun; unflushed = filed.flushing ∙ met.blank.unflushed };
       wished = met.wished;
       limited = met.limited;
       on = further.on (Some terms.size) terms.how t met.stand two met.on;
@@ -217,7 +218,7 @@ further_kept copy mid sides first now now' held held' a b kept further =
 
 -- What is settled begins.
 pub begins_job : (copy : Seen) (start told : Option (List wire.Call)) (terms : Terms) (j : job.Seen) (now : board.Seen) → HasMet copy start told terms → copy.board.error ≡ None → now.rows ≡ [] → now.begun ≡ 0 → HasNotCounted now → now.how ≡ terms.how → j.terms ≡ terms → j.phase ≡ Copying →
-    ((way : Way) (b : board.Seen) → way.size ≡ Some terms.size → b.how ≡ terms.how → way.how ≡ terms.how → way.sides ≡ terms.sides → way.slices ≡ [] → way.asked ≡ None → ((block p : ℕ) → way.whole block p ≡ false) → job.IsJob j way b) → IsOnItsWay start told (record copy { board = now; job = Some j })
+    ((way : Way) (b : board.Seen) → way.size ≡ Some terms.size → b.how ≡ terms.how → way.how ≡ terms.how → way.sides ≡ terms.sides → way.slices ≡ [] → way.asked ≡ None → ((block p : ℕ) → way.whole block p ≡ false) → b.flushing ≡ false → job.IsJob j way b) → IsOnItsWay start told (record copy { board = now; job = Some j })
 begins_job copy start told terms j now met well empty new uncounted writes same copying is =
     let way = beginning copy (Some terms.size) terms.how terms.sides in
     record {
@@ -227,11 +228,11 @@ begins_job copy start told terms j now met well empty new uncounted writes same 
       way = way;
       from = refl;
       to = refl;
-      wished = subst (λ (t : Terms). IsWished copy.options t.how) (sym same) met.wished;
+      wished = subst (IsWished copy.options) (sym same) met.wished;
       limited = subst (IsLimited copy.options) (sym same) met.limited;
       most = subst (λ (rows : List (ℕ × Row)). length rows ≤ j.terms.limit) (sym empty) (omega arith);
-      is = is way now refl writes refl refl refl refl (λ block p. refl);
+      is = is way now refl writes refl refl refl refl (λ block p. refl) uncounted.flushing;
       on = told_as start told
-          (λ calls on. subst (λ (p : Bool). IsUnderWay p way now calls copy.held) (sym (ap job.is_parting copying)) (settled way terms.how copy.board now calls copy.held refl refl met.blank.rows well empty new uncounted on))
+          (λ calls on. subst (λ (p : Bool). IsUnderWay p way now calls copy.held) (sym (ap job.is_parting copying)) (settled way terms.how copy.board now calls copy.held refl refl met.blank.rows well met.blank.unflushed empty new uncounted on))
           met.on;
     }

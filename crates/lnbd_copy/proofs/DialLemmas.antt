@@ -32,31 +32,33 @@ use Rattle.lnbd_course.proofs.Opening.{opens_between}
 use Rattle.lnbd_course.proofs.Telling.{opening_tells, others_tell}
 use Rattle.lnbd_copy.specs.declared.sides.Sides.{Sides}
 use Rattle.lnbd_copy.specs.Opening.{Dials, base_allocation, context_of, opened, place_of, with_context}
-use Rattle.lnbd_copy.specs.Way.{AreSided, IsOn, Way, is_source, known_of}
+use Rattle.lnbd_copy.specs.Way.{AreSided, HasRested, IsOn, Way, is_source, known_of}
 use Rattle.lnbd_copy.proofs.StepLemmas.{nothing_stands, settling_stands}
-use Rattle.lnbd_copy.proofs.TurnLemmas.{at_count, none_some, since_on, some_same}
+use Rattle.lnbd_copy.proofs.TurnLemmas.{at_count, rested_on, none_some, since_on, some_same}
 
 -- Before any call a copy without handles, whose board is empty, is on its way.
-pub nothing_is_on : (way : Way) (now : board.Seen) → way.size ≡ None → way.slices ≡ [] → way.asked ≡ None → ((p : ℕ) → way.zero p ≡ false) → now.rows ≡ [] → now.begun ≡ 0 → HasNotCounted now → IsOn way now [] []
-nothing_is_on way now unsettled none unasked unknown empty new uncounted = record {
+pub nothing_is_on : (way : Way) (now : board.Seen) → way.size ≡ None → way.slices ≡ [] → way.asked ≡ None → ((p : ℕ) → way.zero p ≡ false) → now.rows ≡ [] → now.begun ≡ 0 → HasNotCounted now → way.rested ≡ None → IsOn way now [] []
+nothing_is_on way now unsettled none unasked unknown empty new uncounted unrested = record {
   has = λ link. false;
   seens = [];
   at = tt;
   sided = λ index seen is. absurd (none_some seen is);
   begun = ap length none ∙ sym new;
   stands = nothing_stands way (λ link. false) now unsettled none unasked unknown empty uncounted;
+  rest = subst (λ (o : Option board.Seen). HasRested way.from way.to way.size o []) (sym unrested) tt;
 }
 
 -- Another board, of a copy that writes otherwise, takes the place of one that is empty, before any slice is begun.
-pub settled : (way : Way) (how : How) (now now' : board.Seen) (calls : List wire.Call) (held : List (Held Ticket)) → way.slices ≡ [] → way.asked ≡ None → now.rows ≡ [] → now.error ≡ None → now'.rows ≡ [] → now'.begun ≡ 0 → HasNotCounted now'
+pub settled : (way : Way) (how : How) (now now' : board.Seen) (calls : List wire.Call) (held : List (Held Ticket)) → way.slices ≡ [] → way.asked ≡ None → now.rows ≡ [] → now.error ≡ None → now.flushing ≡ false → now'.rows ≡ [] → now'.begun ≡ 0 → HasNotCounted now'
     → IsOn way now calls held → IsOn (record way { how = how }) now' calls held
-settled way how now now' calls held none unasked empty well empty' new uncounted on = record {
+settled way how now now' calls held none unasked empty well unflushed empty' new uncounted on = record {
   has = on.has;
   seens = on.seens;
   at = on.at;
   sided = on.sided;
   begun = ap length none ∙ sym new;
-  stands = settling_stands way on.has how now now' calls on.seens none unasked on.stands empty well empty' uncounted;
+  stands = settling_stands way on.has how now now' calls on.seens none unasked on.stands empty well unflushed empty' uncounted;
+  rest = on.rest;
 }
 
 -- The last of some handles.
@@ -172,6 +174,7 @@ dialed way now calls held place link extents handle there on new short stands =
         told = ends_all way.how (with_link link side on.has) way.slices now (calls ++ wire.Connect place.to (Some link) ∷ []) on.seens way.asked (known_of way) link history sets
             (opening_tells way.how on.has way.slices now calls on.seens way.asked (known_of way) place.to link side on.stands.told new);
       };
+      rest = rested_on way.from way.to way.size way.rested calls (wire.Connect place.to (Some link) ∷ []) on.rest;
     }
 
 -- what is given by none of some calls is given by none of the last

@@ -19,8 +19,10 @@ use Rattle.lnbd_course.specs.Asks.{GrewBy, HasAskedOnce, WereDone}
 use Rattle.lnbd_course.specs.Between.{Between}
 use Rattle.lnbd_course.specs.Copied.{Copied, Copies}
 use Rattle.lnbd_course.specs.Course.{IsPlannedWhole}
+use Rattle.lnbd_course.specs.Flushes.{IsUnflushed}
 use Rattle.lnbd_course.specs.Spares.{SparesZeros}
 use Rattle.lnbd_course.specs.Told as course
+use Rattle.lnbd_course.proofs.Flushing.{ended_unflushed}
 use Rattle.lnbd_course.proofs.Holding.{take_drop}
 use Rattle.lnbd_course.proofs.Once.{ended_are_done, ended_asks_once}
 use Rattle.lnbd_course.proofs.Placing.{taking_keeps_between}
@@ -59,6 +61,9 @@ job_filed j way now now' filed is = record {
   spared = is.spared;
   asked = is.asked;
   over = λ past. let over = is.over past in record { planned = over.planned; handed = over.handed; heard = over.heard; rows = filed.none over.rows };
+  unwanted = λ no. filed.flushing ∙ is.unwanted no;
+  unflushed = λ copying. filed.flushing ∙ is.unflushed copying;
+  rests = λ past. let r = is.rests past in record { was = r.was; is = r.is; error = λ none. r.error (filed.error none); read = filed.read ∙ r.read; written = filed.written ∙ r.written; zeroed = filed.zeroed ∙ r.zeroed };
 }
 
 -- Once the connections part, places don't count any more.
@@ -101,7 +106,7 @@ module _ (copy : Seen) (start : Option (List wire.Call)) where
         way = acted.way';
         from = acted.one.from ∙ on.from;
         to = acted.one.to ∙ on.to;
-        wished = subst (λ (t : Terms). IsWished copy.options t.how) (ap (λ (x : job.Seen). x.terms) same ∙ sym terms) on.wished;
+        wished = subst (IsWished copy.options) (ap (λ (x : job.Seen). x.terms) same ∙ sym terms) on.wished;
         limited = subst (IsLimited copy.options) (ap (λ (x : job.Seen). x.terms) same ∙ sym terms) on.limited;
         most = subst (λ (t : Terms). length now.rows ≤ t.limit) (sym terms) (few (subst (λ (x : job.Seen). length copy.board.rows ≤ x.terms.limit) same on.most));
         is = acted.job';
@@ -223,7 +228,7 @@ job_writes copy j has there = has.writes ∙ ap (λ (x : job.Seen). x.terms.how)
 -- What was asked so far.
 
 -- With all handles taken out what they did stands.
-all_taken : (from to : Place) (size : Option ℕ) (how : How) (has : ℕ → Bool) (slices : List Slice) (now : board.Seen) (calls : List wire.Call) (held : List (Held Ticket)) (seens : List (poll.Seen Ticket)) → AreAt held seens →
+pub all_taken : (from to : Place) (size : Option ℕ) (how : How) (has : ℕ → Bool) (slices : List Slice) (now : board.Seen) (calls : List wire.Call) (held : List (Held Ticket)) (seens : List (poll.Seen Ticket)) → AreAt held seens →
     Between from to size how has slices now calls seens → Between from to size how has slices now calls []
 all_taken from to size how has slices now calls held [] at b = b
 all_taken from to size how has slices now calls [] (seen ∷ others) at b = absurd at
@@ -316,6 +321,16 @@ finished copy start told j there parts none well on =
           (ended_copies on.way.from on.way.to on.job.terms.size on.way.how leaving.has on.way.slices copy.board calls on.job.windows.plan.cells on.is.planned.parts
           (between_sized on.way on.job.terms.size leaving.has copy.board calls on.is.size s) over.rows well (planned_whole on.job on.way copy.board calls on.is over leaving.has s apart) apart))
           on.on;
+      unflushed = λ unwanted two.
+          let apart : on.way.from ≢ on.way.to = λ e. two (sym on.from ∙ e ∙ on.to) in
+          told_as start told
+          (λ calls is.
+          let leaving : IsLeaving on.way copy.board calls [] =
+          subst (λ (h : List (Held Ticket)). IsLeaving on.way copy.board calls h) none (subst (λ (p : Bool). IsUnderWay p on.way copy.board calls copy.held) parting is) in
+          let s = stands_alone on.way copy.board calls leaving in
+          subst (λ (t : Place). IsUnflushed t calls) on.to
+          (ended_unflushed on.way.from on.way.to on.job.terms.size on.way.how leaving.has on.way.slices copy.board calls (between_sized on.way on.job.terms.size leaving.has copy.board calls on.is.size s) (on.is.unwanted (on.wished.unflushed unwanted)) apart))
+          on.on;
     }
   where
     copied_as : (way : Way) (copy : Seen) (calls : List wire.Call) → way.from ≡ copy.from → way.to ≡ copy.to → way.how.skip ≡ copy.options.destination_is_zero → Copied way.from way.to way.how.skip calls → Copied copy.from copy.to copy.options.destination_is_zero calls
@@ -361,3 +376,9 @@ pub done_spares : (copy new : Seen) (a b c : Option (List wire.Call)) → new �
 done_spares copy new a b c kept same two done =
     let so = subst (λ (s : Seen). IsDone a b s) kept done in
     subst (λ (t : Option (List wire.Call)). GrewBy (SparesZeros copy.from) a t) (sym same) (told_part a b (so.spares two))
+
+-- It asked for no flush where its options want none.
+pub done_unflushed : (copy new : Seen) (a b c : Option (List wire.Call)) → new ≡ record copy { start = new.start; held = new.held; board = new.board; job = new.job } → c ≡ b → copy.options.flush ≡ false → copy.from ≢ copy.to → IsDone a b new → GrewBy (IsUnflushed copy.to) a c
+done_unflushed copy new a b c kept same unwanted two done =
+    let so = subst (λ (s : Seen). IsDone a b s) kept done in
+    subst (λ (t : Option (List wire.Call)). GrewBy (IsUnflushed copy.to) a t) (sym same) (told_part a b (so.unflushed unwanted two))

@@ -1,5 +1,5 @@
 -- What a job does keeps a copy on its way: its slices go on and begin, extents are asked for and heard, and in the end all connections part.
-use Rattle.std.proofs.Common.{◌≡◌, ◌⊎◌, inl, inr, ◌&&◌, ◌||◌, ℕ, Bool, true, false, not, List, [], ◌++◌, Option, Some, None, if◌then◌else◌, refl, ap, sym, subst, ◌∙◌, arith}
+use Rattle.std.proofs.Common.{◌≡◌, ◌⊎◌, inl, inr, ◌&&◌, ◌||◌, ℕ, Bool, true, false, not, List, [], ◌++◌, cond, Option, Some, None, if◌then◌else◌, refl, ap, sym, subst, ◌∙◌, arith}
 use Rattle.std.proofs.lemmas.Bool.{false≢true}
 use Rattle.std.proofs.lemmas.List.{append-nil, append_assoc}
 use Rattle.lnbd_link.specs.Call as wire
@@ -23,13 +23,13 @@ use Rattle.lnbd_board.specs.Rows as rows
 use Rattle.lnbd_board.proofs.Turning.{extents_kept, flush_kept}
 use Rattle.lnbd_course.specs.Counted.{is_zero, up_to_end}
 use Rattle.lnbd_course.specs.Laws.{AsksSource, AsksDestination}
-use Rattle.lnbd_course.proofs.Counting.{bytes_beside}
+use Rattle.lnbd_course.proofs.Counting.{bytes_beside, flushes_first}
 use Rattle.lnbd_course.specs.Spares.{IsLeastBlock}
 use Rattle.lnbd_course.specs.Taken.{without_buffer}
 use Rattle.lnbd_tracks.specs.Laws.{asked_by}
 use Rattle.lnbd_tracks.specs.Mapping.{HoldsZero}
 use Rattle.lnbd_copy.specs.declared.job.Phase.{Phase}
-use Rattle.lnbd_copy.specs.declared.job.Phase.TheVariants.{Copying, Flushing}
+use Rattle.lnbd_copy.specs.declared.job.Phase.TheVariants.{Copying, Flushing, Parting}
 use Rattle.lnbd_copy.specs.declared.sides.Sides.{Sides}
 use Rattle.lnbd_copy.specs.Asked.{IsAsked}
 use Rattle.lnbd_copy.specs.Dealing.{Begins}
@@ -40,6 +40,7 @@ use Rattle.lnbd_copy.specs.Windows as windows
 use Rattle.lnbd_copy.proofs.SparedLemmas.{spared_none}
 use Rattle.lnbd_copy.proofs.WindowLemmas.{or_first, or_second}
 use Rattle.lnbd_copy.proofs.StepLemmas.{extents_ask_stand, hearing_stands, unheard_stands}
+use Rattle.lnbd_copy.proofs.RestLemmas.{at_rest, came_to_rest}
 use Rattle.lnbd_copy.proofs.WayLemmas.{destination_keeps, sided_after}
 
 -- One step after another.
@@ -84,7 +85,7 @@ heard_stands way (Some range) some has now calls seens mapped short s =
     (λ block p e. or_first (way.whole block p) _ e) (λ block p e. or_second (way.whole block p) _ e)
 
 heard_on : (way : Way) (now : board.Seen) (calls : List wire.Call) (held : List (Held Ticket)) → now.mapped ≡ true → now.short ≡ false → IsOn way now calls held → IsOn (with_heard now.told way) now calls held
-heard_on way now calls held mapped short on = record { has = on.has; seens = on.seens; at = on.at; sided = on.sided; begun = on.begun; stands = heard_stands way way.asked refl on.has now calls on.seens mapped short on.stands }
+heard_on way now calls held mapped short on = record { has = on.has; seens = on.seens; at = on.at; sided = on.sided; begun = on.begun; stands = heard_stands way way.asked refl on.has now calls on.seens mapped short on.stands; rest = on.rest }
 
 -- no slice more was begun
 none_on : (how : How) (sides : Sides) (now now' : board.Seen) (held held' : List (Held Ticket)) → Keeps how sides [] now now' held held' → (way : Way) (calls : List wire.Call) → way.how ≡ how → way.sides ≡ sides →
@@ -106,6 +107,7 @@ extents_ask how now now' offset size slices is =
         read = ap (λ (b : board.Seen). b.read) is ∙ k.read ∙ ap up_to_end (sym (bytes_beside is_read link cookie ticket.Extents (asked_by command) source refl));
         written = ap (λ (b : board.Seen). b.written) is ∙ k.written;
         zeroed = ap (λ (b : board.Seen). b.zeroed) is ∙ k.zeroed;
+        flushes = k.flushes ∙ ap (λ (b : board.Seen). cond b.flushing 1 0) (sym is);
       };
     }
 
@@ -123,6 +125,7 @@ asked_on way now now' calls held held' offset size none is asked on =
       begun = on.begun ∙ ap (λ (b : board.Seen). b.begun) (sym is);
       stands = extents_ask_stand way on.has now now' calls on.seens (offset, size) 0 was.seen command none on.stands was.there (on.sided 0 was.seen was.there) was.spells (extents_ask way.how now now' offset size way.slices is)
           (record { asks = record { kind = refl; offset = refl; length_ = refl }; first = refl }) (ap (λ (b : board.Seen). b.told) is) (ap (λ (b : board.Seen). b.mapped) is);
+      rest = on.rest;
     }
 
 -- Slices go on.
@@ -130,14 +133,14 @@ asked_on way now now' calls held held' offset size none is asked on =
 phases_differ : Flushing ≡ Copying → ⊥
 phases_differ e = cc
 
-pub acts_keeps : (job : Seen) (how : How) (sides : Sides) (now now' : board.Seen) (held held' : List (Held Ticket)) → how ≡ job.terms.how → sides ≡ job.terms.sides → job.phase ≡ Copying → now'.how ≡ now.how → Keeps how sides [] now now' held held' →
+pub acts_keeps : (job : Seen) (how : How) (sides : Sides) (now now' : board.Seen) (held held' : List (Held Ticket)) → how ≡ job.terms.how → sides ≡ job.terms.sides → job.phase ≡ Copying → now'.how ≡ now.how → now'.flushing ≡ now.flushing → Keeps how sides [] now now' held held' →
     Acts job job now now' held held'
-acts_keeps job how sides now now' held held' h s copying writes keeps = record {
+acts_keeps job how sides now now' held held' h s copying writes unflushed keeps = record {
   stand = keeps.stand;
   on = λ way had. record {
     way' = way;
     one = one_same way;
-    job' = record { size = had.size; how = had.how; writes = writes ∙ had.writes; sides = had.sides; ends = had.ends; zeros = had.zeros; planned = had.planned; block = had.block; spared = had.spared; asked = had.asked; over = λ other. absurd (other copying) };
+    job' = record { size = had.size; how = had.how; writes = writes ∙ had.writes; sides = had.sides; ends = had.ends; zeros = had.zeros; planned = had.planned; block = had.block; spared = had.spared; asked = had.asked; over = λ other. absurd (other copying); unwanted = λ no. unflushed ∙ had.unwanted no; unflushed = λ c. unflushed ∙ had.unflushed c; rests = λ other. absurd (other copying) };
     on = λ calls on. none_on how sides now now' held held' keeps way calls (had.how ∙ sym h) (had.sides ∙ sym s) on;
   };
 }
@@ -169,6 +172,9 @@ acts_heard job job' windows' now held copying asked mapped short is cells size g
               (subst (λ (r : Option (ℕ × ℕ)). IsSpared windows' (λ p. way.whole job.windows.grain p || whole_heard job.windows.grain r now.told p) way.slices) (sym range) (spares (way.whole job.windows.grain) way.slices had.spared));
           asked = refl;
           over = λ other. absurd (other copying);
+          unwanted = had.unwanted;
+          unflushed = had.unflushed;
+          rests = λ other. absurd (other copying);
         };
         on = λ calls on. heard_on way now calls held mapped short on;
       };
@@ -186,7 +192,7 @@ acts_asked job job' now now' held held' offset size copying none range is forget
       record {
         way' = with_asked (Some (offset, size)) way;
         one = record { from = refl; to = refl; how = refl; sides = refl };
-        job' = record { size = had.size; how = had.how; writes = ap (λ (b : board.Seen). b.how) forgets ∙ had.writes; sides = had.sides; ends = had.ends; zeros = had.zeros; planned = had.planned; block = had.block; spared = had.spared; asked = sym range; over = λ other. absurd (other copying) };
+        job' = record { size = had.size; how = had.how; writes = ap (λ (b : board.Seen). b.how) forgets ∙ had.writes; sides = had.sides; ends = had.ends; zeros = had.zeros; planned = had.planned; block = had.block; spared = had.spared; asked = sym range; over = λ other. absurd (other copying); unwanted = λ no. ap (λ (b : board.Seen). b.flushing) forgets ∙ had.unwanted no; unflushed = λ c. ap (λ (b : board.Seen). b.flushing) forgets ∙ had.unflushed c; rests = λ other. absurd (other copying) };
         on = λ calls on. asked_on way now now' calls held held' offset size blank forgets asked on;
       };
 })
@@ -237,6 +243,9 @@ acts_begun job job' windows' how sides now now' held held' copying h s is begins
       spared = handed_spared job.windows windows' way.whole way.slices begins.more begins.handed begins.others had.spared;
       asked = had.asked ∙ ap (λ (w : windows.Seen). if job.asked then windows.wanted w else None) (sym begins.others);
       over = λ other. absurd (other copying);
+      unwanted = λ no. ap (λ (b : board.Seen). b.flushing) begins.begun ∙ had.unwanted no;
+      unflushed = λ c. ap (λ (b : board.Seen). b.flushing) begins.begun ∙ had.unflushed c;
+      rests = λ other. absurd (other copying);
     };
     on = λ calls on. begins.keeps.on way calls (had.how ∙ sym h) (had.sides ∙ sym s) on;
   };
@@ -244,18 +253,18 @@ acts_begun job job' windows' how sides now now' held held' copying h s is begins
 
 -- The end.
 
--- With all slices over the copy is at its end, whatever is still asked.
-acts_over : (job job' : Seen) (phase' : Phase) (now now' : board.Seen) (held held' : List (Held Ticket)) → job' ≡ record job { phase = phase' } → now'.rows ≡ now.rows → now'.how ≡ now.how → ((way : Way) → IsJob job way now → IsOver job now) →
-    Keeps job.terms.how job.terms.sides [] now now' held held' → Acts job job' now now' held held'
-acts_over job job' phase' now now' held held' is rows writes over keeps = subst (λ (j : Seen). Acts job j now now' held held') (sym is) (record {
-  stand = keeps.stand;
+-- All is asked and done: the copy comes to rest.
+acts_concludes : (job job' : Seen) (phase' : Phase) (now now' : board.Seen) (held held' : List (Held Ticket)) → job' ≡ record job { phase = phase' } → (phase' ≡ Copying → ⊥) → job.phase ≡ Copying → IsOver job now → now' ≡ record now { flushing = now'.flushing } → ((job.terms.flush ≡ false → now.flushing ≡ false) → job.terms.flush ≡ false → now'.flushing ≡ false) →
+    (Stand held → Stand held') → ((way : Way) → IsJob job way now → Keeps job.terms.how job.terms.sides [] now now' held held') → Acts job job' now now' held held'
+acts_concludes job job' phase' now now' held held' is past copying over same unwanted stand keeps = subst (λ (j : Seen). Acts job j now now' held held') (sym is) (record {
+  stand = stand;
   on = λ way had. record {
-    way' = way;
-    one = one_same way;
+    way' = record way { rested = Some now };
+    one = record { from = refl; to = refl; how = refl; sides = refl };
     job' = record {
       size = had.size;
       how = had.how;
-      writes = writes ∙ had.writes;
+      writes = ap (λ (b : board.Seen). b.how) same ∙ had.writes;
       sides = had.sides;
       ends = had.ends;
       zeros = had.zeros;
@@ -263,24 +272,62 @@ acts_over job job' phase' now now' held held' is rows writes over keeps = subst 
       block = had.block;
       spared = had.spared;
       asked = had.asked;
-      over = λ other. let was = over way had in record { planned = was.planned; handed = was.handed; heard = was.heard; rows = rows ∙ was.rows };
+      over = λ other. record { planned = over.planned; handed = over.handed; heard = over.heard; rows = ap (λ (b : board.Seen). b.rows) same ∙ over.rows };
+      unwanted = unwanted had.unwanted;
+      unflushed = λ c. absurd (past c);
+      rests = λ other. record {
+        was = now;
+        is = refl;
+        error = λ none. sym (ap (λ (b : board.Seen). b.error) same) ∙ none;
+        read = ap (λ (b : board.Seen). b.read) same;
+        written = ap (λ (b : board.Seen). b.written) same;
+        zeroed = ap (λ (b : board.Seen). b.zeroed) same;
+      };
     };
-    on = λ calls on. none_on job.terms.how job.terms.sides now now' held held' keeps way calls had.how had.sides on;
+    on = λ calls on. at_rest way now now' calls held' (none_on job.terms.how job.terms.sides now now' held held' (keeps way had) way calls had.how had.sides on) (came_to_rest job way now calls held copying over had on);
   };
 })
 
--- All connections are asked to part.
-pub acts_parting : (job job' : Seen) (phase' : Phase) (now : board.Seen) (held held' : List (Held Ticket)) → job' ≡ record job { phase = phase' } → IsOver job now →
-    Keeps job.terms.how job.terms.sides [] now now held held' → Acts job job' now now held held'
-acts_parting job job' phase' now held held' is over keeps = acts_over job job' phase' now now held held' is refl refl (λ way had. over) keeps
+parting_past : Parting ≡ Copying → ⊥
+parting_past e = cc
 
-pub acts_flushed : (job job' : Seen) (phase' : Phase) (now : board.Seen) (held held' : List (Held Ticket)) → job' ≡ record job { phase = phase' } → job.phase ≡ Flushing →
+-- All connections are asked to part.
+pub acts_parting : (job job' : Seen) (now : board.Seen) (held held' : List (Held Ticket)) → job' ≡ record job { phase = Parting } → job.phase ≡ Copying → IsOver job now →
     Keeps job.terms.how job.terms.sides [] now now held held' → Acts job job' now now held held'
-acts_flushed job job' phase' now held held' is flushing keeps = acts_over job job' phase' now now held held' is refl refl (λ way had. had.over (λ e. phases_differ (sym flushing ∙ e))) keeps
+acts_parting job job' now held held' is copying over keeps = acts_concludes job job' Parting now now held held' is parting_past copying over refl (λ none. none) keeps.stand (λ way had. keeps)
+
+pub acts_flushed : (job job' : Seen) (now : board.Seen) (held held' : List (Held Ticket)) → job' ≡ record job { phase = Parting } → job.phase ≡ Flushing →
+    Keeps job.terms.how job.terms.sides [] now now held held' → Acts job job' now now held held'
+acts_flushed job job' now held held' is flushing keeps =
+    let past : job.phase ≡ Copying → ⊥ = λ e. phases_differ (sym flushing ∙ e) in
+    subst (λ (j : Seen). Acts job j now now held held') (sym is) (record {
+      stand = keeps.stand;
+      on = λ way had. record {
+        way' = way;
+        one = one_same way;
+        job' = record {
+          size = had.size;
+          how = had.how;
+          writes = had.writes;
+          sides = had.sides;
+          ends = had.ends;
+          zeros = had.zeros;
+          planned = had.planned;
+          block = had.block;
+          spared = had.spared;
+          asked = had.asked;
+          over = λ other. let was = had.over past in record { planned = was.planned; handed = was.handed; heard = was.heard; rows = was.rows };
+          unwanted = had.unwanted;
+          unflushed = λ c. absurd (parting_past c);
+          rests = λ other. had.rests past;
+        };
+        on = λ calls on. none_on job.terms.how job.terms.sides now now held held' keeps way calls had.how had.sides on;
+      };
+    })
 
 -- The destination's first connection is asked to flush.
-flush_asks : (how : How) (now now' : board.Seen) (slices : List Slice) → now' ≡ now → AsksDestination how (without_buffer (flush_of ticket.Flush 0)) slices (slices ++ []) now now'
-flush_asks how now now' slices is =
+flush_asks : (how : How) (now now' : board.Seen) (slices : List Slice) → now' ≡ record now { flushing = true } → now.flushing ≡ false → AsksDestination how (without_buffer (flush_of ticket.Flush 0)) slices (slices ++ []) now now'
+flush_asks how now now' slices is unflushed =
     let command = without_buffer (flush_of ticket.Flush 0) in
     record {
       bytes = λ _. refl;
@@ -293,21 +340,23 @@ flush_asks how now now' slices is =
         read = ap (λ (b : board.Seen). b.read) is ∙ k.read;
         written = ap (λ (b : board.Seen). b.written) is ∙ k.written ∙ ap up_to_end (sym (bytes_beside is_write link cookie ticket.Flush (asked_by command) destination refl));
         zeroed = ap (λ (b : board.Seen). b.zeroed) is ∙ k.zeroed ∙ ap up_to_end (sym (bytes_beside is_zero link cookie ticket.Flush (asked_by command) destination refl));
+        flushes = flushes_first now now' link cookie ticket.Flush (asked_by command) destination refl unflushed (ap (λ (b : board.Seen). b.flushing) is) k.flushes;
       };
     }
 
-pub acts_flushing : (job job' : Seen) (phase' : Phase) (now now' : board.Seen) (held held' : List (Held Ticket)) → job' ≡ record job { phase = phase' } → IsOver job now → now' ≡ now → IsAsked 1 (flush_of ticket.Flush 0) held held' →
+pub acts_flushing : (job job' : Seen) (now now' : board.Seen) (held held' : List (Held Ticket)) → job.terms.flush ≡ true → job' ≡ record job { phase = Flushing } → job.phase ≡ Copying → IsOver job now → now' ≡ record now { flushing = true } → IsAsked 1 (flush_of ticket.Flush 0) held held' →
     Acts job job' now now' held held'
-acts_flushing job job' phase' now now' held held' is over same asked =
-    let begun : now'.begun ≡ now.begun = ap (λ (b : board.Seen). b.begun) same in
-    acts_over job job' phase' now now' held held' is (ap (λ (b : board.Seen). b.rows) same) (ap (λ (b : board.Seen). b.how) same) (λ way had. over)
-    (destination_keeps job.terms.how job.terms.sides [] (flush_of ticket.Flush 0) now now' held held' (omega (arith, begun)) refl (record { told = ap (λ (b : board.Seen). b.told) same; mapped = ap (λ (b : board.Seen). b.mapped) same; short = ap (λ (b : board.Seen). b.short) same }) (λ slices count. flush_asks job.terms.how now now' slices same)
+acts_flushing job job' now now' held held' wanted is copying over asks asked =
+    let begun : now'.begun ≡ now.begun = ap (λ (b : board.Seen). b.begun) asks in
+    acts_concludes job job' Flushing now now' held held' is phases_differ copying over (asks ∙ ap (λ (b : board.Seen). record now { flushing = b.flushing }) (sym asks)) (λ none no. absurd (false≢true (sym no ∙ wanted))) (stand_asked 1 (flush_of ticket.Flush 0) held held' asked)
+    (λ way had. destination_keeps job.terms.how job.terms.sides [] (flush_of ticket.Flush 0) now now' held held' (omega (arith, begun)) refl (record { told = ap (λ (b : board.Seen). b.told) asks; mapped = ap (λ (b : board.Seen). b.mapped) asks; short = ap (λ (b : board.Seen). b.short) asks })
+    (λ slices count. flush_asks job.terms.how now now' slices asks (had.unflushed copying))
     (record { index = 1; side = refl; asked = asked }))
 
 -- A job begins.
 pub job_begins : (job : Seen) (way : Way) (now : board.Seen) → job.asked ≡ false → job.phase ≡ Copying → job.windows.plan.cells.zeros ≡ not job.terms.how.skip → job.windows.size ≡ job.terms.size → job.windows.grain ≡ job.terms.grain → IsLeastBlock job.terms.grain → ((blank : ℕ → Bool) → windows.IsPlanned job.windows blank []) →
-    way.size ≡ Some job.terms.size → now.how ≡ job.terms.how → way.how ≡ job.terms.how → way.sides ≡ job.terms.sides → way.slices ≡ [] → way.asked ≡ None → ((block p : ℕ) → way.whole block p ≡ false) → IsJob job way now
-job_begins job way now none copying zeros ends grain least planned z w h s blank asked unknown = record {
+    way.size ≡ Some job.terms.size → now.how ≡ job.terms.how → way.how ≡ job.terms.how → way.sides ≡ job.terms.sides → way.slices ≡ [] → way.asked ≡ None → ((block p : ℕ) → way.whole block p ≡ false) → now.flushing ≡ false → IsJob job way now
+job_begins job way now none copying zeros ends grain least planned z w h s blank asked unknown unflushed = record {
   size = z;
   how = h;
   writes = w;
@@ -319,4 +368,7 @@ job_begins job way now none copying zeros ends grain least planned z w h s blank
   spared = subst (λ (l : List Slice). IsSpared job.windows (way.whole job.windows.grain) l) (sym blank) (spared_none job.windows way.zero (way.whole job.windows.grain) [] (unknown job.windows.grain) (planned way.zero));
   asked = asked ∙ ap (λ (b : Bool). if b then windows.wanted job.windows else None) (sym none);
   over = λ other. absurd (other copying);
+  unwanted = λ no. unflushed;
+  unflushed = λ c. unflushed;
+  rests = λ other. absurd (other copying);
 }

@@ -16,6 +16,8 @@ pub mod StepLemmas
 pub mod CopierLemmas
 pub mod EndLemmas
 pub mod SummedLemmas
+pub mod RestLemmas
+pub mod FlushLemmas
 pub mod AgreeLemmas
 pub mod GroundLemmas
 pub mod FailLemmas

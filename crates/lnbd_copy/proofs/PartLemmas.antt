@@ -86,6 +86,7 @@ parts how sides now index held handle handle' adds is = record {
         sided = placed_same false way.sides on.has on.seens after (event_links index Disconnect on.seens) on.sided;
         begun = on.begun;
         stands = others_stand way on.has now calls on.seens index did.seen Disconnect on.stands did.there (record { inward = refl; unasked = refl; still = refl; spelled = tt; mode = refl }) refl;
+        rest = on.rest;
       });
 }
 
@@ -100,6 +101,7 @@ stays how sides now index held handle handle' same is = record {
     sided = on.sided;
     begun = on.begun;
     stands = on.stands;
+    rest = on.rest;
   });
 }
 
@@ -164,7 +166,7 @@ stood (suc index) (one ∷ others) (seen ∷ all) taken is at =
 filed_stands : (way : Way) (has : ℕ → Bool) (now now' : board.Seen) (calls : List wire.Call) (seens : List (Seen Ticket)) → way.asked ≡ None → Filed now now' → now.rows ≡ [] → Stands way has now calls seens → Stands way has now' calls seens
 filed_stands way has now now' calls seens unasked filed none stands =
     let same : now'.rows ≡ now.rows = filed.none none ∙ sym none in
-    unasked_moves_stand way has now now' calls seens unasked stands filed.error (record { read = filed.read; written = filed.written; zeroed = filed.zeroed }) (λ source destination. record {
+    unasked_moves_stand way has now now' calls seens unasked stands filed.error (record { read = filed.read; written = filed.written; zeroed = filed.zeroed; flushing = filed.flushing }) (λ source destination. record {
       on = λ all kept. subst (λ (r : List (ℕ × Row)). rows.Stands way.how all r source destination) (sym same) kept;
     })
 
@@ -180,6 +182,7 @@ hung_up way now now' calls held index taken is unasked filed none on =
       sided = tt;
       begun = on.begun ∙ sym filed.begun;
       stands = filed_stands way on.has now now' calls left unasked filed none (taking_stands way on.has now calls on.seens index one.seen max_unretired taken.1 on.stands one.there one.stands);
+      rest = on.rest;
     }
 
 -- A handle is taken out and closed, and its link is shut.
@@ -204,4 +207,4 @@ leaves_then now now2 now3 held held2 held3 a b c one two = record {
 
 -- A copy on its way may leave.
 pub on_leaving : (way : Way) (now : board.Seen) (calls : List wire.Call) (held : List (Held Ticket)) → IsOn way now calls held → IsLeaving way now calls held
-on_leaving way now calls held on = record { has = on.has; seens = on.seens; at = on.at; sided = tt; begun = on.begun; stands = on.stands }
+on_leaving way now calls held on = record { has = on.has; seens = on.seens; at = on.at; sided = tt; begun = on.begun; stands = on.stands; rest = on.rest }

@@ -36,14 +36,14 @@ module _ (way : Way) (has : ℕ → Bool) where
     told = subst (λ (o : Option (ℕ × ℕ)). course.Told way.how has way.slices now [] [] o (known_of way)) (sym unasked) (subst (λ (l : List Slice). course.Told way.how has l now [] [] None (known_of way)) (sym none) (nothing_is_told way.how has now (known_of way) empty uncounted unknown));
   }
 
-  pub settling_stands : (how : How) (now now' : board.Seen) (calls : List wire.Call) (seens : List (Seen Ticket)) → way.slices ≡ [] → way.asked ≡ None → Stands way has now calls seens → now.rows ≡ [] → now.error ≡ None → now'.rows ≡ [] → HasNotCounted now' →
+  pub settling_stands : (how : How) (now now' : board.Seen) (calls : List wire.Call) (seens : List (Seen Ticket)) → way.slices ≡ [] → way.asked ≡ None → Stands way has now calls seens → now.rows ≡ [] → now.error ≡ None → now.flushing ≡ false → now'.rows ≡ [] → HasNotCounted now' →
       Stands (record way { how = how }) has now' calls seens
-  settling_stands how now now' calls seens none unasked s empty well empty' uncounted = record {
+  settling_stands how now now' calls seens none unasked s empty well unflushed empty' uncounted = record {
     between = subst (λ (l : List Slice). Between way.from way.to way.size how has l now' calls seens) (sym none)
-        (settling_keeps_between way.from way.to way.size way.how how has now now' calls seens (subst (λ (l : List Slice). Between way.from way.to way.size way.how has l now calls seens) none s.between) empty well empty' uncounted);
+        (settling_keeps_between way.from way.to way.size way.how how has now now' calls seens (subst (λ (l : List Slice). Between way.from way.to way.size way.how has l now calls seens) none s.between) empty well unflushed empty' uncounted);
     told = subst (λ (o : Option (ℕ × ℕ)). course.Told how has way.slices now' calls seens o (known_of way)) (sym unasked) (subst (λ (l : List Slice). course.Told how has l now' calls seens None (known_of way)) (sym none)
         (settling_tells way.how how has now now' calls seens (known_of way)
-        (subst (λ (o : Option (ℕ × ℕ)). course.Told way.how has [] now calls seens o (known_of way)) unasked (subst (λ (l : List Slice). course.Told way.how has l now calls seens way.asked (known_of way)) none s.told)) empty well empty' uncounted));
+        (subst (λ (o : Option (ℕ × ℕ)). course.Told way.how has [] now calls seens o (known_of way)) unasked (subst (λ (l : List Slice). course.Told way.how has l now calls seens way.asked (known_of way)) none s.told)) empty well unflushed empty' uncounted));
   }
 
   pub turns_stand : (now now' : board.Seen) (calls part : List wire.Call) (before after : List (Seen Ticket)) (moved : Option ℕ) → Stands way has now calls before → Turns (OneByOne board.Files) before now part after now' (Whole moved) →

@@ -6,6 +6,7 @@ use Rattle.lnbd_callbacks.specs.Steps.{OneByOne}
 use Rattle.lnbd_history.specs.Commands.{Command}
 use Rattle.lnbd_history.specs.Events.{Event, History, Arrived, End, Issue, LinkFailed}
 use Rattle.lnbd_link.specs.declared.wires.Want.{Want}
+use Rattle.lnbd_model.specs.declared.target.Place.{Place}
 use Rattle.lnbd_link.specs.Call as wire
 use Rattle.lnbd_link.specs.Call.{ReadTold, Moved, Unready, Ended, ReadFault}
 use Rattle.lnbd_link.specs.Numbers.{is_given}
@@ -30,7 +31,7 @@ use Rattle.lnbd_board.specs.Files as board
 use Rattle.lnbd_course.specs.Taken.{without_buffer}
 use Rattle.lnbd_copy.specs.Asked.{IsAsked}
 use Rattle.lnbd_copy.specs.declared.sides.Sides.{Sides}
-use Rattle.lnbd_copy.specs.Way.{ArePlaced, Filed, Goes, IsOn, IsUnderWay, Keeps, Since, Stand, Told, Way, with_slices}
+use Rattle.lnbd_copy.specs.Way.{ArePlaced, Filed, Goes, HasRested, IsOn, IsUnderWay, Keeps, Since, Stand, Told, Way, with_slices}
 use Rattle.lnbd_copy.proofs.FiledLemmas.{filed_none, filed_then, plays_filed}
 use Rattle.lnbd_copy.proofs.StepLemmas.{calls_stand, turns_stand}
 
@@ -158,6 +159,13 @@ turns_led before now part after now' ending (Runs_short _ _ _ _ _ _ seen others 
       filed = led.filed;
     }
 
+-- Calls that come later leave a copy at rest.
+pub rested_on : (from to : Place) (size : Option ℕ) (rested : Option board.Seen) (calls more : List wire.Call) → HasRested from to size rested calls → HasRested from to size rested (calls ++ more)
+rested_on from to size None calls more rest = tt
+rested_on from to size (Some was) calls more rest = λ bytes is room well two.
+    let r = rest bytes is room well two in
+    record { before = r.before; after = r.after ++ more; parts = ap (λ (l : List wire.Call). l ++ more) r.parts ∙ append_assoc r.before r.after more; sums = r.sums; done = r.done; unflushed = r.unflushed }
+
 -- A turn.
 
 turned : (parting : Bool) (way : Way) (now now' : board.Seen) (calls part : List wire.Call) (held held' : List (Held Ticket)) (after : List (Seen Ticket)) (moved : Option ℕ)
@@ -171,6 +179,7 @@ turned parting way now now' calls part held held' after moved on turns at =
       sided = placed_same parting way.sides on.has on.seens after led.links on.sided;
       begun = on.begun ∙ sym led.filed.begun;
       stands = turns_stand way on.has now now' calls part on.seens after moved on.stands turns;
+      rest = rested_on way.from way.to way.size way.rested calls part on.rest;
     }
 
 -- The calls since the start go on.
@@ -209,6 +218,7 @@ called parting way now calls more held none given on = record {
   sided = on.sided;
   begun = on.begun;
   stands = calls_stand way on.has now calls more on.seens on.stands none given;
+  rest = rested_on way.from way.to way.size way.rested calls more on.rest;
 }
 
 -- Where the transcript is told, what a call leads from leads on.

@@ -178,7 +178,7 @@ parting_differs e = cc
 flushing_differs : Flushing ≡ Copying → ⊥
 flushing_differs e = cc
 
-pub flushing_past : (j : work.Seen) (now now' : board.Seen) → j.phase ≡ Flushing → now' ≡ now → IsPast j now now'
+pub flushing_past : (j : work.Seen) (now now' : board.Seen) → j.phase ≡ Flushing → now' ≡ record now { flushing = true } → IsPast j now now'
 flushing_past j now now' at same = record { past = λ copying. flushing_differs (sym at ∙ copying); rows = ap (λ (s : board.Seen). s.rows) same }
 
 pub parting_past : (j : work.Seen) (now now' : board.Seen) → j.phase ≡ Parting → now' ≡ now → IsPast j now now'

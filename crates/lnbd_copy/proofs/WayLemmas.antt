@@ -53,6 +53,7 @@ asked_on way calls more now now' held held' index command on begun was stands = 
   sided = sided_after way.sides on.has index (Issue (without_buffer command)) on.seens on.sided;
   begun = length-append way.slices more ∙ ap (λ n. n + length more) on.begun ∙ sym begun;
   stands = stands;
+  rest = on.rest;
 }
 
 -- The board went on, and nothing was asked.
@@ -65,6 +66,7 @@ moved_on way calls now now' held on begun stands = record {
   sided = on.sided;
   begun = on.begun ∙ sym begun;
   stands = stands;
+  rest = on.rest;
 }
 
 -- as far as with no slices more

@@ -1,5 +1,5 @@
 -- What the first handle of each side was told.
-use Rattle.std.specs.Prelude.{◌≡◌, ◌<◌, ◌≤◌, ℕ, List, Some, slice_get}
+use Rattle.std.specs.Prelude.{◌≡◌, ◌<◌, ◌≤◌, ℕ, false, List, Some, slice_get}
 use Rattle.lnbd_asked.specs.Exports.{WasTold}
 use Rattle.lnbd_handle.specs.Histories.{ForEach}
 use Rattle.lnbd_history.specs.Answers.{direction_after, state_after}
@@ -8,7 +8,6 @@ use Rattle.lnbd_model.specs.declared.state.State.TheVariants as state
 use Rattle.lnbd_plan.specs.declared.options.CopyOptions.{CopyOptions}
 use Rattle.lnbd_poll.specs.Held.{Held, AreAt}
 use Rattle.lnbd_poll.specs.Seen.{Seen}
-use Rattle.lnbd_board.specs.declared.how.How.{How}
 use Rattle.lnbd_board.specs.declared.ticket.Ticket.{Ticket}
 use Rattle.lnbd_copy.specs.declared.terms.Terms.{Terms}
 use Rattle.lnbd_copy.specs.Limit.{IsLimited}
@@ -42,14 +41,15 @@ pub record HaveAgreed (size : ℕ) (seens : List (Seen Ticket)) : Type 0 where
 pub record Agrees (size : ℕ) (held : List (Held Ticket)) : Type 0 where
   pub on : (seens : List (Seen Ticket)) → AreAt held seens → HaveAgreed size seens
 
--- The copy writes as its options say.
-pub record IsWished (options : CopyOptions) (how : How) : Type 0 where
-  pub skip : how.skip ≡ options.destination_is_zero
-  pub allocated : how.allocated ≡ options.allocated
+-- The copy writes as its options say, and flushes only where they want that.
+pub record IsWished (options : CopyOptions) (terms : Terms) : Type 0 where
+  pub skip : terms.how.skip ≡ options.destination_is_zero
+  pub allocated : terms.how.allocated ≡ options.allocated
+  pub unflushed : options.flush ≡ false → terms.flush ≡ false
 
 -- What both sides settle by these options: the source's size, how the copy writes, and how many connections it has.
 pub record AreAgreed (options : CopyOptions) (terms : Terms) (held : List (Held Ticket)) : Type 0 where
   pub size : Agrees terms.size held
-  pub wished : IsWished options terms.how
+  pub wished : IsWished options terms
   pub limited : IsLimited options terms
   pub some : 0 < terms.sides.source

@@ -10,6 +10,7 @@ use Rattle.lnbd_board.specs.Files as board
 use Rattle.lnbd_course.specs.Asks.{HasAskedOnce, WereDone}
 use Rattle.lnbd_course.specs.Copied.{Copied}
 use Rattle.lnbd_course.specs.Counted.{HasNotCounted}
+use Rattle.lnbd_course.specs.Flushes.{IsUnflushed}
 use Rattle.lnbd_course.specs.Spares.{SparesZeros}
 use Rattle.lnbd_copy.specs.declared.copier.Progress.{Progress}
 use Rattle.lnbd_copy.specs.declared.copier.Progress.TheVariants as progress
@@ -44,18 +45,19 @@ pub record HasNotBegun (copy : Seen) : Type 0 where
 
 -- no slice is begun, of a copy that writes so
 abbrev pub beginning : Seen → (size : Option ℕ) → How → Sides → Way
-beginning copy size how sides = record { from = copy.from; to = copy.to; size = size; how = how; sides = sides; slices = []; zero = λ p. false; whole = λ block p. false; asked = None }
+beginning copy size how sides = record { from = copy.from; to = copy.to; size = size; how = how; sides = sides; slices = []; zero = λ p. false; whole = λ block p. false; asked = None; rested = None }
 
--- no slice was begun
+-- No slice was begun, and no flush asked for.
 pub record IsBlank (now : board.Seen) : Type 0 where
   pub rows : now.rows ≡ []
   pub begun : now.begun ≡ 0
+  pub unflushed : now.flushing ≡ false
 
 -- Connections stand, and no slice is begun, of a copy that is to be made so.
 pub record HasMet (copy : Seen) (start told : Option (List wire.Call)) (terms : Terms) : Type 0 where
   pub stand : Stand copy.held
   pub blank : IsBlank copy.board
-  pub wished : IsWished copy.options terms.how
+  pub wished : IsWished copy.options terms
   pub limited : IsLimited copy.options terms
   pub on : Told start told (λ calls. IsOn (beginning copy (Some terms.size) terms.how terms.sides) copy.board calls copy.held)
 
@@ -76,7 +78,7 @@ pub record IsOnItsWay (start told : Option (List wire.Call)) (copy : Seen) : Typ
   pub way : Way
   pub from : way.from ≡ copy.from
   pub to : way.to ≡ copy.to
-  pub wished : IsWished copy.options job.terms.how
+  pub wished : IsWished copy.options job.terms
   -- no more slices are begun and not over than may be
   pub limited : IsLimited copy.options job.terms
   pub most : length copy.board.rows ≤ job.terms.limit
@@ -100,13 +102,14 @@ pub record IsParting (copy : Seen) : Type 0 where
   pub there : copy.job ≡ Some job
   pub parts : work.is_parting job.phase ≡ true
 
--- It is finished: each connection has parted, and its calls copied, asked nothing twice, and all of it was done, if it was from one place to another.
+-- It is finished: each connection has parted, and its calls copied, asked nothing twice, and all of it was done, if it was from one place to another. Where its options want no flush none was asked for.
 pub record IsDone (start told : Option (List wire.Call)) (copy : Seen) : Type 0 where
   pub parted : copy.held ≡ []
   pub asked : copy.from ≢ copy.to → Told start told (HasAskedOnce copy.options.allocated copy.from copy.to)
   pub done : copy.from ≢ copy.to → Told start told (WereDone copy.from copy.to)
   pub spares : copy.from ≢ copy.to → Told start told (SparesZeros copy.from)
   pub copied : copy.from ≢ copy.to → Told start told (Copied copy.from copy.to copy.options.destination_is_zero)
+  pub unflushed : copy.options.flush ≡ false → copy.from ≢ copy.to → Told start told (IsUnflushed copy.to)
 
 -- After a turn it is on its way still, or it is finished.
 abbrev pub HasTurned : (start told : Option (List wire.Call)) → Seen → Progress → Type 0

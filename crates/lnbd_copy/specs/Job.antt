@@ -34,6 +34,15 @@ pub record IsOver (job : Seen) (now : board.Seen) : Type 0 where
   pub heard : job.asked ≡ false
   pub rows : now.rows ≡ []
 
+-- All was asked and done when the copy's board was another, to which nothing was added since.
+pub record RestsSince (rested : Option board.Seen) (now : board.Seen) : Type 0 where
+  pub was : board.Seen
+  pub is : rested ≡ Some was
+  pub error : now.error ≡ None → was.error ≡ None
+  pub read : now.read ≡ was.read
+  pub written : now.written ≡ was.written
+  pub zeroed : now.zeroed ≡ was.zeroed
+
 -- A copy that is so far has this job.
 pub record IsJob (job : Seen) (way : Way) (now : board.Seen) : Type 0 where
   pub size : way.size ≡ Some job.terms.size
@@ -47,6 +56,9 @@ pub record IsJob (job : Seen) (way : Way) (now : board.Seen) : Type 0 where
   pub spared : IsSpared job.windows (way.whole job.windows.grain) way.slices
   pub asked : way.asked ≡ (if job.asked then windows.wanted job.windows else None)
   pub over : job.phase ≢ Copying → IsOver job now
+  pub unwanted : job.terms.flush ≡ false → now.flushing ≡ false
+  pub unflushed : job.phase ≡ Copying → now.flushing ≡ false
+  pub rests : job.phase ≢ Copying → RestsSince way.rested now
 
 -- What was settled of a copy holds of its windows and of the connections that slices are bound to.
 pub record IsSettled (terms : Terms) (planned : windows.Seen) (sides : Sides) : Type 0 where

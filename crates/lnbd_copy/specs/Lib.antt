@@ -14,3 +14,4 @@ pub mod Agreed
 pub mod Grounds
 pub mod Copier
 pub mod Summed
+pub mod Flushed

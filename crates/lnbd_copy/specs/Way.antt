@@ -1,5 +1,5 @@
 -- What stands between two steps of a copy: by what its handles were asked and told so far, what its board holds is so.
-use Rattle.std.specs.Prelude.{◌≡◌, ℕ, Bool, true, false, ◌&&◌, ◌||◌, ◌==◌, nat_lt, nat_le, List, [], ◌++◌, length, Option, Some, None, slice_get}
+use Rattle.std.specs.Prelude.{◌≡◌, ◌≢◌, ◌≤◌, ℕ, Bool, true, false, ◌&&◌, ◌||◌, ◌==◌, nat_lt, nat_le, List, [], ◌++◌, length, Option, Some, None, slice_get}
 use Rattle.lnbd_model.specs.declared.target.Place.{Place}
 use Rattle.lnbd_link.specs.Call as wire
 use Rattle.lnbd_poll.specs.Held.{Held, AreAt}
@@ -9,6 +9,8 @@ use Rattle.lnbd_board.specs.declared.how.How.{How}
 use Rattle.lnbd_board.specs.declared.ticket.Ticket.{Ticket}
 use Rattle.lnbd_board.specs.Files as board
 use Rattle.lnbd_course.specs.Between.{Between}
+use Rattle.lnbd_course.specs.Counts.{summary_of}
+use Rattle.lnbd_course.specs.Flushes.{CameToRest}
 use Rattle.lnbd_course.specs.Told as course
 use Rattle.lnbd_copy.specs.declared.sides.Sides.{Sides}
 
@@ -48,6 +50,8 @@ pub record Way : Type 0 where
   pub whole : (block p : ℕ) → Bool
   -- the range whose extents were asked for, until they are heard: where it begins, and its length
   pub asked : Option (ℕ × ℕ)
+  -- its board, when all was asked and done
+  pub rested : Option board.Seen
 
 -- what is known of the source's zeros
 abbrev pub known_of : Way → course.Known
@@ -59,6 +63,11 @@ pub record Stands (way : Way) (has : ℕ → Bool) (now : board.Seen) (calls : L
   pub between : Between way.from way.to way.size way.how has way.slices now calls seens
   pub told : course.Told way.how has way.slices now calls seens way.asked (known_of way)
 
+-- Where all was asked and done when a copy's board was this, it came to rest by these calls. (A size has 64 bits, the two exports are two, and no error was told.)
+abbrev pub HasRested : (from to : Place) → Option ℕ → Option board.Seen → List wire.Call → Type 0
+HasRested from to size None calls = Unit {0}
+HasRested from to size (Some was) calls = (bytes : ℕ) → size ≡ Some bytes → bytes ≤ 18446744073709551615 → was.error ≡ None → from ≢ to → CameToRest from to (summary_of bytes was) calls
+
 -- After these calls of its own a copy is so far, its board is this, and these are its handles. Once it is parting they are taken out one by one.
 pub record IsUnderWay (parting : Bool) (way : Way) (now : board.Seen) (calls : List wire.Call) (held : List (Held Ticket)) : Type 0 where
   -- the links of the source
@@ -68,6 +77,7 @@ pub record IsUnderWay (parting : Bool) (way : Way) (now : board.Seen) (calls : L
   pub sided : ArePlaced parting way.sides has seens
   pub begun : length way.slices ≡ now.begun
   pub stands : Stands way has now calls seens
+  pub rest : HasRested way.from way.to way.size way.rested calls
 
 -- So it is while each connection that was made is held,
 abbrev pub IsOn : Way → board.Seen → List wire.Call → List (Held Ticket) → Type 0
@@ -108,6 +118,7 @@ pub record Filed (old new : board.Seen) : Type 0 where
   pub read : new.read ≡ old.read
   pub written : new.written ≡ old.written
   pub zeroed : new.zeroed ≡ old.zeroed
+  pub flushing : new.flushing ≡ old.flushing
 
 -- A step with calls on the wires keeps a copy on its way, if its handles stand for histories: so many stand still, and the board has what their callbacks were told.
 pub record Goes (now : board.Seen) (held : List (Held Ticket)) (told : Option (List wire.Call)) (now' : board.Seen) (held' : List (Held Ticket)) (told' : Option (List wire.Call)) : Type 0 where

@@ -5,10 +5,12 @@ ghost use Rattle.lnbd_link.specs.Call.{Call};
 ghost use Rattle.lnbd_course.specs.Asks.{GrewBy, HasAskedOnce, WereDone};
 ghost use Rattle.lnbd_course.specs.Copied.{Copies};
 ghost use Rattle.lnbd_course.specs.Counts.{Summarizes};
+ghost use Rattle.lnbd_course.specs.Flushes.{FlushesLast, IsUnflushed};
 ghost use Rattle.lnbd_course.specs.Spares.{IsLeastBlock, SparesZeros};
 ghost use Rattle.lnbd_copy.specs.Agreed.{AreQuiet};
 ghost use Rattle.lnbd_copy.specs.Causes.{GoesOn, HasCause};
 ghost use Rattle.lnbd_copy.specs.Copier.{GoesFurther, HasJob, HasMet, HasNotBegun, HasTurned, IsDone, IsGoing, IsOnItsWay, IsParting, Seen};
+ghost use Rattle.lnbd_copy.specs.Flushed.{HasFlushed};
 ghost use Rattle.lnbd_copy.specs.Grounds.{FailsOn, IsGrounded, Lasts, needs_no_ground};
 ghost use Rattle.lnbd_copy.specs.declared.terms.Terms.{Terms as Settled};
 ghost use Rattle.lnbd_copy.specs.Opening.{Dials};
@@ -311,6 +313,8 @@ impl Copier {
 
         // Where it is finished, the summary says what its calls asked.
         ensures sums { IfOk result (λ told. (start : Option (List Call)) → IsOnItsWay start (W.told wires.old) self.old → HasSummed start (W.told wires.new) self.new told) }
+        // Then no flush was asked for before all else was done, and one at most.
+        ensures flushes { IfOk result (λ told. (start : Option (List Call)) → IsOnItsWay start (W.told wires.old) self.old → HasFlushed start (W.told wires.new) self.new told) }
         // While slices are copied, as much is under way as may be.
         ensures busy { OnOk result (IsBusy self.new.job self.new.board) }
 
@@ -341,6 +345,7 @@ impl Copier {
         ensures turns { IfOk result (λ told. (start : Option (List Call)) → IsOnItsWay start (W.told wires.old) self.old → HasTurned start (W.told wires.new) self.new told) }
         ensures sums { IfOk result (λ told. (start : Option (List Call)) → IsOnItsWay start (W.told wires.old) self.old → HasSummed start (W.told wires.new) self.new told) }
         ensures busy { OnOk result (IsBusy self.new.job self.new.board) }
+        ensures flushes { IfOk result (λ told. (start : Option (List Call)) → IsOnItsWay start (W.told wires.old) self.old → HasFlushed start (W.told wires.new) self.new told) }
         ensures asks { OnOk result ((start : Option (List Call)) → IsOnItsWay start (W.told wires.old) self.old → self.new.from ≢ self.new.to → Told start (W.told wires.new) (HasAskedOnce self.new.options.allocated self.new.from self.new.to)) }
         ensures causes { IfErr result (λ told. HasCause self.old.start (W.faults wires.new) (W.idles wires.new) told) }
         ensures grounds { IfErr result (λ told. (start : Option (List Call)) → IsOnItsWay start (W.told wires.old) self.old → IsGrounded start (W.told wires.new) self.old.from self.old.to told) }
@@ -449,9 +454,12 @@ impl Copier {
         // For blocks of a size that the smallest of an export may have: none was read of the source that one answer told as
         // zero whole.
         ensures spares { self.from ≢ self.to → OnOk result (GrewBy (SparesZeros self.from) (W.told wires.old) (W.told wires.new)) }
+        // The destination was asked to flush once at most, and only when all else was asked and done; and not at all where that
+        // is not wanted.
+        ensures flushes { self.from ≢ self.to → IfOk result (λ told. GrewBy (FlushesLast self.from self.to told) (W.told wires.old) (W.told wires.new)) }
+        ensures unflushed { self.options.flush ≡ false → self.from ≢ self.to → OnOk result (GrewBy (IsUnflushed self.to) (W.told wires.old) (W.told wires.new)) }
         // What the calls show of a fault.
         ensures grounds { IfErr result (λ told. IsGrounded (W.told wires.old) (W.told wires.new) self.from self.to told) }
-
         // The counts, and what they show of a fault.
         ensures causes { IfErr result (λ told. HasCause (record { faults = W.faults wires.old; idles = W.idles wires.old }) (W.faults wires.new) (W.idles wires.new) told) }
         ensures counts { GoesOn (W.faults wires.old) (W.faults wires.new) (W.idles wires.old) (W.idles wires.new) (W.contents wires.old) (W.contents wires.new) }
@@ -469,6 +477,7 @@ impl Copier {
         ensures kept { self.new ≡ record self.old { start = self.new.start; held = self.new.held; board = self.new.board; job = self.new.job } }
         ensures done { OnOk result (IsDone (W.told wires.old) (W.told wires.new) self.new) }
         ensures sums { IfOk result (λ told. self.new.from ≢ self.new.to → Told (W.told wires.old) (W.told wires.new) (Summarizes self.new.from self.new.to told)) }
+        ensures flushes { IfOk result (λ told. self.new.from ≢ self.new.to → Told (W.told wires.old) (W.told wires.new) (FlushesLast self.new.from self.new.to told)) }
         ensures causes { IfErr result (λ told. HasCause (record { faults = W.faults wires.old; idles = W.idles wires.old }) (W.faults wires.new) (W.idles wires.new) told) }
         ensures grounds { IfErr result (λ told. IsGrounded (W.told wires.old) (W.told wires.new) self.old.from self.old.to told) }
         ensures counts { GoesOn (W.faults wires.old) (W.faults wires.new) (W.idles wires.old) (W.idles wires.new) (W.contents wires.old) (W.contents wires.new) }
@@ -524,6 +533,7 @@ impl Copier {
 fn progress_of(moved: Turn, acted: bool) -> Progress
     ensures on { (start told : Option (List Call)) (copy : Seen) → IsOnItsWay start told copy → HasTurned start told copy result }
     ensures sums { (start told : Option (List Call)) (copy : Seen) → HasSummed start told copy result }
+    ensures flushes { (start told : Option (List Call)) (copy : Seen) → HasFlushed start told copy result }
 {
     match moved {
         Turn::Moved(count) => Progress::Moved(count),

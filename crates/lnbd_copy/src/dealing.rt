@@ -182,11 +182,12 @@ pub(crate) fn ask_extents(
 /// Asks the destination's first connection to flush.
 pub(crate) fn ask_flush(handles: &mut Handles<Ticket>, board: &mut Board) -> Result<(), NoMemory>
     ensures asked { OnOk result (IsAsked 1 (flush_of ticket.Flush 0) handles.old handles.new) }
-    ensures board { OnOk result (board.new ≡ board.old) }
+    ensures board { OnOk result (board.new ≡ record board.old { flushing = true }) }
 {
     if FIRST_DESTINATION >= handles.len() {
         return Err(NoMemory);
     }
+    board.begin_flush();
     let answer = handles
         .get_mut(FIRST_DESTINATION)
         .aio_flush(Ticket::Flush, 0, board);

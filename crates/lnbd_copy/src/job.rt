@@ -65,7 +65,7 @@ impl Job {
         requires size { terms.size ≤ 2 ^ 63 }
         ensures terms { IfOk result (λ job. job.terms ≡ terms) }
         ensures begins { IfOk result (λ job. job.phase ≡ phase.Copying) }
-        ensures job { IfOk result (λ job. (way : Way) (now : Kept) → way.size ≡ Some terms.size → now.how ≡ terms.how → way.how ≡ terms.how → way.sides ≡ terms.sides → way.slices ≡ [] → way.asked ≡ None → ((block p : ℕ) → way.whole block p ≡ false) → IsJob job way now) }
+        ensures job { IfOk result (λ job. (way : Way) (now : Kept) → way.size ≡ Some terms.size → now.how ≡ terms.how → way.how ≡ terms.how → way.sides ≡ terms.sides → way.slices ≡ [] → way.asked ≡ None → ((block p : ℕ) → way.whole block p ≡ false) → now.flushing ≡ false → IsJob job way now) }
     {
         let bindings = Bindings::new(alloc, terms)?;
         let windows = first_windows(alloc, terms, extents)?;
@@ -233,6 +233,7 @@ impl Job {
         ensures acts { OnOk result (Acts self.old self.new board.old board.new handles.old handles.new) }
         ensures terms { self.new.terms ≡ self.old.terms }
         ensures fills { OnOk result (HasFilled self.old self.new board.old board.new) }
+        ensures phase { self.new.phase ≡ self.old.phase }
     {
         let begun = self
             .bindings
@@ -251,7 +252,8 @@ impl Job {
 
     /// Asks for the flush, where it is wanted, or else for the end.
     fn conclude(&mut self, handles: &mut Handles<Ticket>, board: &mut Board) -> Result<(), NoMemory>
-        requires { IsOver self.old board.old }
+        requires over { IsOver self.old board.old }
+        requires copying { self.old.phase ≡ phase.Copying }
         ensures acts { OnOk result (Acts self.old self.new board.old board.new handles.old handles.new) }
         ensures terms { self.new.terms ≡ self.old.terms }
         ensures past { OnOk result (IsPast self.new board.old board.new) }

@@ -158,7 +158,7 @@ pub(crate) fn settled(options: CopyOptions, source: &ExportInfo, destination: &E
     ensures cells { (0 < result.cell) × (0 < result.zero_cell) × (0 < result.grain) }
     ensures block { IsLeastBlock result.grain }
     ensures size { result.size ≡ source.now.size }
-    ensures wished { IsWished options result.how }
+    ensures wished { IsWished options result }
     ensures limited { IsLimited options result }
     ensures some { 0 < result.sides.source }
 {

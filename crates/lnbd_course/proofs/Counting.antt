@@ -26,7 +26,7 @@ use Rattle.lnbd_board.specs.declared.row.Row.{Row}
 use Rattle.lnbd_board.specs.Rows.{AsksOfDestination, AsksOfSource, Stands}
 use Rattle.lnbd_tracks.specs.Tracks.{AllTrack, Happens, Histories, is_issue, request_of, under}
 use Rattle.lnbd_tracks.proofs.Unfiled.{request_stays}
-use Rattle.lnbd_course.specs.Counted.{CountsSame, HasNotCounted, IsCounted, bytes_of, is_zero, up_to_end}
+use Rattle.lnbd_course.specs.Counted.{CountsSame, HasNotCounted, IsCounted, bytes_of, flushes_of, is_flush, is_zero, total, up_to_end}
 
 -- the commands of a list
 abbrev commands : List Request → List (Command Nobody)
@@ -89,23 +89,20 @@ same_first c d cs ds e = cc
 same_others : (c d : Command Nobody) (cs ds : List (Command Nobody)) → c ∷ cs ≡ d ∷ ds → cs ≡ ds
 same_others c d cs ds e = cc
 
-module _ (counts : Kind → Bool) where
-  abbrev weight : Command Nobody → ℕ
-  weight c = cond (counts c.kind) c.length 0
-
+module _ (weight : Command Nobody → ℕ) where
   swap : (a b c : ℕ) → a + (b + c) ≡ b + (a + c)
   swap a b c = omega arith
 
-  bytes_less : (link cookie : ℕ) (c : Command Nobody) (cs : List (Command Nobody)) (xs : List Request) → commands (under link cookie xs) ≡ c ∷ cs → bytes_of counts xs ≡ weight c + bytes_of counts (less link cookie xs)
-  bytes_less link cookie c cs [] e = absurd (no_first c cs e)
-  bytes_less link cookie c cs (x ∷ xs) e = elim (key x.link x.cookie link cookie) [
+  total_less : (link cookie : ℕ) (c : Command Nobody) (cs : List (Command Nobody)) (xs : List Request) → commands (under link cookie xs) ≡ c ∷ cs → total weight xs ≡ weight c + total weight (less link cookie xs)
+  total_less link cookie c cs [] e = absurd (no_first c cs e)
+  total_less link cookie c cs (x ∷ xs) e = elim (key x.link x.cookie link cookie) [
     | Same l k is ↦
         let first : x.said.command ≡ c = same_first x.said.command c (commands (under link cookie xs)) cs (sym (ap commands (under_here link cookie x xs is)) ∙ e) in
-        ap (λ (d : Command Nobody). weight d + bytes_of counts xs) first ∙ ap (λ (l : List Request). weight c + bytes_of counts l) (sym (less_here link cookie x xs is))
+        ap (λ (d : Command Nobody). weight d + total weight xs) first ∙ ap (λ (l : List Request). weight c + total weight l) (sym (less_here link cookie x xs is))
     | Apart not ↦
-        ap (λ (n : ℕ). weight x.said.command + n) (bytes_less link cookie c cs xs (sym (ap commands (under_other link cookie x xs not)) ∙ e))
-        ∙ swap (weight x.said.command) (weight c) (bytes_of counts (less link cookie xs))
-        ∙ ap (λ (l : List Request). weight c + bytes_of counts l) (sym (less_other link cookie x xs not))
+        ap (λ (n : ℕ). weight x.said.command + n) (total_less link cookie c cs xs (sym (ap commands (under_other link cookie x xs not)) ∙ e))
+        ∙ swap (weight x.said.command) (weight c) (total weight (less link cookie xs))
+        ∙ ap (λ (l : List Request). weight c + total weight l) (sym (less_other link cookie x xs not))
   ]
 
 under_less : (link cookie : ℕ) (c : Command Nobody) (cs : List (Command Nobody)) (xs : List Request) → commands (under link cookie xs) ≡ c ∷ cs → commands (under link cookie (less link cookie xs)) ≡ cs
@@ -147,14 +144,14 @@ none_alike y ys h = elim (key y.link y.cookie y.link y.cookie) [
 is_itself : (x : Request) → is_at x.link x.cookie x ≡ true
 is_itself x = ap (λ (k : Bool). k && (x.cookie == x.cookie)) (eq-eqb x.link x.link refl) ∙ eq-eqb x.cookie x.cookie refl
 
-pub same_bytes : (counts : Kind → Bool) (one other : List Request) → AskAlike one other → bytes_of counts one ≡ bytes_of counts other
-same_bytes counts [] [] h = refl
-same_bytes counts [] (y ∷ ys) h = absurd (none_alike y ys h)
-same_bytes counts (x ∷ xs) other h =
+pub same_total : (weight : Command Nobody → ℕ) (one other : List Request) → AskAlike one other → total weight one ≡ total weight other
+same_total weight [] [] h = refl
+same_total weight [] (y ∷ ys) h = absurd (none_alike y ys h)
+same_total weight (x ∷ xs) other h =
     let here : commands (under x.link x.cookie other) ≡ x.said.command ∷ commands (under x.link x.cookie xs) = sym (h x.link x.cookie) ∙ ap commands (under_here x.link x.cookie x xs (is_itself x)) in
-    ap (λ (n : ℕ). cond (counts x.said.command.kind) x.said.command.length 0 + n)
-    (same_bytes counts xs (less x.link x.cookie other) (rest here))
-    ∙ sym (bytes_less counts x.link x.cookie x.said.command (commands (under x.link x.cookie xs)) other here)
+    ap (λ (n : ℕ). weight x.said.command + n)
+    (same_total weight xs (less x.link x.cookie other) (rest here))
+    ∙ sym (total_less weight x.link x.cookie x.said.command (commands (under x.link x.cookie xs)) other here)
   where
     rest : commands (under x.link x.cookie other) ≡ x.said.command ∷ commands (under x.link x.cookie xs) → AskAlike xs (less x.link x.cookie other)
     rest here link cookie = elim (key x.link x.cookie link cookie) [
@@ -164,6 +161,12 @@ same_bytes counts (x ∷ xs) other h =
           (sym (under_less x.link x.cookie x.said.command (commands (under x.link x.cookie xs)) other here)))
       | Apart not ↦ sym (ap commands (under_other link cookie x xs not)) ∙ h link cookie ∙ sym (under_beside x.link x.cookie link cookie other not)
     ]
+
+pub same_bytes : (counts : Kind → Bool) (one other : List Request) → AskAlike one other → bytes_of counts one ≡ bytes_of counts other
+same_bytes counts one other h = same_total (λ command. cond (counts command.kind) command.length 0) one other h
+
+same_flushes : (one other : List Request) → AskAlike one other → flushes_of one ≡ flushes_of other
+same_flushes one other h = same_total (λ command. cond (is_flush command.kind) 1 0) one other h
 
 -- What handles were asked.
 
@@ -196,31 +199,31 @@ all_alike histories one other a b = same_alike histories histories one other a b
 -- Callbacks count nothing.
 
 same_none : (now : board.Seen) → CountsSame now now
-same_none now = record { read = refl; written = refl; zeroed = refl }
+same_none now = record { read = refl; written = refl; zeroed = refl; flushing = refl }
 
 same_then : (a b c : board.Seen) → CountsSame a b → CountsSame b c → CountsSame a c
-same_then a b c one two = record { read = two.read ∙ one.read; written = two.written ∙ one.written; zeroed = two.zeroed ∙ one.zeroed }
+same_then a b c one two = record { read = two.read ∙ one.read; written = two.written ∙ one.written; zeroed = two.zeroed ∙ one.zeroed; flushing = two.flushing ∙ one.flushing }
 
 same_is : (old new : board.Seen) → new ≡ old → CountsSame old new
 same_is old new is = subst (CountsSame old) (sym is) (same_none old)
 
 slice_same : (unfit : Bool) (n : ℕ) (buf : List ℕ) (old : board.Seen)
     → CountsSame old (if unfit then record old { error = or_error old.error 71 } else record old { rows = rows_with (value_at n old.rows) n buf old.rows; came = came_with (value_at n old.rows) n old.came })
-slice_same true n buf old = record { read = refl; written = refl; zeroed = refl }
-slice_same false n buf old = record { read = refl; written = refl; zeroed = refl }
+slice_same true n buf old = record { read = refl; written = refl; zeroed = refl; flushing = refl }
+slice_same false n buf old = record { read = refl; written = refl; zeroed = refl; flushing = refl }
 
 done_same : (by : Ticket) (buf : List ℕ) (old : board.Seen) → CountsSame old (filed_done by buf old)
 done_same (ticket.Slice n) buf old = slice_same (is_unfit (value_at n old.rows) buf) n buf old
-done_same ticket.Extents buf old = record { read = refl; written = refl; zeroed = refl }
-done_same ticket.Flush buf old = record { read = refl; written = refl; zeroed = refl }
+done_same ticket.Extents buf old = record { read = refl; written = refl; zeroed = refl; flushing = refl }
+done_same ticket.Flush buf old = record { read = refl; written = refl; zeroed = refl; flushing = refl }
 
 completed_same : (well : Bool) (by : Ticket) (error : ℕ) (buf : List ℕ) (old : board.Seen) → CountsSame old (if well then filed_done by buf old else record old { error = or_error old.error error })
 completed_same true by error buf old = done_same by buf old
-completed_same false by error buf old = record { read = refl; written = refl; zeroed = refl }
+completed_same false by error buf old = record { read = refl; written = refl; zeroed = refl; flushing = refl }
 
 hears_same : (is : Bool) (entries : List Extent) (old new : board.Seen) → Hears is entries old new → CountsSame old new
-hears_same true entries old new (inl e) = subst (CountsSame old) (sym e.1) (record { read = refl; written = refl; zeroed = refl })
-hears_same true entries old new (inr e) = subst (CountsSame old) (sym e) (record { read = refl; written = refl; zeroed = refl })
+hears_same true entries old new (inl e) = subst (CountsSame old) (sym e.1) (record { read = refl; written = refl; zeroed = refl; flushing = refl })
+hears_same true entries old new (inr e) = subst (CountsSame old) (sym e) (record { read = refl; written = refl; zeroed = refl; flushing = refl })
 hears_same false entries old new e = same_is old new e
 
 call_same : (old new : board.Seen) (call : Call Ticket) → Files old call new → CountsSame old new
@@ -239,17 +242,21 @@ counted_alike now now' source destination source' destination' same reads change
   read = same.read ∙ k.read ∙ ap up_to_end (same_bytes is_read source source' reads);
   written = same.written ∙ k.written ∙ ap up_to_end (same_bytes is_write destination destination' changes);
   zeroed = same.zeroed ∙ k.zeroed ∙ ap up_to_end (same_bytes is_zero destination destination' changes);
+  flushes = sym (same_flushes destination destination' changes) ∙ k.flushes ∙ ap (λ (b : Bool). cond b 1 0) (sym same.flushing);
 }
 
 -- and for the same lists.
 pub counted_same : (now now' : board.Seen) (source destination : List Request) → CountsSame now now' → IsCounted now source destination → IsCounted now' source destination
-counted_same now now' source destination same k = record { read = same.read ∙ k.read; written = same.written ∙ k.written; zeroed = same.zeroed ∙ k.zeroed }
+counted_same now now' source destination same k = record { read = same.read ∙ k.read; written = same.written ∙ k.written; zeroed = same.zeroed ∙ k.zeroed; flushes = k.flushes ∙ ap (λ (b : Bool). cond b 1 0) (sym same.flushing) }
 
 -- A request more.
 
+pub total_asking : (weight : Command Nobody → ℕ) (link cookie : ℕ) (by : Ticket) (command : Command Nobody) (xs : List Request) → total weight (asking link cookie by command xs) ≡ total weight xs + weight command
+total_asking weight link cookie by command [] = omega arith
+total_asking weight link cookie by command (x ∷ xs) = let e = total_asking weight link cookie by command xs in omega (arith, e)
+
 pub bytes_asking : (counts : Kind → Bool) (link cookie : ℕ) (by : Ticket) (command : Command Nobody) (xs : List Request) → bytes_of counts (asking link cookie by command xs) ≡ bytes_of counts xs + cond (counts command.kind) command.length 0
-bytes_asking counts link cookie by command [] = omega arith
-bytes_asking counts link cookie by command (x ∷ xs) = let e = bytes_asking counts link cookie by command xs in omega (arith, e)
+bytes_asking counts link cookie by command xs = total_asking (λ command. cond (counts command.kind) command.length 0) link cookie by command xs
 
 more_up_to : (end old n a b new : ℕ) → new ≡ min (old + n) end → old ≡ min a end → b ≡ a + n → new ≡ min b end
 more_up_to end old n a b new e f g = omega (arith, e, f, g)
@@ -269,6 +276,18 @@ no_more a = omega arith
 -- a request that isn't counted
 pub bytes_beside : (counts : Kind → Bool) (link cookie : ℕ) (by : Ticket) (command : Command Nobody) (xs : List Request) → counts command.kind ≡ false → bytes_of counts (asking link cookie by command xs) ≡ bytes_of counts xs
 bytes_beside counts link cookie by command xs not = bytes_asking counts link cookie by command xs ∙ ap (λ (b : Bool). bytes_of counts xs + cond b command.length 0) not ∙ no_more (bytes_of counts xs)
+
+-- A request that is none of FLUSH leaves what is known of it.
+pub flushes_beside : (now now' : board.Seen) (link cookie : ℕ) (by : Ticket) (command : Command Nobody) (xs : List Request) → is_flush command.kind ≡ false → now'.flushing ≡ now.flushing → flushes_of xs ≡ cond now.flushing 1 0 →
+    flushes_of (asking link cookie by command xs) ≡ cond now'.flushing 1 0
+flushes_beside now now' link cookie by command xs not same k =
+    total_asking (λ c. cond (is_flush c.kind) 1 0) link cookie by command xs ∙ ap (λ (b : Bool). flushes_of xs + cond b 1 0) not ∙ no_more (flushes_of xs) ∙ k ∙ ap (λ (b : Bool). cond b 1 0) (sym same)
+
+-- The first FLUSH is known.
+pub flushes_first : (now now' : board.Seen) (link cookie : ℕ) (by : Ticket) (command : Command Nobody) (xs : List Request) → is_flush command.kind ≡ true → now.flushing ≡ false → now'.flushing ≡ true → flushes_of xs ≡ cond now.flushing 1 0 →
+    flushes_of (asking link cookie by command xs) ≡ cond now'.flushing 1 0
+flushes_first now now' link cookie by command xs is none one k =
+    total_asking (λ c. cond (is_flush c.kind) 1 0) link cookie by command xs ∙ ap (λ (b : Bool). flushes_of xs + cond b 1 0) is ∙ ap (λ (n : ℕ). n + 1) (k ∙ ap (λ (b : Bool). cond b 1 0) none) ∙ ap (λ (b : Bool). cond b 1 0) (sym one)
 
 -- Before a slice is begun.
 
@@ -292,9 +311,10 @@ store_counts_none counts how (ticket.Slice n) command not asks = absurd (none_be
 store_counts_none counts how ticket.Extents command not asks = absurd asks
 store_counts_none counts how ticket.Flush command not asks = ap counts asks ∙ not
 
-pub nothing_counted : (how : How) (rows : List (ℕ × Row)) (now : board.Seen) (source destination : List Request) → Stands how [] rows source destination → HasNotCounted now → IsCounted now source destination
-nothing_counted how rows now source destination stands none = record {
+pub nothing_counted : (how : How) (rows : List (ℕ × Row)) (now : board.Seen) (source destination : List Request) → Stands how [] rows source destination → flushes_of destination ≡ 0 → HasNotCounted now → IsCounted now source destination
+nothing_counted how rows now source destination stands unflushed none = record {
   read = none.read ∙ ap up_to_end (sym (no_bytes is_read (λ r. AsksOfSource [] r.ticket r.said.command) (λ r asks. look_counts_none r.ticket r.said.command asks) source stands.reads));
   written = none.written ∙ ap up_to_end (sym (no_bytes is_write (λ r. AsksOfDestination how [] r.ticket r.said.command) (λ r asks. store_counts_none is_write how r.ticket r.said.command refl asks) destination stands.changes));
   zeroed = none.zeroed ∙ ap up_to_end (sym (no_bytes is_zero (λ r. AsksOfDestination how [] r.ticket r.said.command) (λ r asks. store_counts_none is_zero how r.ticket r.said.command refl asks) destination stands.changes));
+  flushes = unflushed ∙ ap (λ (b : Bool). cond b 1 0) (sym none.flushing);
 }

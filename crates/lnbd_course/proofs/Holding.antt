@@ -1,5 +1,5 @@
 -- Handles begin, turn and are taken out.
-use Rattle.std.proofs.Common.{◌≡◌, ◌≢◌, ◌⊎◌, inl, inr, ℕ, zero, suc, ◌+◌, Bool, true, false, ◌||◌, not, ◌<◌, if◌then◌else◌, List, [], ◌∷◌, ◌++◌, Option, Some, None, slice_get, take, drop, refl, ap, sym, subst, ◌∙◌, arith, nat_le}
+use Rattle.std.proofs.Common.{◌≡◌, ◌≢◌, ◌⊎◌, inl, inr, ℕ, zero, suc, ◌+◌, Bool, true, false, ◌||◌, cond, not, ◌<◌, if◌then◌else◌, List, [], ◌∷◌, ◌++◌, Option, Some, None, slice_get, take, drop, refl, ap, sym, subst, ◌∙◌, arith, nat_le}
 use Rattle.std.proofs.lemmas.Bool.{cases_eq, eq-eqb, false≢true, ne_eqb}
 use Rattle.lnbd_model.specs.declared.target.Target.{Target}
 use Rattle.lnbd_link.specs.Call as wire
@@ -70,7 +70,7 @@ nothing_is_on_course how has now none uncounted = record {
     reads = same_track (on_side has no_history) (λ link. []) [] (none_on has) nothing_tracks;
     changes = same_track (on_side (beside has) no_history) (λ link. []) [] (none_on (beside has)) nothing_tracks;
     stands = λ e. subst (λ (rows : List (ℕ × Row)). Stands how [] rows [] []) (sym none) (nothing_stands how);
-    counted = nothing_counted how [] now [] [] (nothing_stands how) uncounted;
+    counted = nothing_counted how [] now [] [] (nothing_stands how) refl uncounted;
   };
 }
 
@@ -307,7 +307,7 @@ stands_so how how' source destination s = record {
     none_below n l = omega (arith, l)
 
 unfoldable pub settling_keeps : SettlingKeeps
-settling_keeps how how' has now now' calls seens c none well none' uncounted = record {
+settling_keeps how how' has now now' calls seens c none well unflushed none' uncounted = record {
   histories = c.histories;
   held = c.held;
   drive = c.drive;
@@ -320,6 +320,6 @@ settling_keeps how how' has now now' calls seens c none well none' uncounted = r
     changes = c.stood.changes;
     stands = λ e. subst (λ (rows : List (ℕ × Row)). Stands how' [] rows c.stood.source c.stood.destination) (sym none')
         (stands_so how how' c.stood.source c.stood.destination (subst (λ (rows : List (ℕ × Row)). Stands how [] rows c.stood.source c.stood.destination) none (c.stood.stands well)));
-    counted = nothing_counted how now.rows now' c.stood.source c.stood.destination (c.stood.stands well) uncounted;
+    counted = nothing_counted how now.rows now' c.stood.source c.stood.destination (c.stood.stands well) (c.stood.counted.flushes ∙ ap (λ (b : Bool). cond b 1 0) unflushed) uncounted;
   };
 }

@@ -18,3 +18,4 @@ pub mod Summing
 pub mod Sparing
 pub mod Dense
 pub mod Failing
+pub mod Flushing

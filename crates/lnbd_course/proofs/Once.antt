@@ -34,13 +34,13 @@ use Rattle.lnbd_course.proofs.Ending.{destination_dealt, gone_out, out_in, sourc
 use Rattle.lnbd_course.proofs.Placed.{links_are_of_sides}
 
 -- each request that was asked is in the list
-abbrev AreListed : List Request → Dealt → Type 0
+abbrev pub AreListed : List Request → Dealt → Type 0
 AreListed asked dealt = (link cookie : ℕ) (command : Command Nobody) → dealt.asked link cookie ≡ Some command → Under link cookie command asked
 
 -- Of a list, those requests that touch a position.
 
 module _ (touches : Command Nobody → ℕ → Bool) (p : ℕ) where
-  abbrev touching : List Request → List Said
+  abbrev pub touching : List Request → List Said
   touching [] = []
   touching (r ∷ rs) = cond (touches r.said.command p) (r.said ∷ touching rs) (touching rs)
 
@@ -67,14 +67,14 @@ module _ (touches : Command Nobody → ℕ → Bool) (p : ℕ) where
 
 -- The requests of a list that were dealt.
 
-none_meet : (touches : Command Nobody → ℕ → Bool) (asked : List Request) (dealt : Dealt) → AreListed asked dealt → ((p : ℕ) → length (touching touches p asked) ≤ 1) → NoneMeet touches dealt
+pub none_meet : (touches : Command Nobody → ℕ → Bool) (asked : List Request) (dealt : Dealt) → AreListed asked dealt → ((p : ℕ) → length (touching touches p asked) ≤ 1) → NoneMeet touches dealt
 none_meet touches asked dealt listed few link cookie link' cookie' p first other asks asks' here too =
     let a = listed link cookie first asks in
     let b = listed link' cookie' other asks' in
     let same = one touches p a.request b.request asked (few p) a.within b.within (ap (λ (c : Command Nobody). touches c p) a.asks ∙ here) (ap (λ (c : Command Nobody). touches c p) b.asks ∙ too) in
     (sym b.on ∙ ap (λ (r : Request). r.link) same ∙ a.on, sym b.by ∙ ap (λ (r : Request). r.cookie) same ∙ a.by)
 
-each_asked : (P : Command Nobody → Type 0) (asked : List Request) (dealt : Dealt) → AreListed asked dealt → ((r : Request) → IsIn r asked → P r.said.command) → EachAsked P dealt
+pub each_asked : (P : Command Nobody → Type 0) (asked : List Request) (dealt : Dealt) → AreListed asked dealt → ((r : Request) → IsIn r asked → P r.said.command) → EachAsked P dealt
 each_asked P asked dealt listed each link cookie command asks = let u = listed link cookie command asks in subst P u.asks (each u.request u.within)
 
 ends_by : (touches : Command Nobody → ℕ → Bool) (end size : ℕ) (asked : List Request) → end ≤ size → ((p : ℕ) → end ≤ p → length (touching touches p asked) ≤ 0) → (r : Request) → IsIn r asked → EndsBy touches size r.said.command
@@ -153,7 +153,7 @@ asked_once how cells told end size slices rest rows source destination dealt dea
     }
 
 -- What went out of a list is in it.
-listed : (histories : Histories) (asked : List Request) (dealt : Dealt) → IsDealt (gone_out histories asked) dealt → AreListed asked dealt
+pub listed : (histories : Histories) (asked : List Request) (dealt : Dealt) → IsDealt (gone_out histories asked) dealt → AreListed asked dealt
 listed histories asked dealt d link cookie command asks =
     let u = d.only link cookie command asks in
     record { request = u.request; within = (out_in histories u.request asked u.within).0; on = u.on; by = u.by; asks = u.asks }

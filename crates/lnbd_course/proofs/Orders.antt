@@ -1,5 +1,5 @@
 -- What the board asks keeps the invariant, as commands of its handles.
-use Rattle.std.proofs.Common.{◌≡◌, ℕ, ◌+◌, Bool, List, [], ◌∷◌, ◌++◌, length, min, refl, ap, sym, subst, ◌∙◌, arith, if◌then◌else◌}
+use Rattle.std.proofs.Common.{◌≡◌, ℕ, ◌+◌, Bool, List, [], ◌∷◌, ◌++◌, cond, length, min, refl, ap, sym, subst, ◌∙◌, arith, if◌then◌else◌}
 use Rattle.lnbd_model.specs.Kind.{is_read, is_write}
 use Rattle.lnbd_history.specs.Commands.{Command}
 use Rattle.lnbd_board.specs.declared.ask.Ask.TheVariants as ask
@@ -16,7 +16,7 @@ use Rattle.lnbd_tracks.specs.Tracks.{OnlyWritesHaveBytes}
 use Rattle.lnbd_course.specs.Counted.{CountsFirst, IsCounted, bytes_of, is_zero}
 use Rattle.lnbd_course.specs.Orders.{BeginningAsks, GoingAsks, OverAsksNothing, command_of}
 use Rattle.lnbd_course.specs.Taken.{without_buffer}
-use Rattle.lnbd_course.proofs.Counting.{bytes_asking, bytes_beside, count_more, count_none}
+use Rattle.lnbd_course.proofs.Counting.{bytes_asking, bytes_beside, count_more, count_none, flushes_beside}
 
 no_buffer : (command : Command Ticket) → OnlyWritesHaveBytes (without_buffer command)
 no_buffer command w = ap (λ (b : Bool). if b then command.payload else []) w
@@ -36,22 +36,25 @@ read_counts n offset bytes buf now now' source destination link cookie size coun
       (counts.read ∙ ap (risen now.read) (sym size)) k.read (bytes_asking is_read link cookie (ticket.Slice n) (read_at offset (length bytes)) source);
   written = count_none now.written (bytes_of is_write destination) (bytes_of is_write destination) now'.written counts.written k.written refl;
   zeroed = count_none now.zeroed (bytes_of is_zero destination) (bytes_of is_zero destination) now'.zeroed counts.zeroed k.zeroed refl;
+  flushes = k.flushes ∙ ap (λ (b : Bool). cond b 1 0) (sym counts.flushing);
 }
 
-write_counts : (n offset : ℕ) (bytes : List ℕ) (now now' : board.Seen) (source destination : List Request) (link cookie : ℕ) → now'.read ≡ now.read → now'.written ≡ risen now.written (length bytes) → now'.zeroed ≡ risen now.zeroed 0 → IsCounted now source destination →
+write_counts : (n offset : ℕ) (bytes : List ℕ) (now now' : board.Seen) (source destination : List Request) (link cookie : ℕ) → now'.read ≡ now.read → now'.written ≡ risen now.written (length bytes) → now'.zeroed ≡ risen now.zeroed 0 → now'.flushing ≡ now.flushing → IsCounted now source destination →
     IsCounted now' source (asking link cookie (ticket.Slice n) (write_at offset bytes) destination)
-write_counts n offset bytes now now' source destination link cookie read written zeroed k = record {
+write_counts n offset bytes now now' source destination link cookie read written zeroed flushing k = record {
   read = read ∙ k.read;
   written = count_more now.written (length bytes) (bytes_of is_write destination) (bytes_of is_write (asking link cookie (ticket.Slice n) (write_at offset bytes) destination)) now'.written written k.written (bytes_asking is_write link cookie (ticket.Slice n) (write_at offset bytes) destination);
   zeroed = count_none now.zeroed (bytes_of is_zero destination) (bytes_of is_zero (asking link cookie (ticket.Slice n) (write_at offset bytes) destination)) now'.zeroed zeroed k.zeroed (bytes_beside is_zero link cookie (ticket.Slice n) (write_at offset bytes) destination refl);
+  flushes = flushes_beside now now' link cookie (ticket.Slice n) (write_at offset bytes) destination refl flushing k.flushes;
 }
 
-zero_counts : (n offset size flags : ℕ) (now now' : board.Seen) (source destination : List Request) (link cookie : ℕ) → now'.read ≡ now.read → now'.written ≡ risen now.written 0 → now'.zeroed ≡ risen now.zeroed size → IsCounted now source destination →
+zero_counts : (n offset size flags : ℕ) (now now' : board.Seen) (source destination : List Request) (link cookie : ℕ) → now'.read ≡ now.read → now'.written ≡ risen now.written 0 → now'.zeroed ≡ risen now.zeroed size → now'.flushing ≡ now.flushing → IsCounted now source destination →
     IsCounted now' source (asking link cookie (ticket.Slice n) (change_of (change.Zero offset size flags)) destination)
-zero_counts n offset size flags now now' source destination link cookie read written zeroed k = record {
+zero_counts n offset size flags now now' source destination link cookie read written zeroed flushing k = record {
   read = read ∙ k.read;
   written = count_none now.written (bytes_of is_write destination) (bytes_of is_write (asking link cookie (ticket.Slice n) (change_of (change.Zero offset size flags)) destination)) now'.written written k.written (bytes_beside is_write link cookie (ticket.Slice n) (change_of (change.Zero offset size flags)) destination refl);
   zeroed = count_more now.zeroed size (bytes_of is_zero destination) (bytes_of is_zero (asking link cookie (ticket.Slice n) (change_of (change.Zero offset size flags)) destination)) now'.zeroed zeroed k.zeroed (bytes_asking is_zero link cookie (ticket.Slice n) (change_of (change.Zero offset size flags)) destination);
+  flushes = flushes_beside now now' link cookie (ticket.Slice n) (change_of (change.Zero offset size flags)) destination refl flushing k.flushes;
 }
 
 pub beginning_asks : BeginningAsks
@@ -67,13 +70,13 @@ beginning_asks how slice n (ask.Change (change.Write offset bytes)) slices now n
   bytes = no_buffer (command_of n (change.Write offset bytes));
   earlier = earlier;
   on = λ source destination link cookie stands. b.on slices source destination link cookie count stands;
-  counts = λ source destination link cookie k. write_counts n offset bytes now now' source destination link cookie (counts.read ∙ no_read now source destination k) counts.written counts.zeroed k;
+  counts = λ source destination link cookie k. write_counts n offset bytes now now' source destination link cookie (counts.read ∙ no_read now source destination k) counts.written counts.zeroed counts.flushing k;
 }
 beginning_asks how slice n (ask.Change (change.Zero offset size flags)) slices now now' count earlier counts b = record {
   bytes = no_buffer (command_of n (change.Zero offset size flags));
   earlier = earlier;
   on = λ source destination link cookie stands. b.on slices source destination link cookie count stands;
-  counts = λ source destination link cookie k. zero_counts n offset size flags now now' source destination link cookie (counts.read ∙ no_read now source destination k) counts.written counts.zeroed k;
+  counts = λ source destination link cookie k. zero_counts n offset size flags now now' source destination link cookie (counts.read ∙ no_read now source destination k) counts.written counts.zeroed counts.flushing k;
 }
 
 pub going_asks : GoingAsks
@@ -81,13 +84,13 @@ going_asks how n (change.Write offset bytes) slices now now' earlier counts g = 
   bytes = no_buffer (command_of n (change.Write offset bytes));
   earlier = earlier;
   on = λ source destination link cookie stands. (g.on source destination link cookie).on slices stands;
-  counts = λ source destination link cookie k. write_counts n offset bytes now now' source destination link cookie counts.read counts.written counts.zeroed k;
+  counts = λ source destination link cookie k. write_counts n offset bytes now now' source destination link cookie counts.read counts.written counts.zeroed counts.flushing k;
 }
 going_asks how n (change.Zero offset size flags) slices now now' earlier counts g = record {
   bytes = no_buffer (command_of n (change.Zero offset size flags));
   earlier = earlier;
   on = λ source destination link cookie stands. (g.on source destination link cookie).on slices stands;
-  counts = λ source destination link cookie k. zero_counts n offset size flags now now' source destination link cookie counts.read counts.written counts.zeroed k;
+  counts = λ source destination link cookie k. zero_counts n offset size flags now now' source destination link cookie counts.read counts.written counts.zeroed counts.flushing k;
 }
 
 pub over_asks_nothing : OverAsksNothing

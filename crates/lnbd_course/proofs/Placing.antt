@@ -169,8 +169,8 @@ nothing_is_between from to how has now none uncounted = record {
 
 pub settling_keeps_between : SettlingKeepsBetween
 unfolding settling_keeps
-settling_keeps_between from to size how how' has now now' calls seens b none well none' uncounted =
-    step_keeps from to size has how how' [] [] now now' calls calls seens seens b (settling_keeps how how' has now now' calls seens b.course none well none' uncounted)
+settling_keeps_between from to size how how' has now now' calls seens b none well unflushed none' uncounted =
+    step_keeps from to size has how how' [] [] now now' calls calls seens seens b (settling_keeps how how' has now now' calls seens b.course none well unflushed none' uncounted)
     (goes_same calls) (λ n. later_same (b.course.histories n) (b.course.histories n) refl) (λ n apart. (apart, rests_same calls b.course.histories b.course.histories n refl))
 
 -- Sizes.

@@ -142,8 +142,8 @@ opening_tells how has slices now calls seens wanted known to link source t new =
 
 pub settling_tells : SettlingTells
 unfolding settling_keeps
-settling_tells how how' has now now' calls seens known t none well none' uncounted =
-    record { course = settling_keeps how how' has now now' calls seens t.course none well none' uncounted; maps = t.maps; knows = t.knows; heeds = t.heeds }
+settling_tells how how' has now now' calls seens known t none well unflushed none' uncounted =
+    record { course = settling_keeps how how' has now now' calls seens t.course none well unflushed none' uncounted; maps = t.maps; knows = t.knows; heeds = t.heeds }
 
 -- Turns.
 

@@ -43,7 +43,7 @@ OpensBetween = (from to : Place) (size : Option ℕ) (how : How) (has : ℕ → 
 -- where another board takes its place, before any slice is begun,
 abbrev pub SettlingKeepsBetween : Type 0
 SettlingKeepsBetween = (from to : Place) (size : Option ℕ) (how how' : How) (has : ℕ → Bool) (now now' : board.Seen) (calls : List wire.Call) (seens : List (Seen Ticket)) →
-    Between from to size how has [] now calls seens → now.rows ≡ [] → now.error ≡ None → now'.rows ≡ [] → HasNotCounted now' → Between from to size how' has [] now' calls seens
+    Between from to size how has [] now calls seens → now.rows ≡ [] → now.error ≡ None → now.flushing ≡ false → now'.rows ≡ [] → HasNotCounted now' → Between from to size how' has [] now' calls seens
 
 -- and where a handle of each side was told its size, and the destination's is no smaller: then the source's is settled.
 abbrev pub AgreeingSettles : Type 0

@@ -41,7 +41,7 @@ OpensOnCourse = (how : How) (has : ℕ → Bool) (slices : List Slice) (now : bo
 -- It stays on it where another board takes its place, of a copy that writes otherwise, before any slice is begun.
 abbrev pub SettlingKeeps : Type 0
 SettlingKeeps = (how how' : How) (has : ℕ → Bool) (now now' : board.Seen) (calls : List wire.Call) (seens : List (Seen Ticket)) →
-    Course how has [] now calls seens → now.rows ≡ [] → now.error ≡ None → now'.rows ≡ [] → HasNotCounted now' → Course how' has [] now' calls seens
+    Course how has [] now calls seens → now.rows ≡ [] → now.error ≡ None → now.flushing ≡ false → now'.rows ≡ [] → HasNotCounted now' → Course how' has [] now' calls seens
 
 -- Turns.
 

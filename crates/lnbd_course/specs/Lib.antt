@@ -11,3 +11,4 @@ pub mod Asks
 pub mod Counts
 pub mod Spares
 pub mod Failed
+pub mod Flushes

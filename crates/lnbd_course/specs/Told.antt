@@ -60,7 +60,7 @@ OpeningTells = (how : How) (has : ℕ → Bool) (slices : List Slice) (now : boa
 -- and where another board takes its place, before any slice is begun or extents are asked for.
 abbrev pub SettlingTells : Type 0
 SettlingTells = (how how' : How) (has : ℕ → Bool) (now now' : board.Seen) (calls : List wire.Call) (seens : List (Seen Ticket)) (known : Known) →
-    Told how has [] now calls seens None known → now.rows ≡ [] → now.error ≡ None → now'.rows ≡ [] → HasNotCounted now' → Told how' has [] now' calls seens None known
+    Told how has [] now calls seens None known → now.rows ≡ [] → now.error ≡ None → now.flushing ≡ false → now'.rows ≡ [] → HasNotCounted now' → Told how' has [] now' calls seens None known
 
 -- Turns.
 

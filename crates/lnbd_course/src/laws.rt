@@ -3,6 +3,7 @@
 ghost use Rattle.lnbd_course.specs.Asks.{EndedAreDone, EndedAsksOnce};
 ghost use Rattle.lnbd_course.specs.Counts.{EndedSums};
 ghost use Rattle.lnbd_course.specs.Failed.{TurnsFail};
+ghost use Rattle.lnbd_course.specs.Flushes.{EndedFlushesOnce, EndedUnflushed};
 ghost use Rattle.lnbd_course.specs.Laws.{NothingIsOnCourse, OpensOnCourse, SettlingKeeps, TurnsKeep, CallsKeep, SourceAsksKeep, DestinationAsksKeep, BoardMovesKeep, OthersKeep, TakingKeeps, FinishedCopies};
 ghost use Rattle.lnbd_course.specs.Betweens.{NothingIsBetween, OpensBetween, SettlingKeepsBetween, AgreeingSettles, TurnsKeepBetween, CallsKeepBetween, SourceAsksKeepBetween, DestinationAsksKeepBetween, BoardMovesKeepBetween, OthersKeepBetween, TakingKeepsBetween, LinksAreOfSides, EndedCopies};
 ghost use Rattle.lnbd_course.specs.Spares.{EndedAreDense, EndedSpares};
@@ -180,4 +181,10 @@ pub fn ended_sums()
 pub fn ended_spares()
     ensures reads { EndedSpares }
     ensures writes { EndedAreDense }
+{}
+
+/// The destination is flushed once at most, and not before the board says that it is asked to.
+pub fn ended_flushes()
+    ensures once { EndedFlushesOnce }
+    ensures none { EndedUnflushed }
 {}

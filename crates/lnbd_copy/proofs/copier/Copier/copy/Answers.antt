@@ -3,6 +3,7 @@ use Rattle.lnbd_link.specs.Call.{Call}
 use Rattle.lnbd_copy.specs.Copier.{IsOnItsWay, Seen}
 use Rattle.lnbd_copy.proofs.CauseLemmas.{goes_as, goes_then}
 use Rattle.lnbd_copy.proofs.EndLemmas.{all_then, finished_on, moved_on, rested, still_on}
+use Rattle.lnbd_copy.proofs.FlushLemmas.{flushed_on}
 use Rattle.lnbd_copy.proofs.SummedLemmas.{summed_on}
 use Rattle.lnbd_copy.proofs.GroundLemmas.{grounded_as, handed_on}
 use Rattle.lnbd_copy.proofs.copier.Copier.copy.Goals as goal
@@ -43,6 +44,9 @@ returns-in-Finished-clause-done g c = finished_on _ _ _ _ _ c.in-Finished.is (c.
 
 pub returns-in-Finished-clause-sums : goal.returns-in-Finished-clause-sums
 returns-in-Finished-clause-sums g c = summed_on _ _ c.turn.new.self c.in_ok-turn.field-0 _ c.in-Finished.is (c.in_ok-turn.ensures.sums (g.W.Wires.told c.args.wires.now) c.turns.invariant.on)
+
+pub returns-in-Finished-clause-flushes : goal.returns-in-Finished-clause-flushes
+returns-in-Finished-clause-flushes g c = flushed_on _ _ c.turn.new.self c.in_ok-turn.field-0 _ c.in-Finished.is (c.in_ok-turn.ensures.flushes (g.W.Wires.told c.args.wires.now) c.turns.invariant.on)
 
 pub returns-in_err-turn-clause-grounds : goal.returns-in_err-turn-clause-grounds
 returns-in_err-turn-clause-grounds g c =

@@ -1,6 +1,7 @@
 use Rattle.std.proofs.Common.{refl, ap, sym, ◌∙◌}
 use Rattle.lnbd_copy.specs.Copier.{Seen}
 use Rattle.lnbd_copy.proofs.EndLemmas.{finished, has_job, way_asks}
+use Rattle.lnbd_copy.proofs.FlushLemmas.{flushed}
 use Rattle.lnbd_copy.proofs.SummedLemmas.{summed}
 use Rattle.lnbd_copy.proofs.copier.Copier.go_on.Goals as goal
 
@@ -34,6 +35,15 @@ returns-then-is_finished-clause-sums g c start on two =
 
 pub returns-clause-sums : goal.returns-clause-sums
 returns-clause-sums g c start on = c.progress_of.ensures.sums start (g.W.Wires.told c.part-parted.new.wires) c.part-parted.new.self
+
+pub returns-then-is_finished-clause-flushes : goal.returns-then-is_finished-clause-flushes
+returns-then-is_finished-clause-flushes g c start on two =
+    let parting = c.if-is_finished.ensures.parting refl in
+    let left = c.part-parted.ensures.on start (c.in_ok-acted.ensures.on start _ (c.in_ok-moved.ensures.on start on)) in
+    flushed _ start _ c.summary.result parting.job c.summary.ensures.counted parting.there parting.parts (c.if-is_finished.ensures.parted refl) (sym (ap (λ (s : Seen). s.board.error) c.self.view_is) ∙ c.in_ok-check_well.ensures) left two
+
+pub returns-clause-flushes : goal.returns-clause-flushes
+returns-clause-flushes g c start on = c.progress_of.ensures.flushes start (g.W.Wires.told c.part-parted.new.wires) c.part-parted.new.self
 
 pub returns-then-is_finished-clause-busy : goal.returns-then-is_finished-clause-busy
 returns-then-is_finished-clause-busy g c = c.part-parted.ensures.busy (c.in_ok-acted.ensures.busy c.requires.going.start _ (c.in_ok-moved.ensures.on c.requires.going.start c.requires.going.on))

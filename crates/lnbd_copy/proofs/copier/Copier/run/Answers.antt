@@ -1,6 +1,7 @@
 use Rattle.std.proofs.Common.{ap}
 use Rattle.std.proofs.lemmas.Result.{on_ok_weaker}
-use Rattle.lnbd_copy.proofs.EndLemmas.{done_asks, done_copies, done_spares, done_whole}
+use Rattle.lnbd_copy.proofs.EndLemmas.{done_asks, done_copies, done_spares, done_unflushed, done_whole}
+use Rattle.lnbd_copy.proofs.FlushLemmas.{done_flushes}
 use Rattle.lnbd_copy.proofs.SummedLemmas.{done_sums}
 use Rattle.lnbd_copy.proofs.GroundLemmas.{grounded_later, if_err_leads}
 use Rattle.lnbd_copy.proofs.copier.Copier.run.Goals as goal
@@ -34,3 +35,12 @@ returns-clause-summary g c two = done_sums c.args.self c.copy-told.new.self _ _ 
 
 pub returns-clause-grounds : goal.returns-clause-grounds
 returns-clause-grounds g c = if_err_leads c.copy-told.result (λ why grounds. grounded_later _ _ _ _ _ why c.end.ensures.lasts grounds) c.copy-told.ensures.grounds
+
+pub returns-clause-flushes : goal.returns-clause-flushes
+returns-clause-flushes g c two = done_flushes c.args.self c.copy-told.new.self _ _ _ c.copy-told.result c.copy-told.ensures.kept (λ parted. ap g.W.Wires.told (c.end.ensures.parted parted)) two c.copy-told.ensures.done c.copy-told.ensures.flushes
+
+pub returns-clause-unflushed : goal.returns-clause-unflushed
+returns-clause-unflushed g c unwanted two =
+    on_ok_weaker c.copy-told.result
+    (λ done. done_unflushed c.args.self c.copy-told.new.self _ _ _ c.copy-told.ensures.kept (ap g.W.Wires.told (c.end.ensures.parted done.parted)) unwanted two done)
+    c.copy-told.ensures.done

@@ -9,4 +9,4 @@ returns-clause-begins c start told met =
     let fresh = c.replace.ensures.after ∙ c.new.ensures in
     begins_job _ start told c.args.terms c.in_ok-new.field-0 c.replace.new.dest (subst (λ (s : Seen). HasMet s start told c.args.terms) (sym c.self.view_is) met) (ap (λ (s : Seen). s.board.error) c.self.view_is ∙ c.requires.well)
     (ap (λ (b : board.Seen). b.rows) fresh) (ap (λ (b : board.Seen). b.begun) fresh)
-    (record { read = ap (λ (b : board.Seen). b.read) fresh; written = ap (λ (b : board.Seen). b.written) fresh; zeroed = ap (λ (b : board.Seen). b.zeroed) fresh }) (ap (λ (b : board.Seen). b.how) fresh) c.in_ok-new.ensures.terms c.in_ok-new.ensures.begins c.in_ok-new.ensures.job
+    (record { read = ap (λ (b : board.Seen). b.read) fresh; written = ap (λ (b : board.Seen). b.written) fresh; zeroed = ap (λ (b : board.Seen). b.zeroed) fresh; flushing = ap (λ (b : board.Seen). b.flushing) fresh }) (ap (λ (b : board.Seen). b.how) fresh) c.in_ok-new.ensures.terms c.in_ok-new.ensures.begins c.in_ok-new.ensures.job

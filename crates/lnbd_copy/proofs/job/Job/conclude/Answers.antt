@@ -1,4 +1,4 @@
-use Rattle.std.proofs.Common.{refl, ap, sym, subst}
+use Rattle.std.proofs.Common.{refl, ap, sym, subst, ◌∙◌}
 use Rattle.lnbd_copy.specs.declared.job.Phase.TheVariants as phase
 use Rattle.lnbd_copy.specs.Job.{Acts, IsOver, Seen}
 use Rattle.lnbd_copy.proofs.JobLemmas.{acts_flushing, acts_parting}
@@ -10,10 +10,10 @@ returns-then-self-clause-acts c =
     let was : Seen = record { terms = c.self.inside.terms; windows = c.self.inside.windows; asked = c.self.inside.asked; phase = c.self.inside.phase } in
     let new : Seen = record { terms = c.self.inside.terms; windows = c.self.inside.windows; asked = c.self.inside.asked; phase = phase.Flushing } in
     subst (λ (j : Seen). Acts j new c.args.board.now c.ask_flush.new.board c.args.handles.now c.ask_flush.new.handles) c.self.view_is
-    (acts_flushing was new phase.Flushing c.args.board.now c.ask_flush.new.board c.args.handles.now c.ask_flush.new.handles refl (subst (λ (j : Seen). IsOver j c.args.board.now) (sym c.self.view_is) c.requires) c.in_ok-ask_flush.ensures.board c.in_ok-ask_flush.ensures.asked)
+    (acts_flushing was new c.args.board.now c.ask_flush.new.board c.args.handles.now c.ask_flush.new.handles c.if-self.true refl (ap (λ (j : Seen). j.phase) c.self.view_is ∙ c.requires.copying) (subst (λ (j : Seen). IsOver j c.args.board.now) (sym c.self.view_is) c.requires.over) c.in_ok-ask_flush.ensures.board c.in_ok-ask_flush.ensures.asked)
 
 pub returns-clause-acts : goal.returns-clause-acts
-returns-clause-acts c = acts_parting c.args.self.now c.leave.new.self phase.Parting c.args.board.now c.args.handles.now c.leave.new.handles c.leave.ensures.others c.requires (c.leave.ensures.keeps c.args.board.now)
+returns-clause-acts c = acts_parting c.args.self.now c.leave.new.self c.args.board.now c.args.handles.now c.leave.new.handles c.leave.ensures.others c.requires.copying c.requires.over (c.leave.ensures.keeps c.args.board.now)
 
 pub returns-then-self-clause-past : goal.returns-then-self-clause-past
 returns-then-self-clause-past c = flushing_past _ c.args.board.now c.ask_flush.new.board refl c.in_ok-ask_flush.ensures.board

@@ -8,4 +8,4 @@ pub returns-clause-acts : goal.returns-clause-acts
 returns-clause-acts c =
     let was : Seen = record { terms = c.self.inside.terms; windows = c.self.inside.windows; asked = c.self.inside.asked; phase = c.self.inside.phase } in
     subst (λ (j : Seen). Acts j was c.args.board.now c.go_on.new.board c.args.handles.now c.go_on.new.handles) c.self.view_is
-    (acts_keeps was c.args.board.now.how c.self.inside.bindings c.args.board.now c.go_on.new.board c.args.handles.now c.go_on.new.handles (c.requires.how ∙ sym (ap (λ (j : Seen). j.terms.how) c.self.view_is)) c.self.invariant.bound (ap (λ (j : Seen). j.phase) c.self.view_is ∙ c.requires.copying) (ap (λ (b : board.Seen). b.how) c.in_ok-went.ensures.others) c.in_ok-went.ensures.keeps)
+    (acts_keeps was c.args.board.now.how c.self.inside.bindings c.args.board.now c.go_on.new.board c.args.handles.now c.go_on.new.handles (c.requires.how ∙ sym (ap (λ (j : Seen). j.terms.how) c.self.view_is)) c.self.invariant.bound (ap (λ (j : Seen). j.phase) c.self.view_is ∙ c.requires.copying) (ap (λ (b : board.Seen). b.how) c.in_ok-went.ensures.others) (ap (λ (b : board.Seen). b.flushing) c.in_ok-went.ensures.others) c.in_ok-went.ensures.keeps)
