@@ -1,6 +1,7 @@
 # One script over two real servers: what is written on one handle is read back there and not on the other, of which
 # one connects by an address that names its export; in opt mode the exports
 # of a server are listed and asked for; structured replies, extended headers and contexts are asked for and told.
+# (A server may answer in any order: a write is over before its bytes are zeroed.)
 . checks/need.sh
 need nbdkit nbdkit
 need qemu-utils qemu-nbd
@@ -43,6 +44,7 @@ state
 pwrite fill:11:65536 0
 handle 0
 pwrite fill:22:65536 0
+settle
 zero 512 512
 trim 512 1024
 flush
@@ -68,6 +70,7 @@ ready
 cookie 1
 ok
 cookie 1
+settled
 cookie 2
 cookie 3
 cookie 4
