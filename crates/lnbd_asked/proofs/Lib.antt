@@ -28,6 +28,7 @@ pub mod Acting
 pub mod Ending
 pub mod Plain
 pub mod Driving
+pub mod Exported
 pub mod Staying
 pub mod Wished
 pub mod Naming

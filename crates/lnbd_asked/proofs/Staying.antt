@@ -13,7 +13,7 @@ use Rattle.lnbd_history.specs.declared.kinds.Phase.{Phase}
 use Rattle.lnbd_history.specs.declared.kinds.Phase.TheVariants.{Greeting, Asked, AskedByName, OptMode, Ready, Refused}
 use Rattle.lnbd_history.specs.declared.kinds.Stage.{Stage}
 use Rattle.lnbd_history.specs.declared.kinds.Stage.TheVariants.{Created, Open, Disconnecting, Aborting, Closed, Dead}
-use Rattle.lnbd_history.specs.Agreement.{Turn, Export, Replied, ByName, phase, steps, export, name_now}
+use Rattle.lnbd_history.specs.Agreement.{Turn, Replied, ByName, phase, steps, export, name_now}
 use Rattle.lnbd_history.specs.Agreement as turn
 use Rattle.lnbd_history.specs.Arrivals.{Shown, Hello, OptionReply, ExportReply, Reply, Broken, Passed, Ignored, Waiting, Sight, shows_at, shows_in, shows_passed, shows_frame, shows_ignored}
 use Rattle.lnbd_history.specs.Entries.{Framed, Lost, Dropped}
@@ -22,10 +22,11 @@ use Rattle.lnbd_history.specs.Events as event
 use Rattle.lnbd_history.specs.Answers.{state_after, is_living}
 use Rattle.lnbd_history.specs.History.{Known, asked, request, rules, sight, waited, entered, turned, if_refused, die, cookies, flying, change, with_answers, ended_at, failed_at, ended_closing, reading}
 use Rattle.lnbd_history.specs.Laws.{Lawful, CanFollow, may_name}
-use Rattle.lnbd_asked.specs.Exports.{name_set, NamesStay, ToldStays}
-use Rattle.lnbd_asked.specs.Transcript.{size_at}
+use Rattle.lnbd_asked.specs.Exports.{name_set, export_known, NamesStay, ToldStays, ExportsStay}
+use Rattle.lnbd_asked.specs.Transcript.{export_at}
 use Rattle.lnbd_asked.proofs.Acting.{named_at, set_named, not_open_created}
 use Rattle.lnbd_asked.proofs.Asks.{HaveName, name_hello, name_replied, name_same}
+use Rattle.lnbd_asked.proofs.Exported.{exported_ready, of_size, sized_as}
 use Rattle.lnbd_asked.proofs.Feeding.{started_lasts}
 use Rattle.lnbd_asked.proofs.Match.{file_still, all_still}
 use Rattle.lnbd_asked.proofs.Plain.{ended_so, failed_so, aborting_started, disconnecting_started, closed_started}
@@ -272,18 +273,11 @@ module _ {K : Type 0} where
       let now = ap phase same ∙ ready in
       one_stays limit (since ++ earlier) one lawful.2 (ready_begun limit (since ++ earlier) lawful.0 now) now ∙ same
 
-none_sized : (size : ℕ) → None ≡ Some size → ⊥
-none_sized size e = cc
-
--- A size is told where requests may be made, and nowhere else.
-pub sized_ready : (p : Phase) (told : Option Export) (size : ℕ) → size_at p told ≡ Some size → p ≡ Ready
-sized_ready Ready told size e = refl
-sized_ready Greeting told size e = absurd (none_sized size e)
-sized_ready (Asked option) told size e = absurd (none_sized size e)
-sized_ready AskedByName told size e = absurd (none_sized size e)
-sized_ready OptMode told size e = absurd (none_sized size e)
-sized_ready (Refused code) told size e = absurd (none_sized size e)
+pub exports_stay : {K : Type 0} → ExportsStay K
+exports_stay limit told since earlier lawful knew =
+    ap (λ turns. export_at (phase turns) (export (steps turns))) (turns_stay limit since earlier lawful (exported_ready (phase (reading earlier).known.turns) (export (steps (reading earlier).known.turns)) told knew)) ∙ knew
 
 pub told_stays : {K : Type 0} → ToldStays K
 told_stays limit size since earlier lawful told =
-    ap (λ turns. size_at (phase turns) (export (steps turns))) (turns_stay limit since earlier lawful (sized_ready (phase (reading earlier).known.turns) (export (steps (reading earlier).known.turns)) size told)) ∙ told
+    let o = of_size (export_known earlier) size told in
+    sized_as (export_known (since ++ earlier)) o.0 size (exports_stay limit o.0 since earlier lawful o.1) o.2

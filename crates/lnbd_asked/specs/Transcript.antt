@@ -1,4 +1,4 @@
--- What was asked and answered, from a transcript alone: on each link the export that was asked for, the size that was told, the requests wholly
+-- What was asked and answered, from a transcript alone: on each link the export that was asked for, what was told of it, the requests wholly
 -- written, and what each came to.
 use Rattle.std.specs.Prelude.{ℕ, ◌-◌, Bool, false, ◌&&◌, ◌||◌, List, [], ◌∷◌, map, Option, Some, None, if◌then◌else◌, ◌==◌, nat_le, bytes_eq, codes}
 use Rattle.std.specs.Option.{option_map}
@@ -90,15 +90,25 @@ is_of place calls link = is_target place.to (target_of link calls) && is_name pl
 
 -- What is known of one link.
 
--- the size that was told of the export, once requests may be made
+-- what was told of the export, once requests may be made
+abbrev pub export_at : Phase → Option Export → Option Export
+export_at phase.Ready export = export
+export_at phase.Greeting export = None
+export_at (phase.Asked option) export = None
+export_at phase.AskedByName export = None
+export_at phase.OptMode export = None
+export_at (phase.Refused code) export = None
+
+abbrev pub export_told : Link → Option Export
+export_told link = export_at (phase link.heard.turns) (export (steps link.heard.turns))
+
+-- its size
+abbrev pub size_of : Option Export → Option ℕ
+size_of None = None
+size_of (Some export) = Some export.size
+
 abbrev pub size_at : Phase → Option Export → Option ℕ
-size_at phase.Ready None = None
-size_at phase.Ready (Some export) = Some export.size
-size_at phase.Greeting export = None
-size_at (phase.Asked option) export = None
-size_at phase.AskedByName export = None
-size_at phase.OptMode export = None
-size_at (phase.Refused code) export = None
+size_at phase export = size_of (export_at phase export)
 
 abbrev pub size_told : Link → Option ℕ
 size_told link = size_at (phase link.heard.turns) (export (steps link.heard.turns))

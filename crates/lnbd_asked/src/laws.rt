@@ -5,7 +5,7 @@ ghost use Rattle.lnbd_asked.specs.Laws.{CallsFollow, OthersPass, ReadsJoin, Side
 ghost use Rattle.lnbd_asked.specs.Parts.{WholeAreRequests, ReadAreCounted};
 ghost use Rattle.lnbd_asked.specs.InStep.{StaysInStep, InStepSaysSo};
 ghost use Rattle.lnbd_asked.specs.Driven.{DrivenSaySo};
-ghost use Rattle.lnbd_asked.specs.Exports.{DrivenAreOf, ToldStays, NamesStay};
+ghost use Rattle.lnbd_asked.specs.Exports.{DrivenAreOf, DrivenTell, SizeWasTold, SizesAreOfExports, ToldStays, ExportsStay, NamesStay};
 
 /// One call is read after another.
 pub fn calls_follow()
@@ -64,9 +64,23 @@ pub fn driven_are_of<K>()
     ensures { DrivenAreOf K }
 {}
 
-/// What was set and told stays: the size once requests may be made, and the name until another is set.
+/// A link tells of its export what the handle was told that drives it: the size, the flags, the block
+/// sizes, the name and the description.
+pub fn driven_tell<K>()
+    ensures { DrivenTell K }
+{}
+
+/// With an export its size was told, and with a size an export of this size.
+pub fn sizes_are_of_exports<K>()
+    ensures size { SizeWasTold K }
+    ensures whole { SizesAreOfExports K }
+{}
+
+/// What was set and told stays: the export and its size once requests may be made, and the name until
+/// another is set.
 pub fn told_stays<K>()
     ensures size { ToldStays K }
+    ensures whole { ExportsStay K }
     ensures name { NamesStay K }
 {}
 
