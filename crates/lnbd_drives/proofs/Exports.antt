@@ -16,14 +16,15 @@ use Rattle.lnbd_history.specs.Events.{History}
 use Rattle.lnbd_history.specs.History.{asked, reading}
 use Rattle.lnbd_history.specs.Outgoing.{Part, waiting, total, out}
 use Rattle.lnbd_asked.specs.Driven.{Drives}
-use Rattle.lnbd_asked.specs.Transcript.{size_at}
+use Rattle.lnbd_asked.specs.Transcript.{export_at}
 use Rattle.lnbd_asked.proofs.Doing.{state_of}
-use Rattle.lnbd_asked.proofs.Naming.{driven_are_of}
+use Rattle.lnbd_asked.proofs.Exported.{size_was_told}
+use Rattle.lnbd_asked.proofs.Naming.{driven_are_of, driven_tell}
 use Rattle.lnbd_poll.specs.declared.noticed.Noticed.{Noticed}
 use Rattle.lnbd_poll.specs.Notices.{ReadsIf, ReadsOn, WritesIf, is_reading, is_waiting}
 use Rattle.lnbd_poll.specs.Seen.{Seen}
 use Rattle.lnbd_poll.specs.Turns.{WritesAll, Stops, Goes_on, TurnsOne, Turns, All_took, Takes, Runs_short, Ending}
-use Rattle.lnbd_drives.specs.Exports.{HandlesAreOf, InfoWasTold, TurnsGiveNone}
+use Rattle.lnbd_drives.specs.Exports.{HandlesAreOf, HandlesTell, ExportWasTold, InfoWasTold, TurnsGiveNone, export_in}
 use Rattle.lnbd_drives.proofs.Saying.{one_of}
 use Rattle.lnbd_drives.proofs.Waiting.{AreSome, counted, one_none}
 
@@ -31,6 +32,11 @@ pub handles_are_of : {K : Type 0} → HandlesAreOf K
 handles_are_of limit calls seens index seen now d there stands =
     let one = one_of calls seens index seen there d.drive d.plain in
     driven_are_of limit seen.link calls seen.history stands.lawful one.plain.spelled stands.going one.plain.mode (subst (Drives seen.link calls seen.history) one.plain.arrived one.drives)
+
+pub handles_tell : {K : Type 0} → HandlesTell K
+handles_tell limit calls seens index seen now d there stands =
+    let one = one_of calls seens index seen there d.drive d.plain in
+    driven_tell limit seen.link calls seen.history stands.lawful one.plain.spelled stands.going one.plain.mode (subst (Drives seen.link calls seen.history) one.plain.arrived one.drives)
 
 -- Where nothing is offered, so many bytes went out at least.
 all_wrote : (parts : List Part) (n : ℕ) → AreSome parts → out (waiting parts n) ≡ [] → total parts ≤ n
@@ -46,25 +52,28 @@ all_wrote (part ∷ parts) n some none = go (n == 0) (nat_lt n (length part.byte
 none_told : (info : ExportInfo) → None ≡ Some info → ⊥
 none_told info e = cc
 
-told_size : (told : Option Export) (contexts : List Context) (structured extended : Bool) (info : ExportInfo) → info_of told contexts structured extended ≡ Some info → size_at Ready told ≡ Some info.size
-told_size None contexts structured extended info e = absurd (none_told info e)
-told_size (Some export) contexts structured extended info e = ap (λ (i : Option ExportInfo). size_of i) e
+told_whole : (told : Option Export) (contexts : List Context) (structured extended : Bool) (info : ExportInfo) → info_of told contexts structured extended ≡ Some info → export_at Ready told ≡ Some (export_in info)
+told_whole None contexts structured extended info e = absurd (none_told info e)
+told_whole (Some export) contexts structured extended info e = ap (λ (i : Option ExportInfo). whole i) e
   where
-    size_of : Option ExportInfo → Option ℕ
-    size_of None = None
-    size_of (Some i) = Some i.size
+    whole : Option ExportInfo → Option Export
+    whole None = None
+    whole (Some i) = Some (export_in i)
 
-pub info_was_told : {K : Type 0} → InfoWasTold K
-info_was_told history info ready quiet told =
+pub export_was_told : {K : Type 0} → ExportWasTold K
+export_was_told history info ready quiet told =
     let at = state_of (reading history).known.stage (phase (reading history).known.turns) ready in
     let all = steps (reading history).known.turns in
     record {
       earlier = history;
       since = [];
       is = refl;
-      knew = ap (λ p. size_at p (export (steps (reading history).known.turns))) at.1 ∙ told_size (export all) (contexts all) (structured all) (extended all) info told;
+      knew = ap (λ p. export_at p (export (steps (reading history).known.turns))) at.1 ∙ told_whole (export all) (contexts all) (structured all) (extended all) info told;
       out = all_wrote (reading history).known.parts (asked history).wrote (counted history).some (one_none (reading history).known.stage (reading history).known.parts (asked history).wrote quiet);
     }
+
+pub info_was_told : {K : Type 0} → InfoWasTold K
+info_was_told history info ready quiet told = size_was_told history (export_in info) (export_was_told history info ready quiet told)
 
 -- Turns make no link.
 

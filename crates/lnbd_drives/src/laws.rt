@@ -2,7 +2,7 @@
 //! does nothing.
 
 ghost use Rattle.lnbd_drives.specs.Laws.{TurnsDrive, ShortTurnsDrive, TurnsPassOthers, PassingCallsDrive, OtherCallsPass, CallersDrive, NewDrive, TakenDrive, DrivenSaid, AllSaid, NothingWaits, DoneSaid, SaidStays};
-ghost use Rattle.lnbd_drives.specs.Exports.{HandlesAreOf, InfoWasTold, TurnsGiveNone};
+ghost use Rattle.lnbd_drives.specs.Exports.{HandlesAreOf, HandlesTell, ExportWasTold, InfoWasTold, TurnsGiveNone};
 
 use lnbd_callbacks::Caller;
 
@@ -75,6 +75,17 @@ pub fn said_stays()
 /// The link of each handle is of the export of the name that was set on it.
 pub fn handles_are_of<K>()
     ensures { HandlesAreOf K }
+{}
+
+/// The link of each handle tells what the handle was told of its export.
+pub fn handles_tell<K>()
+    ensures { HandlesTell K }
+{}
+
+/// A handle that may make requests and has nothing to write was told the export of which it tells: its
+/// size, its flags, its block sizes, its name and its description.
+pub fn export_was_told<K>()
+    ensures { ExportWasTold K }
 {}
 
 /// A handle that may make requests and has nothing to write was told the size of which it tells.

@@ -5,7 +5,7 @@
 mod laws;
 
 pub use laws::{
-    all_said, callers_drive, done_said, driven_said, handles_are_of, info_was_told, new_drive,
-    nothing_waits, other_calls_pass, passing_calls_drive, said_stays, short_turns_drive,
-    taken_drive, turns_drive, turns_give_none, turns_pass_others,
+    all_said, callers_drive, done_said, driven_said, export_was_told, handles_are_of, handles_tell,
+    info_was_told, new_drive, nothing_waits, other_calls_pass, passing_calls_drive, said_stays,
+    short_turns_drive, taken_drive, turns_drive, turns_give_none, turns_pass_others,
 };
