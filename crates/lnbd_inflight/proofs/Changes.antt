@@ -1,6 +1,6 @@
 -- What the fields of a table keep, by each change.
-use Rattle.std.proofs.Common.{◌≡◌, ℕ, zero, suc, ◌+◌, ◌<◌, ◌≢◌, List, [], ◌∷◌, ◌++◌, Bool, true, false, cond, refl, ap, sym, subst, ◌∙◌, arith, Some, None, Option, IsSome, is_some, length, length-append, nat_eq, Bor, get_or, slice_set, Result, Ok, Err, is_err, OnOk, OnErr}
-use Rattle.std.specs.Option.{option_map, option_copied}
+use Rattle.std.proofs.Common.{◌≡◌, ℕ, zero, suc, ◌+◌, ◌<◌, ◌≢◌, List, [], ◌∷◌, ◌++◌, Bool, true, false, cond, refl, ap, sym, subst, ◌∙◌, arith, Some, None, Option, IsSome, is_some, length, length-append, nat_eq, get_or, slice_set, Result, Ok, Err, is_err, OnOk, OnErr}
+use Rattle.std.specs.Option.{option_map}
 use Rattle.std.proofs.lemmas.Grind.{common_steps}
 use Rattle.slab.specs.Slab.{Slab, get, slab_len, Updates}
 use Rattle.lnbd_keyed.specs.Keyed.{value_at, IsBelow, IsRising}
@@ -12,10 +12,6 @@ use Rattle.lnbd_inflight.specs.Places.{stands, places_of}
 use Rattle.lnbd_inflight.specs.Rows.{slot, with_first, rows_in, IsPlaced, SameSlots, ChangesSlot}
 use Rattle.lnbd_inflight.proofs.Standing.{rising_places}
 use Rattle.lnbd_inflight.proofs.Placing.{standing, stands_at, stands_nowhere, value_at_places, standing_same, ends_append, order_below, row_of, value_at_rows, rising_rows, rows_are, row_none, row_same}
-
-pub copied : {A : Type 0} (o : Option (Bor A)) → is_some o ≡ is_some (option_copied o)
-copied None = refl
-copied (Some x) = refl
 
 pub none_some : {A : Type 0} {x : A} (o : Option A) → o ≡ None → o ≡ Some x → ⊥
 none_some o e f = cc (e, f)

@@ -6,6 +6,7 @@
 ghost use Rattle.std.specs.Prelude.{◌≡◌, Some, IsSome, nat_eq, drop};
 ghost use Rattle.indexmap.specs.IndexMap.{get};
 ghost use Rattle.lnbd_keyed.specs.Keyed.{IsRising};
+ghost use Rattle.lnbd_inflight.specs.Found.{StandsNowhereElse};
 ghost use Rattle.lnbd_inflight.specs.Places.{stands, places_of, waits, first_standing, first_waiting, places_above, IsOrdered};
 
 use indexmap::IndexMap;
@@ -22,13 +23,34 @@ pub struct Spot {
 /// How many places may be left over in the order, beside one for each that stands.
 const SPARE: usize = 32;
 
-/// The key of a cookie that is held.
-pub fn key_of(index: &IndexMap<u64, usize>, cookie: u64) -> usize
-    requires { IsSome (get nat_eq index.now cookie) }
+/// The key of a cookie, where it is held.
+///
+/// A key at which it may stand, or any other number, is looked at first: where the slab has the cookie there, the index
+/// isn't searched.
+pub fn find_key(
+    index: &IndexMap<u64, usize>,
+    spots: &Slab<Spot>,
+    maybe: usize,
+    cookie: u64,
+) -> Option<usize>
+    requires { StandsNowhereElse index.now spots.now }
+    ensures { result ≡ get nat_eq index.now cookie }
+{
+    if is_standing(spots, &(cookie, maybe)) {
+        Some(maybe)
+    } else {
+        index.get(&cookie).copied()
+    }
+}
+
+/// The key of a cookie that is held, looked for in the same way.
+pub fn key_of(index: &IndexMap<u64, usize>, spots: &Slab<Spot>, maybe: usize, cookie: u64) -> usize
+    requires nothing_else { StandsNowhereElse index.now spots.now }
+    requires held { IsSome (get nat_eq index.now cookie) }
     ensures { get nat_eq index.now cookie ≡ Some result }
 {
-    match index.get(&cookie) {
-        Some(key) => *key,
+    match find_key(index, spots, maybe, cookie) {
+        Some(key) => key,
         None => unreachable!(),
     }
 }

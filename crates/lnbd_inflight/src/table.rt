@@ -9,7 +9,7 @@ ghost use Rattle.lnbd_inflight.specs.Done.{is_done, forgetting};
 ghost use Rattle.lnbd_inflight.specs.Found.{HasCookies, HasDistinctValues, HasHeldOnly, HasEachHeld, StandsAtValues, StandsNowhereElse};
 
 use crate::marks::{Mark, forget};
-use crate::places::{Spot, first_held, first_unmarked, key_of, place_above, tidy};
+use crate::places::{Spot, find_key, first_held, first_unmarked, key_of, place_above, tidy};
 use crate::rows::{Held, end, grow, put, stamp_at, take};
 use indexmap::IndexMap;
 use slab::Slab;
@@ -29,6 +29,10 @@ pub struct Table<R> {
     order: VecDeque<(u64, usize)>,
     done: VecDeque<Mark>,
     next_stamp: u64,
+    // The key that `get_mut` found last. It is only where a cookie is looked for first, so it may be any number: each
+    // use asks the slab whether the cookie stands there. A reply's row is lent and then marked, and each further chunk
+    // lends it again: the index is searched once for all of these.
+    recent: usize,
 }
 
 impl<R> Model for Table<R> {
@@ -58,6 +62,7 @@ impl<R> Table<R> {
             order: VecDeque::new(alloc),
             done: VecDeque::new(alloc),
             next_stamp: 0,
+            recent: 0,
         }
     }
 
@@ -106,18 +111,25 @@ impl<R> Table<R> {
         ensures* writes_back { sem 𝓛 (lends_get R.row self.entry cookie result) }
         ensures value { option_copied_mut result ≡ value_at cookie self.old.rows }
     {
-        if self.is_held(cookie) {
+        if self.find(cookie) {
             Some(self.row_mut(cookie))
         } else {
             None
         }
     }
 
-    /// Whether a cookie is held.
-    fn is_held(&self, cookie: u64) -> bool
-        ensures { result ≡ holds_key cookie self.now.rows }
+    /// Whether a cookie is held. Its key is kept as the recent one.
+    fn find(&mut self, cookie: u64) -> bool
+        ensures held { result ≡ holds_key cookie self.old.rows }
+        ensures unchanged { self.new ≡ self.old }
     {
-        self.index.get(&cookie).is_some()
+        match find_key(&self.index, &self.spots, self.recent, cookie) {
+            Some(key) => {
+                self.recent = key;
+                true
+            }
+            None => false,
+        }
     }
 
     /// The row of a cookie that is held.
@@ -126,7 +138,7 @@ impl<R> Table<R> {
         ensures* writes_back { sem 𝓛 (lends_row R.row self.entry cookie result) }
         ensures value { value_at cookie self.old.rows ≡ Some result.now }
     {
-        let key = key_of(&self.index, cookie);
+        let key = key_of(&self.index, &self.spots, self.recent, cookie);
         let slot = &mut self.rows[key];
         let held = slot.as_mut().unwrap();
         &mut held.row
@@ -154,7 +166,7 @@ impl<R> Table<R> {
         ensures rows { self.new.rows ≡ self.old.rows }
         ensures done { self.new.done ≡ self.old.done ++ cookie ∷ [] }
     {
-        let key = key_of(&self.index, cookie);
+        let key = key_of(&self.index, &self.spots, self.recent, cookie);
         let stamp = self.next_stamp;
         self.next_stamp = stamp.saturating_add(1);
         self.spots[key].done = true;
@@ -270,6 +282,7 @@ impl<R> Table<R> {
             order: _,
             done: _,
             next_stamp: _,
+            recent: _,
         } = self;
         end(rows);
     }

@@ -107,6 +107,29 @@ fn told(table: &Table<Row>, cookie: u64) -> (bool, bool) {
 }
 
 #[test]
+fn what_was_found_last_stands_for_no_other(rt: HostRuntime) {
+    let mut table = Table::new(rt.alloc());
+    add(&rt, &mut table, 1, 10);
+    add(&rt, &mut table, 2, 20);
+    if let Some(row) = table.get_mut(2) {
+        row.number = 21;
+    }
+    if let Some(cookie) = table.first_undone() {
+        table.mark_done(cookie);
+    }
+    assert_eq!(rt; told(&table, 1), (true, true));
+    assert_eq!(rt; told(&table, 2), (true, false));
+    if let Some(row) = table.get_mut(1) {
+        row.number = 11;
+    }
+    assert_eq!(rt; spent(table.remove(1)), Some(11));
+    // its key is free now
+    assert!(rt; table.get_mut(1).is_none());
+    assert_eq!(rt; spent(table.remove(2)), Some(21));
+    end(table);
+}
+
+#[test]
 fn index_and_slab_tell_what_is_held(rt: HostRuntime) {
     let mut table = Table::new(rt.alloc());
     add(&rt, &mut table, 1, 10);

@@ -16,8 +16,8 @@ use Rattle.lnbd_inflight.proofs.table.Table.mark_done.Goals as goal
 use Rattle.lnbd_inflight.proofs.table.Table.mark_done.Goals.{After-push_back_reserved}
 use Rattle.lnbd_inflight.proofs.table.Table.mark_done.Given.{Over}
 
-pub key_of-key-requires : goal.key_of-key-requires
-key_of-key-requires g c =
+pub key_of-key-requires-clause-held : goal.key_of-key-requires-clause-held
+key_of-key-requires-clause-held g c =
     let a = c.self.inside in
     held_kept a.spots (get nat_eq a.index) a.rows.items a.order.items (order_of a.done.items) c.self.invariant.placed c.args.cookie (rw (← c.self.view_is) at c.requires.held)
 

@@ -11,8 +11,8 @@ use Rattle.lnbd_inflight.proofs.Sound.{sound_with}
 use Rattle.lnbd_inflight.proofs.Writes.{written, written_rows}
 use Rattle.lnbd_inflight.proofs.table.Table.row_mut.Goals as goal
 
-pub key_of-key-requires : goal.key_of-key-requires
-key_of-key-requires g c =
+pub key_of-key-requires-clause-held : goal.key_of-key-requires-clause-held
+key_of-key-requires-clause-held g c =
     let a = c.self.inside in
     held_kept a.spots (get nat_eq a.index) a.rows.items a.order.items (order_of a.done.items) c.self.invariant.placed c.args.cookie (rw (← c.self.view_is) at c.requires)
 
