@@ -8,19 +8,17 @@ ghost use Rattle.lnbd_chunks.specs.Chunk.{Waiting as Known};
 ghost use Rattle.lnbd_chunks.specs.Laws.{breach_of};
 ghost use Rattle.lnbd_structured.specs.Assembly.{head_of};
 ghost use Rattle.lnbd_commands.specs.Seen.{seen_waiting};
-ghost use Rattle.lnbd_arrivals.specs.Frames.{Announces, IsFront, IsDataFront, IsSuccess, announced_by, front_size, is_extended, is_last, is_structured};
+ghost use Rattle.lnbd_arrivals.specs.Frames.{Announces, IsFront, IsDataFront, announced_by, front_size, is_extended, is_last, is_structured};
 ghost use Rattle.lnbd_arrivals.specs.Heads.{IsHead, head_size};
 ghost use Rattle.lnbd_arrivals.specs.declared.replies.Replies.TheVariants.{Simple};
 
 use crate::frame::{asked, is_read};
-use crate::heads::{chunk_head, head_size};
+use crate::heads::{chunk_head, head_size, simple_head};
 use crate::replies::Replies;
 use lnbd_commands::Waiting;
-use lnbd_records::{u32_at, u64_at};
+use lnbd_records::u64_at;
 use lnbd_structured::{breach_shown, is_done};
 use lnbd_wire::{ExtHead, Read};
-
-const MAGIC: u32 = 0x67446698;
 
 /// The type of a chunk of data (NBD protocol, "Structured reply types").
 const OFFSET_DATA: u16 = 1;
@@ -83,31 +81,29 @@ pub fn look_front(replies: Replies, waiting: Option<Waiting>, front: &[u8]) -> O
     }
 }
 
-/// Whether these 16 bytes are the head of a simple reply that tells no error.
-fn is_success(head: &[u8]) -> bool
-    requires { length head.now ≡ 16 }
-    ensures { IsTrue result ↔ IsSuccess head.now }
-{
-    u32_at(head, 0) == MAGIC && u32_at(head, 4) == 0
-}
-
 /// The simple reply with this head, where no chunks come.
-fn look_success(replies: Replies, command: &Waiting, head: &[u8]) -> Option<Announced>
-    requires sized { length head.now ≡ front_size replies }
+fn look_success(replies: Replies, command: &Waiting, front: &[u8]) -> Option<Announced>
+    requires sized { length front.now ≡ front_size replies }
     requires simple { is_structured replies ≡ false }
-    ensures announces { IfSome result (λ announced. (waited : ℕ → Option Known) → waited (number_at 8 8 head.now) ≡ Some (seen_waiting command.now) → Announces replies waited head.now announced) }
-    ensures says { IfSome result (λ announced. IsFront replies (seen_waiting command.now) head.now × (announced ≡ announced_by replies (seen_waiting command.now) head.now)) }
-    ensures all { IsFront replies (seen_waiting command.now) head.now → IsSome result }
+    ensures announces { IfSome result (λ announced. (waited : ℕ → Option Known) → waited (number_at 8 8 front.now) ≡ Some (seen_waiting command.now) → Announces replies waited front.now announced) }
+    ensures says { IfSome result (λ announced. IsFront replies (seen_waiting command.now) front.now × (announced ≡ announced_by replies (seen_waiting command.now) front.now)) }
+    ensures all { IsFront replies (seen_waiting command.now) front.now → IsSome result }
 {
-    if !is_read(command.kind) || !is_success(head) {
-        return None;
+    match simple_head(front) {
+        Read::Value(head) => {
+            if head.error != 0 || !is_read(command.kind) {
+                return None;
+            }
+            Some(Announced {
+                cookie: head.cookie,
+                offset: command.offset,
+                size: command.length as usize,
+                carrier: Carrier::Reply,
+            })
+        }
+        Read::NeedMore => None,
+        Read::BadMagic(_) => None,
     }
-    Some(Announced {
-        cookie: u64_at(head, 8),
-        offset: command.offset,
-        size: command.length as usize,
-        carrier: Carrier::Reply,
-    })
 }
 
 /// The chunk of data with this front, where chunks come.
