@@ -18,3 +18,4 @@ pub mod AbortLemmas
 pub mod OptionLemmas
 pub mod PlacingLemmas
 pub mod PlaceLemmas
+pub mod SizeLemmas

@@ -17,9 +17,10 @@ ghost use Rattle.lnbd_handle.specs.Runs.{Answered};
 
 use crate::connection::Connection;
 use crate::deaths::{die, end_closing};
-use crate::drain::{take_behind, take_fresh};
+use crate::drain::take_fresh;
 use crate::kinds::{SetFault, Short};
 use crate::pending::Pending;
+use crate::pieces::take_behind;
 use crate::sending::{count_written, offered, say_goodbye};
 use crate::standing::{by_state, direction_of, may_name, state_at};
 use crate::strict;

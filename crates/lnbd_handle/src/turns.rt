@@ -86,11 +86,22 @@ pub(crate) fn has_no_zeroes(flags: u16) -> bool
     flags & 2 != 0
 }
 
-/// How many bytes the reply to EXPORT_NAME has.
+/// The size of the export in 8 bytes and the transmission flags in 2, which begin the reply to EXPORT_NAME (NBD protocol, "Newstyle
+/// negotiation").
+const BY_NAME: usize = 10;
+
+/// The zeroes that end it, unless both sides agreed to leave them out.
+const BY_NAME_ZEROES: usize = 124;
+
+/// How many bytes the reply to EXPORT_NAME has, which `look_by_name` waits for.
 pub(crate) fn by_name_size(no_zeroes: bool) -> usize
     ensures { result ≡ (if no_zeroes then 10 else 134) }
 {
-    if no_zeroes { 10 } else { 134 }
+    if no_zeroes {
+        BY_NAME
+    } else {
+        BY_NAME + BY_NAME_ZEROES
+    }
 }
 
 fn turn_by_name<K: Caller>(

@@ -4,7 +4,7 @@ use Rattle.lnbd_handle.specs.Runs.{Runs}
 use Rattle.lnbd_handle.specs.Seen.{machine_of}
 use Rattle.lnbd_handle.specs.Turns.{arriving, TurnMeans}
 use Rattle.lnbd_handle.proofs.DrainLemmas.{past, past_within, past_runs, all_runs, held_runs}
-use Rattle.lnbd_handle.proofs.drain.hold_front.Goals as goal
+use Rattle.lnbd_handle.proofs.pieces.hold_front.Goals as goal
 
 pub overflow_sub-result : goal.overflow_sub-result
 overflow_sub-result g c =

@@ -6,7 +6,7 @@ use Rattle.lnbd_handle.specs.Room.{HasPlaces}
 use Rattle.lnbd_handle.specs.Runs.{Runs}
 use Rattle.lnbd_handle.specs.Seen.{IsSound, machine_of}
 use Rattle.lnbd_handle.specs.Turns.{arriving}
-use Rattle.lnbd_handle.proofs.drain.take_behind.Given as goal
+use Rattle.lnbd_handle.proofs.pieces.take_behind.Given as goal
 
 -- what is taken up to here is held, and shows nothing yet
 abbrev pub invariant-loop-used : goal.invariant-loop-used

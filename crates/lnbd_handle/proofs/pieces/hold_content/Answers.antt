@@ -11,8 +11,8 @@ use Rattle.lnbd_handle.specs.Turns.{arriving, ShowsNothing}
 use Rattle.lnbd_handle.proofs.CalmLemmas.{first_none}
 use Rattle.lnbd_handle.proofs.HeadLemmas.{data_shown, data_held, data_filed, may_file_data, not_chunk}
 use Rattle.lnbd_handle.proofs.QueuedLemmas.{KeepsUnwritten, kept_sound}
-use Rattle.lnbd_handle.proofs.drain.hold_content.Given.{Over}
-use Rattle.lnbd_handle.proofs.drain.hold_content.Goals as goal
+use Rattle.lnbd_handle.proofs.pieces.hold_content.Given.{Over}
+use Rattle.lnbd_handle.proofs.pieces.hold_content.Goals as goal
 
 pub returns-then-pending-announced-clause-means : goal.returns-then-pending-announced-clause-means
 returns-then-pending-announced-clause-means g c =

@@ -11,7 +11,7 @@ use Rattle.lnbd_handle.proofs.CalmLemmas.{runs_calm, within_lacks}
 use Rattle.lnbd_handle.proofs.RoomLemmas.{runs_lasting}
 use Rattle.lnbd_handle.proofs.RunLemmas.{runs_none}
 use Rattle.lnbd_handle.proofs.DrainLemmas.{arrives_some, took_all, took_some}
-use Rattle.lnbd_handle.proofs.drain.take_behind.Goals as goal
+use Rattle.lnbd_handle.proofs.pieces.take_behind.Goals as goal
 
 pub loop-used-init : goal.loop-used-init
 loop-used-init g c =
