@@ -377,6 +377,43 @@ fn each_rule_refuses_in_its_order(rt: HostRuntime) -> Result<(), Fail> {
     Ok(())
 }
 
+/// Whether of all flags, each by itself, these alone are allowed for a command.
+fn allows_only(session: &mut Session, kind: Kind, allowed: u32) -> bool {
+    let length = if kind == Kind::Flush { 0 } else { 1 };
+    for bit in 0..32u32 {
+        let flag = 1u32 << bit;
+        let told = session.issue(asking(kind, length, 0, flag));
+        let fits = if allowed & flag == 0 {
+            told == refused(Why::BadFlags(flag))
+        } else {
+            matches!(told, Answer::Cookie(_))
+        };
+        if !fits {
+            return false;
+        }
+    }
+    true
+}
+
+#[test]
+fn each_other_flag_is_refused(rt: HostRuntime) -> Result<(), Fail> {
+    let mut session = Session::ready(&rt, rt.alloc(), export_of(MIB, FULL))?;
+    // FUA; and with it NO_HOLE and FAST_ZERO. No structured replies were agreed, so DF is no flag of reads.
+    let cases = [
+        (Kind::Read, 0),
+        (Kind::Write, 1),
+        (Kind::Flush, 0),
+        (Kind::Trim, 1),
+        (Kind::Cache, 0),
+        (Kind::Zero, 1 | 2 | 16),
+    ];
+    for (kind, allowed) in cases {
+        assert!(rt; allows_only(&mut session, kind, allowed));
+    }
+    assert_eq!(rt; session.close(), (192, 192));
+    Ok(())
+}
+
 #[test]
 fn a_state_refuses_before_all_else(rt: HostRuntime) -> Result<(), Fail> {
     let flush = asking(Kind::Flush, 0, 0, 0xffff);
@@ -531,10 +568,14 @@ fn a_lax_client_asks_what_it_likes(rt: HostRuntime) -> Result<(), Fail> {
         Answer::Cookie(5)
     );
     assert_eq!(rt;
+        session.issue(asking(Kind::Read, 1, u64::MAX, 0)),
+        Answer::Cookie(6)
+    );
+    assert_eq!(rt;
         session.issue(asking(Kind::Read, 0, 0, 0)),
         Answer::Refused(Why::ZeroSize)
     );
-    assert_eq!(rt; session.close(), (7, 7));
+    assert_eq!(rt; session.close(), (8, 8));
     Ok(())
 }
 

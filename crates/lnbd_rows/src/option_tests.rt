@@ -105,7 +105,7 @@ fn options_are_asked_by_the_caller(rt: HostRuntime) -> Result<(), Fail> {
     play_all(&rt, rt.alloc(), &OPTIONS)
 }
 
-static EXTENDED_HEADERS: [Session<'static>; 4] = [
+static EXTENDED_HEADERS: [Session<'static>; 5] = [
     Session {
         shows: "extended headers carry lengths of 64 bits",
         reads: &[
@@ -129,6 +129,23 @@ static EXTENDED_HEADERS: [Session<'static>; 4] = [
             ASK_GO,
             "21e41c71 0000 0006 0000000000000001 0000000000000000 0000000180000000",
         ],
+        ..SESSION
+    },
+    Session {
+        shows: "of lengths that no export has the greatest is past the end, and one more too many",
+        reads: &[HELLO, EXTENDED, GO_LARGE],
+        talk: &[
+            ("extended on", "ok"),
+            CONNECT,
+            SETTLE,
+            ("zero 9223372036854775807 0", "refused bounds 8589934592"),
+            (
+                "zero 9223372036854775808 0",
+                "refused too-big 9223372036854775807",
+            ),
+        ],
+        last: "opened 2 freed 2",
+        written: &[FLAGS, ASK_EXTENDED, ASK_GO],
         ..SESSION
     },
     Session {

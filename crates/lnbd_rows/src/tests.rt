@@ -21,7 +21,37 @@ pub(crate) const CONNECT: (&str, &str) = ("connect tcp localhost 10809", "connec
 
 pub(crate) const SETTLE: (&str, &str) = ("settle", "settled");
 
-static READS: [Session<'static>; 5] = [
+/// Replies to the third, the first and the second of three reads.
+const DISORDERED: &str = "67446698 00000000 0000000000000003 33 \
+     67446698 00000000 0000000000000001 11 \
+     67446698 00000000 0000000000000002 22";
+
+/// All but how these replies come.
+const DISORDER: Session<'static> = Session {
+    talk: &[
+        CONNECT,
+        SETTLE,
+        ("pread 1 0", "cookie 1"),
+        ("pread 1 1", "cookie 2"),
+        ("pread 1 2", "cookie 3"),
+        SETTLE,
+        ("peek", "cookie 3"),
+        ("done 1", "done 1 11*1"),
+        ("done 2", "done 1 22*1"),
+        ("done 3", "done 1 33*1"),
+        ("peek", "none-left"),
+    ],
+    last: "opened 3 freed 3",
+    written: &[
+        HANDSHAKE,
+        "25609513 0000 0000 0000000000000001 0000000000000000 00000001",
+        "25609513 0000 0000 0000000000000002 0000000000000001 00000001",
+        "25609513 0000 0000 0000000000000003 0000000000000002 00000001",
+    ],
+    ..SESSION
+};
+
+static READS: [Session<'static>; 6] = [
     Session {
         shows: "a read and the end",
         reads: &[
@@ -90,36 +120,13 @@ static READS: [Session<'static>; 5] = [
     },
     Session {
         shows: "replies come in any order, byte by byte",
-        reads: &[
-            HELLO,
-            GO,
-            Told::ByteByByte(
-                "67446698 00000000 0000000000000003 33 \
-                 67446698 00000000 0000000000000001 11 \
-                 67446698 00000000 0000000000000002 22",
-            ),
-        ],
-        talk: &[
-            CONNECT,
-            SETTLE,
-            ("pread 1 0", "cookie 1"),
-            ("pread 1 1", "cookie 2"),
-            ("pread 1 2", "cookie 3"),
-            SETTLE,
-            ("peek", "cookie 3"),
-            ("done 1", "done 1 11*1"),
-            ("done 2", "done 1 22*1"),
-            ("done 3", "done 1 33*1"),
-            ("peek", "none-left"),
-        ],
-        last: "opened 3 freed 3",
-        written: &[
-            HANDSHAKE,
-            "25609513 0000 0000 0000000000000001 0000000000000000 00000001",
-            "25609513 0000 0000 0000000000000002 0000000000000001 00000001",
-            "25609513 0000 0000 0000000000000003 0000000000000002 00000001",
-        ],
-        ..SESSION
+        reads: &[HELLO, GO, Told::ByteByByte(DISORDERED)],
+        ..DISORDER
+    },
+    Session {
+        shows: "replies come in any order, all at once",
+        reads: &[HELLO, GO, Told::Bytes(DISORDERED)],
+        ..DISORDER
     },
     Session {
         shows: "an error of the peer fails its command alone",
