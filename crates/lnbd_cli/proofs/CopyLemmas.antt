@@ -14,9 +14,9 @@ use Rattle.lnbd_plan.specs.declared.fault.CopyFault.{CopyFault}
 use Rattle.lnbd_plan.specs.declared.fault.CopyFault.TheVariants as copying
 use Rattle.lnbd_course.specs.Asks.{GrewBy, HasAskedOnce, WereDone}
 use Rattle.lnbd_course.specs.Copied.{Copies}
-use Rattle.lnbd_course.specs.Spares.{SparesZeros}
 use Rattle.lnbd_copy.specs.Copier as copier
 use Rattle.lnbd_copy.specs.Grounds.{IsGrounded}
+use Rattle.lnbd_copy.specs.Settled.{SparesFound, SparesTold}
 use Rattle.lnbd_cli.specs.declared.copying.Uncopied.{Uncopied}
 use Rattle.lnbd_cli.specs.declared.copying.Uncopied.TheVariants as why
 use Rattle.lnbd_cli.specs.Informs.{IsInfo, spelled}
@@ -132,24 +132,14 @@ copied_by seen from to options a b what run two =
     (subst (λ (p : Place). Copies from p seen.options.destination_is_zero a b) what.2
     (subst (λ (p : Place). Copies p seen.to seen.options.destination_is_zero a b) what.1 (run (λ e. two (sym what.1 ∙ e ∙ what.2)))))
 
-pub asked_by : (seen : copier.Seen) (from to : Place) (options : CopyOptions) (a b : Option (List Call)) → (seen.options ≡ options) × (seen.from ≡ from) × (seen.to ≡ to) →
-    (seen.from ≢ seen.to → GrewBy (HasAskedOnce seen.options.allocated seen.from seen.to) a b) → from ≢ to → GrewBy (HasAskedOnce options.allocated from to) a b
-asked_by seen from to options a b what run two =
-    subst (λ (o : CopyOptions). GrewBy (HasAskedOnce o.allocated from to) a b) what.0
-    (subst (λ (p : Place). GrewBy (HasAskedOnce seen.options.allocated from p) a b) what.2
-    (subst (λ (p : Place). GrewBy (HasAskedOnce seen.options.allocated p seen.to) a b) what.1 (run (λ e. two (sym what.1 ∙ e ∙ what.2)))))
+-- What is so of a copy that was made of the options and places that the words name is so of these.
+pub by_words : (Is : CopyOptions → (from to : Place) → List Call → Type 0) (seen : copier.Seen) (from to : Place) (options : CopyOptions) (a b : Option (List Call)) → (seen.options ≡ options) × (seen.from ≡ from) × (seen.to ≡ to) →
+    (seen.from ≢ seen.to → GrewBy (Is seen.options seen.from seen.to) a b) → from ≢ to → GrewBy (Is options from to) a b
+by_words Is seen from to options a b what run two =
+    subst (λ (o : CopyOptions). GrewBy (Is o from to) a b) what.0
+    (subst (λ (p : Place). GrewBy (Is seen.options from p) a b) what.2
+    (subst (λ (p : Place). GrewBy (Is seen.options p seen.to) a b) what.1 (run (λ e. two (sym what.1 ∙ e ∙ what.2)))))
 
-pub done_by : (seen : copier.Seen) (from to : Place) (options : CopyOptions) (a b : Option (List Call)) → (seen.options ≡ options) × (seen.from ≡ from) × (seen.to ≡ to) →
-    (seen.from ≢ seen.to → GrewBy (WereDone seen.from seen.to) a b) → from ≢ to → GrewBy (WereDone from to) a b
-done_by seen from to options a b what run two =
-    subst (λ (p : Place). GrewBy (WereDone from p) a b) what.2 (subst (λ (p : Place). GrewBy (WereDone p seen.to) a b) what.1 (run (λ e. two (sym what.1 ∙ e ∙ what.2))))
-
-pub spared_by : (seen : copier.Seen) (from to : Place) (options : CopyOptions) (a b : Option (List Call)) → (seen.options ≡ options) × (seen.from ≡ from) × (seen.to ≡ to) →
-    (seen.from ≢ seen.to → GrewBy (SparesZeros seen.from) a b) → from ≢ to → GrewBy (SparesZeros from) a b
-spared_by seen from to options a b what run two =
-    subst (λ (p : Place). GrewBy (SparesZeros p) a b) what.1 (run (λ e. two (sym what.1 ∙ e ∙ what.2)))
-
--- On which grounds it failed.
 pub grounded_by : (seen : copier.Seen) (from to : Place) (options : CopyOptions) (a b : Option (List Call)) (fault : CopyFault) → (seen.options ≡ options) × (seen.from ≡ from) × (seen.to ≡ to) →
     IsGrounded a b seen.from seen.to fault → IsGrounded a b from to fault
 grounded_by seen from to options a b fault what shown =

@@ -1,6 +1,6 @@
 -- Handles that may make requests and have nothing to write, and that such a handle was told the size of which it tells.
-use Rattle.std.proofs.Common.{◌≡◌, inl, inr, ℕ, zero, suc, ◌+◌, ◌<◌, ◌≤◌, length, List, [], ◌∷◌, Option, Some, None, slice_get, refl, ap, sym, subst, ◌∙◌, arith}
-use Rattle.std.proofs.lemmas.Bool.{cases_lt}
+use Rattle.std.proofs.Common.{◌≡◌, inl, inr, ℕ, zero, suc, ◌+◌, ◌<◌, ◌≤◌, Bool, true, false, nat_lt, length, List, [], ◌∷◌, Option, Some, None, slice_get, if◌then◌else◌, refl, ap, sym, subst, ◌∙◌, arith}
+use Rattle.std.proofs.lemmas.Bool.{cases_lt, false≢true, lt-ltb}
 use Rattle.std.specs.Option.{option_map}
 use Rattle.lnbd_model.specs.declared.export.ExportInfo.{ExportInfo}
 use Rattle.lnbd_model.specs.declared.state.State.TheVariants as state
@@ -8,11 +8,13 @@ use Rattle.lnbd_history.specs.Answers.{direction_after, info_after, state_after}
 use Rattle.lnbd_machine.specs.Machine.{Machine}
 use Rattle.lnbd_standing.specs.Standing.{StandsFor}
 use Rattle.lnbd_handle.specs.Histories.{ForEach, max_unretired}
+use Rattle.lnbd_plan.specs.declared.fault.Rule.{Rule}
 use Rattle.lnbd_poll.specs.Held.{Held, AreAt}
 use Rattle.lnbd_poll.specs.Seen.{Seen}
 use Rattle.lnbd_drives.proofs.Exports.{info_was_told}
 use Rattle.lnbd_board.specs.declared.ticket.Ticket.{Ticket}
-use Rattle.lnbd_copy.specs.Agreed.{AreQuiet, HasTold, IsQuiet, Tells}
+use Rattle.lnbd_copy.specs.Agreed.{Agrees, AreQuiet, HasTold, IsQuiet, Tells}
+use Rattle.lnbd_copy.specs.Terms.{broken_rule}
 use Rattle.lnbd_copy.proofs.TurnLemmas.{none_some, some_same}
 
 module _ (handle : Machine Ticket) (info : ExportInfo) (ready : ForEach handle (λ history. state_after history ≡ state.Ready)) (quiet : ForEach handle (λ history. direction_after history ≡ 1)) (told : ForEach handle (λ history. Some info ≡ info_after history)) where
@@ -61,3 +63,21 @@ held_below (first ∷ others) (suc index) one there = let more = held_below othe
 
 pub all_quiet : (n : ℕ) (held : List (Held Ticket)) → QuietBelow n held → length held ≤ n → AreQuiet held
 all_quiet n held below all index one there = let l = held_below held index one there in below.on index one (omega (arith, l, all)) there
+
+-- Where no rule is broken the destination is no smaller, and so both agree on the source's size.
+
+breaks : (read_only smaller : Bool) (one two : Rule) (more : Option Rule) → smaller ≡ true → (if read_only then Some one else if smaller then Some two else more) ≡ None → ⊥
+breaks true smaller one two more is none = cc
+breaks false true one two more is none = cc
+breaks false false one two more is none = absurd (false≢true is)
+
+no_smaller : (source destination : ExportInfo) → broken_rule source destination ≡ None → source.size ≤ destination.size
+no_smaller source destination none = elim (cases_lt destination.size source.size) [
+  | inl less ↦ absurd (breaks _ (nat_lt destination.size source.size) _ _ _ (lt-ltb destination.size source.size less) none)
+  | inr fits ↦ fits
+]
+
+pub agrees : (held : List (Held Ticket)) (size : ℕ) (source destination : ExportInfo) → size ≡ source.size → Tells 0 source.size held → Tells 1 destination.size held → broken_rule source destination ≡ None → Agrees size held
+agrees held size source destination same one two none = subst (λ (n : ℕ). Agrees n held) (sym same) (record {
+  on = λ seens at. record { source = one.on seens at; room = destination.size; destination = two.on seens at; fits = no_smaller source destination none };
+})

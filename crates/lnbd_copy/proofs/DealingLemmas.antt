@@ -82,14 +82,14 @@ module _ (how : How) (sides : Sides) where
   pub on_over : (n source destination : ℕ) (old new : board.Seen) (held : List (Held Ticket)) → EndsRow how n source destination old new → Keeps how sides [] old new held held
   on_over n source destination old new held over =
       board_keeps how sides old new held (ap (λ (s : board.Seen). s.begun) over.now) (ap (λ (s : board.Seen). s.error) over.now)
-      (record { read = ap (λ (s : board.Seen). s.read) over.now; written = ap (λ (s : board.Seen). s.written) over.now; zeroed = ap (λ (s : board.Seen). s.zeroed) over.now; flushing = ap (λ (s : board.Seen). s.flushing) over.now }) (alike_of old new (ap (λ (s : board.Seen). s.told) over.now) (ap (λ (s : board.Seen). s.mapped) over.now) (ap (λ (s : board.Seen). s.short) over.now)) (over_asks_nothing how n old new over.goes)
+      (record { read = ap (λ (s : board.Seen). s.read) over.now; written = ap (λ (s : board.Seen). s.written) over.now; zeroed = ap (λ (s : board.Seen). s.zeroed) over.now; flushing = ap (λ (s : board.Seen). s.flushing) over.now; flushed = ap (λ (s : board.Seen). s.flushed) over.now }) (alike_of old new (ap (λ (s : board.Seen). s.told) over.now) (ap (λ (s : board.Seen). s.mapped) over.now) (ap (λ (s : board.Seen). s.short) over.now)) (over_asks_nothing how n old new over.goes)
 
   pub on_asks : (n destination : ℕ) (one : Change) (old new : board.Seen) (held held' : List (Held Ticket)) → AsksOn how n destination one old new → IsAskedOf sides false (command_of n one) held held' → Keeps how sides [] old new held held'
   on_asks n destination one old new held held' goes asked =
       destination_keeps how sides [] (command_of n one) old new held held' (no_more old.begun new.begun (ap (λ (s : board.Seen). s.begun) goes.now)) (change_tells_none n one) (alike_of old new (ap (λ (s : board.Seen). s.told) goes.now) (ap (λ (s : board.Seen). s.mapped) goes.now) (ap (λ (s : board.Seen). s.short) goes.now))
       (λ slices count. subst (λ (more : List Slice). AsksDestination how (without_buffer (command_of n one)) slices more old new) (sym (append-nil slices))
       (going_asks how n one slices old new (λ none. sym (ap (λ (s : board.Seen). s.error) goes.now) ∙ none)
-      (record { read = ap (λ (s : board.Seen). s.read) goes.now; written = ap (λ (s : board.Seen). s.written) goes.now; zeroed = ap (λ (s : board.Seen). s.zeroed) goes.now; flushing = ap (λ (s : board.Seen). s.flushing) goes.now }) goes.goes)) asked
+      (record { read = ap (λ (s : board.Seen). s.read) goes.now; written = ap (λ (s : board.Seen). s.written) goes.now; zeroed = ap (λ (s : board.Seen). s.zeroed) goes.now; flushing = ap (λ (s : board.Seen). s.flushing) goes.now; flushed = ap (λ (s : board.Seen). s.flushed) goes.now }) goes.goes)) asked
 
   pub first_keeps : (slice : Slice) (one : Ask) (old new : board.Seen) (held held' : List (Held Ticket)) → new.begun ≡ old.begun + 1 → new.error ≡ old.error → CountsFirst one old new → ToldAlike old new →
       asks.Begins how slice old.begun one old.rows new.rows → IsAskedFirst sides old.begun one held held' → Keeps how sides (slice ∷ []) old new held held'
@@ -119,7 +119,7 @@ begun_keeps how sides sides' slice n row one old mid new held held' both number 
     let asked' : IsAskedFirst sides old.begun one held held' = subst (λ (m : ℕ). IsAskedFirst sides m one held held') number (subst (λ (x : Sides). IsAskedFirst x n one held held') both asked) in
     subst (λ (s : board.Seen). Keeps how sides (slice ∷ []) old s held held') (sym same)
     (first_keeps how sides slice one old mid held held' (ap (λ (s : board.Seen). s.begun) is) (ap (λ (s : board.Seen). s.error) is)
-    (record { read = ap (λ (s : board.Seen). s.read) is; written = ap (λ (s : board.Seen). s.written) is; zeroed = ap (λ (s : board.Seen). s.zeroed) is; flushing = ap (λ (s : board.Seen). s.flushing) is }) (alike_of old mid (ap (λ (s : board.Seen). s.told) is) (ap (λ (s : board.Seen). s.mapped) is) (ap (λ (s : board.Seen). s.short) is)) begins asked')
+    (record { read = ap (λ (s : board.Seen). s.read) is; written = ap (λ (s : board.Seen). s.written) is; zeroed = ap (λ (s : board.Seen). s.zeroed) is; flushing = ap (λ (s : board.Seen). s.flushing) is; flushed = ap (λ (s : board.Seen). s.flushed) is }) (alike_of old mid (ap (λ (s : board.Seen). s.told) is) (ap (λ (s : board.Seen). s.mapped) is) (ap (λ (s : board.Seen). s.short) is)) begins asked')
 
 -- one after another, as the board says how and the bindings how many
 pub keeps_on : (sides sides' : Sides) (a b c : board.Seen) (i j k : List (Held Ticket)) → sides' ≡ sides → HasGoneOn a b → Keeps a.how sides [] a b i j → Keeps b.how sides' [] b c j k → Keeps a.how sides [] a c i k

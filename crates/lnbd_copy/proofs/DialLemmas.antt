@@ -33,12 +33,15 @@ use Rattle.lnbd_course.proofs.Telling.{opening_tells, others_tell}
 use Rattle.lnbd_copy.specs.declared.sides.Sides.{Sides}
 use Rattle.lnbd_copy.specs.Opening.{Dials, base_allocation, context_of, opened, place_of, with_context}
 use Rattle.lnbd_copy.specs.Way.{AreSided, HasRested, IsOn, Way, is_source, known_of}
+use Rattle.lnbd_copy.proofs.LastLemmas.{lasts_adds}
+use Rattle.lnbd_copy.proofs.HeldLemmas.{held_more}
+use Rattle.lnbd_copy.proofs.HeardLemmas.{hears_dialed, hears_on}
 use Rattle.lnbd_copy.proofs.StepLemmas.{nothing_stands, settling_stands}
 use Rattle.lnbd_copy.proofs.TurnLemmas.{at_count, rested_on, none_some, since_on, some_same}
 
 -- Before any call a copy without handles, whose board is empty, is on its way.
-pub nothing_is_on : (way : Way) (now : board.Seen) → way.size ≡ None → way.slices ≡ [] → way.asked ≡ None → ((p : ℕ) → way.zero p ≡ false) → now.rows ≡ [] → now.begun ≡ 0 → HasNotCounted now → way.rested ≡ None → IsOn way now [] []
-nothing_is_on way now unsettled none unasked unknown empty new uncounted unrested = record {
+pub nothing_is_on : (way : Way) (now : board.Seen) → way.size ≡ None → way.slices ≡ [] → way.asked ≡ None → ((p : ℕ) → way.zero p ≡ false) → now.rows ≡ [] → now.begun ≡ 0 → HasNotCounted now → way.rested ≡ None → ((p : ℕ) → way.heard p ≡ false) → IsOn way now [] []
+nothing_is_on way now unsettled none unasked unknown empty new uncounted unrested unheard = record {
   has = λ link. false;
   seens = [];
   at = tt;
@@ -46,6 +49,8 @@ nothing_is_on way now unsettled none unasked unknown empty new uncounted unreste
   begun = ap length none ∙ sym new;
   stands = nothing_stands way (λ link. false) now unsettled none unasked unknown empty uncounted;
   rest = subst (λ (o : Option board.Seen). HasRested way.from way.to way.size o []) (sym unrested) tt;
+  all = λ link apart. refl;
+  hears = record { answered = λ well two p h. absurd (false≢true (sym (unheard p) ∙ h)); first = refl };
 }
 
 -- Another board, of a copy that writes otherwise, takes the place of one that is empty, before any slice is begun.
@@ -59,6 +64,8 @@ settled way how now now' calls held none unasked empty well unflushed empty' new
   begun = ap length none ∙ sym new;
   stands = settling_stands way on.has how now now' calls on.seens none unasked on.stands empty well unflushed empty' uncounted;
   rest = on.rest;
+  all = on.all;
+  hears = hears_on false way.from way.to way.heard now.error now'.error (λ none. well) calls on.seens on.seens refl on.hears;
 }
 
 -- The last of some handles.
@@ -175,6 +182,8 @@ dialed way now calls held place link extents handle there on new short stands =
             (opening_tells way.how on.has way.slices now calls on.seens way.asked (known_of way) place.to link side on.stands.told new);
       };
       rest = rested_on way.from way.to way.size way.rested calls (wire.Connect place.to (Some link) ∷ []) on.rest;
+      all = held_more calls place.to link on.seens last refl on.all;
+      hears = hears_dialed way.from way.to way.heard now.error calls on.seens place.to last on.hears;
     }
 
 -- what is given by none of some calls is given by none of the last
@@ -203,4 +212,5 @@ dials a b c place now held held' link extents handle adds fresh told_is short st
             let free = last_free link since.before since.calls (subst (λ (l : List wire.Call). is_given link l ≡ false) since.now (fresh grown.0 grown.1)) in
             since_on start grown.0 all (wire.Connect place.to (Some link) ∷ []) grown.2 since (dialed way now since.calls held place link extents handle is since.is free short stands);
       };
+      lasts = lasts_adds a b (wire.Connect place.to (Some link)) adds;
     }))

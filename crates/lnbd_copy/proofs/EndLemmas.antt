@@ -1,8 +1,9 @@
 -- What stands after each step of a turn, and that a copy which has parted from all its connections has copied.
-use Rattle.std.proofs.Common.{◌≡◌, ◌≢◌, ◌⊎◌, ◌≤◌, inl, inr, ℕ, length, Bool, true, false, not, List, [], ◌∷◌, ◌++◌, Option, Some, None, if◌then◌else◌, refl, ap, sym, subst, ◌∙◌, arith}
+use Rattle.std.proofs.Common.{◌≡◌, ◌≢◌, ◌⊎◌, ◌≤◌, inl, inr, ℕ, length, Bool, true, false, not, ◌&&◌, List, [], ◌∷◌, ◌++◌, Option, Some, None, if◌then◌else◌, refl, ap, sym, subst, ◌∙◌, arith}
 use Rattle.std.proofs.lemmas.Bool.{false≢true}
 use Rattle.std.proofs.lemmas.List.{append-nil}
 use Rattle.lnbd_model.specs.declared.target.Place.{Place}
+use Rattle.lnbd_asked.specs.Transcript.{dealt_with}
 use Rattle.lnbd_handle.specs.Histories.{max_unretired}
 use Rattle.lnbd_link.specs.Call as wire
 use Rattle.lnbd_link.specs.Part.{Grows}
@@ -19,10 +20,13 @@ use Rattle.lnbd_course.specs.Asks.{GrewBy, HasAskedOnce, WereDone}
 use Rattle.lnbd_course.specs.Between.{Between}
 use Rattle.lnbd_course.specs.Copied.{Copied, Copies}
 use Rattle.lnbd_course.specs.Course.{IsPlannedWhole}
-use Rattle.lnbd_course.specs.Flushes.{IsUnflushed}
-use Rattle.lnbd_course.specs.Spares.{SparesZeros}
+use Rattle.lnbd_course.specs.Driven.{AreDriven}
+use Rattle.lnbd_course.specs.Flushes.{IsFlushed, IsUnflushed}
+use Rattle.lnbd_course.specs.Spares.{ReadsNoZeros, WritesNoZeros}
 use Rattle.lnbd_course.specs.Told as course
-use Rattle.lnbd_course.proofs.Flushing.{ended_unflushed}
+use Rattle.lnbd_course.proofs.Dense.{ended_are_dense}
+use Rattle.lnbd_course.proofs.Driving.{ended_are_driven}
+use Rattle.lnbd_course.proofs.Flushing.{ended_flushed, ended_unflushed}
 use Rattle.lnbd_course.proofs.Holding.{take_drop}
 use Rattle.lnbd_course.proofs.Once.{ended_are_done, ended_asks_once}
 use Rattle.lnbd_course.proofs.Placing.{taking_keeps_between}
@@ -39,10 +43,16 @@ use Rattle.lnbd_copy.specs.declared.copier.Progress.TheVariants.{Finished, Moved
 use Rattle.lnbd_copy.specs.Job as job
 use Rattle.lnbd_copy.specs.Leaving.{Leaves}
 use Rattle.lnbd_copy.specs.Limit.{IsLimited}
+use Rattle.lnbd_copy.specs.Settled.{FlushesWanted, HasSettled, SparesFound, SparesTold}
+use Rattle.lnbd_copy.specs.Terms as both
+use Rattle.lnbd_copy.specs.Statuses.{ReadsAreAnswered}
 use Rattle.lnbd_copy.specs.Windows as windows
 use Rattle.lnbd_copy.specs.Way.{Filed, Goes, IsLeaving, IsOn, IsUnderWay, Stands, Told, Way, known_of}
+use Rattle.lnbd_copy.proofs.AnswerLemmas.{none_held, reads_are_answered}
 use Rattle.lnbd_copy.proofs.CopierLemmas.{told_as}
+use Rattle.lnbd_copy.proofs.LastLemmas.{settled_later}
 use Rattle.lnbd_copy.proofs.PartLemmas.{on_leaving}
+use Rattle.lnbd_copy.proofs.SettledLemmas.{same_calls, same_rest, settled_with}
 
 pub some_same : (one other : job.Seen) → Some one ≡ Some other → one ≡ other
 some_same one other e = cc
@@ -57,13 +67,15 @@ job_filed j way now now' filed is = record {
   ends = is.ends;
   zeros = is.zeros;
   planned = is.planned;
-  block = is.block;
+  grain = is.grain;
   spared = is.spared;
   asked = is.asked;
   over = λ past. let over = is.over past in record { planned = over.planned; handed = over.handed; heard = over.heard; rows = filed.none over.rows };
   unwanted = λ no. filed.flushing ∙ is.unwanted no;
   unflushed = λ copying. filed.flushing ∙ is.unflushed copying;
   rests = λ past. let r = is.rests past in record { was = r.was; is = r.is; error = λ none. r.error (filed.error none); read = filed.read ∙ r.read; written = filed.written ∙ r.written; zeroed = filed.zeroed ∙ r.zeroed };
+  flushed = λ parts wanted. filed.flushed (is.flushed parts wanted);
+  heard = is.heard;
 }
 
 -- Once the connections part, places don't count any more.
@@ -91,6 +103,7 @@ module _ (copy : Seen) (start : Option (List wire.Call)) where
     most = (let many = (goes.filed on.stand).many in let most = on.most in omega (arith, many, most));
     is = job_filed on.job on.way copy.board now (goes.filed on.stand) on.is;
     on = goes.on (job.is_parting on.job.phase) on.way start on.stand on.on;
+    settled = settled_later copy.options copy.from copy.to start a b on.job.terms (goes.lasts on.stand) on.settled;
   }
 
   -- The job goes on.
@@ -113,6 +126,7 @@ module _ (copy : Seen) (start : Option (List wire.Call)) where
         on = told_as start told
             (λ calls is. from_on (job.is_parting j'.phase) acted.way' now calls held (acted.on calls (subst (λ (b : Bool). IsUnderWay b on.way copy.board calls copy.held) (ap (λ (x : job.Seen). job.is_parting x.phase) same ∙ going) is)))
             on.on;
+        settled = subst (HasSettled copy.options copy.from copy.to start told) (ap (λ (x : job.Seen). x.terms) same ∙ sym terms) on.settled;
       }
 
   -- Connections part.
@@ -135,6 +149,7 @@ module _ (copy : Seen) (start : Option (List wire.Call)) where
         is = job_filed on.job on.way copy.board now leaves.filed on.is;
         on = told_as start b (λ calls is. subst (λ (p : Bool). IsUnderWay p on.way now calls held) (sym parting) is)
             (leaves.on on.way start (on.is.asked ∙ ap (λ (b : Bool). if b then windows.wanted on.job.windows else None) over.heard) over.rows (told_as start a (λ calls is. subst (λ (p : Bool). IsUnderWay p on.way copy.board calls copy.held) parting is) on.on));
+        settled = settled_later copy.options copy.from copy.to start a b on.job.terms leaves.lasts on.settled;
       }
 
 -- The job goes on, whatever it is at.
@@ -262,8 +277,20 @@ way_asks copy start told well on two =
     (under_way_asks on.job on.way copy.board (job.is_parting on.job.phase) calls copy.held on.is well is apart))))
     on.on
 
+-- Each read of the source so far was answered before, or no block status could be asked for.
+under_way_answers : (j : job.Seen) (way : Way) (now : board.Seen) (parting : Bool) (calls : List wire.Call) (held : List (Held Ticket)) → job.IsJob j way now → now.error ≡ None → IsUnderWay parting way now calls held → way.from ≢ way.to → ReadsAreAnswered way.from calls
+under_way_answers j way now parting calls held is well on two =
+    let reached = is.heard.planned in
+    reads_are_answered way j.terms.size on.has now calls is.size (none_held way on.has now calls held on.seens on.at on.stands) well two j.windows.plan.slices j.windows.plan.cells (told_by 0 is.planned.parts) j.windows.plan.end (planned_once j way now is)
+    (λ p low. on.hears.answered well two p (is.heard.before p (omega (arith, low, reached))))
+
+pub way_answers : (copy : Seen) (start told : Option (List wire.Call)) → copy.board.error ≡ None → IsOnItsWay start told copy → copy.from ≢ copy.to → Told start told (ReadsAreAnswered copy.from)
+way_answers copy start told well on two =
+    let apart : on.way.from ≢ on.way.to = λ e. two (sym on.from ∙ e ∙ on.to) in
+    told_as start told (λ calls is. subst (λ (f : Place). ReadsAreAnswered f calls) on.from (under_way_answers on.job on.way copy.board (job.is_parting on.job.phase) calls copy.held on.is well is apart)) on.on
+
 -- No block of the source was read that one answer told as zero whole.
-way_spares : (j : job.Seen) (way : Way) (now : board.Seen) (calls : List wire.Call) → (is : job.IsJob j way now) → job.IsOver j now → (has : ℕ → Bool) → Stands way has now calls [] → now.error ≡ None → way.from ≢ way.to → SparesZeros way.from calls
+way_spares : (j : job.Seen) (way : Way) (now : board.Seen) (calls : List wire.Call) → (is : job.IsJob j way now) → job.IsOver j now → (has : ℕ → Bool) → Stands way has now calls [] → now.error ≡ None → way.from ≢ way.to → ReadsNoZeros j.terms.grain (dealt_with way.from calls)
 way_spares j way now calls is over has s well two =
     let b = between_sized way j.terms.size has now calls is.size s in
     let sides = (links_are_of_sides way.from way.to j.terms.size way.how has way.slices now calls b two).0 in
@@ -271,15 +298,18 @@ way_spares j way now calls is over has s well two =
     let told = subst (λ (o : Option (ℕ × ℕ)). course.Told way.how has way.slices now calls [] o (known_of way)) unasked s.told in
     let ends = over.planned in
     let sized = is.ends in
-    record {
-      block = j.windows.grain;
-      least = is.block;
-      reads = ended_spares way.from way.how has way.slices j.windows.plan.slices now calls (known_of way) j.windows.plan.cells (told_by 0 is.spared.parts) j.windows.plan.end j.windows.grain told well sides.source
-          (λ p.
-          subst (λ (l : List Slice). IsPlannedOnce j.windows.plan.cells (told_by 0 is.spared.parts) 0 j.windows.plan.end p l) (sym is.spared.are)
-          (subst (λ (n : ℕ). IsPlannedOnce j.windows.plan.cells (told_by 0 is.spared.parts) 0 n p (windows_slices j.windows.plan.cells 0 is.spared.parts)) is.spared.end (all_planned_once j.windows.plan.cells 0 is.spared.parts p)))
-          (λ p e. let inside = is.spared.inside p e in is.spared.planned p e (omega (arith, inside, ends, sized)));
-    }
+    subst (λ (block : ℕ). ReadsNoZeros block (dealt_with way.from calls)) is.grain
+    (ended_spares way.from way.how has way.slices j.windows.plan.slices now calls (known_of way) j.windows.plan.cells (told_by 0 is.spared.parts) j.windows.plan.end j.windows.grain told well sides.source
+    (λ p.
+    subst (λ (l : List Slice). IsPlannedOnce j.windows.plan.cells (told_by 0 is.spared.parts) 0 j.windows.plan.end p l) (sym is.spared.are)
+    (subst (λ (n : ℕ). IsPlannedOnce j.windows.plan.cells (told_by 0 is.spared.parts) 0 n p (windows_slices j.windows.plan.cells 0 is.spared.parts)) is.spared.end (all_planned_once j.windows.plan.cells 0 is.spared.parts p)))
+    (λ p e. let inside = is.spared.inside p e in is.spared.planned p e (omega (arith, inside, ends, sized))))
+
+-- Where zeros are looked for, none of their blocks was written as bytes.
+way_dense : (j : job.Seen) (way : Way) (now : board.Seen) (calls : List wire.Call) → job.IsJob j way now → (has : ℕ → Bool) → Stands way has now calls [] → now.error ≡ None → way.from ≢ way.to → WritesNoZeros j.terms.how (dealt_with way.to calls)
+way_dense j way now calls is has s well two =
+    subst (λ (how : How). WritesNoZeros how (dealt_with way.to calls)) is.how
+    (ended_are_dense way.from way.to j.terms.size way.how has way.slices now calls (between_sized way j.terms.size has now calls is.size s) well two)
 
 pub finished : (copy : Seen) (start told : Option (List wire.Call)) (j : job.Seen) → copy.job ≡ Some j → job.is_parting j.phase ≡ true → copy.held ≡ [] → copy.board.error ≡ None → IsOnItsWay start told copy → IsDone start told copy
 finished copy start told j there parts none well on =
@@ -303,13 +333,15 @@ finished copy start told j there parts none well on =
           on.on;
       spares = λ two.
           let apart : on.way.from ≢ on.way.to = λ e. two (sym on.from ∙ e ∙ on.to) in
-          told_as start told
+          settled_with (λ source destination calls. ReadsNoZeros (both.grain source destination) (dealt_with copy.from calls)) copy.options copy.from copy.to start told on.job.terms on.settled
+          (told_as start told
           (λ calls is.
           let leaving : IsLeaving on.way copy.board calls [] =
           subst (λ (h : List (Held Ticket)). IsLeaving on.way copy.board calls h) none (subst (λ (p : Bool). IsUnderWay p on.way copy.board calls copy.held) parting is) in
           let s = stands_alone on.way copy.board calls leaving in
-          subst (λ (f : Place). SparesZeros f calls) on.from (way_spares on.job on.way copy.board calls on.is over leaving.has s well apart))
-          on.on;
+          subst (λ (block : ℕ). ReadsNoZeros block (dealt_with copy.from calls)) on.settled.settled.grain
+          (subst (λ (f : Place). ReadsNoZeros on.job.terms.grain (dealt_with f calls)) on.from (way_spares on.job on.way copy.board calls on.is over leaving.has s well apart)))
+          on.on);
       copied = λ two.
           let apart : on.way.from ≢ on.way.to = λ e. two (sym on.from ∙ e ∙ on.to) in
           told_as start told
@@ -331,19 +363,42 @@ finished copy start told j there parts none well on =
           subst (λ (t : Place). IsUnflushed t calls) on.to
           (ended_unflushed on.way.from on.way.to on.job.terms.size on.way.how leaving.has on.way.slices copy.board calls (between_sized on.way on.job.terms.size leaving.has copy.board calls on.is.size s) (on.is.unwanted (on.wished.unflushed unwanted)) apart))
           on.on;
+      flushed = λ two.
+          let apart : on.way.from ≢ on.way.to = λ e. two (sym on.from ∙ e ∙ on.to) in
+          settled_with (λ source destination calls. (copy.options.flush && both.takes_flush destination) ≡ true → IsFlushed copy.to calls) copy.options copy.from copy.to start told on.job.terms on.settled
+          (told_as start told
+          (λ calls is wanted.
+          let leaving : IsLeaving on.way copy.board calls [] =
+          subst (λ (h : List (Held Ticket)). IsLeaving on.way copy.board calls h) none (subst (λ (p : Bool). IsUnderWay p on.way copy.board calls copy.held) parting is) in
+          let s = stands_alone on.way copy.board calls leaving in
+          let answered : copy.board.flushed ≡ true = on.is.flushed (is_past on.job.phase parting) (on.settled.settled.flush ∙ wanted) in
+          subst (λ (t : Place). IsFlushed t calls) on.to
+          (ended_flushed on.way.from on.way.to on.job.terms.size on.way.how leaving.has on.way.slices copy.board calls (between_sized on.way on.job.terms.size leaving.has copy.board calls on.is.size s) well answered apart))
+          on.on);
+      dense = λ two.
+          let apart : on.way.from ≢ on.way.to = λ e. two (sym on.from ∙ e ∙ on.to) in
+          settled_with (λ source destination calls. WritesNoZeros (both.how_by copy.options source destination) (dealt_with copy.to calls)) copy.options copy.from copy.to start told on.job.terms on.settled
+          (told_as start told
+          (λ calls is.
+          let leaving : IsLeaving on.way copy.board calls [] =
+          subst (λ (h : List (Held Ticket)). IsLeaving on.way copy.board calls h) none (subst (λ (p : Bool). IsUnderWay p on.way copy.board calls copy.held) parting is) in
+          let s = stands_alone on.way copy.board calls leaving in
+          subst (λ (how : How). WritesNoZeros how (dealt_with copy.to calls)) on.settled.settled.how
+          (subst (λ (t : Place). WritesNoZeros on.job.terms.how (dealt_with t calls)) on.to (way_dense on.job on.way copy.board calls on.is leaving.has s well apart)))
+          on.on);
+      answered = λ two. way_answers copy start told well on two;
+      driven = told_as start told
+          (λ calls is.
+          let leaving : IsLeaving on.way copy.board calls [] =
+          subst (λ (h : List (Held Ticket)). IsLeaving on.way copy.board calls h) none (subst (λ (p : Bool). IsUnderWay p on.way copy.board calls copy.held) parting is) in
+          ended_are_driven on.way.from on.way.to on.way.size on.way.how leaving.has on.way.slices copy.board calls (stands_alone on.way copy.board calls leaving).between)
+          on.on;
     }
   where
     copied_as : (way : Way) (copy : Seen) (calls : List wire.Call) → way.from ≡ copy.from → way.to ≡ copy.to → way.how.skip ≡ copy.options.destination_is_zero → Copied way.from way.to way.how.skip calls → Copied copy.from copy.to copy.options.destination_is_zero calls
     copied_as way copy calls from to skip c = subst (λ (b : Bool). Copied copy.from copy.to b calls) skip (subst (λ (t : Place). Copied copy.from t way.how.skip calls) to (subst (λ (f : Place). Copied f way.to way.how.skip calls) from c))
 
 -- What was copied since the transcript was this, was copied by the part that it grew by.
-
-same_rest : (one two three : List wire.Call) → one ++ two ≡ one ++ three → two ≡ three
-same_rest [] two three e = e
-same_rest (call ∷ one) two three e = same_rest one two three (cc e)
-
-same_calls : (one two : List wire.Call) → Some one ≡ Some two → one ≡ two
-same_calls one two e = cc
 
 pub told_part : {Is : List wire.Call → Type 0} (a b : Option (List wire.Call)) → Told a b Is → (all part : List wire.Call) → b ≡ Some all → Grows a b part → Is part
 told_part {Is} a b told all part is grown =
@@ -371,14 +426,36 @@ done_whole copy new a b c kept same two done =
     let so = subst (λ (s : Seen). IsDone a b s) kept done in
     subst (λ (t : Option (List wire.Call)). GrewBy (WereDone copy.from copy.to) a t) (sym same) (told_part a b (so.done two))
 
--- It read no block that was told as zero whole.
-pub done_spares : (copy new : Seen) (a b c : Option (List wire.Call)) → new ≡ record copy { start = new.start; held = new.held; board = new.board; job = new.job } → c ≡ b → copy.from ≢ copy.to → IsDone a b new → GrewBy (SparesZeros copy.from) a c
+-- It read no block that was told as zero whole,
+pub done_spares : (copy new : Seen) (a b c : Option (List wire.Call)) → new ≡ record copy { start = new.start; held = new.held; board = new.board; job = new.job } → c ≡ b → copy.from ≢ copy.to → IsDone a b new → GrewBy (SparesTold copy.from copy.to) a c
 done_spares copy new a b c kept same two done =
     let so = subst (λ (s : Seen). IsDone a b s) kept done in
-    subst (λ (t : Option (List wire.Call)). GrewBy (SparesZeros copy.from) a t) (sym same) (told_part a b (so.spares two))
+    subst (λ (t : Option (List wire.Call)). GrewBy (SparesTold copy.from copy.to) a t) (sym same) (told_part a b (so.spares two))
+
+-- and wrote none that was found to be zero.
+pub done_dense : (copy new : Seen) (a b c : Option (List wire.Call)) → new ≡ record copy { start = new.start; held = new.held; board = new.board; job = new.job } → c ≡ b → copy.from ≢ copy.to → IsDone a b new → GrewBy (SparesFound copy.options copy.from copy.to) a c
+done_dense copy new a b c kept same two done =
+    let so = subst (λ (s : Seen). IsDone a b s) kept done in
+    subst (λ (t : Option (List wire.Call)). GrewBy (SparesFound copy.options copy.from copy.to) a t) (sym same) (told_part a b (so.dense two))
+
+-- The flush that was wanted is done.
+pub done_flushed : (copy new : Seen) (a b c : Option (List wire.Call)) → new ≡ record copy { start = new.start; held = new.held; board = new.board; job = new.job } → c ≡ b → copy.from ≢ copy.to → IsDone a b new → GrewBy (FlushesWanted copy.options copy.from copy.to) a c
+done_flushed copy new a b c kept same two done =
+    let so = subst (λ (s : Seen). IsDone a b s) kept done in
+    subst (λ (t : Option (List wire.Call)). GrewBy (FlushesWanted copy.options copy.from copy.to) a t) (sym same) (told_part a b (so.flushed two))
+
+-- Each read was answered before, or no block status could be asked for.
+pub done_answers : (copy new : Seen) (a b c : Option (List wire.Call)) → new ≡ record copy { start = new.start; held = new.held; board = new.board; job = new.job } → c ≡ b → copy.from ≢ copy.to → IsDone a b new → GrewBy (ReadsAreAnswered copy.from) a c
+done_answers copy new a b c kept same two done =
+    let so = subst (λ (s : Seen). IsDone a b s) kept done in
+    subst (λ (t : Option (List wire.Call)). GrewBy (ReadsAreAnswered copy.from) a t) (sym same) (told_part a b (so.answered two))
 
 -- It asked for no flush where its options want none.
 pub done_unflushed : (copy new : Seen) (a b c : Option (List wire.Call)) → new ≡ record copy { start = new.start; held = new.held; board = new.board; job = new.job } → c ≡ b → copy.options.flush ≡ false → copy.from ≢ copy.to → IsDone a b new → GrewBy (IsUnflushed copy.to) a c
 done_unflushed copy new a b c kept same unwanted two done =
     let so = subst (λ (s : Seen). IsDone a b s) kept done in
     subst (λ (t : Option (List wire.Call)). GrewBy (IsUnflushed copy.to) a t) (sym same) (told_part a b (so.unflushed unwanted two))
+
+-- One handle drove each of its links.
+pub done_driven : (new : Seen) (a b c : Option (List wire.Call)) → c ≡ b → IsDone a b new → GrewBy AreDriven a c
+done_driven new a b c same done = subst (λ (t : Option (List wire.Call)). GrewBy AreDriven a t) (sym same) (told_part a b done.driven)

@@ -28,7 +28,8 @@ use Rattle.lnbd_copy.specs.Copier as copier
 use Rattle.lnbd_copy.specs.Grounds.{Answers, AtSome, IsGrounded, fault_by}
 use Rattle.lnbd_copy.specs.Job as work
 use Rattle.lnbd_copy.specs.Way.{IsUnderWay, Stand, Told, Way}
-use Rattle.lnbd_copy.proofs.GroundLemmas.{at_once, grounded_as, none_grounded}
+use Rattle.lnbd_copy.proofs.GroundLemmas.{grounded_as, none_grounded}
+use Rattle.lnbd_copy.proofs.LastLemmas.{at_once}
 use Rattle.lnbd_copy.proofs.TurnLemmas.{since_on, some_same}
 
 abbrev steps : board.Seen → List (Call Ticket) → board.Seen → Type 0
@@ -36,7 +37,7 @@ steps = OneByOne board.Files
 
 -- A turn from a board without an error.
 
-all_stand : (held : List (Held Ticket)) (seens : List (Seen Ticket)) → AreAt held seens → AllStand seens
+pub all_stand : (held : List (Held Ticket)) (seens : List (Seen Ticket)) → AreAt held seens → AllStand seens
 all_stand [] [] at = tt
 all_stand [] (seen ∷ all) at = absurd at
 all_stand (one ∷ others) [] at = absurd at

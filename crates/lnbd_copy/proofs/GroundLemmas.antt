@@ -1,7 +1,6 @@
 -- What the connections of a copy were told for which it does not end well is told by the calls on the wires.
-use Rattle.std.proofs.Common.{◌≡◌, ◌≤◌, ◌+◌, inl, inr, ℕ, zero, suc, Bool, true, false, List, [], ◌∷◌, ◌++◌, length, Option, Some, None, Result, Ok, Err, IfErr, slice_get, if◌then◌else◌, refl, ap, sym, subst, ◌∙◌, arith}
+use Rattle.std.proofs.Common.{◌≡◌, ◌≤◌, ◌+◌, inl, inr, ℕ, zero, suc, Bool, true, false, List, [], ◌∷◌, length, Option, Some, None, Result, Ok, Err, IfErr, slice_get, if◌then◌else◌, refl, ap, sym, subst, ◌∙◌, arith}
 use Rattle.std.proofs.lemmas.Bool.{cases_lt, false≢true}
-use Rattle.std.proofs.lemmas.List.{append_assoc, append-nil}
 use Rattle.std.specs.Option.{option_map}
 use Rattle.std.specs.Prelude.{IsErrAnd}
 use Rattle.lnbd_model.specs.declared.breach.Broken.TheVariants as broken
@@ -13,7 +12,6 @@ use Rattle.lnbd_model.specs.declared.state.State.TheVariants as state
 use Rattle.lnbd_model.specs.declared.target.Place.{Place}
 use Rattle.lnbd_link.specs.Call as wire
 use Rattle.lnbd_link.specs.Numbers.{is_given}
-use Rattle.lnbd_link.specs.Part.{Adds}
 use Rattle.lnbd_history.specs.Answers.{info_after, state_after}
 use Rattle.lnbd_history.specs.Events.{History}
 use Rattle.lnbd_machine.specs.Machine.{Machine}
@@ -27,6 +25,7 @@ use Rattle.lnbd_drives.specs.Driving.{AllDrive}
 use Rattle.lnbd_plan.specs.declared.fault.CopyFault.{CopyFault}
 use Rattle.lnbd_plan.specs.declared.fault.CopyFault.TheVariants as fault
 use Rattle.lnbd_plan.specs.declared.fault.Rule.{Rule}
+use Rattle.lnbd_plan.specs.declared.options.CopyOptions.{CopyOptions}
 use Rattle.lnbd_board.specs.declared.ticket.Ticket.{Ticket}
 use Rattle.lnbd_board.specs.Files as board
 use Rattle.lnbd_course.specs.Between.{place_of}
@@ -39,8 +38,10 @@ use Rattle.lnbd_copy.specs.Job as work
 use Rattle.lnbd_copy.specs.Copier as copier
 use Rattle.lnbd_copy.specs.Grounds.{AllSame, Answers, AreSame, AtSome, Blames, Differ, Drove, FailsOn, Finds, FindsBeside, FindsDead, FindsOther, Happened, Happens, HasDied, IsDead, IsFound, IsGrounded, IsShown, Lasts, Settle, fault_by, fault_of, first_of, needs_no_ground}
 use Rattle.lnbd_copy.specs.Opening.{Dials}
+use Rattle.lnbd_copy.specs.Settled.{FindsTerms, HasSettled}
 use Rattle.lnbd_copy.specs.Way.{Goes, IsOn, IsUnderWay, Told, Way, is_source}
 use Rattle.lnbd_copy.proofs.CopierLemmas.{first_on, kept_then, no_handles, second_on, told_as, two_on, with_held}
+use Rattle.lnbd_copy.proofs.LastLemmas.{at_once, told_later}
 
 -- By the handles.
 
@@ -111,12 +112,12 @@ some_seen seen e = cc
 seen_same : (one other : Seen Ticket) → Some one ≡ Some other → one ≡ other
 seen_same one other e = cc
 
-drive_at : (calls : List wire.Call) (index : ℕ) (seen : Seen Ticket) (seens : List (Seen Ticket)) → slice_get seens index ≡ Some seen → AllDrive calls seens → Drives seen.link calls seen.history seen.unread
+pub drive_at : (calls : List wire.Call) (index : ℕ) (seen : Seen Ticket) (seens : List (Seen Ticket)) → slice_get seens index ≡ Some seen → AllDrive calls seens → Drives seen.link calls seen.history seen.unread
 drive_at calls index seen [] there drive = absurd (some_seen seen there)
 drive_at calls zero seen (first ∷ others) there drive = subst (λ (s : Seen Ticket). Drives s.link calls s.history s.unread) (seen_same first seen there) drive.0
 drive_at calls (suc index) seen (first ∷ others) there drive = drive_at calls index seen others there drive.1
 
-given_at : (calls : List wire.Call) (link : ℕ) (b : Bool) → is_given link calls ≡ b → (is_given link calls ≡ false → ⊥) → is_given link calls ≡ true
+pub given_at : (calls : List wire.Call) (link : ℕ) (b : Bool) → is_given link calls ≡ b → (is_given link calls ≡ false → ⊥) → is_given link calls ≡ true
 given_at calls link true is other = is
 given_at calls link false is other = absurd (other is)
 
@@ -169,10 +170,6 @@ differs way now calls held finds on = record {
   differ = finds.beside.is;
 }
 
--- At the time itself.
-pub at_once : {Is : List wire.Call → Type 0} (calls : List wire.Call) → Is calls → AtSome Is calls
-at_once calls is = record { before = calls; after = []; are = sym (append-nil calls); is = is }
-
 -- Grounds.
 
 pub none_grounded : (start told : Option (List wire.Call)) (from to : Place) (why : CopyFault) → needs_no_ground why ≡ true → IsGrounded start told from to why
@@ -213,34 +210,6 @@ found_grounded way now held start told (fault.Rule rule) is on = record { shown 
 found_grounded way now held start told (fault.Silent idles) is on = absurd is.found
 
 -- The transcript goes on.
-
-pub lasts_none : (told : Option (List wire.Call)) → Lasts told told
-lasts_none told = record { on = λ all is. at_once all is }
-
-pub lasts_adds : (a b : Option (List wire.Call)) (call : wire.Call) → Adds a b call → Lasts a b
-lasts_adds a b call adds = record { on = λ all is. let added = adds all is in record { before = added.0; after = call ∷ []; are = added.2; is = added.1 } }
-
-pub lasts_then : (a b c : Option (List wire.Call)) → Lasts a b → Lasts b c → Lasts a c
-lasts_then a b c one two = record {
-  on = λ all is.
-      let late = two.on all is in
-      let early = one.on late.before late.is in
-      record { before = early.before; after = early.after ++ late.after; are = late.are ∙ ap (λ (l : List wire.Call). l ++ late.after) early.are ∙ append_assoc early.before early.after late.after; is = early.is };
-}
-
-told_later : {Is : List wire.Call → Type 0} (start a b : Option (List wire.Call)) → Lasts a b → Told start a (AtSome Is) → Told start b (AtSome Is)
-told_later start a b lasts t = record {
-  since = λ all is.
-      let front = lasts.on all is in
-      let since = t.since front.before front.is in
-      record {
-        before = since.before;
-        calls = since.calls ++ front.after;
-        was = since.was;
-        now = front.are ∙ ap (λ (l : List wire.Call). l ++ front.after) since.now ∙ append_assoc since.before since.calls front.after;
-        is = record { before = since.is.before; after = since.is.after ++ front.after; are = ap (λ (l : List wire.Call). l ++ front.after) since.is.are ∙ append_assoc since.is.before since.is.after front.after; is = since.is.is };
-      };
-}
 
 pub grounded_later : (start a b : Option (List wire.Call)) (from to : Place) (why : CopyFault) → Lasts a b → IsGrounded start a from to why → IsGrounded start b from to why
 grounded_later start a b from to fault.NoMemory lasts g = record { shown = tt }
@@ -307,6 +276,24 @@ found_fails s0 s1 s2 s3 s4 t u v w x held why k1 k2 b1 b3 same first one second 
     let two' : Goes s2.board s3.held w s4.board s4.held x = subst (λ (b : board.Seen). Goes b s3.held w s4.board s4.held x) b3 two in
     found_grounded (beginning s0 None how one_side) s4.board s4.held t x why (subst (λ (l : List (Held Ticket)). IsFound one_side l why) same (found one_side))
     (two_on s0 s2.board s4.board s1.held s2.held s3.held s4.held t u v w x how one_side none first (goes_first s0 s1 s2 u v b1 one) (dials_second s0 s1 s2 s3 v w k1 k2 second) two')
+
+-- What both were told settles the terms.
+pub found_terms : (s0 s1 s2 s3 s4 : copier.Seen) (t u v w x : Option (List wire.Call)) (options : CopyOptions) (terms : Terms) (held : List (Held Ticket)) → s1 ≡ with_held s0 s1 → s2 ≡ with_held s1 s2 → s1.board ≡ s0.board → s3.board ≡ s2.board → held ≡ s4.held →
+    Dials s0.from s0.board s0.held t s1.held u → Goes s1.board s1.held u s2.board s2.held v → Dials s2.to s2.board s2.held v s3.held w → Goes s3.board s3.held w s4.board s4.held x → HasNotBegun s0 → FindsTerms options terms held →
+    HasSettled options s0.from s0.to t x terms
+found_terms s0 s1 s2 s3 s4 t u v w x options terms held k1 k2 b1 b3 same first one second two none finds =
+    let how = s0.board.how in
+    let way = beginning s0 None how one_side in
+    let two' : Goes s2.board s3.held w s4.board s4.held x = subst (λ (b : board.Seen). Goes b s3.held w s4.board s4.held x) b3 two in
+    let on = two_on s0 s2.board s4.board s1.held s2.held s3.held s4.held t u v w x how one_side none first (goes_first s0 s1 s2 u v b1 one) (dials_second s0 s1 s2 s3 v w k1 k2 second) two' in
+    record {
+      source = finds.source;
+      destination = finds.destination;
+      shown = told_as t x (λ calls at. at_once calls (drove way s4.board calls s4.held (IsShown finds.source) 0 at (subst (λ (l : List (Held Ticket)). Happens (IsShown finds.source) 0 l) same finds.shown))) on;
+      shown' = told_as t x (λ calls at. at_once calls (drove way s4.board calls s4.held (IsShown finds.destination) 1 at (subst (λ (l : List (Held Ticket)). Happens (IsShown finds.destination) 1 l) same finds.shown'))) on;
+      none = finds.none;
+      settled = finds.settled;
+    }
 
 -- Further connections.
 

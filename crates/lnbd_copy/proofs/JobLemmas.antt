@@ -1,5 +1,5 @@
 -- What a job does keeps a copy on its way: its slices go on and begin, extents are asked for and heard, and in the end all connections part.
-use Rattle.std.proofs.Common.{◌≡◌, ◌⊎◌, inl, inr, ◌&&◌, ◌||◌, ℕ, Bool, true, false, not, List, [], ◌++◌, cond, Option, Some, None, if◌then◌else◌, refl, ap, sym, subst, ◌∙◌, arith}
+use Rattle.std.proofs.Common.{◌≡◌, ◌≢◌, ◌⊎◌, inl, inr, ◌&&◌, ◌||◌, ℕ, Bool, true, false, not, List, [], ◌++◌, cond, Option, Some, None, if◌then◌else◌, refl, ap, sym, subst, ◌∙◌, arith}
 use Rattle.std.proofs.lemmas.Bool.{false≢true}
 use Rattle.std.proofs.lemmas.List.{append-nil, append_assoc}
 use Rattle.lnbd_link.specs.Call as wire
@@ -14,6 +14,7 @@ use Rattle.lnbd_drives.specs.Driving.{with_event}
 use Rattle.lnbd_model.specs.Kind.{is_read, is_write}
 use Rattle.lnbd_plan.specs.declared.cells.Cells.{Cells}
 use Rattle.lnbd_plan.specs.declared.grid.Slice.{Slice}
+use Rattle.lnbd_plan.specs.Laws.{told_by}
 use Rattle.lnbd_board.specs.declared.how.How.{How}
 use Rattle.lnbd_board.specs.declared.ticket.Ticket.{Ticket}
 use Rattle.lnbd_board.specs.declared.ticket.Ticket.TheVariants as ticket
@@ -24,7 +25,6 @@ use Rattle.lnbd_board.proofs.Turning.{extents_kept, flush_kept}
 use Rattle.lnbd_course.specs.Counted.{is_zero, up_to_end}
 use Rattle.lnbd_course.specs.Laws.{AsksSource, AsksDestination}
 use Rattle.lnbd_course.proofs.Counting.{bytes_beside, flushes_first}
-use Rattle.lnbd_course.specs.Spares.{IsLeastBlock}
 use Rattle.lnbd_course.specs.Taken.{without_buffer}
 use Rattle.lnbd_tracks.specs.Laws.{asked_by}
 use Rattle.lnbd_tracks.specs.Mapping.{HoldsZero}
@@ -33,12 +33,18 @@ use Rattle.lnbd_copy.specs.declared.job.Phase.TheVariants.{Copying, Flushing, Pa
 use Rattle.lnbd_copy.specs.declared.sides.Sides.{Sides}
 use Rattle.lnbd_copy.specs.Asked.{IsAsked}
 use Rattle.lnbd_copy.specs.Dealing.{Begins}
+use Rattle.lnbd_copy.specs.Heard.{IsHeardTo, has_position}
 use Rattle.lnbd_copy.specs.Job.{Acts, AreOfOne, IsJob, IsOver, Seen, with_asked, with_heard}
 use Rattle.lnbd_copy.specs.Way.{IsOn, Keeps, Stand, Stands, Way, with_slices}
 use Rattle.lnbd_copy.specs.Spared.{IsSpared, whole_heard, whole_within}
+use Rattle.lnbd_copy.specs.Statuses.{MayBeRead}
 use Rattle.lnbd_copy.specs.Windows as windows
+use Rattle.lnbd_copy.proofs.AnswerLemmas.{range_may_be_read}
+use Rattle.lnbd_copy.proofs.EndLemmas.{planned_once}
+use Rattle.lnbd_copy.proofs.HeardLemmas.{event_first, hears_on}
 use Rattle.lnbd_copy.proofs.SparedLemmas.{spared_none}
 use Rattle.lnbd_copy.proofs.WindowLemmas.{or_first, or_second}
+use Rattle.lnbd_copy.proofs.HeldLemmas.{held_event}
 use Rattle.lnbd_copy.proofs.StepLemmas.{extents_ask_stand, hearing_stands, unheard_stands}
 use Rattle.lnbd_copy.proofs.RestLemmas.{at_rest, came_to_rest}
 use Rattle.lnbd_copy.proofs.WayLemmas.{destination_keeps, sided_after}
@@ -84,8 +90,22 @@ heard_stands way (Some range) some has now calls seens mapped short s =
     hearing_stands way has now calls seens range (λ p. way.zero p || windows.zero_within range now.told p) (λ block p. way.whole block p || whole_within block range now.told p) some s mapped short (heard_in way range now)
     (λ block p e. or_first (way.whole block p) _ e) (λ block p e. or_second (way.whole block p) _ e)
 
-heard_on : (way : Way) (now : board.Seen) (calls : List wire.Call) (held : List (Held Ticket)) → now.mapped ≡ true → now.short ≡ false → IsOn way now calls held → IsOn (with_heard now.told way) now calls held
-heard_on way now calls held mapped short on = record { has = on.has; seens = on.seens; at = on.at; sided = on.sided; begun = on.begun; stands = heard_stands way way.asked refl on.has now calls on.seens mapped short on.stands; rest = on.rest }
+heard_on : (way : Way) (now : board.Seen) (calls : List wire.Call) (held : List (Held Ticket)) → now.mapped ≡ true → now.short ≡ false → (now.error ≡ None → way.from ≢ way.to → (p : ℕ) → has_position way.asked p ≡ true → MayBeRead way.from p calls) → IsOn way now calls held →
+    IsOn (with_heard now.told way) now calls held
+heard_on way now calls held mapped short may on = record {
+  has = on.has;
+  seens = on.seens;
+  at = on.at;
+  sided = on.sided;
+  begun = on.begun;
+  stands = (let s = heard_stands way way.asked refl on.has now calls on.seens mapped short on.stands in record { between = s.between; told = s.told });
+  rest = on.rest;
+  all = on.all;
+  hears = record {
+    answered = λ well two p h. elim (or_heard (way.heard p) (has_position way.asked p) h) [ inl was ↦ on.hears.answered well two p was | inr here ↦ may well two p here ];
+    first = on.hears.first;
+  };
+}
 
 -- no slice more was begun
 none_on : (how : How) (sides : Sides) (now now' : board.Seen) (held held' : List (Held Ticket)) → Keeps how sides [] now now' held held' → (way : Way) (calls : List wire.Call) → way.how ≡ how → way.sides ≡ sides →
@@ -109,6 +129,7 @@ extents_ask how now now' offset size slices is =
         zeroed = ap (λ (b : board.Seen). b.zeroed) is ∙ k.zeroed;
         flushes = k.flushes ∙ ap (λ (b : board.Seen). cond b.flushing 1 0) (sym is);
       };
+      flushed = ap (λ (b : board.Seen). b.flushed) is;
     }
 
 -- Extents of a range are asked for, of the source's first connection, while none are.
@@ -124,14 +145,19 @@ asked_on way now now' calls held held' offset size none is asked on =
       sided = sided_after way.sides on.has 0 (Issue command) on.seens on.sided;
       begun = on.begun ∙ ap (λ (b : board.Seen). b.begun) (sym is);
       stands = extents_ask_stand way on.has now now' calls on.seens (offset, size) 0 was.seen command none on.stands was.there (on.sided 0 was.seen was.there) was.spells (extents_ask way.how now now' offset size way.slices is)
-          (record { asks = record { kind = refl; offset = refl; length_ = refl }; first = refl }) (ap (λ (b : board.Seen). b.told) is) (ap (λ (b : board.Seen). b.mapped) is);
+          (record { asks = record { kind = refl; offset = refl; length_ = refl }; first = refl; done = refl }) (ap (λ (b : board.Seen). b.told) is) (ap (λ (b : board.Seen). b.mapped) is);
       rest = on.rest;
+      all = held_event calls 0 (Issue command) on.seens on.all;
+      hears = hears_on false way.from way.to way.heard now.error now'.error (λ none. sym (ap (λ (b : board.Seen). b.error) is) ∙ none) calls on.seens (with_event 0 (Issue command) on.seens) (event_first 0 (Issue command) on.seens) on.hears;
     }
 
 -- Slices go on.
 
 phases_differ : Flushing ≡ Copying → ⊥
 phases_differ e = cc
+
+still_copying : (phase : Phase) → phase ≡ Copying → phase ≡ Parting → ⊥
+still_copying phase copying parting = let e = sym copying ∙ parting in absurd (cc e)
 
 pub acts_keeps : (job : Seen) (how : How) (sides : Sides) (now now' : board.Seen) (held held' : List (Held Ticket)) → how ≡ job.terms.how → sides ≡ job.terms.sides → job.phase ≡ Copying → now'.how ≡ now.how → now'.flushing ≡ now.flushing → Keeps how sides [] now now' held held' →
     Acts job job now now' held held'
@@ -140,7 +166,7 @@ acts_keeps job how sides now now' held held' h s copying writes unflushed keeps 
   on = λ way had. record {
     way' = way;
     one = one_same way;
-    job' = record { size = had.size; how = had.how; writes = writes ∙ had.writes; sides = had.sides; ends = had.ends; zeros = had.zeros; planned = had.planned; block = had.block; spared = had.spared; asked = had.asked; over = λ other. absurd (other copying); unwanted = λ no. unflushed ∙ had.unwanted no; unflushed = λ c. unflushed ∙ had.unflushed c; rests = λ other. absurd (other copying) };
+    job' = record { size = had.size; how = had.how; writes = writes ∙ had.writes; sides = had.sides; ends = had.ends; zeros = had.zeros; planned = had.planned; grain = had.grain; spared = had.spared; asked = had.asked; over = λ other. absurd (other copying); unwanted = λ no. unflushed ∙ had.unwanted no; unflushed = λ c. unflushed ∙ had.unflushed c; rests = λ other. absurd (other copying); flushed = λ parts. absurd (still_copying job.phase copying parts); heard = had.heard };
     on = λ calls on. none_on how sides now now' held held' keeps way calls (had.how ∙ sym h) (had.sides ∙ sym s) on;
   };
 }
@@ -151,8 +177,9 @@ pub acts_heard : (job job' : Seen) (windows' : windows.Seen) (now : board.Seen) 
     windows'.plan.cells ≡ job.windows.plan.cells → windows'.size ≡ job.windows.size → windows'.grain ≡ job.windows.grain →
     ((whole : ℕ → Bool) (slices : List Slice) → IsSpared job.windows whole slices → IsSpared windows' (λ p. whole p || whole_heard job.windows.grain (windows.wanted job.windows) now.told p) slices) →
     ((blank : ℕ → Bool) (slices : List Slice) → windows.IsPlanned job.windows blank slices → windows.IsPlanned windows' (λ p. blank p || windows.zero_heard (windows.wanted job.windows) now.told p) slices) →
+    ((heard : ℕ → Bool) → IsHeardTo job.windows heard → IsHeardTo windows' (λ p. heard p || has_position (windows.wanted job.windows) p)) →
     Acts job job' now now held held
-acts_heard job job' windows' now held copying asked mapped short is cells size grain spares hears = subst (λ (j : Seen). Acts job j now now held held) (sym is) (record {
+acts_heard job job' windows' now held copying asked mapped short is cells size grain spares hears reaches = subst (λ (j : Seen). Acts job j now now held held) (sym is) (record {
   stand = λ s. s;
   on = λ way had.
       let range : way.asked ≡ windows.wanted job.windows = had.asked ∙ ap (λ (b : Bool). if b then windows.wanted job.windows else None) asked in
@@ -167,7 +194,7 @@ acts_heard job job' windows' now held copying asked mapped short is cells size g
           ends = size ∙ had.ends;
           zeros = ap (λ (c : Cells). c.zeros) cells ∙ had.zeros;
           planned = subst (λ (r : Option (ℕ × ℕ)). windows.IsPlanned windows' (λ p. way.zero p || windows.zero_heard r now.told p) way.slices) (sym range) (hears way.zero way.slices had.planned);
-          block = subst IsLeastBlock (sym grain) had.block;
+          grain = grain ∙ had.grain;
           spared = subst (λ (g : ℕ). IsSpared windows' (λ p. way.whole g p || whole_heard g way.asked now.told p) way.slices) (sym grain)
               (subst (λ (r : Option (ℕ × ℕ)). IsSpared windows' (λ p. way.whole job.windows.grain p || whole_heard job.windows.grain r now.told p) way.slices) (sym range) (spares (way.whole job.windows.grain) way.slices had.spared));
           asked = refl;
@@ -175,8 +202,10 @@ acts_heard job job' windows' now held copying asked mapped short is cells size g
           unwanted = had.unwanted;
           unflushed = had.unflushed;
           rests = λ other. absurd (other copying);
+          flushed = λ parts. absurd (still_copying job.phase copying parts);
+          heard = subst (λ (r : Option (ℕ × ℕ)). IsHeardTo windows' (λ p. way.heard p || has_position r p)) (sym range) (reaches way.heard had.heard);
         };
-        on = λ calls on. heard_on way now calls held mapped short on;
+        on = λ calls on. heard_on way now calls held mapped short (range_may_be_read way job.terms.size job.windows (told_by 0 had.planned.parts) now calls held had.size range had.heard (planned_once job way now had) mapped on) on;
       };
 })
 
@@ -192,7 +221,7 @@ acts_asked job job' now now' held held' offset size copying none range is forget
       record {
         way' = with_asked (Some (offset, size)) way;
         one = record { from = refl; to = refl; how = refl; sides = refl };
-        job' = record { size = had.size; how = had.how; writes = ap (λ (b : board.Seen). b.how) forgets ∙ had.writes; sides = had.sides; ends = had.ends; zeros = had.zeros; planned = had.planned; block = had.block; spared = had.spared; asked = sym range; over = λ other. absurd (other copying); unwanted = λ no. ap (λ (b : board.Seen). b.flushing) forgets ∙ had.unwanted no; unflushed = λ c. ap (λ (b : board.Seen). b.flushing) forgets ∙ had.unflushed c; rests = λ other. absurd (other copying) };
+        job' = record { size = had.size; how = had.how; writes = ap (λ (b : board.Seen). b.how) forgets ∙ had.writes; sides = had.sides; ends = had.ends; zeros = had.zeros; planned = had.planned; grain = had.grain; spared = had.spared; asked = sym range; over = λ other. absurd (other copying); unwanted = λ no. ap (λ (b : board.Seen). b.flushing) forgets ∙ had.unwanted no; unflushed = λ c. ap (λ (b : board.Seen). b.flushing) forgets ∙ had.unflushed c; rests = λ other. absurd (other copying); flushed = λ parts. absurd (still_copying job.phase copying parts); heard = had.heard };
         on = λ calls on. asked_on way now now' calls held held' offset size blank forgets asked on;
       };
 })
@@ -224,6 +253,9 @@ handed_spared plan plan' whole slices more handed others spared = subst (λ (w :
   inside = spared.inside;
 })
 
+handed_heard : (plan plan' : windows.Seen) (heard : ℕ → Bool) → plan' ≡ with_left plan plan'.plan.slices → IsHeardTo plan heard → IsHeardTo plan' heard
+handed_heard plan plan' heard others was = subst (λ (w : windows.Seen). IsHeardTo w heard) (sym others) (record { planned = was.planned; before = was.before })
+
 pub acts_begun : (job job' : Seen) (windows' : windows.Seen) (how : How) (sides : Sides) (now now' : board.Seen) (held held' : List (Held Ticket)) → job.phase ≡ Copying → how ≡ job.terms.how → sides ≡ job.terms.sides → job' ≡ record job { windows = windows' } →
     Begins how sides job.windows windows' now now' held held' → Acts job job' now now' held held'
 acts_begun job job' windows' how sides now now' held held' copying h s is begins = subst (λ (j : Seen). Acts job j now now' held held') (sym is) (record {
@@ -239,13 +271,15 @@ acts_begun job job' windows' how sides now now' held held' copying h s is begins
       ends = ap (λ (w : windows.Seen). w.size) begins.others ∙ had.ends;
       zeros = ap (λ (w : windows.Seen). w.plan.cells.zeros) begins.others ∙ had.zeros;
       planned = handed_planned job.windows windows' way.zero way.slices begins.more begins.handed begins.others had.planned;
-      block = subst IsLeastBlock (sym (ap (λ (w : windows.Seen). w.grain) begins.others)) had.block;
+      grain = ap (λ (w : windows.Seen). w.grain) begins.others ∙ had.grain;
       spared = handed_spared job.windows windows' way.whole way.slices begins.more begins.handed begins.others had.spared;
       asked = had.asked ∙ ap (λ (w : windows.Seen). if job.asked then windows.wanted w else None) (sym begins.others);
       over = λ other. absurd (other copying);
       unwanted = λ no. ap (λ (b : board.Seen). b.flushing) begins.begun ∙ had.unwanted no;
       unflushed = λ c. ap (λ (b : board.Seen). b.flushing) begins.begun ∙ had.unflushed c;
       rests = λ other. absurd (other copying);
+      flushed = λ parts. absurd (still_copying job.phase copying parts);
+      heard = handed_heard job.windows windows' way.heard begins.others had.heard;
     };
     on = λ calls on. begins.keeps.on way calls (had.how ∙ sym h) (had.sides ∙ sym s) on;
   };
@@ -254,9 +288,9 @@ acts_begun job job' windows' how sides now now' held held' copying h s is begins
 -- The end.
 
 -- All is asked and done: the copy comes to rest.
-acts_concludes : (job job' : Seen) (phase' : Phase) (now now' : board.Seen) (held held' : List (Held Ticket)) → job' ≡ record job { phase = phase' } → (phase' ≡ Copying → ⊥) → job.phase ≡ Copying → IsOver job now → now' ≡ record now { flushing = now'.flushing } → ((job.terms.flush ≡ false → now.flushing ≡ false) → job.terms.flush ≡ false → now'.flushing ≡ false) →
+acts_concludes : (job job' : Seen) (phase' : Phase) (now now' : board.Seen) (held held' : List (Held Ticket)) → job' ≡ record job { phase = phase' } → (phase' ≡ Copying → ⊥) → job.phase ≡ Copying → IsOver job now → now' ≡ record now { flushing = now'.flushing } → ((job.terms.flush ≡ false → now.flushing ≡ false) → job.terms.flush ≡ false → now'.flushing ≡ false) → (phase' ≡ Parting → job.terms.flush ≡ true → now'.flushed ≡ true) →
     (Stand held → Stand held') → ((way : Way) → IsJob job way now → Keeps job.terms.how job.terms.sides [] now now' held held') → Acts job job' now now' held held'
-acts_concludes job job' phase' now now' held held' is past copying over same unwanted stand keeps = subst (λ (j : Seen). Acts job j now now' held held') (sym is) (record {
+acts_concludes job job' phase' now now' held held' is past copying over same unwanted flushed stand keeps = subst (λ (j : Seen). Acts job j now now' held held') (sym is) (record {
   stand = stand;
   on = λ way had. record {
     way' = record way { rested = Some now };
@@ -269,7 +303,7 @@ acts_concludes job job' phase' now now' held held' is past copying over same unw
       ends = had.ends;
       zeros = had.zeros;
       planned = had.planned;
-      block = had.block;
+      grain = had.grain;
       spared = had.spared;
       asked = had.asked;
       over = λ other. record { planned = over.planned; handed = over.handed; heard = over.heard; rows = ap (λ (b : board.Seen). b.rows) same ∙ over.rows };
@@ -283,6 +317,8 @@ acts_concludes job job' phase' now now' held held' is past copying over same unw
         written = ap (λ (b : board.Seen). b.written) same;
         zeroed = ap (λ (b : board.Seen). b.zeroed) same;
       };
+      flushed = flushed;
+      heard = had.heard;
     };
     on = λ calls on. at_rest way now now' calls held' (none_on job.terms.how job.terms.sides now now' held held' (keeps way had) way calls had.how had.sides on) (came_to_rest job way now calls held copying over had on);
   };
@@ -291,14 +327,15 @@ acts_concludes job job' phase' now now' held held' is past copying over same unw
 parting_past : Parting ≡ Copying → ⊥
 parting_past e = cc
 
--- All connections are asked to part.
-pub acts_parting : (job job' : Seen) (now : board.Seen) (held held' : List (Held Ticket)) → job' ≡ record job { phase = Parting } → job.phase ≡ Copying → IsOver job now →
+-- All connections are asked to part, where no flush is wanted.
+pub acts_parting : (job job' : Seen) (now : board.Seen) (held held' : List (Held Ticket)) → job.terms.flush ≡ false → job' ≡ record job { phase = Parting } → job.phase ≡ Copying → IsOver job now →
     Keeps job.terms.how job.terms.sides [] now now held held' → Acts job job' now now held held'
-acts_parting job job' now held held' is copying over keeps = acts_concludes job job' Parting now now held held' is parting_past copying over refl (λ none. none) keeps.stand (λ way had. keeps)
+acts_parting job job' now held held' unwanted is copying over keeps = acts_concludes job job' Parting now now held held' is parting_past copying over refl (λ none. none) (λ parts wanted. absurd (false≢true (sym unwanted ∙ wanted))) keeps.stand (λ way had. keeps)
 
-pub acts_flushed : (job job' : Seen) (now : board.Seen) (held held' : List (Held Ticket)) → job' ≡ record job { phase = Parting } → job.phase ≡ Flushing →
+-- So they are where the flush was answered.
+pub acts_flushed : (job job' : Seen) (now : board.Seen) (held held' : List (Held Ticket)) → now.flushed ≡ true → job' ≡ record job { phase = Parting } → job.phase ≡ Flushing →
     Keeps job.terms.how job.terms.sides [] now now held held' → Acts job job' now now held held'
-acts_flushed job job' now held held' is flushing keeps =
+acts_flushed job job' now held held' answered is flushing keeps =
     let past : job.phase ≡ Copying → ⊥ = λ e. phases_differ (sym flushing ∙ e) in
     subst (λ (j : Seen). Acts job j now now held held') (sym is) (record {
       stand = keeps.stand;
@@ -313,17 +350,22 @@ acts_flushed job job' now held held' is flushing keeps =
           ends = had.ends;
           zeros = had.zeros;
           planned = had.planned;
-          block = had.block;
+          grain = had.grain;
           spared = had.spared;
           asked = had.asked;
           over = λ other. let was = had.over past in record { planned = was.planned; handed = was.handed; heard = was.heard; rows = was.rows };
           unwanted = had.unwanted;
           unflushed = λ c. absurd (parting_past c);
           rests = λ other. had.rests past;
+          flushed = λ parts wanted. answered;
+          heard = had.heard;
         };
         on = λ calls on. none_on job.terms.how job.terms.sides now now held held' keeps way calls had.how had.sides on;
       };
     })
+
+flushing_differs : Flushing ≡ Parting → ⊥
+flushing_differs e = cc
 
 -- The destination's first connection is asked to flush.
 flush_asks : (how : How) (now now' : board.Seen) (slices : List Slice) → now' ≡ record now { flushing = true } → now.flushing ≡ false → AsksDestination how (without_buffer (flush_of ticket.Flush 0)) slices (slices ++ []) now now'
@@ -342,21 +384,22 @@ flush_asks how now now' slices is unflushed =
         zeroed = ap (λ (b : board.Seen). b.zeroed) is ∙ k.zeroed ∙ ap up_to_end (sym (bytes_beside is_zero link cookie ticket.Flush (asked_by command) destination refl));
         flushes = flushes_first now now' link cookie ticket.Flush (asked_by command) destination refl unflushed (ap (λ (b : board.Seen). b.flushing) is) k.flushes;
       };
+      flushed = ap (λ (b : board.Seen). b.flushed) is;
     }
 
 pub acts_flushing : (job job' : Seen) (now now' : board.Seen) (held held' : List (Held Ticket)) → job.terms.flush ≡ true → job' ≡ record job { phase = Flushing } → job.phase ≡ Copying → IsOver job now → now' ≡ record now { flushing = true } → IsAsked 1 (flush_of ticket.Flush 0) held held' →
     Acts job job' now now' held held'
 acts_flushing job job' now now' held held' wanted is copying over asks asked =
     let begun : now'.begun ≡ now.begun = ap (λ (b : board.Seen). b.begun) asks in
-    acts_concludes job job' Flushing now now' held held' is phases_differ copying over (asks ∙ ap (λ (b : board.Seen). record now { flushing = b.flushing }) (sym asks)) (λ none no. absurd (false≢true (sym no ∙ wanted))) (stand_asked 1 (flush_of ticket.Flush 0) held held' asked)
+    acts_concludes job job' Flushing now now' held held' is phases_differ copying over (asks ∙ ap (λ (b : board.Seen). record now { flushing = b.flushing }) (sym asks)) (λ none no. absurd (false≢true (sym no ∙ wanted))) (λ parts. absurd (flushing_differs parts)) (stand_asked 1 (flush_of ticket.Flush 0) held held' asked)
     (λ way had. destination_keeps job.terms.how job.terms.sides [] (flush_of ticket.Flush 0) now now' held held' (omega (arith, begun)) refl (record { told = ap (λ (b : board.Seen). b.told) asks; mapped = ap (λ (b : board.Seen). b.mapped) asks; short = ap (λ (b : board.Seen). b.short) asks })
     (λ slices count. flush_asks job.terms.how now now' slices asks (had.unflushed copying))
     (record { index = 1; side = refl; asked = asked }))
 
 -- A job begins.
-pub job_begins : (job : Seen) (way : Way) (now : board.Seen) → job.asked ≡ false → job.phase ≡ Copying → job.windows.plan.cells.zeros ≡ not job.terms.how.skip → job.windows.size ≡ job.terms.size → job.windows.grain ≡ job.terms.grain → IsLeastBlock job.terms.grain → ((blank : ℕ → Bool) → windows.IsPlanned job.windows blank []) →
-    way.size ≡ Some job.terms.size → now.how ≡ job.terms.how → way.how ≡ job.terms.how → way.sides ≡ job.terms.sides → way.slices ≡ [] → way.asked ≡ None → ((block p : ℕ) → way.whole block p ≡ false) → now.flushing ≡ false → IsJob job way now
-job_begins job way now none copying zeros ends grain least planned z w h s blank asked unknown unflushed = record {
+pub job_begins : (job : Seen) (way : Way) (now : board.Seen) → job.asked ≡ false → job.phase ≡ Copying → job.windows.plan.cells.zeros ≡ not job.terms.how.skip → job.windows.size ≡ job.terms.size → job.windows.grain ≡ job.terms.grain → ((blank : ℕ → Bool) → windows.IsPlanned job.windows blank []) →
+    way.size ≡ Some job.terms.size → now.how ≡ job.terms.how → way.how ≡ job.terms.how → way.sides ≡ job.terms.sides → way.slices ≡ [] → way.asked ≡ None → ((block p : ℕ) → way.whole block p ≡ false) → now.flushing ≡ false → IsHeardTo job.windows way.heard → IsJob job way now
+job_begins job way now none copying zeros ends grain planned z w h s blank asked unknown unflushed heard = record {
   size = z;
   how = h;
   writes = w;
@@ -364,11 +407,13 @@ job_begins job way now none copying zeros ends grain least planned z w h s blank
   ends = ends;
   zeros = zeros;
   planned = subst (λ (l : List Slice). windows.IsPlanned job.windows way.zero l) (sym blank) (planned way.zero);
-  block = subst IsLeastBlock (sym grain) least;
+  grain = grain;
   spared = subst (λ (l : List Slice). IsSpared job.windows (way.whole job.windows.grain) l) (sym blank) (spared_none job.windows way.zero (way.whole job.windows.grain) [] (unknown job.windows.grain) (planned way.zero));
   asked = asked ∙ ap (λ (b : Bool). if b then windows.wanted job.windows else None) (sym none);
   over = λ other. absurd (other copying);
   unwanted = λ no. unflushed;
   unflushed = λ c. unflushed;
   rests = λ other. absurd (other copying);
+  flushed = λ parts. absurd (still_copying job.phase copying parts);
+  heard = heard;
 }

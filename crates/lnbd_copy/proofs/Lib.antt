@@ -1,10 +1,16 @@
 pub mod CauseLemmas
+pub mod LastLemmas
+pub mod PowerLemmas
+pub mod SettledLemmas
 pub mod UnderWayLemmas
 pub mod HandleLemmas
 pub mod AskedLemmas
 pub mod WindowLemmas
 pub mod SparedLemmas
 pub mod FiledLemmas
+pub mod HeardLemmas
+pub mod ReachLemmas
+pub mod AnswerLemmas
 pub mod TurnLemmas
 pub mod DialLemmas
 pub mod PartLemmas
@@ -21,3 +27,6 @@ pub mod FlushLemmas
 pub mod AgreeLemmas
 pub mod GroundLemmas
 pub mod FailLemmas
+pub mod HeldLemmas
+pub mod UnansweredLemmas
+pub mod SilentLemmas

@@ -24,6 +24,9 @@ use Rattle.lnbd_copy.specs.declared.sides.Sides.{Sides}
 use Rattle.lnbd_copy.specs.Leaving.{Leaves}
 use Rattle.lnbd_copy.specs.Way.{Filed, IsLeaving, IsOn, Keeps, Stands, Way}
 use Rattle.lnbd_copy.proofs.FiledLemmas.{filed_none, filed_then}
+use Rattle.lnbd_copy.proofs.LastLemmas.{lasts_adds, lasts_none, lasts_then}
+use Rattle.lnbd_copy.proofs.HeldLemmas.{held_event}
+use Rattle.lnbd_copy.proofs.HeardLemmas.{event_first, hears_on, hears_parting}
 use Rattle.lnbd_copy.proofs.StepLemmas.{others_stand, taking_stands, unasked_moves_stand}
 use Rattle.lnbd_copy.proofs.TurnLemmas.{SameLinks, called, links_stay, none_some, placed_same, some_same, told_on}
 
@@ -87,6 +90,8 @@ parts how sides now index held handle handle' adds is = record {
         begun = on.begun;
         stands = others_stand way on.has now calls on.seens index did.seen Disconnect on.stands did.there (record { inward = refl; unasked = refl; still = refl; spelled = tt; mode = refl }) refl;
         rest = on.rest;
+        all = held_event calls index Disconnect on.seens on.all;
+        hears = hears_on false way.from way.to way.heard now.error now.error (λ well. well) calls on.seens after (event_first index Disconnect on.seens) on.hears;
       });
 }
 
@@ -102,6 +107,8 @@ stays how sides now index held handle handle' same is = record {
     begun = on.begun;
     stands = on.stands;
     rest = on.rest;
+    all = on.all;
+    hears = on.hears;
   });
 }
 
@@ -162,17 +169,17 @@ stood (suc index) (one ∷ others) (seen ∷ all) taken is at =
     let rest = stood index others all taken is at.1 in
     record { seen = rest.seen; there = rest.there; stands = rest.stands }
 
--- what is filed on a board without rows keeps what stands, where no extents are waited for
-filed_stands : (way : Way) (has : ℕ → Bool) (now now' : board.Seen) (calls : List wire.Call) (seens : List (Seen Ticket)) → way.asked ≡ None → Filed now now' → now.rows ≡ [] → Stands way has now calls seens → Stands way has now' calls seens
-filed_stands way has now now' calls seens unasked filed none stands =
+-- what is filed on a board without rows keeps what stands, where no extents are waited for and no flush is answered
+filed_stands : (way : Way) (has : ℕ → Bool) (now now' : board.Seen) (calls : List wire.Call) (seens : List (Seen Ticket)) → way.asked ≡ None → Filed now now' → now'.flushed ≡ now.flushed → now.rows ≡ [] → Stands way has now calls seens → Stands way has now' calls seens
+filed_stands way has now now' calls seens unasked filed unanswered none stands =
     let same : now'.rows ≡ now.rows = filed.none none ∙ sym none in
-    unasked_moves_stand way has now now' calls seens unasked stands filed.error (record { read = filed.read; written = filed.written; zeroed = filed.zeroed; flushing = filed.flushing }) (λ source destination. record {
+    unasked_moves_stand way has now now' calls seens unasked stands filed.error (record { read = filed.read; written = filed.written; zeroed = filed.zeroed; flushing = filed.flushing; flushed = unanswered }) (λ source destination. record {
       on = λ all kept. subst (λ (r : List (ℕ × Row)). rows.Stands way.how all r source destination) (sym same) kept;
     })
 
-hung_up : (way : Way) (now now' : board.Seen) (calls : List wire.Call) (held : List (Held Ticket)) (index : ℕ) (taken : ℕ × Machine Ticket) → option_map {U = ℕ × Machine Ticket} (λ held. (held.link, held.handle)) (slice_get held index) ≡ Some taken → way.asked ≡ None → Filed now now' → now.rows ≡ []
+hung_up : (way : Way) (now now' : board.Seen) (calls : List wire.Call) (held : List (Held Ticket)) (index : ℕ) (taken : ℕ × Machine Ticket) → option_map {U = ℕ × Machine Ticket} (λ held. (held.link, held.handle)) (slice_get held index) ≡ Some taken → way.asked ≡ None → Filed now now' → ForEach taken.1 (λ history. now'.flushed ≡ now.flushed) → now.rows ≡ []
     → IsLeaving way now calls held → IsLeaving way now' calls (take index held ++ drop (index + 1) held)
-hung_up way now now' calls held index taken is unasked filed none on =
+hung_up way now now' calls held index taken is unasked filed unanswered none on =
     let one = stood index held on.seens taken is on.at in
     let left = take index on.seens ++ drop (index + 1) on.seens in
     record {
@@ -181,30 +188,34 @@ hung_up way now now' calls held index taken is unasked filed none on =
       at = without_at index held on.seens on.at;
       sided = tt;
       begun = on.begun ∙ sym filed.begun;
-      stands = filed_stands way on.has now now' calls left unasked filed none (taking_stands way on.has now calls on.seens index one.seen max_unretired taken.1 on.stands one.there one.stands);
+      stands = filed_stands way on.has now now' calls left unasked filed (unanswered one.seen.history one.stands) none (taking_stands way on.has now calls on.seens index one.seen max_unretired taken.1 on.stands one.there one.stands);
       rest = on.rest;
+      all = tt;
+      hears = hears_parting true way.from way.to way.heard now.error now'.error filed.error calls on.seens left on.hears;
     }
 
 -- A handle is taken out and closed, and its link is shut.
 pub leaves_one : (a b : Option (List wire.Call)) (now now' : board.Seen) (held held' : List (Held Ticket)) (index : ℕ) (one : ℕ × Machine Ticket) → option_map {U = ℕ × Machine Ticket} (λ held. (held.link, held.handle)) (slice_get held index) ≡ Some one
-    → held' ≡ take index held ++ drop (index + 1) held → Filed now now' → Adds a b (wire.Shut one.0) → Leaves now held a now' held' b
-leaves_one a b now now' held held' index one is held_is filed adds = subst (λ (l : List (Held Ticket)). Leaves now held a now' l b) (sym held_is) (record {
+    → held' ≡ take index held ++ drop (index + 1) held → Filed now now' → ForEach one.1 (λ history. now'.flushed ≡ now.flushed) → Adds a b (wire.Shut one.0) → Leaves now held a now' held' b
+leaves_one a b now now' held held' index one is held_is filed unanswered adds = subst (λ (l : List (Held Ticket)). Leaves now held a now' l b) (sym held_is) (record {
   stand = λ s. record { seens = take index s.seens ++ drop (index + 1) s.seens; at = without_at index held s.seens s.at };
   filed = filed;
   on = λ way start unasked none told. told_on start a b (wire.Shut one.0) adds
-      (λ calls on. called true way now' calls (wire.Shut one.0 ∷ []) (take index held ++ drop (index + 1) held) (λ n. refl) (λ n. refl) (hung_up way now now' calls held index one is unasked filed none on)) told;
+      (λ calls on. called true way now' calls (wire.Shut one.0 ∷ []) (take index held ++ drop (index + 1) held) (λ n. refl) (λ n. refl) (hung_up way now now' calls held index one is unasked filed unanswered none on)) told;
+  lasts = lasts_adds a b (wire.Shut one.0) adds;
 })
 
 pub leaves_none : (now : board.Seen) (held : List (Held Ticket)) (told : Option (List wire.Call)) → Leaves now held told now held told
-leaves_none now held told = record { stand = λ s. s; filed = filed_none now; on = λ way start unasked none is. is }
+leaves_none now held told = record { stand = λ s. s; filed = filed_none now; on = λ way start unasked none is. is; lasts = lasts_none told }
 
 pub leaves_then : (now now2 now3 : board.Seen) (held held2 held3 : List (Held Ticket)) (a b c : Option (List wire.Call)) → Leaves now held a now2 held2 b → Leaves now2 held2 b now3 held3 c → Leaves now held a now3 held3 c
 leaves_then now now2 now3 held held2 held3 a b c one two = record {
   stand = λ s. two.stand (one.stand s);
   filed = filed_then now now2 now3 one.filed two.filed;
   on = λ way start unasked none told. two.on way start unasked (one.filed.none none) (one.on way start unasked none told);
+  lasts = lasts_then a b c one.lasts two.lasts;
 }
 
 -- A copy on its way may leave.
 pub on_leaving : (way : Way) (now : board.Seen) (calls : List wire.Call) (held : List (Held Ticket)) → IsOn way now calls held → IsLeaving way now calls held
-on_leaving way now calls held on = record { has = on.has; seens = on.seens; at = on.at; sided = tt; begun = on.begun; stands = on.stands; rest = on.rest }
+on_leaving way now calls held on = record { has = on.has; seens = on.seens; at = on.at; sided = tt; begun = on.begun; stands = on.stands; rest = on.rest; all = tt; hears = hears_parting false way.from way.to way.heard now.error now.error (λ well. well) calls on.seens on.seens on.hears }

@@ -45,4 +45,6 @@ at_rest way was now calls held on rest = record {
   begun = on.begun;
   stands = record { between = on.stands.between; told = on.stands.told };
   rest = rest;
+  all = on.all;
+  hears = on.hears;
 }

@@ -14,7 +14,7 @@ use Rattle.lnbd_link.specs.Part.{Adds}
 use Rattle.lnbd_poll.specs.declared.noticed.Noticed.{Noticed}
 use Rattle.lnbd_poll.specs.declared.noticed.Noticed.TheVariants as noticed
 use Rattle.lnbd_poll.specs.declared.noticed.Turn.{Turn}
-use Rattle.lnbd_poll.specs.Alone.{calls_on}
+use Rattle.lnbd_poll.specs.Alone.{AreApart, calls_on}
 use Rattle.lnbd_poll.specs.Held.{Held, AreAt}
 use Rattle.lnbd_poll.specs.Notices.{Arrives, Hears, ReadsIf, ReadsOn, is_reading}
 use Rattle.lnbd_poll.specs.Seen.{Follows, Seen}
@@ -23,6 +23,7 @@ use Rattle.lnbd_poll.specs.Turned.{TurnsWhole}
 use Rattle.lnbd_poll.specs.Turns.{All_took, Ending, Goes_on, Runs_short, Stops, Takes, Turns, TurnsOne, Whole, WritesAll, is_lost}
 use Rattle.lnbd_poll.specs.Turns as turns
 use Rattle.lnbd_drives.specs.Driving.{with_event}
+use Rattle.lnbd_drives.proofs.Exports.{turns_give_none}
 use Rattle.lnbd_plan.specs.declared.grid.Slice.{Slice}
 use Rattle.lnbd_board.specs.declared.how.How.{How}
 use Rattle.lnbd_board.specs.declared.ticket.Ticket.{Ticket}
@@ -32,7 +33,11 @@ use Rattle.lnbd_course.specs.Taken.{without_buffer}
 use Rattle.lnbd_copy.specs.Asked.{IsAsked}
 use Rattle.lnbd_copy.specs.declared.sides.Sides.{Sides}
 use Rattle.lnbd_copy.specs.Way.{ArePlaced, Filed, Goes, HasRested, IsOn, IsUnderWay, Keeps, Since, Stand, Told, Way, with_slices}
+use Rattle.lnbd_copy.specs.Statuses.{first_given, first_held, or_later}
 use Rattle.lnbd_copy.proofs.FiledLemmas.{filed_none, filed_then, plays_filed}
+use Rattle.lnbd_copy.proofs.LastLemmas.{lasts_adds, lasts_none, lasts_then}
+use Rattle.lnbd_copy.proofs.HeldLemmas.{held_on}
+use Rattle.lnbd_copy.proofs.HeardLemmas.{hears_later, no_more_given}
 use Rattle.lnbd_copy.proofs.StepLemmas.{calls_stand, turns_stand}
 
 abbrev steps : board.Seen → List (Call Ticket) → board.Seen → Type 0
@@ -49,6 +54,13 @@ SameLinks (seen ∷ others) (here ∷ there) = (here.link ≡ seen.link) × Same
 pub links_stay : (seens : List (Seen Ticket)) → SameLinks seens seens
 links_stay [] = tt
 links_stay (seen ∷ others) = (refl, links_stay others)
+
+-- apart from those of one list, apart from those of the other
+apart_same : (before after : List (Seen Ticket)) → SameLinks before after → (link : ℕ) → AreApart link after → AreApart link before
+apart_same [] [] same link apart = tt
+apart_same [] (here ∷ there) same link apart = absurd same
+apart_same (seen ∷ others) [] same link apart = absurd same
+apart_same (seen ∷ others) (here ∷ there) same link apart = ((λ e. apart.0 (same.0 ∙ e)), apart_same others there same.1 link apart.1)
 
 pub links_count : (before after : List (Seen Ticket)) → SameLinks before after → length after ≡ length before
 links_count [] [] same = refl
@@ -166,6 +178,27 @@ rested_on from to size (Some was) calls more rest = λ bytes is room well two.
     let r = rest bytes is room well two in
     record { before = r.before; after = r.after ++ more; parts = ap (λ (l : List wire.Call). l ++ more) r.parts ∙ append_assoc r.before r.after more; sums = r.sums; done = r.done; unflushed = r.unflushed }
 
+-- The first handle stays the first one.
+
+links_first : (before after : List (Seen Ticket)) → SameLinks before after → first_held after ≡ first_held before
+links_first [] [] same = refl
+links_first [] (here ∷ there) same = absurd same
+links_first (seen ∷ others) [] same = absurd same
+links_first (seen ∷ others) (here ∷ there) same = ap (λ (n : ℕ). Some n) same.0
+
+no_seen : (seen : Seen Ticket) (others : List (Seen Ticket)) → [] ≡ seen ∷ others → ⊥
+no_seen seen others e = cc
+
+-- no handles make no calls
+no_turns : (before after : List (Seen Ticket)) (now now' : board.Seen) (part : List wire.Call) (ending : Ending) → Turns steps before now part after now' ending → before ≡ [] → part ≡ []
+no_turns before after now now' part ending (All_took _ _ _ _ _ _ is none after_is world_is end) empty = none
+no_turns before after now now' part ending (Takes _ _ _ _ _ _ seen others notice own here half moved other there rest is one enough more calls_are after_is end) empty = absurd (no_seen seen others (sym empty ∙ is))
+no_turns before after now now' part ending (Runs_short _ _ _ _ _ _ seen others here moved is one after_is end) empty = absurd (no_seen seen others (sym empty ∙ is))
+
+turned_first : (before after : List (Seen Ticket)) (now now' : board.Seen) (part : List wire.Call) (ending : Ending) → Turns steps before now part after now' ending → or_later (first_held before) (first_given part) ≡ first_held before
+turned_first [] after now now' part ending turns = ap first_given (no_turns [] after now now' part ending turns refl)
+turned_first (seen ∷ others) after now now' part ending turns = refl
+
 -- A turn.
 
 turned : (parting : Bool) (way : Way) (now now' : board.Seen) (calls part : List wire.Call) (held held' : List (Held Ticket)) (after : List (Seen Ticket)) (moved : Option ℕ)
@@ -180,6 +213,8 @@ turned parting way now now' calls part held held' after moved on turns at =
       begun = on.begun ∙ sym led.filed.begun;
       stands = turns_stand way on.has now now' calls part on.seens after moved on.stands turns;
       rest = rested_on way.from way.to way.size way.rested calls part on.rest;
+      all = held_on parting calls part on.seens after (apart_same on.seens after led.links) (λ link. turns_give_none steps link part on.seens after now now' (Whole moved) turns) on.all;
+      hears = hears_later parting way.from way.to way.heard now.error now'.error led.filed.error calls on.seens after (links_first on.seens after led.links) on.hears part (turned_first on.seens after now now' part (Whole moved) turns);
     }
 
 -- The calls since the start go on.
@@ -206,6 +241,12 @@ turned_goes a b f g turn now now' held held' goes = record {
         since_on start first.0 all went.calls (grown.2 ∙ ap (λ (l : List wire.Call). l ++ went.calls) same) since
         (turned parting way now now' since.calls went.calls held held' went.after went.leads.moved since.is went.leads.turns went.at);
   };
+  lasts = λ s. record {
+    on = λ all is.
+        let went = goes s.seens s.at in
+        let grown = went.grown all is in
+        record { before = grown.0; after = went.calls; are = grown.2; is = grown.1 };
+  };
 }
 
 -- Calls that read and write no link.
@@ -219,6 +260,8 @@ called parting way now calls more held none given on = record {
   begun = on.begun;
   stands = calls_stand way on.has now calls more on.seens on.stands none given;
   rest = rested_on way.from way.to way.size way.rested calls more on.rest;
+  all = held_on parting calls more on.seens on.seens (λ link apart. apart) given on.all;
+  hears = hears_later parting way.from way.to way.heard now.error now.error (λ well. well) calls on.seens on.seens refl on.hears more (no_more_given more on.seens given);
 }
 
 -- Where the transcript is told, what a call leads from leads on.
@@ -236,12 +279,13 @@ paused_goes a b wants now held held' same adds = subst (λ (l : List (Held Ticke
   many = λ s. refl;
   filed = λ s. filed_none now;
   on = λ parting way start s told. told_on start a b (wire.Pause wants) adds (λ calls on. called parting way now calls (wire.Pause wants ∷ []) held (λ link. refl) (λ link. refl) on) told;
+  lasts = λ s. lasts_adds a b (wire.Pause wants) adds;
 })
 
 -- Steps follow one another.
 
 pub goes_none : (now : board.Seen) (held : List (Held Ticket)) (told : Option (List wire.Call)) → Goes now held told now held told
-goes_none now held told = record { stand = λ s. s; many = λ s. refl; filed = λ s. filed_none now; on = λ parting way start s told. told }
+goes_none now held told = record { stand = λ s. s; many = λ s. refl; filed = λ s. filed_none now; on = λ parting way start s told. told; lasts = λ s. lasts_none told }
 
 pub goes_on : (now now2 now3 : board.Seen) (held held2 held3 : List (Held Ticket)) (a b c : Option (List wire.Call)) → Goes now held a now2 held2 b → Goes now2 held2 b now3 held3 c → Goes now held a now3 held3 c
 goes_on now now2 now3 held held2 held3 a b c one two = record {
@@ -249,6 +293,7 @@ goes_on now now2 now3 held held2 held3 a b c one two = record {
   many = λ s. two.many (one.stand s) ∙ one.many s;
   filed = λ s. filed_then now now2 now3 (one.filed s) (two.filed (one.stand s));
   on = λ parting way start s told. two.on parting way start (one.stand s) (one.on parting way start s told);
+  lasts = λ s. lasts_then a b c (one.lasts s) (two.lasts (one.stand s));
 }
 
 -- What is so of the calls is so where the transcript is told.

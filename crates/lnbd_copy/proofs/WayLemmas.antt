@@ -22,6 +22,8 @@ use Rattle.lnbd_copy.specs.declared.sides.Sides.{Sides}
 use Rattle.lnbd_copy.specs.Asked.{WasAsked}
 use Rattle.lnbd_copy.specs.Dealing.{IsAskedOf}
 use Rattle.lnbd_copy.specs.Way.{AreSided, IsOn, Keeps, Stands, Way, is_source, with_slices}
+use Rattle.lnbd_copy.proofs.HeldLemmas.{held_event}
+use Rattle.lnbd_copy.proofs.HeardLemmas.{event_first, hears_on}
 use Rattle.lnbd_copy.proofs.StepLemmas.{board_moves_stand, destination_asks_stand, source_asks_stand}
 
 none_some : (seen : Seen Ticket) → None ≡ Some seen → ⊥
@@ -45,8 +47,8 @@ sided_after sides has index event seens sided = λ at now there. sided_event (is
 -- A handle took a command, and the course goes on with it.
 asked_on : (way : Way) (calls : List wire.Call) (more : List Slice) (now now' : board.Seen) (held held' : List (Held Ticket)) (index : ℕ) (command : Command Ticket) →
     (on : IsOn way now calls held) → now'.begun ≡ now.begun + length more → WasAsked index command on.seens held' →
-    Stands (with_slices more way) on.has now' calls (with_event index (Issue (without_buffer command)) on.seens) → IsOn (with_slices more way) now' calls held'
-asked_on way calls more now now' held held' index command on begun was stands = record {
+    Stands (with_slices more way) on.has now' calls (with_event index (Issue (without_buffer command)) on.seens) → (now'.error ≡ None → now.error ≡ None) → IsOn (with_slices more way) now' calls held'
+asked_on way calls more now now' held held' index command on begun was stands earlier = record {
   has = on.has;
   seens = with_event index (Issue (without_buffer command)) on.seens;
   at = was.at;
@@ -54,12 +56,14 @@ asked_on way calls more now now' held held' index command on begun was stands = 
   begun = length-append way.slices more ∙ ap (λ n. n + length more) on.begun ∙ sym begun;
   stands = stands;
   rest = on.rest;
+  all = held_event calls index (Issue (without_buffer command)) on.seens on.all;
+  hears = hears_on false way.from way.to way.heard now.error now'.error earlier calls on.seens (with_event index (Issue (without_buffer command)) on.seens) (event_first index (Issue (without_buffer command)) on.seens) on.hears;
 }
 
 -- The board went on, and nothing was asked.
 moved_on : (way : Way) (calls : List wire.Call) (now now' : board.Seen) (held : List (Held Ticket)) →
-    (on : IsOn way now calls held) → now'.begun ≡ now.begun → Stands way on.has now' calls on.seens → IsOn way now' calls held
-moved_on way calls now now' held on begun stands = record {
+    (on : IsOn way now calls held) → now'.begun ≡ now.begun → Stands way on.has now' calls on.seens → (now'.error ≡ None → now.error ≡ None) → IsOn way now' calls held
+moved_on way calls now now' held on begun stands earlier = record {
   has = on.has;
   seens = on.seens;
   at = on.at;
@@ -67,6 +71,8 @@ moved_on way calls now now' held on begun stands = record {
   begun = on.begun ∙ sym begun;
   stands = stands;
   rest = on.rest;
+  all = on.all;
+  hears = hears_on false way.from way.to way.heard now.error now'.error earlier calls on.seens on.seens refl on.hears;
 }
 
 -- as far as with no slices more
@@ -91,7 +97,7 @@ module _ (how : How) (sides : Sides) where
     on = λ way calls h s on.
         no_more way calls now' held (moved_on way calls now now' held on begun
         (board_moves_stand way on.has now now' calls on.seens on.stands (λ none. sym error ∙ none) same
-        (subst (λ (w : How). (source destination : List Request) → asks.Keeps w now.rows source destination now'.rows source destination) (sym h) goes) alike));
+        (subst (λ (w : How). (source destination : List Request) → asks.Keeps w now.rows source destination now'.rows source destination) (sym h) goes) alike) (λ none. sym error ∙ none));
   }
 
   pub source_keeps : (more : List Slice) (command : Command Ticket) (now now' : board.Seen) (held held' : List (Held Ticket)) → now'.begun ≡ now.begun + length more → asks_extents (Issue (without_buffer command)) ≡ false → ToldAlike now now' →
@@ -103,7 +109,7 @@ module _ (how : How) (sides : Sides) where
         let side : on.has was.seen.link ≡ true = on.sided asked.index was.seen was.there ∙ ap (λ (x : Sides). is_source x asked.index) s ∙ asked.side in
         asked_on way calls more now now' held held' asked.index command on begun was
         (source_asks_stand way on.has (way.slices ++ more) now now' calls on.seens asked.index was.seen (without_buffer command) on.stands was.there side was.spells
-        (subst (λ (w : How). AsksSource w (without_buffer command) way.slices (way.slices ++ more) now now') (sym h) (says way.slices on.begun)) other alike);
+        (subst (λ (w : How). AsksSource w (without_buffer command) way.slices (way.slices ++ more) now now') (sym h) (says way.slices on.begun)) other alike) (says way.slices on.begun).earlier;
   }
 
   pub destination_keeps : (more : List Slice) (command : Command Ticket) (now now' : board.Seen) (held held' : List (Held Ticket)) → now'.begun ≡ now.begun + length more → asks_extents (Issue (without_buffer command)) ≡ false → ToldAlike now now' →
@@ -115,5 +121,5 @@ module _ (how : How) (sides : Sides) where
         let side : on.has was.seen.link ≡ false = on.sided asked.index was.seen was.there ∙ ap (λ (x : Sides). is_source x asked.index) s ∙ asked.side in
         asked_on way calls more now now' held held' asked.index command on begun was
         (destination_asks_stand way on.has (way.slices ++ more) now now' calls on.seens asked.index was.seen (without_buffer command) on.stands was.there side was.spells
-        (subst (λ (w : How). AsksDestination w (without_buffer command) way.slices (way.slices ++ more) now now') (sym h) (says way.slices on.begun)) other alike);
+        (subst (λ (w : How). AsksDestination w (without_buffer command) way.slices (way.slices ++ more) now now') (sym h) (says way.slices on.begun)) other alike) (says way.slices on.begun).earlier;
   }

@@ -10,8 +10,8 @@ use Rattle.lnbd_board.specs.Files as board
 use Rattle.lnbd_course.specs.Asks.{HasAskedOnce, WereDone}
 use Rattle.lnbd_course.specs.Copied.{Copied}
 use Rattle.lnbd_course.specs.Counted.{HasNotCounted}
+use Rattle.lnbd_course.specs.Driven.{AreDriven}
 use Rattle.lnbd_course.specs.Flushes.{IsUnflushed}
-use Rattle.lnbd_course.specs.Spares.{SparesZeros}
 use Rattle.lnbd_copy.specs.declared.copier.Progress.{Progress}
 use Rattle.lnbd_copy.specs.declared.copier.Progress.TheVariants as progress
 use Rattle.lnbd_copy.specs.declared.counts.Counts.{Counts}
@@ -19,7 +19,10 @@ use Rattle.lnbd_copy.specs.declared.sides.Sides.{Sides}
 use Rattle.lnbd_copy.specs.declared.terms.Terms.{Terms}
 use Rattle.lnbd_copy.specs.Agreed.{IsWished}
 use Rattle.lnbd_copy.specs.Job as work
+use Rattle.lnbd_copy.specs.Lasting.{Lasts}
 use Rattle.lnbd_copy.specs.Limit.{IsLimited}
+use Rattle.lnbd_copy.specs.Settled.{FlushesWanted, HasSettled, SparesFound, SparesTold}
+use Rattle.lnbd_copy.specs.Statuses.{ReadsAreAnswered}
 use Rattle.lnbd_copy.specs.Way.{Filed, IsOn, IsUnderWay, Stand, Told, Way}
 
 pub record Seen : Type 0 where
@@ -45,7 +48,7 @@ pub record HasNotBegun (copy : Seen) : Type 0 where
 
 -- no slice is begun, of a copy that writes so
 abbrev pub beginning : Seen → (size : Option ℕ) → How → Sides → Way
-beginning copy size how sides = record { from = copy.from; to = copy.to; size = size; how = how; sides = sides; slices = []; zero = λ p. false; whole = λ block p. false; asked = None; rested = None }
+beginning copy size how sides = record { from = copy.from; to = copy.to; size = size; how = how; sides = sides; slices = []; zero = λ p. false; whole = λ block p. false; asked = None; rested = None; heard = λ p. false }
 
 -- No slice was begun, and no flush asked for.
 pub record IsBlank (now : board.Seen) : Type 0 where
@@ -60,6 +63,7 @@ pub record HasMet (copy : Seen) (start told : Option (List wire.Call)) (terms : 
   pub wished : IsWished copy.options terms
   pub limited : IsLimited copy.options terms
   pub on : Told start told (λ calls. IsOn (beginning copy (Some terms.size) terms.how terms.sides) copy.board calls copy.held)
+  pub settled : HasSettled copy.options copy.from copy.to start told terms
 
 -- Further connections are made, each to the side that its place says, where so many were made before.
 pub record GoesFurther (copy : Seen) (sides : Sides) (first : ℕ) (now : board.Seen) (held : List (Held Ticket)) (told : Option (List wire.Call)) (now' : board.Seen) (held' : List (Held Ticket)) (told' : Option (List wire.Call)) : Type 0 where
@@ -67,6 +71,7 @@ pub record GoesFurther (copy : Seen) (sides : Sides) (first : ℕ) (now : board.
   pub filed : Stand held → Filed now now'
   pub on : (size : Option ℕ) (how : How) (start : Option (List wire.Call)) → Stand held → length held ≡ first →
       Told start told (λ calls. IsOn (beginning copy size how sides) now calls held) → Told start told' (λ calls. IsOn (beginning copy size how sides) now' calls held')
+  pub lasts : Stand held → Lasts told told'
 
 -- Turns.
 
@@ -84,6 +89,8 @@ pub record IsOnItsWay (start told : Option (List wire.Call)) (copy : Seen) : Typ
   pub most : length copy.board.rows ≤ job.terms.limit
   pub is : work.IsJob job way copy.board
   pub on : Told start told (λ calls. IsUnderWay (work.is_parting job.phase) way copy.board calls copy.held)
+  -- it is made as both sides told
+  pub settled : HasSettled copy.options copy.from copy.to start told job.terms
 
 -- It has begun and goes on, where this transcript is told now.
 pub record IsGoing (told : Option (List wire.Call)) (copy : Seen) : Type 0 where
@@ -102,14 +109,18 @@ pub record IsParting (copy : Seen) : Type 0 where
   pub there : copy.job ≡ Some job
   pub parts : work.is_parting job.phase ≡ true
 
--- It is finished: each connection has parted, and its calls copied, asked nothing twice, and all of it was done, if it was from one place to another. Where its options want no flush none was asked for.
+-- It is finished: each connection has parted, and its calls copied, asked nothing twice, and all of it was done, if it was from one place to another. Where its options want no flush none was asked for, and where one is wanted that the destination can make, it is done. One handle drove each link.
 pub record IsDone (start told : Option (List wire.Call)) (copy : Seen) : Type 0 where
   pub parted : copy.held ≡ []
   pub asked : copy.from ≢ copy.to → Told start told (HasAskedOnce copy.options.allocated copy.from copy.to)
   pub done : copy.from ≢ copy.to → Told start told (WereDone copy.from copy.to)
-  pub spares : copy.from ≢ copy.to → Told start told (SparesZeros copy.from)
+  pub spares : copy.from ≢ copy.to → Told start told (SparesTold copy.from copy.to)
   pub copied : copy.from ≢ copy.to → Told start told (Copied copy.from copy.to copy.options.destination_is_zero)
   pub unflushed : copy.options.flush ≡ false → copy.from ≢ copy.to → Told start told (IsUnflushed copy.to)
+  pub flushed : copy.from ≢ copy.to → Told start told (FlushesWanted copy.options copy.from copy.to)
+  pub dense : copy.from ≢ copy.to → Told start told (SparesFound copy.options copy.from copy.to)
+  pub answered : copy.from ≢ copy.to → Told start told (ReadsAreAnswered copy.from)
+  pub driven : Told start told AreDriven
 
 -- After a turn it is on its way still, or it is finished.
 abbrev pub HasTurned : (start told : Option (List wire.Call)) → Seen → Progress → Type 0

@@ -1,5 +1,5 @@
 -- What the connections of a copy were told for which it does not end well: by the handles that are held, and by the calls on the wires.
-use Rattle.std.specs.Prelude.{◌≡◌, ◌==◌, ◌<◌, ℕ, Bool, true, false, ◌⊎◌, List, ◌++◌, Option, Some, None, slice_get, if◌then◌else◌}
+use Rattle.std.specs.Prelude.{◌≡◌, ◌==◌, ◌<◌, ℕ, Bool, true, false, ◌⊎◌, List, Option, Some, None, slice_get, if◌then◌else◌}
 use Rattle.lnbd_model.specs.declared.breach.Broken.{Broken}
 use Rattle.lnbd_model.specs.declared.breach.Broken.TheVariants as broken
 use Rattle.lnbd_model.specs.declared.errors.TheConstants.{ENOTCONN, EPROTO}
@@ -25,6 +25,7 @@ use Rattle.lnbd_board.specs.Files as board
 use Rattle.lnbd_course.specs.Between.{place_of}
 use Rattle.lnbd_course.specs.Failed.{SideFails}
 use Rattle.lnbd_copy.specs.declared.sides.Sides.{Sides}
+pub use Rattle.lnbd_copy.specs.Lasting.{AtSome, Lasts}
 use Rattle.lnbd_copy.specs.Terms.{broken_rule}
 use Rattle.lnbd_copy.specs.Way.{IsUnderWay, Stand, Told, Way, is_source}
 
@@ -101,13 +102,6 @@ pub record FindsDead (why : CopyFault) (held : List (Held Ticket)) : Type 0 wher
   pub dead : Happens (IsDead death) index held
 
 -- By calls on the wires.
-
--- A front of the calls is so.
-pub record AtSome (Is : List wire.Call → Type 0) (calls : List wire.Call) : Type 0 where
-  pub before : List wire.Call
-  pub after : List wire.Call
-  pub are : calls ≡ before ++ after
-  pub is : Is before
 
 -- By these calls a handle drove a link to this place, and asked for the export there; and what happened on it is so.
 pub record Drove (place : Place) (Is : History Ticket → Type 0) (calls : List wire.Call) : Type 0 where
@@ -213,7 +207,3 @@ pub record Answers (now : board.Seen) (why : CopyFault) : Type 0 where
 -- A step with calls on the wires fails on grounds, wherever on its way the copy was.
 pub record FailsOn (parting : Bool) (now : board.Seen) (held : List (Held Ticket)) (told told' : Option (List wire.Call)) (why : CopyFault) : Type 0 where
   pub on : (way : Way) (start : Option (List wire.Call)) → Stand held → Told start told (λ calls. IsUnderWay parting way now calls held) → IsGrounded start told' way.from way.to why
-
--- The transcript goes on, where it is told.
-pub record Lasts (told told' : Option (List wire.Call)) : Type 0 where
-  pub on : (all : List wire.Call) → told' ≡ Some all → AtSome (λ before. told ≡ Some before) all

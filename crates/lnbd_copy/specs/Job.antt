@@ -5,11 +5,11 @@ use Rattle.lnbd_model.specs.declared.export.Extent.{Extent}
 use Rattle.lnbd_poll.specs.Held.{Held}
 use Rattle.lnbd_board.specs.Files as board
 use Rattle.lnbd_board.specs.declared.ticket.Ticket.{Ticket}
-use Rattle.lnbd_course.specs.Spares.{IsLeastBlock}
 use Rattle.lnbd_copy.specs.declared.job.Phase.{Phase}
 use Rattle.lnbd_copy.specs.declared.job.Phase.TheVariants.{Copying, Flushing, Parting}
 use Rattle.lnbd_copy.specs.declared.sides.Sides.{Sides}
 use Rattle.lnbd_copy.specs.declared.terms.Terms.{Terms}
+use Rattle.lnbd_copy.specs.Heard.{IsHeardTo, has_position}
 use Rattle.lnbd_copy.specs.Spared.{IsSpared, whole_heard}
 use Rattle.lnbd_copy.specs.Way.{Way, IsOn, Stand}
 use Rattle.lnbd_copy.specs.Windows as windows
@@ -52,13 +52,16 @@ pub record IsJob (job : Seen) (way : Way) (now : board.Seen) : Type 0 where
   pub ends : job.windows.size ≡ job.terms.size
   pub zeros : job.windows.plan.cells.zeros ≡ not job.terms.how.skip
   pub planned : windows.IsPlanned job.windows way.zero way.slices
-  pub block : IsLeastBlock job.windows.grain
+  pub grain : job.windows.grain ≡ job.terms.grain
   pub spared : IsSpared job.windows (way.whole job.windows.grain) way.slices
   pub asked : way.asked ≡ (if job.asked then windows.wanted job.windows else None)
   pub over : job.phase ≢ Copying → IsOver job now
   pub unwanted : job.terms.flush ≡ false → now.flushing ≡ false
   pub unflushed : job.phase ≡ Copying → now.flushing ≡ false
   pub rests : job.phase ≢ Copying → RestsSince way.rested now
+  -- the connections part only once the flush that is wanted was answered
+  pub flushed : job.phase ≡ Parting → job.terms.flush ≡ true → now.flushed ≡ true
+  pub heard : IsHeardTo job.windows way.heard
 
 -- What was settled of a copy holds of its windows and of the connections that slices are bound to.
 pub record IsSettled (terms : Terms) (planned : windows.Seen) (sides : Sides) : Type 0 where
@@ -87,7 +90,7 @@ pub record Acts (job job' : Seen) (now now' : board.Seen) (held held' : List (He
 
 -- the extents were heard that had been asked for
 abbrev pub with_heard : List Extent → Way → Way
-with_heard told way = record way { zero = λ p. way.zero p || windows.zero_heard way.asked told p; whole = λ block p. way.whole block p || whole_heard block way.asked told p; asked = None }
+with_heard told way = record way { zero = λ p. way.zero p || windows.zero_heard way.asked told p; whole = λ block p. way.whole block p || whole_heard block way.asked told p; heard = λ p. way.heard p || has_position way.asked p; asked = None }
 
 -- extents of this range are asked for
 abbrev pub with_asked : Option (ℕ × ℕ) → Way → Way

@@ -2,9 +2,12 @@ pub mod Causes
 pub mod Terms
 pub mod Limit
 pub mod Asked
+pub mod Lasting
+pub mod Statuses
 pub mod Way
 pub mod Dealing
 pub mod Windows
+pub mod Heard
 pub mod Spared
 pub mod Job
 pub mod UnderWay
@@ -12,6 +15,8 @@ pub mod Opening
 pub mod Leaving
 pub mod Agreed
 pub mod Grounds
+pub mod Settled
 pub mod Copier
 pub mod Summed
 pub mod Flushed
+pub mod Unanswered

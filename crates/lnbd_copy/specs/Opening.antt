@@ -6,6 +6,7 @@ use Rattle.lnbd_link.specs.Call as wire
 use Rattle.lnbd_poll.specs.Held.{Held}
 use Rattle.lnbd_board.specs.declared.ticket.Ticket.{Ticket}
 use Rattle.lnbd_board.specs.Files as board
+use Rattle.lnbd_copy.specs.Lasting.{Lasts}
 use Rattle.lnbd_copy.specs.Way.{IsOn, Stand, Told, Way, is_source}
 
 -- the meta context of the blocks that are allocated (NBD protocol, "base:allocation metadata context")
@@ -39,3 +40,4 @@ pub record Dials (place : Place) (now : board.Seen) (held : List (Held Ticket)) 
   pub many : length held' ≡ length held + 1
   pub on : (way : Way) (start : Option (List wire.Call)) → place_of way (length held) ≡ place →
       Told start told (λ calls. IsOn way now calls held) → Told start told' (λ calls. IsOn way now calls held')
+  pub lasts : Lasts told told'

@@ -1,12 +1,15 @@
 -- What both sides of a copy settle: which rule between them does not hold, and how slices are cut.
-use Rattle.std.specs.Prelude.{◌%◌, ℕ, not, ◌&&◌, ◌==◌, nat_lt, nat_le, min, max, Option, Some, None, if◌then◌else◌}
+use Rattle.std.specs.Prelude.{◌≡◌, ◌<◌, ◌≤◌, ◌*◌, ◌%◌, ◌^◌, ℕ, zero, suc, Bool, not, ◌&&◌, ◌||◌, ◌==◌, nat_lt, nat_le, min, max, Option, Some, None, if◌then◌else◌}
 use Rattle.lnbd_model.specs.declared.export.Blocks.{Blocks}
 use Rattle.lnbd_model.specs.declared.export.ExportInfo.{ExportInfo}
+use Rattle.lnbd_board.specs.declared.how.How.{How}
 use Rattle.lnbd_plan.specs.declared.fault.Rule.{Rule}
 use Rattle.lnbd_plan.specs.declared.fault.Rule.TheVariants as rule
-use Rattle.lnbd_records.specs.Flags.{flag_read_only}
+use Rattle.lnbd_plan.specs.declared.options.CopyOptions.{CopyOptions}
+use Rattle.lnbd_records.specs.Flags.{flag_read_only, flag_send_flush, flag_send_write_zeroes}
 use Rattle.lnbd_records.specs.Limits.{max_data, max_minimum_block}
 use Rattle.lnbd_records.specs.Numbers.{has_bit}
+use Rattle.lnbd_copy.specs.declared.sides.Sides.{Sides}
 
 -- the block of which all offsets and lengths are multiples: 1 where none is told
 abbrev pub least_block : Option Blocks → ℕ
@@ -33,3 +36,61 @@ broken_rule source destination =
     else if not (source.size % grain source destination == 0) then Some (rule.Uneven source.size (grain source destination))
     else if nat_lt (limit source destination) (grain source destination) then Some (rule.Unfit (grain source destination) (limit source destination))
     else None
+
+-- How a copy is made of it.
+
+-- This is the greatest power of two that is no larger.
+pub record IsGreatestPower (most power : ℕ) : Type 0 where
+  pub exponent : ℕ
+  pub is : power ≡ 2 ^ exponent
+  pub fits : power ≤ most
+  pub greatest : most < 2 * power
+
+-- it, of those from 2 ^ 0 to 2 ^ exponent; 1 where none is that small
+unfoldable pub greatest_power : (exponent most : ℕ) → ℕ
+greatest_power zero most = 1
+greatest_power (suc exponent) most = if nat_le (2 ^ suc exponent) most then 2 ^ suc exponent else greatest_power exponent most
+
+-- Slices of data are cut at multiples of the cell: the greatest power of two that is no larger than a request may be, by the options and for both sides (`max_data` is 2 ^ 25), or
+-- the grain, where that is larger.
+abbrev pub cell : CopyOptions → (source destination : ExportInfo) → ℕ
+cell options source destination = max (greatest_power 25 (min options.request_size (limit source destination))) (grain source destination)
+
+-- The blocks that are looked at for zeros are as large as the options say, and no smaller than the destination's least block. None are looked at, and the size is 0, where the
+-- options say 0, or where the blocks would be larger than a cell.
+abbrev pub sparse_block : CopyOptions → (destination : ExportInfo) → (cell : ℕ) → ℕ
+sparse_block options destination cell = if options.sparse == 0 || nat_lt cell (max options.sparse (least_block destination.blocks)) then 0 else max options.sparse (least_block destination.blocks)
+
+abbrev pub takes_zeroes : ExportInfo → Bool
+takes_zeroes info = has_bit flag_send_write_zeroes info.flags
+
+abbrev pub takes_flush : ExportInfo → Bool
+takes_flush info = has_bit flag_send_flush info.flags
+
+-- how the destination is written to
+abbrev pub how_by : CopyOptions → (source destination : ExportInfo) → How
+how_by options source destination = record {
+  block = sparse_block options destination (cell options source destination);
+  skip = options.destination_is_zero;
+  zeroes = takes_zeroes destination;
+  allocated = options.allocated;
+}
+
+-- the most bytes of a request that zeroes
+abbrev pub max_zeroes : ℕ
+max_zeroes = 134217728
+
+-- slices of zeros are cut at its multiples
+abbrev pub zero_cell : CopyOptions → (source destination : ExportInfo) → ℕ
+zero_cell options source destination = if takes_zeroes destination then max_zeroes else cell options source destination
+
+-- an export may have many connections (NBD protocol, "Transmission flags")
+abbrev pub flag_can_multi_conn : ℕ
+flag_can_multi_conn = 256
+
+-- how many connections a side has: as many as the options say where it tells that it may have many, or else one
+abbrev pub connections : CopyOptions → ExportInfo → ℕ
+connections options info = if has_bit flag_can_multi_conn info.flags then max options.connections 1 else 1
+
+abbrev pub sides_by : CopyOptions → (source destination : ExportInfo) → Sides
+sides_by options source destination = record { source = connections options source; destination = connections options destination }

@@ -12,7 +12,10 @@ use Rattle.lnbd_course.specs.Between.{Between}
 use Rattle.lnbd_course.specs.Counts.{summary_of}
 use Rattle.lnbd_course.specs.Flushes.{CameToRest}
 use Rattle.lnbd_course.specs.Told as course
+use Rattle.lnbd_course.specs.UnderWay.{AllHeld}
 use Rattle.lnbd_copy.specs.declared.sides.Sides.{Sides}
+use Rattle.lnbd_copy.specs.Lasting.{Lasts}
+use Rattle.lnbd_copy.specs.Statuses.{Hears}
 
 -- The first handle is the source's first connection and the second the destination's; behind them stand the others of the source, and then those of the
 -- destination.
@@ -27,6 +30,11 @@ AreSided sides has seens = (index : ℕ) (seen : Seen Ticket) → slice_get seen
 abbrev pub ArePlaced : (parting : Bool) → Sides → (has : ℕ → Bool) → List (Seen Ticket) → Type 0
 ArePlaced false sides has seens = AreSided sides has seens
 ArePlaced true sides has seens = Unit {0}
+
+-- Until a handle is taken out, each link that a call gave is that of a handle.
+abbrev pub AreHeld : (parting : Bool) → List wire.Call → List (Seen Ticket) → Type 0
+AreHeld false calls seens = AllHeld calls seens
+AreHeld true calls seens = Unit {0}
 
 -- Each handle that is held stands for a history.
 pub record Stand (held : List (Held Ticket)) : Type 0 where
@@ -52,6 +60,8 @@ pub record Way : Type 0 where
   pub asked : Option (ℕ × ℕ)
   -- its board, when all was asked and done
   pub rested : Option board.Seen
+  -- the positions of the source that count as heard
+  pub heard : ℕ → Bool
 
 -- what is known of the source's zeros
 abbrev pub known_of : Way → course.Known
@@ -78,6 +88,8 @@ pub record IsUnderWay (parting : Bool) (way : Way) (now : board.Seen) (calls : L
   pub begun : length way.slices ≡ now.begun
   pub stands : Stands way has now calls seens
   pub rest : HasRested way.from way.to way.size way.rested calls
+  pub all : AreHeld parting calls seens
+  pub hears : Hears parting way.from way.to way.heard now.error calls seens
 
 -- So it is while each connection that was made is held,
 abbrev pub IsOn : Way → board.Seen → List wire.Call → List (Held Ticket) → Type 0
@@ -108,7 +120,7 @@ pub record Since (start : Option (List wire.Call)) (all : List wire.Call) (Is : 
 pub record Told (start told : Option (List wire.Call)) (Is : List wire.Call → Type 0) : Type 0 where
   pub since : (all : List wire.Call) → told ≡ Some all → Since start all Is
 
--- What callbacks are told is filed on a board: no slice is begun or over, and an error that was told stands.
+-- What callbacks are told is filed on a board: no slice is begun or over, and an error that was told stands, as does that the flush was answered.
 pub record Filed (old new : board.Seen) : Type 0 where
   pub how : new.how ≡ old.how
   pub begun : new.begun ≡ old.begun
@@ -119,6 +131,7 @@ pub record Filed (old new : board.Seen) : Type 0 where
   pub written : new.written ≡ old.written
   pub zeroed : new.zeroed ≡ old.zeroed
   pub flushing : new.flushing ≡ old.flushing
+  pub flushed : old.flushed ≡ true → new.flushed ≡ true
 
 -- A step with calls on the wires keeps a copy on its way, if its handles stand for histories: so many stand still, and the board has what their callbacks were told.
 pub record Goes (now : board.Seen) (held : List (Held Ticket)) (told : Option (List wire.Call)) (now' : board.Seen) (held' : List (Held Ticket)) (told' : Option (List wire.Call)) : Type 0 where
@@ -127,3 +140,4 @@ pub record Goes (now : board.Seen) (held : List (Held Ticket)) (told : Option (L
   pub filed : Stand held → Filed now now'
   pub on : (parting : Bool) (way : Way) (start : Option (List wire.Call)) → Stand held →
       Told start told (λ calls. IsUnderWay parting way now calls held) → Told start told' (λ calls. IsUnderWay parting way now' calls held')
+  pub lasts : Stand held → Lasts told told'

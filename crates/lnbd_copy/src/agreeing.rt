@@ -4,10 +4,11 @@ ghost use Rattle.std.specs.Prelude.{◌≡◌, ◌<◌, ◌≤◌, ◌^◌, true
 ghost use Rattle.lnbd_handle.specs.Histories.{ForEach};
 ghost use Rattle.lnbd_history.specs.Answers.{direction_after, state_after};
 ghost use Rattle.lnbd_model.specs.declared.state.State.TheVariants as state;
-ghost use Rattle.lnbd_course.specs.Spares.{IsLeastBlock};
 ghost use Rattle.lnbd_copy.specs.Agreed.{AreAgreed, AreQuiet, Tells};
 ghost use Rattle.lnbd_copy.specs.Causes.{tells_no_count};
-ghost use Rattle.lnbd_copy.specs.Grounds.{AllSame, Answers, AreSame, Finds, Happens, IsFound, IsShown};
+ghost use Rattle.lnbd_copy.specs.Grounds.{AllSame, Answers, AreSame, Happens, IsFound, IsShown};
+ghost use Rattle.lnbd_copy.specs.Settled.{FindsTerms};
+ghost use Rattle.lnbd_copy.specs.Statuses.{HasNoContext};
 ghost use Rattle.lnbd_copy.specs.declared.sides.Sides.{Sides as Both};
 
 use crate::counts::of_failure;
@@ -68,11 +69,10 @@ pub(crate) fn agree(handles: &Handles<Ticket>, options: CopyOptions) -> Result<T
     requires both { 1 < length handles.now }
     requires quiet { AreQuiet handles.now }
     ensures cells { IfOk result (λ terms. (0 < terms.cell) × (0 < terms.zero_cell) × (0 < terms.grain)) }
-    ensures block { IfOk result (λ terms. IsLeastBlock terms.grain) }
     ensures size { IfOk result (λ terms. terms.size ≤ 2 ^ 63) }
     ensures agrees { IfOk result (λ terms. AreAgreed options terms handles.now) }
     ensures free { IfErr result (λ told. tells_no_count told ≡ true) }
-    ensures holds { OnOk result (Finds None handles.now) }
+    ensures settles { IfOk result (λ terms. FindsTerms options terms handles.now) }
     ensures found { IfErr result (λ told. (sides : Both) → IsFound sides handles.now told) }
 {
     let source = info_of(handles, FIRST_SOURCE)?;
@@ -83,15 +83,16 @@ pub(crate) fn agree(handles: &Handles<Ticket>, options: CopyOptions) -> Result<T
     }
 }
 
-/// Whether the source's extents can be asked for.
-pub(crate) fn tells_extents(handles: &Handles<Ticket>) -> bool {
+/// Whether the source's extents can be asked for: of its first connection, where it agreed a meta context.
+pub(crate) fn tells_extents(handles: &Handles<Ticket>) -> Result<bool, NoMemory>
+    requires { AreQuiet handles.now }
+    ensures { IfOk result (λ tells. tells ≡ false → Happens HasNoContext 0 handles.now) }
+{
     if FIRST_SOURCE >= handles.len() {
-        return false;
+        return Err(NoMemory);
     }
-    match handles.get(FIRST_SOURCE).info() {
-        Some(info) => info.contexts.len() != 0,
-        None => false,
-    }
+    let info = info_of(handles, FIRST_SOURCE)?;
+    Ok(info.contexts.len() != 0)
 }
 
 /// Whether two connections of a side tell the same export.

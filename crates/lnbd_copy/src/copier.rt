@@ -5,8 +5,8 @@ ghost use Rattle.lnbd_link.specs.Call.{Call};
 ghost use Rattle.lnbd_course.specs.Asks.{GrewBy, HasAskedOnce, WereDone};
 ghost use Rattle.lnbd_course.specs.Copied.{Copies};
 ghost use Rattle.lnbd_course.specs.Counts.{Summarizes};
+ghost use Rattle.lnbd_course.specs.Driven.{AreDriven};
 ghost use Rattle.lnbd_course.specs.Flushes.{FlushesLast, IsUnflushed};
-ghost use Rattle.lnbd_course.specs.Spares.{IsLeastBlock, SparesZeros};
 ghost use Rattle.lnbd_copy.specs.Agreed.{AreQuiet};
 ghost use Rattle.lnbd_copy.specs.Causes.{GoesOn, HasCause};
 ghost use Rattle.lnbd_copy.specs.Copier.{GoesFurther, HasJob, HasMet, HasNotBegun, HasTurned, IsDone, IsGoing, IsOnItsWay, IsParting, Seen};
@@ -14,7 +14,10 @@ ghost use Rattle.lnbd_copy.specs.Flushed.{HasFlushed};
 ghost use Rattle.lnbd_copy.specs.Grounds.{FailsOn, IsGrounded, Lasts, needs_no_ground};
 ghost use Rattle.lnbd_copy.specs.declared.terms.Terms.{Terms as Settled};
 ghost use Rattle.lnbd_copy.specs.Opening.{Dials};
+ghost use Rattle.lnbd_copy.specs.Settled.{FlushesWanted, SparesFound, SparesTold};
+ghost use Rattle.lnbd_copy.specs.Statuses.{ReadsAreAnswered};
 ghost use Rattle.lnbd_copy.specs.Summed.{HasSummed, IsTally};
+ghost use Rattle.lnbd_copy.specs.Unanswered.{HasAllAsked};
 ghost use Rattle.lnbd_copy.specs.UnderWay.{IsBusy};
 ghost use Rattle.lnbd_copy.specs.Way.{Goes, Told};
 
@@ -159,7 +162,6 @@ impl Copier {
         ensures two { OnOk result (length self.new.held ≡ 2) }
         ensures many { IfOk result (λ terms. 0 < terms.sides.source) }
         ensures cells { IfOk result (λ terms. (0 < terms.cell) × (0 < terms.zero_cell) × (0 < terms.grain)) }
-        ensures block { IfOk result (λ terms. IsLeastBlock terms.grain) }
         ensures size { IfOk result (λ terms. terms.size ≤ 2 ^ 63) }
         ensures causes { IfErr result (λ told. HasCause self.old.start (W.faults wires.new) (W.idles wires.new) told) }
         ensures grounds { IfErr result (λ told. IsGrounded (W.told wires.old) (W.told wires.new) self.old.from self.old.to told) }
@@ -176,13 +178,13 @@ impl Copier {
     /// Makes ready what is done once all connections stand.
     fn set_up(&mut self, terms: Terms) -> Result<(), NoMemory>
         requires cells { (0 < terms.cell) × (0 < terms.zero_cell) × (0 < terms.grain) }
-        requires block { IsLeastBlock terms.grain }
         requires size { terms.size ≤ 2 ^ 63 }
         requires well { self.old.board.error ≡ None }
+        requires quiet { AreQuiet self.old.held }
         ensures kept { self.new ≡ record self.old { held = self.new.held; board = self.new.board; job = self.new.job } }
         ensures begins { (start told : Option (List Call)) → HasMet self.old start told terms → OnOk result (IsOnItsWay start told self.new) }
     {
-        let extents = tells_extents(&self.handles);
+        let extents = tells_extents(&self.handles)?;
         mem::replace(&mut self.board, Board::new(self.alloc, terms.how)).end();
         self.job = Some(Job::new(self.alloc, terms, extents)?);
         Ok(())
@@ -317,9 +319,15 @@ impl Copier {
         ensures flushes { IfOk result (λ told. (start : Option (List Call)) → IsOnItsWay start (W.told wires.old) self.old → HasFlushed start (W.told wires.new) self.new told) }
         // While slices are copied, as much is under way as may be.
         ensures busy { OnOk result (IsBusy self.new.job self.new.board) }
+        // By its calls as much is unanswered then, where a pause for its connections would want no link for writing.
+        ensures under_way { OnOk result ((start : Option (List Call)) → IsOnItsWay start (W.told wires.old) self.old → self.new.from ≢ self.new.to → HasAllAsked start (W.told wires.new) self.new) }
 
         // Nothing was asked twice so far, and nothing past the source's end.
         ensures asks { OnOk result ((start : Option (List Call)) → IsOnItsWay start (W.told wires.old) self.old → self.new.from ≢ self.new.to → Told start (W.told wires.new) (HasAskedOnce self.new.options.allocated self.new.from self.new.to)) }
+
+        // Each position that was read so far was read after a block status had been answered for it, or the source's first
+        // connection agreed no meta context.
+        ensures answered { OnOk result ((start : Option (List Call)) → IsOnItsWay start (W.told wires.old) self.old → self.new.from ≢ self.new.to → Told start (W.told wires.new) (ReadsAreAnswered self.new.from)) }
 
         // What the calls show of a fault.
         ensures grounds { IfErr result (λ told. (start : Option (List Call)) → IsOnItsWay start (W.told wires.old) self.old → IsGrounded start (W.told wires.new) self.old.from self.old.to told) }
@@ -345,8 +353,10 @@ impl Copier {
         ensures turns { IfOk result (λ told. (start : Option (List Call)) → IsOnItsWay start (W.told wires.old) self.old → HasTurned start (W.told wires.new) self.new told) }
         ensures sums { IfOk result (λ told. (start : Option (List Call)) → IsOnItsWay start (W.told wires.old) self.old → HasSummed start (W.told wires.new) self.new told) }
         ensures busy { OnOk result (IsBusy self.new.job self.new.board) }
+        ensures under_way { OnOk result ((start : Option (List Call)) → IsOnItsWay start (W.told wires.old) self.old → self.new.from ≢ self.new.to → HasAllAsked start (W.told wires.new) self.new) }
         ensures flushes { IfOk result (λ told. (start : Option (List Call)) → IsOnItsWay start (W.told wires.old) self.old → HasFlushed start (W.told wires.new) self.new told) }
         ensures asks { OnOk result ((start : Option (List Call)) → IsOnItsWay start (W.told wires.old) self.old → self.new.from ≢ self.new.to → Told start (W.told wires.new) (HasAskedOnce self.new.options.allocated self.new.from self.new.to)) }
+        ensures answered { OnOk result ((start : Option (List Call)) → IsOnItsWay start (W.told wires.old) self.old → self.new.from ≢ self.new.to → Told start (W.told wires.new) (ReadsAreAnswered self.new.from)) }
         ensures causes { IfErr result (λ told. HasCause self.old.start (W.faults wires.new) (W.idles wires.new) told) }
         ensures grounds { IfErr result (λ told. (start : Option (List Call)) → IsOnItsWay start (W.told wires.old) self.old → IsGrounded start (W.told wires.new) self.old.from self.old.to told) }
         ensures counts { GoesOn (W.faults wires.old) (W.faults wires.new) (W.idles wires.old) (W.idles wires.new) (W.contents wires.old) (W.contents wires.new) }
@@ -451,13 +461,20 @@ impl Copier {
 
         // The summary has the bytes that were asked to be read, written and zeroed, and those that nothing was asked for.
         ensures summary { self.from ≢ self.to → IfOk result (λ told. GrewBy (Summarizes self.from self.to told) (W.told wires.old) (W.told wires.new)) }
-        // For blocks of a size that the smallest of an export may have: none was read of the source that one answer told as
-        // zero whole.
-        ensures spares { self.from ≢ self.to → OnOk result (GrewBy (SparesZeros self.from) (W.told wires.old) (W.told wires.new)) }
-        // The destination was asked to flush once at most, and only when all else was asked and done; and not at all where that
-        // is not wanted.
+        // For blocks of the size that both sides told: none was read of the source that one answer told as zero whole, and
+        // where zeros are looked for, no write had a whole block of them.
+        ensures spares { self.from ≢ self.to → OnOk result (GrewBy (SparesTold self.from self.to) (W.told wires.old) (W.told wires.new)) }
+        ensures dense { self.from ≢ self.to → OnOk result (GrewBy (SparesFound self.options self.from self.to) (W.told wires.old) (W.told wires.new)) }
+        // Each position that was read was read after a block status had been answered for it, or the source's first connection
+        // agreed no meta context.
+        ensures answered { self.from ≢ self.to → OnOk result (GrewBy (ReadsAreAnswered self.from) (W.told wires.old) (W.told wires.new)) }
+        // The destination was asked to flush once at most, and only when all else was asked and done: it was, and that is done,
+        // where it is wanted and the destination told that it can be flushed; and not at all where it is not wanted.
         ensures flushes { self.from ≢ self.to → IfOk result (λ told. GrewBy (FlushesLast self.from self.to told) (W.told wires.old) (W.told wires.new)) }
+        ensures flushed { self.from ≢ self.to → OnOk result (GrewBy (FlushesWanted self.options self.from self.to) (W.told wires.old) (W.told wires.new)) }
         ensures unflushed { self.options.flush ≡ false → self.from ≢ self.to → OnOk result (GrewBy (IsUnflushed self.to) (W.told wires.old) (W.told wires.new)) }
+        // One handle drove each link, if any did.
+        ensures driven { OnOk result (GrewBy AreDriven (W.told wires.old) (W.told wires.new)) }
         // What the calls show of a fault.
         ensures grounds { IfErr result (λ told. IsGrounded (W.told wires.old) (W.told wires.new) self.from self.to told) }
         // The counts, and what they show of a fault.

@@ -6,7 +6,7 @@ ghost use Rattle.lnbd_poll.specs.Held.{Held};
 ghost use Rattle.lnbd_board.specs.declared.ticket.Ticket.{Ticket as Tag};
 ghost use Rattle.lnbd_board.specs.Files.{Seen as Kept};
 ghost use Rattle.lnbd_board.specs.Rows.{busy};
-ghost use Rattle.lnbd_course.specs.Spares.{IsLeastBlock};
+ghost use Rattle.lnbd_copy.specs.Heard.{IsHeardTo};
 ghost use Rattle.lnbd_copy.specs.UnderWay.{HasAsked, HasFilled, HaveLooked, IsPast, Refills, unfinished};
 ghost use Rattle.lnbd_copy.specs.Way.{Keeps, Way};
 ghost use Rattle.lnbd_copy.specs.Windows.{IsPlanned};
@@ -61,11 +61,10 @@ impl Job {
     #[tactic(auto, using(crate::proofs::JobLemmas::job_begins))]
     pub(crate) fn new(alloc: Global, terms: Terms, extents: bool) -> Result<Job, NoMemory>
         requires cells { (0 < terms.cell) × (0 < terms.zero_cell) × (0 < terms.grain) }
-        requires block { IsLeastBlock terms.grain }
         requires size { terms.size ≤ 2 ^ 63 }
         ensures terms { IfOk result (λ job. job.terms ≡ terms) }
         ensures begins { IfOk result (λ job. job.phase ≡ phase.Copying) }
-        ensures job { IfOk result (λ job. (way : Way) (now : Kept) → way.size ≡ Some terms.size → now.how ≡ terms.how → way.how ≡ terms.how → way.sides ≡ terms.sides → way.slices ≡ [] → way.asked ≡ None → ((block p : ℕ) → way.whole block p ≡ false) → now.flushing ≡ false → IsJob job way now) }
+        ensures job { IfOk result (λ job. (way : Way) (now : Kept) → way.size ≡ Some terms.size → now.how ≡ terms.how → way.how ≡ terms.how → way.sides ≡ terms.sides → way.slices ≡ [] → way.asked ≡ None → ((block p : ℕ) → way.whole block p ≡ false) → now.flushing ≡ false → (extents ≡ false → (p : ℕ) → way.heard p ≡ true) → IsJob job way now) }
     {
         let bindings = Bindings::new(alloc, terms)?;
         let windows = first_windows(alloc, terms, extents)?;
@@ -300,6 +299,7 @@ fn first_windows(alloc: Global, terms: Terms, extents: bool) -> Result<Windows, 
     ensures size { IfOk result (λ windows. windows.size ≡ terms.size) }
     ensures grain { IfOk result (λ windows. windows.grain ≡ terms.grain) }
     ensures zeros { IfOk result (λ windows. windows.plan.cells.zeros ≡ not terms.how.skip) }
+    ensures heard { IfOk result (λ windows. (heard : ℕ → Bool) → (extents ≡ false → (p : ℕ) → heard p ≡ true) → IsHeardTo windows heard) }
 {
     let mut windows = Windows::new(alloc, terms);
     if extents {

@@ -37,7 +37,7 @@ fn has_parted(handles: &Handles<Ticket>, index: usize) -> bool
 }
 
 /// Closes a handle and shuts its link.
-#[tactic(auto, using(crate::proofs::FiledLemmas::calls_filed, crate::proofs::PartLemmas::leaves_one, crate::proofs::GroundLemmas::lasts_adds))]
+#[tactic(auto, using(crate::proofs::FiledLemmas::calls_filed, crate::proofs::PartLemmas::leaves_one, crate::proofs::LastLemmas::lasts_adds))]
 fn hang_up<W: Wires>(handles: &mut Handles<Ticket>, board: &mut Board, wires: &mut W, index: usize)
     requires { index < length handles.old }
     ensures leaves { Leaves board.old handles.old (W.told wires.old) board.new handles.new (W.told wires.new) }
@@ -74,7 +74,7 @@ pub(crate) fn shut_parted<W: Wires>(
 }
 
 /// Hangs up on every connection.
-#[tactic(auto, using(crate::proofs::CauseLemmas::goes_same, crate::proofs::CauseLemmas::goes_then, crate::proofs::CauseLemmas::cause_later, crate::proofs::CauseLemmas::cause_free, crate::proofs::GroundLemmas::lasts_none, crate::proofs::GroundLemmas::lasts_then))]
+#[tactic(auto, using(crate::proofs::CauseLemmas::goes_same, crate::proofs::CauseLemmas::goes_then, crate::proofs::CauseLemmas::cause_later, crate::proofs::CauseLemmas::cause_free, crate::proofs::LastLemmas::lasts_none, crate::proofs::LastLemmas::lasts_then))]
 pub(crate) fn shut_all<W: Wires>(handles: &mut Handles<Ticket>, board: &mut Board, wires: &mut W)
     ensures counts { GoesOn (W.faults wires.old) (W.faults wires.new) (W.idles wires.old) (W.idles wires.new) (W.contents wires.old) (W.contents wires.new) }
     ensures none { handles.new ≡ [] }

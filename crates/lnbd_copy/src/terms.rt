@@ -2,12 +2,12 @@
 //! which slices are cut.
 
 ghost use Rattle.std.specs.Prelude.{◌≡◌, ◌<◌, ◌≤◌, ◌^◌, ◌*◌, ◌/◌, true, false, Some, None, IfOk, IfErr, max, min};
-ghost use Rattle.lnbd_records.specs.Limits.{max_minimum_block};
+ghost use Rattle.lnbd_records.specs.Limits.{max_data, max_minimum_block};
 ghost use Rattle.lnbd_records.specs.Numbers.{has_bit};
-ghost use Rattle.lnbd_course.specs.Spares.{IsLeastBlock};
 ghost use Rattle.lnbd_copy.specs.Agreed.{IsWished};
 ghost use Rattle.lnbd_copy.specs.Limit.{IsLimited, max_under_way};
-ghost use Rattle.lnbd_copy.specs.Terms.{broken_rule, grain, least_block, limit, most_bytes};
+ghost use Rattle.lnbd_copy.specs.Settled.{AreSettledBy};
+ghost use Rattle.lnbd_copy.specs.Terms.{IsGreatestPower, broken_rule, connections, greatest_power, least_block, most_bytes, sparse_block};
 
 use crate::sides::Sides;
 use lnbd_board::How;
@@ -54,7 +54,9 @@ pub(crate) struct Terms {
 }
 
 /// Whether a flag is told.
-fn has(info: &ExportInfo, flag: u16) -> bool {
+fn has(info: &ExportInfo, flag: u16) -> bool
+    ensures { result ≡ has_bit flag info.now.flags }
+{
     info.flags & flag != 0
 }
 
@@ -78,7 +80,8 @@ fn least_block(told: Option<Blocks>) -> u32
 
 /// The most bytes of a read or a write.
 fn most_bytes(told: Option<Blocks>) -> u32
-    ensures { result ≡ most_bytes told }
+    ensures value { result ≡ most_bytes told }
+    ensures most { result ≤ max_data }
 {
     match told {
         Some(blocks) => blocks.maximum.min(MAX_DATA),
@@ -113,20 +116,27 @@ pub(crate) fn broken_rule(source: &ExportInfo, destination: &ExportInfo) -> Opti
     None
 }
 
-/// The greatest of a power of two and its halves that is no larger than this.
-fn halved(power: u32, most: u32) -> u32 {
-    let mut cell = power;
-    'halves: for _ in 0..32 {
-        if most < cell {
-            cell /= 2;
+/// The greatest power of two that is no larger than this; 1 where none is.
+fn greatest_power(most: u32) -> u32
+    requires { most ≤ max_data }
+    ensures value { result ≡ greatest_power 25 most }
+    ensures some { 0 < result }
+    ensures greatest { 0 < most → IsGreatestPower most result }
+{
+    let mut power: u32 = 1;
+    'powers: for exponent in 0..25u32 {
+        let next: u32 = 2 << exponent;
+        if next <= most {
+            power = next;
         }
     }
-    cell
+    power
 }
 
 /// How many connections a side has.
 fn connections(info: &ExportInfo, options: CopyOptions) -> u32
-    ensures { 0 < result }
+    ensures value { result ≡ connections options info.now }
+    ensures some { 0 < result }
 {
     if has(info, CAN_MULTI_CONN) {
         return options.connections.max(1);
@@ -145,7 +155,9 @@ fn most_begun(options: CopyOptions, sides: Sides, cell: u32) -> u64
 }
 
 /// The size of blocks that are looked at for zeros, in bytes; 0 where none are.
-fn sparse_block(options: CopyOptions, destination: &ExportInfo, cell: u32) -> u32 {
+fn sparse_block(options: CopyOptions, destination: &ExportInfo, cell: u32) -> u32
+    ensures { result ≡ sparse_block options destination.now cell }
+{
     let block = options.sparse.max(least_block(destination.blocks));
     if options.sparse == 0 || cell < block {
         return 0;
@@ -156,7 +168,7 @@ fn sparse_block(options: CopyOptions, destination: &ExportInfo, cell: u32) -> u3
 /// What is settled, where the rules hold.
 pub(crate) fn settled(options: CopyOptions, source: &ExportInfo, destination: &ExportInfo) -> Terms
     ensures cells { (0 < result.cell) × (0 < result.zero_cell) × (0 < result.grain) }
-    ensures block { IsLeastBlock result.grain }
+    ensures settles { AreSettledBy options source.now destination.now result }
     ensures size { result.size ≡ source.now.size }
     ensures wished { IsWished options result }
     ensures limited { IsLimited options result }
@@ -164,7 +176,7 @@ pub(crate) fn settled(options: CopyOptions, source: &ExportInfo, destination: &E
 {
     let grain = least_block(source.blocks).max(least_block(destination.blocks));
     let most = most_bytes(source.blocks).min(most_bytes(destination.blocks));
-    let cell = halved(options.request_size, most).max(grain);
+    let cell = greatest_power(options.request_size.min(most)).max(grain);
     let sides = Sides {
         source: connections(source, options),
         destination: connections(destination, options),

@@ -54,6 +54,7 @@ impl Model for Windows {
 
 impl Windows {
     ghost use Rattle.lnbd_plan.specs.declared.grid.Slice.{Slice};
+    ghost use Rattle.lnbd_copy.specs.Heard.{IsHeardTo, has_position};
     ghost use Rattle.lnbd_copy.specs.Spared.{IsSpared, whole_heard};
     ghost use Rattle.lnbd_copy.specs.Windows.{wanted, zero_heard, IsPlanned};
 
@@ -63,6 +64,7 @@ impl Windows {
         requires size { terms.size ≤ 2 ^ 63 }
         ensures value { result ≡ record { plan = record { end = 0; slices = []; cells = record { cell = terms.cell; zero_cell = terms.zero_cell; zeros = not terms.how.skip } }; size = terms.size; grain = terms.grain; at = 0; zero = [] } }
         ensures planned { (zero : ℕ → Bool) → IsPlanned result zero [] }
+        ensures heard { (heard : ℕ → Bool) → IsHeardTo result heard }
     {
         Windows {
             alloc,
@@ -78,6 +80,7 @@ impl Windows {
     /// Plans all that is left as bytes of which nothing more is told.
     pub(crate) fn plan_rest(&mut self) -> Result<(), NoMemory>
         ensures planned { OnOk result ((zero : ℕ → Bool) (slices : List Slice) → IsPlanned self.old zero slices → IsPlanned self.new zero slices) }
+        ensures heard { OnOk result ((heard : ℕ → Bool) → ((p : ℕ) → heard p ≡ true) → IsHeardTo self.new heard) }
         ensures whole { OnOk result (self.new.plan.end ≡ self.old.size) }
         ensures cells { self.new.plan.cells ≡ self.old.plan.cells }
         ensures size { self.new.size ≡ self.old.size }
@@ -110,6 +113,7 @@ impl Windows {
             → IsPlanned self.new (λ p. zero p || zero_heard (wanted self.old) told.now p) slices) }
         ensures spared { OnOk result ((whole : ℕ → Bool) (slices : List Slice) → IsSpared self.old whole slices
             → IsSpared self.new (λ p. whole p || whole_heard self.old.grain (wanted self.old) told.now p) slices) }
+        ensures heard { OnOk result ((heard : ℕ → Bool) → IsHeardTo self.old heard → IsHeardTo self.new (λ p. heard p || has_position (wanted self.old) p)) }
         ensures cells { self.new.plan.cells ≡ self.old.plan.cells }
         ensures size { self.new.size ≡ self.old.size }
         ensures grain { self.new.grain ≡ self.old.grain }

@@ -79,6 +79,7 @@ goes_on how has slices slices' now now' calls seens index seen event c there inw
         blank = with_others seen.link (event ∷ c.histories seen.link) c.histories link (not_one link index seen seens there u.apart) ∙ u.blank;
       };
   stood = stood;
+  driven = λ link apart. c.driven link (was_apart link index event seens apart);
 }
 
 unfoldable pub source_asks_keep : SourceAsksKeep
@@ -110,5 +111,7 @@ board_moves_keep how has slices now now' calls seens c earlier same keeps = reco
     changes = c.stood.changes;
     stands = λ none. (keeps c.stood.source c.stood.destination).on slices (c.stood.stands (earlier none));
     counted = counted_same now now' c.stood.source c.stood.destination same c.stood.counted;
+    flushed = λ none told. c.stood.flushed (earlier none) (sym same.flushed ∙ told);
   };
+  driven = c.driven;
 }

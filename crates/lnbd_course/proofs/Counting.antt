@@ -196,48 +196,54 @@ event_alike link event before after one other happens quiet a b = same_alike bef
 pub all_alike : (histories : Histories) (one other : List Request) → AllTrack histories one → AllTrack histories other → AskAlike one other
 all_alike histories one other a b = same_alike histories histories one other a b (λ link cookie. refl)
 
--- Callbacks count nothing.
+-- Callbacks count nothing, whatever they tell of a flush.
 
-same_none : (now : board.Seen) → CountsSame now now
+pub record CountsAlike (now now' : board.Seen) : Type 0 where
+  read : now'.read ≡ now.read
+  written : now'.written ≡ now.written
+  zeroed : now'.zeroed ≡ now.zeroed
+  flushing : now'.flushing ≡ now.flushing
+
+same_none : (now : board.Seen) → CountsAlike now now
 same_none now = record { read = refl; written = refl; zeroed = refl; flushing = refl }
 
-same_then : (a b c : board.Seen) → CountsSame a b → CountsSame b c → CountsSame a c
+same_then : (a b c : board.Seen) → CountsAlike a b → CountsAlike b c → CountsAlike a c
 same_then a b c one two = record { read = two.read ∙ one.read; written = two.written ∙ one.written; zeroed = two.zeroed ∙ one.zeroed; flushing = two.flushing ∙ one.flushing }
 
-same_is : (old new : board.Seen) → new ≡ old → CountsSame old new
-same_is old new is = subst (CountsSame old) (sym is) (same_none old)
+same_is : (old new : board.Seen) → new ≡ old → CountsAlike old new
+same_is old new is = subst (CountsAlike old) (sym is) (same_none old)
 
 slice_same : (unfit : Bool) (n : ℕ) (buf : List ℕ) (old : board.Seen)
-    → CountsSame old (if unfit then record old { error = or_error old.error 71 } else record old { rows = rows_with (value_at n old.rows) n buf old.rows; came = came_with (value_at n old.rows) n old.came })
+    → CountsAlike old (if unfit then record old { error = or_error old.error 71 } else record old { rows = rows_with (value_at n old.rows) n buf old.rows; came = came_with (value_at n old.rows) n old.came })
 slice_same true n buf old = record { read = refl; written = refl; zeroed = refl; flushing = refl }
 slice_same false n buf old = record { read = refl; written = refl; zeroed = refl; flushing = refl }
 
-done_same : (by : Ticket) (buf : List ℕ) (old : board.Seen) → CountsSame old (filed_done by buf old)
+done_same : (by : Ticket) (buf : List ℕ) (old : board.Seen) → CountsAlike old (filed_done by buf old)
 done_same (ticket.Slice n) buf old = slice_same (is_unfit (value_at n old.rows) buf) n buf old
 done_same ticket.Extents buf old = record { read = refl; written = refl; zeroed = refl; flushing = refl }
 done_same ticket.Flush buf old = record { read = refl; written = refl; zeroed = refl; flushing = refl }
 
-completed_same : (well : Bool) (by : Ticket) (error : ℕ) (buf : List ℕ) (old : board.Seen) → CountsSame old (if well then filed_done by buf old else record old { error = or_error old.error error })
+completed_same : (well : Bool) (by : Ticket) (error : ℕ) (buf : List ℕ) (old : board.Seen) → CountsAlike old (if well then filed_done by buf old else record old { error = or_error old.error error })
 completed_same true by error buf old = done_same by buf old
 completed_same false by error buf old = record { read = refl; written = refl; zeroed = refl; flushing = refl }
 
-hears_same : (is : Bool) (entries : List Extent) (old new : board.Seen) → Hears is entries old new → CountsSame old new
-hears_same true entries old new (inl e) = subst (CountsSame old) (sym e.1) (record { read = refl; written = refl; zeroed = refl; flushing = refl })
-hears_same true entries old new (inr e) = subst (CountsSame old) (sym e) (record { read = refl; written = refl; zeroed = refl; flushing = refl })
+hears_same : (is : Bool) (entries : List Extent) (old new : board.Seen) → Hears is entries old new → CountsAlike old new
+hears_same true entries old new (inl e) = subst (CountsAlike old) (sym e.1) (record { read = refl; written = refl; zeroed = refl; flushing = refl })
+hears_same true entries old new (inr e) = subst (CountsAlike old) (sym e) (record { read = refl; written = refl; zeroed = refl; flushing = refl })
 hears_same false entries old new e = same_is old new e
 
-call_same : (old new : board.Seen) (call : Call Ticket) → Files old call new → CountsSame old new
+call_same : (old new : board.Seen) (call : Call Ticket) → Files old call new → CountsAlike old new
 call_same old new (Chunk by bytes offset status error heard) f = same_is old new f.1
 call_same old new (Extents by context offset entries error heard) f = hears_same (is_map by context) entries old new f.1
-call_same old new (Complete by error buf verdict) f = subst (CountsSame old) (sym f.1) (completed_same (error == 0) by error buf old)
+call_same old new (Complete by error buf verdict) f = subst (CountsAlike old) (sym f.1) (completed_same (error == 0) by error buf old)
 call_same old new (Free by) f = same_is old new f
 
-pub calls_same : (calls : List (Call Ticket)) (old new : board.Seen) → OneByOne Files old calls new → CountsSame old new
+pub calls_same : (calls : List (Call Ticket)) (old new : board.Seen) → OneByOne Files old calls new → CountsAlike old new
 calls_same [] old new done = same_is old new done
 calls_same (call ∷ calls) old new done = same_then old done.0 new (call_same old done.0 call done.1.0) (calls_same calls done.0 new done.1.1)
 
 -- Then the counts stand for lists that ask alike,
-pub counted_alike : (now now' : board.Seen) (source destination source' destination' : List Request) → CountsSame now now' → AskAlike source source' → AskAlike destination destination' → IsCounted now source destination → IsCounted now' source' destination'
+pub counted_alike : (now now' : board.Seen) (source destination source' destination' : List Request) → CountsAlike now now' → AskAlike source source' → AskAlike destination destination' → IsCounted now source destination → IsCounted now' source' destination'
 counted_alike now now' source destination source' destination' same reads changes k = record {
   read = same.read ∙ k.read ∙ ap up_to_end (same_bytes is_read source source' reads);
   written = same.written ∙ k.written ∙ ap up_to_end (same_bytes is_write destination destination' changes);

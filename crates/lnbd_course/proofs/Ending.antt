@@ -131,7 +131,7 @@ module _ (histories : Histories) where
       go more true e (inr k) = let m = more k in (inr m.0, m.1)
       go more false e k = let m = more k in (inr m.0, m.1)
 
-  in_out : (r : Request) (xs : List Request) → IsIn r xs → is_out r ≡ true → IsIn r (gone_out xs)
+  pub in_out : (r : Request) (xs : List Request) → IsIn r xs → is_out r ≡ true → IsIn r (gone_out xs)
   in_out r [] h out = h
   in_out r (x ∷ xs) h out = go (λ k. in_out r xs k out) (is_out x) refl h
     where

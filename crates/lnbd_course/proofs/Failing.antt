@@ -100,14 +100,14 @@ module _ (how : How) (has : ℕ → Bool) (slices : List Slice) where
 -- What a link says.
 
 -- a handle with this link is among them
-record IsThere (link : ℕ) (seens : List (Seen Ticket)) : Type 0 where
-  index : ℕ
-  seen : Seen Ticket
-  there : slice_get seens index ≡ Some seen
-  same : seen.link ≡ link
-  stands : HasHandle seen.history
+pub record IsThere (link : ℕ) (seens : List (Seen Ticket)) : Type 0 where
+  pub index : ℕ
+  pub seen : Seen Ticket
+  pub there : slice_get seens index ≡ Some seen
+  pub same : seen.link ≡ link
+  pub stands : HasHandle seen.history
 
-there_or_apart : (link : ℕ) (seens : List (Seen Ticket)) → AllStand seens → IsThere link seens ⊎ AreApart link seens
+pub there_or_apart : (link : ℕ) (seens : List (Seen Ticket)) → AllStand seens → IsThere link seens ⊎ AreApart link seens
 there_or_apart link [] stands = inr tt
 there_or_apart link (seen ∷ others) stands = go (cases_eq seen.link link) (there_or_apart link others stands.1)
   where
@@ -120,7 +120,7 @@ module _ (from to : Place) (size : Option ℕ) (how : How) (has : ℕ → Bool) 
   abbrev histories : Histories
   histories = b.course.histories
 
-  says : (link : ℕ) → DrivenSays (histories link) (on_link link calls)
+  pub says : (link : ℕ) → DrivenSays (histories link) (on_link link calls)
   says link = elim (there_or_apart link seens stands) [
     | inl t ↦
         subst (λ (n : ℕ). DrivenSays (histories n) (on_link n calls)) t.same
@@ -129,7 +129,7 @@ module _ (from to : Place) (size : Option ℕ) (how : How) (has : ℕ → Bool) 
     | inr apart ↦ b.course.parted link apart
   ]
 
-  of : (link : ℕ) → DrivenIsOf (histories link) (on_link link calls)
+  pub of : (link : ℕ) → DrivenIsOf (histories link) (on_link link calls)
   of link = elim (there_or_apart link seens stands) [
     | inl t ↦
         subst (λ (n : ℕ). DrivenIsOf (histories n) (on_link n calls)) t.same

@@ -1,4 +1,4 @@
--- A copy flushes its destination once at most.
+-- A copy flushes its destination once at most, and until that is done.
 use Rattle.std.proofs.Common.{◌≡◌, inl, inr, ℕ, ◌+◌, ◌≤◌, Bool, true, false, List, [], ◌∷◌, cond, length, refl, ap, sym, subst, ◌∙◌, arith}
 use Rattle.lnbd_history.specs.Commands.{Command}
 use Rattle.lnbd_asked.specs.Link.{Nobody}
@@ -6,8 +6,8 @@ use Rattle.lnbd_asked.specs.Transcript.{dealt_with}
 use Rattle.lnbd_board.specs.Requests.{IsIn, Request}
 use Rattle.lnbd_course.specs.Counted.{flushes_of, is_flush}
 use Rattle.lnbd_course.specs.Course.{beside, on_side}
-use Rattle.lnbd_course.specs.Flushes.{EndedFlushesOnce, EndedUnflushed}
-use Rattle.lnbd_course.proofs.Ending.{destination_dealt}
+use Rattle.lnbd_course.specs.Flushes.{EndedFlushed, EndedFlushesOnce, EndedUnflushed}
+use Rattle.lnbd_course.proofs.Ending.{destination_dealt, done_out, in_out}
 use Rattle.lnbd_course.proofs.Once.{each_asked, listed, none_meet, touching}
 use Rattle.lnbd_course.proofs.Placed.{links_are_of_sides}
 
@@ -50,3 +50,12 @@ ended_unflushed from to size how has slices now calls b none two =
     each_asked (λ (c : Command Nobody). is_flush c.kind ≡ false) b.course.stood.destination (dealt_with to calls)
     (listed (on_side (beside has) b.course.histories) b.course.stood.destination (dealt_with to calls) (destination_dealt from to how has slices now calls b.course law.0))
     (none_there b.course.stood.destination (b.course.stood.counted.flushes ∙ ap (λ (b : Bool). cond b 1 0) none))
+
+pub ended_flushed : EndedFlushed
+ended_flushed from to size how has slices now calls b well told two =
+    let law = links_are_of_sides from to size how has slices now calls b two in
+    let histories = on_side (beside has) b.course.histories in
+    let dealt = destination_dealt from to how has slices now calls b.course law.0 in
+    let f = b.course.stood.flushed well told in
+    let shown = dealt.shown f.flush (in_out histories f.flush b.course.stood.destination f.within (done_out histories b.course.stood.destination f.flush b.course.stood.changes f.within f.done)) in
+    record { link = f.flush.link; cookie = f.flush.cookie; command = f.flush.said.command; asked = shown.0; kind = f.kind; done = record { bytes = f.done.bytes; is = shown.1 ∙ f.done.is } }

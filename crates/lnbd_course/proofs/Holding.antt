@@ -20,6 +20,7 @@ use Rattle.lnbd_drives.proofs.Calling.{taken_drive, new_drive}
 use Rattle.lnbd_drives.proofs.Passing.{both_off, said_stays}
 use Rattle.lnbd_drives.proofs.Saying.{driven_said}
 use Rattle.lnbd_drives.proofs.Turning.{passing_calls_drive, other_calls_pass, turns_drive, turns_pass_others}
+use Rattle.lnbd_spoken.specs.Driven.{IsDriven}
 use Rattle.lnbd_plan.specs.declared.grid.Slice.{Slice}
 use Rattle.lnbd_board.specs.declared.how.How.{How}
 use Rattle.lnbd_board.specs.declared.row.Row.{Row}
@@ -35,6 +36,7 @@ use Rattle.lnbd_tracks.proofs.Sides.{nothing_tracks}
 use Rattle.lnbd_course.specs.Course.{Course, Stood, AllHave, on_side, beside, with_link}
 use Rattle.lnbd_course.specs.Laws.{NothingIsOnCourse, OpensOnCourse, SettlingKeeps, TurnsKeep, CallsKeep, TakingKeeps}
 use Rattle.lnbd_course.proofs.Counting.{nothing_counted}
+use Rattle.lnbd_course.proofs.Driving.{nothing_driven, driven_stays, handle_drove}
 use Rattle.lnbd_course.proofs.Standing.{Same, same_track, event_stood, quiet_stood}
 use Rattle.lnbd_course.proofs.Turning.{steps, Turned, turns_all}
 
@@ -71,7 +73,9 @@ nothing_is_on_course how has now none uncounted = record {
     changes = same_track (on_side (beside has) no_history) (λ link. []) [] (none_on (beside has)) nothing_tracks;
     stands = λ e. subst (λ (rows : List (ℕ × Row)). Stands how [] rows [] []) (sym none) (nothing_stands how);
     counted = nothing_counted how [] now [] [] (nothing_stands how) refl uncounted;
+    flushed = λ none told. absurd (false≢true (sym uncounted.flushed ∙ told));
   };
+  driven = λ link apart. nothing_driven link;
 }
 
 -- Numbers that are given stay so.
@@ -94,6 +98,7 @@ calls_keep how has slices now calls more seens c none = record {
       let u = c.unused link (not_before link calls more new) in
       record { apart = u.apart; quiet = both_off link calls more u.quiet (none link); blank = u.blank };
   stood = c.stood;
+  driven = λ link apart. driven_stays link calls more (none link) (c.driven link apart);
 }
 
 -- A turn.
@@ -117,6 +122,9 @@ turned_keeps how has slices now now' calls part before after moved c turns S t s
         blank = t.others link u.apart ∙ u.blank;
       };
   stood = stood t.histories t.stood;
+  driven = λ link apart.
+      let was = t.was_apart link apart in
+      driven_stays link calls part (turns_pass_others steps link part before after now now' (Whole moved) was turns) (c.driven link was);
 }
 
 unfoldable pub turns_keep : TurnsKeep
@@ -192,6 +200,14 @@ removed_says how has slices now calls seens index seen limit handle c there stan
     by (inl is) = subst (λ (n : ℕ). DrivenSays (c.histories n) (on_link n calls)) (sym is) taken
     by (inr differ) = c.parted link (apart_or link index seen seens there apart differ)
 
+pub removed_driven : (how : How) (has : ℕ → Bool) (slices : List Slice) (now : board.Seen) (calls : List wire.Call) (seens : List (Seen Ticket)) (index : ℕ) (seen : Seen Ticket) (limit : ℕ) (handle : Machine Ticket) → Course how has slices now calls seens → slice_get seens index ≡ Some seen → StandsFor limit seen.history handle →
+    (link : ℕ) → AreApart link (removed index seens) → IsDriven Ticket link calls
+removed_driven how has slices now calls seens index seen limit handle c there stands link apart = by (cases_eq link seen.link)
+  where
+    by : (link ≡ seen.link) ⊎ (link ≡ seen.link → ⊥) → IsDriven Ticket link calls
+    by (inl is) = subst (λ (n : ℕ). IsDriven Ticket n calls) (sym is) (handle_drove limit calls seens index seen handle c.drive there stands)
+    by (inr differ) = c.driven link (apart_or link index seen seens there apart differ)
+
 unfoldable pub removed_keeps : (how : How) (has : ℕ → Bool) (slices : List Slice) (now : board.Seen) (calls : List wire.Call) (seens : List (Seen Ticket)) (index : ℕ) (seen : Seen Ticket) (limit : ℕ) (handle : Machine Ticket) →
     Course how has slices now calls seens → slice_get seens index ≡ Some seen → StandsFor limit seen.history handle → Course how has slices now calls (removed index seens)
 removed_keeps how has slices now calls seens index seen limit handle c there stands = record {
@@ -203,6 +219,7 @@ removed_keeps how has slices now calls seens index seen limit handle c there sta
       let u = c.unused link new in
       record { apart = removed_apart link index seens u.apart; quiet = u.quiet; blank = u.blank };
   stood = c.stood;
+  driven = removed_driven how has slices now calls seens index seen limit handle c there stands;
 }
 
 pub taking_keeps : TakingKeeps
@@ -280,7 +297,9 @@ opens_on_course how has slices now calls seens to link source c new =
         changes = same_track (on_side (beside (with_link link source has)) c.histories) (on_side (beside has) c.histories) c.stood.destination (same_beside has c.histories link source u.blank) c.stood.changes;
         stands = c.stood.stands;
         counted = c.stood.counted;
+        flushed = c.stood.flushed;
       };
+      driven = λ n apart. k.driven n (old_apart n link seens apart);
     }
 
 -- Before any slice is begun it is no matter how a copy writes.
@@ -321,5 +340,7 @@ settling_keeps how how' has now now' calls seens c none well unflushed none' unc
     stands = λ e. subst (λ (rows : List (ℕ × Row)). Stands how' [] rows c.stood.source c.stood.destination) (sym none')
         (stands_so how how' c.stood.source c.stood.destination (subst (λ (rows : List (ℕ × Row)). Stands how [] rows c.stood.source c.stood.destination) none (c.stood.stands well)));
     counted = nothing_counted how now.rows now' c.stood.source c.stood.destination (c.stood.stands well) (c.stood.counted.flushes ∙ ap (λ (b : Bool). cond b 1 0) unflushed) uncounted;
+    flushed = λ none told. absurd (false≢true (sym uncounted.flushed ∙ told));
   };
+  driven = c.driven;
 }

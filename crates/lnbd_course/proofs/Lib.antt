@@ -2,6 +2,7 @@ pub mod Counting
 pub mod Standing
 pub mod Later
 pub mod Turning
+pub mod Driving
 pub mod Holding
 pub mod Asking
 pub mod Taken
@@ -15,7 +16,12 @@ pub mod Placed
 pub mod Once
 pub mod Tallying
 pub mod Summing
+pub mod Listing
 pub mod Sparing
 pub mod Dense
 pub mod Failing
 pub mod Flushing
+pub mod Flushed
+pub mod Closing
+pub mod UnderWay
+pub mod Answering

@@ -65,18 +65,21 @@ beginning_asks how slice n (ask.Read offset buf) slices now now' count earlier c
       subst (λ (m : ℕ). Stands how (slices ++ slice ∷ []) now'.rows (asking link cookie (ticket.Slice n) (read_at offset m) source) destination) (sym size)
       (b.on slices source destination link cookie count stands);
   counts = λ source destination link cookie k. read_counts n offset bytes buf now now' source destination link cookie size counts k;
+  flushed = counts.flushed;
 }
 beginning_asks how slice n (ask.Change (change.Write offset bytes)) slices now now' count earlier counts b = record {
   bytes = no_buffer (command_of n (change.Write offset bytes));
   earlier = earlier;
   on = λ source destination link cookie stands. b.on slices source destination link cookie count stands;
   counts = λ source destination link cookie k. write_counts n offset bytes now now' source destination link cookie (counts.read ∙ no_read now source destination k) counts.written counts.zeroed counts.flushing k;
+  flushed = counts.flushed;
 }
 beginning_asks how slice n (ask.Change (change.Zero offset size flags)) slices now now' count earlier counts b = record {
   bytes = no_buffer (command_of n (change.Zero offset size flags));
   earlier = earlier;
   on = λ source destination link cookie stands. b.on slices source destination link cookie count stands;
   counts = λ source destination link cookie k. zero_counts n offset size flags now now' source destination link cookie (counts.read ∙ no_read now source destination k) counts.written counts.zeroed counts.flushing k;
+  flushed = counts.flushed;
 }
 
 pub going_asks : GoingAsks
@@ -85,12 +88,14 @@ going_asks how n (change.Write offset bytes) slices now now' earlier counts g = 
   earlier = earlier;
   on = λ source destination link cookie stands. (g.on source destination link cookie).on slices stands;
   counts = λ source destination link cookie k. write_counts n offset bytes now now' source destination link cookie counts.read counts.written counts.zeroed counts.flushing k;
+  flushed = counts.flushed;
 }
 going_asks how n (change.Zero offset size flags) slices now now' earlier counts g = record {
   bytes = no_buffer (command_of n (change.Zero offset size flags));
   earlier = earlier;
   on = λ source destination link cookie stands. (g.on source destination link cookie).on slices stands;
   counts = λ source destination link cookie k. zero_counts n offset size flags now now' source destination link cookie counts.read counts.written counts.zeroed counts.flushing k;
+  flushed = counts.flushed;
 }
 
 pub over_asks_nothing : OverAsksNothing

@@ -35,11 +35,11 @@ some_same x y e = cc
 abbrev place : Target → List ℕ → Place
 place to name = record { to = to; name = name }
 
-place_same : (one other : Place) → one.to ≡ other.to → one.name ≡ other.name → one ≡ other
+pub place_same : (one other : Place) → one.to ≡ other.to → one.name ≡ other.name → one ≡ other
 place_same one other e f = ap (λ t. place t one.name) e ∙ ap (λ n. place other.to n) f
 
 -- a link that was connected was given
-given_by_target : (link : ℕ) (calls : List wire.Call) (to : Target) → target_of link calls ≡ Some to → is_given link calls ≡ true
+pub given_by_target : (link : ℕ) (calls : List wire.Call) (to : Target) → target_of link calls ≡ Some to → is_given link calls ≡ true
 given_by_target link calls to e = go (is_given link calls) refl
   where
     go : (b : Bool) → is_given link calls ≡ b → is_given link calls ≡ true

@@ -1,7 +1,6 @@
 -- No READ covers a block that was told as zero whole.
-use Rattle.std.proofs.Common.{◌≡◌, ◌⊎◌, inl, inr, ℕ, ◌<◌, ◌≤◌, Bool, true, false, not, ◌&&◌, ◌||◌, List, [], ◌∷◌, ◌++◌, cond, length, Option, Some, None, refl, ap, sym, subst, ◌∙◌, arith, nat_le, if◌then◌else◌}
+use Rattle.std.proofs.Common.{◌≡◌, ◌⊎◌, inl, inr, ℕ, ◌<◌, ◌≤◌, Bool, true, false, not, ◌&&◌, ◌||◌, List, [], ◌∷◌, ◌++◌, length, Option, Some, None, refl, ap, sym, subst, ◌∙◌, arith, if◌then◌else◌}
 use Rattle.std.proofs.lemmas.Bool.{cases_lt, false≢true}
-use Rattle.std.specs.Option.{option_map}
 use Rattle.lnbd_model.specs.declared.kind.Kind.TheVariants.{BlockStatus, Read}
 use Rattle.lnbd_model.specs.declared.target.Place.{Place}
 use Rattle.lnbd_keyed.specs.Keyed.{value_at}
@@ -9,12 +8,10 @@ use Rattle.lnbd_outcome.specs.Outcome.{Done, Unfinished}
 use Rattle.lnbd_link.specs.Call as wire
 use Rattle.lnbd_history.specs.Commands as commands
 use Rattle.lnbd_history.specs.Commands.{Command}
-use Rattle.lnbd_history.specs.Events.{History}
-use Rattle.lnbd_history.specs.History.{request}
-use Rattle.lnbd_asked.specs.Driven.{DrivenSays, outcome_after, written, zero_after}
+use Rattle.lnbd_asked.specs.Driven.{outcome_after, zero_after}
 use Rattle.lnbd_asked.specs.Honest.{has}
-use Rattle.lnbd_asked.specs.Link.{Link, Nobody}
-use Rattle.lnbd_asked.specs.Transcript.{answered, asked_on, only_if, bare, dealt_with, is_of, on_link, told_zero}
+use Rattle.lnbd_asked.specs.Link.{Nobody}
+use Rattle.lnbd_asked.specs.Transcript.{answered, bare, dealt_with, is_of, on_link, told_zero}
 use Rattle.lnbd_plan.specs.declared.cells.Cells.{Cells}
 use Rattle.lnbd_plan.specs.declared.grid.Slice.{Slice}
 use Rattle.lnbd_plan.specs.Laws.{IsPlannedOnce, slices_at}
@@ -35,15 +32,9 @@ use Rattle.lnbd_board.proofs.Spelling.{found}
 use Rattle.lnbd_tracks.specs.Heeding.{is_whole}
 use Rattle.lnbd_tracks.specs.Mapping.{first_tells, is_extents}
 use Rattle.lnbd_tracks.specs.Tracks.{Histories}
-use Rattle.lnbd_tracks.specs.Tracks as tracks
-use Rattle.lnbd_tracks.proofs.Under as under
 use Rattle.lnbd_course.specs.Spares.{EndedSpares, WasToldWhole}
 use Rattle.lnbd_course.specs.Told.{Known, Told}
-use Rattle.lnbd_course.proofs.Standing.{on_here}
-
-only_if_some : {A : Type 0} (test : Bool) (found : Option A) (x : A) → only_if test found ≡ Some x → (test ≡ true) × (found ≡ Some x)
-only_if_some true found x e = (refl, e)
-only_if_some false found x e = absurd (cc e)
+use Rattle.lnbd_course.proofs.Listing.{asked_here, listed, none_end, none_read}
 
 -- For a slice that is zero nothing is read.
 
@@ -62,9 +53,6 @@ at_none how s (Finished bytes) read changed e h = known_none s.zero s h.bytes re
 as_none : (how : How) (s : Slice) (row : Option Row) (read changed : List Said) → s.zero ≡ true → StandsAs how s row read changed → read ≡ []
 as_none how s None read changed e h = known_none s.zero s h.bytes read e h.known.by
 as_none how s (Some row) read changed e h = at_none how s row.stage read changed e h.1
-
-none_end : {A : Type 0} (x : A) (xs : List A) → x ∷ xs ≡ [] → ⊥
-none_end x xs e = cc
 
 first_same : (s slice : Slice) (more rest : List Slice) → (s ∷ more) ++ rest ≡ slice ∷ [] → (s ≡ slice) × (more ≡ [])
 first_same s slice [] rest e = (cc, refl)
@@ -101,18 +89,6 @@ module _ (how : How) (cells : Cells) (told : ℕ → Bool) (end p : ℕ) (slices
     | s ∷ more ↦ λ e. here s more e
   ] refl
 
-none_reads : (p : ℕ) (r : Request) (xs : List Request) → reads_over p xs ≡ [] → IsIn r xs → reads r.said.command p ≡ false
-none_reads p r [] none there = absurd there
-none_reads p r (x ∷ xs) none there =
-    elim (reads x.said.command p) as (λ b. reads x.said.command p ≡ b → cond b (x.said ∷ reads_over p xs) (reads_over p xs) ≡ [] → reads r.said.command p ≡ false) [
-      | true ↦ λ is k. absurd (none_end x.said (reads_over p xs) k)
-      | false ↦ λ is k. elim there [ inl same ↦ ap (λ (y : Request). reads y.said.command p) (sym same) ∙ is | inr more ↦ none_reads p r xs k more ]
-    ] refl none
-
-in_middle : (front back : List Request) (r : Request) → IsIn r (front ++ r ∷ back)
-in_middle [] back r = inl refl
-in_middle (x ∷ front) back r = inr (in_middle front back r)
-
 extents_by : (slices : List Slice) (by : Ticket) (command : Command Nobody) → AsksOfSource slices by command → command.kind ≡ BlockStatus → is_extents by ≡ true
 extents_by slices (ticket.Slice n) command h is = absurd (differ (sym h.0 ∙ is))
   where
@@ -125,21 +101,6 @@ either_true : (a b : Bool) → b ≡ true → (a || b) ≡ true
 either_true true b e = refl
 either_true false b e = e
 
--- What was asked on a link, by the history of the handle that it had.
-pub record IsAsked (history : History Ticket) (cookie : ℕ) (command : Command Nobody) : Type 0 where
-  pub out : nat_le cookie (written history) ≡ true
-  pub asks : commands.Request Ticket
-  pub is : request history cookie ≡ Some asks
-  pub same : bare asks ≡ command
-
-asked_by : (history : History Ticket) (link : Link) (cookie : ℕ) (command : Command Nobody) → DrivenSays history link → asked_on link cookie ≡ Some command → IsAsked history cookie command
-asked_by history link cookie command says is = go (nat_le cookie (written history)) refl (request history cookie) refl (sym (says.requests cookie) ∙ is)
-  where
-    go : (b : Bool) → nat_le cookie (written history) ≡ b → (o : Option (commands.Request Ticket)) → request history cookie ≡ o → (if b then option_map bare o else None) ≡ Some command → IsAsked history cookie command
-    go true out (Some asks) there e = record { out = out; asks = asks; is = there; same = cc e }
-    go true out None there e = absurd (cc e)
-    go false out o there e = absurd (cc e)
-
 module _ (from : Place) (how : How) (sides : ℕ → Bool) (slices : List Slice) (now : board.Seen) (calls : List wire.Call) (known : Known) (t : Told how sides slices now calls [] None known) (well : now.error ≡ None)
     (of : (link : ℕ) → is_of from calls link ≡ true → sides link ≡ true) where
   abbrev histories : Histories
@@ -148,27 +109,16 @@ module _ (from : Place) (how : How) (sides : ℕ → Bool) (slices : List Slice)
   stands : Stands how slices now.rows t.course.stood.source t.course.stood.destination
   stands = t.course.stood.stands well
 
-  abbrev one_of : (link cookie : ℕ) → commands.Request Ticket → Request
-  one_of link cookie asks = asked.request link cookie asks.flight.done.callback (record { command = bare asks; outcome = outcome_after (histories link) cookie })
-
-  -- a request is in the list of the source
-  listed : (link cookie : ℕ) (asks : commands.Request Ticket) → is_of from calls link ≡ true → request (histories link) cookie ≡ Some asks → under.IsFound (one_of link cookie asks) t.course.stood.source
-  listed link cookie asks here is = under.found link cookie (one_of link cookie asks) t.course.stood.source
-      ((t.course.stood.reads link).each cookie ∙ ap (λ (h : History Ticket). tracks.told_by link cookie h) (on_here sides histories link (of link here))
-      ∙ ap (λ o. tracks.request_of link cookie o (outcome_after (histories link) cookie)) is)
-
-  asked_here : (link cookie : ℕ) (command : Command Nobody) → (dealt_with from calls).asked link cookie ≡ Some command → (is_of from calls link ≡ true) × IsAsked (histories link) cookie command
-  asked_here link cookie command is =
-      let both = only_if_some (is_of from calls link) (asked_on (on_link link calls) cookie) command is in
-      (both.0, asked_by (histories link) (on_link link calls) cookie command (t.course.parted link tt) both.1)
+  abbrev mine_of : (link cookie : ℕ) → commands.Request Ticket → Request
+  mine_of link cookie asks = asked.request link cookie asks.flight.done.callback (record { command = bare asks; outcome = outcome_after (histories link) cookie })
 
   -- a block that was told as zero whole is known
   told_known : (block p : ℕ) → WasToldWhole block (dealt_with from calls) p → known.whole block p ≡ true
   told_known block p w =
-      let a = asked_here w.link w.cookie w.command w.asked in
+      let a = asked_here from how sides slices now calls t.course of w.link w.cookie w.command w.asked in
       let says = t.course.parted w.link tt in
-      let in_list = listed w.link w.cookie a.1.asks a.0 a.1.is in
-      let mine = (Each-back (λ (r : Request). AsksOfSource slices r.ticket r.said.command) in_list.front (one_of w.link w.cookie a.1.asks ∷ in_list.back) (subst (λ (l : List Request). Each (λ r. AsksOfSource slices r.ticket r.said.command) l) in_list.is stands.reads)).0 in
+      let in_list = listed from how sides slices now calls t.course of w.link w.cookie a.1.asks a.0 a.1.is in
+      let mine = (Each-back (λ (r : Request). AsksOfSource slices r.ticket r.said.command) in_list.front (mine_of w.link w.cookie a.1.asks ∷ in_list.back) (subst (λ (l : List Request). Each (λ r. AsksOfSource slices r.ticket r.said.command) l) in_list.is stands.reads)).0 in
       let extents = extents_by slices a.1.asks.flight.done.callback (bare a.1.asks) mine (ap (λ (c : Command Nobody). c.kind) a.1.same ∙ w.kind) in
       let heard = t.heeds w.link w.cookie a.1.asks a.1.is (either_true (first_tells a.1.asks.flight.first) (is_extents a.1.asks.flight.done.callback) extents) in
       let done : outcome_after (histories w.link) w.cookie ≡ Done w.bytes =
@@ -177,15 +127,7 @@ module _ (from : Place) (how : How) (sides : ℕ → Bool) (slices : List Slice)
       (ap (λ (f : ℕ → Bool). is_whole block f p) (λ i q. (ap (λ (c : Command Nobody). has c q && zero_after (histories w.link) w.cookie q) a.1.same
       ∙ ap (λ (b : Bool). has w.command q && b) (sym (says.zero w.cookie q a.1.out)) ∙ sym (ap (λ (b : Bool). has w.command q && (b && told_zero (on_link w.link calls) w.cookie q)) a.0)) i) ∙ w.whole)
 
-  -- and none of it is read
-  none_read : (p : ℕ) → reads_over p t.course.stood.source ≡ [] → (link cookie : ℕ) (command : Command Nobody) → (dealt_with from calls).asked link cookie ≡ Some command → reads command p ≡ false
-  none_read p none link cookie command is =
-      let a = asked_here link cookie command is in
-      let in_list = listed link cookie a.1.asks a.0 a.1.is in
-      ap (λ (c : Command Nobody). reads c p) (sym a.1.same)
-      ∙ none_reads p (one_of link cookie a.1.asks) t.course.stood.source none (subst (IsIn (one_of link cookie a.1.asks)) (sym in_list.is) (in_middle in_list.front in_list.back (one_of link cookie a.1.asks)))
-
 pub ended_spares : EndedSpares
 ended_spares from how sides slices rest now calls known cells told end block t well of planned zeros p w =
-    none_read from how sides slices now calls known t well of p
+    none_read from how sides slices now calls t.course of p
     (unread how cells told end p slices rest now.rows t.course.stood.source t.course.stood.destination (t.course.stood.stands well) (planned p) (zeros p (told_known from how sides slices now calls known t well of block p w)))

@@ -17,6 +17,7 @@ use Rattle.lnbd_tracks.proofs.Sides.{issues_track, others_track, source_keeps, d
 use Rattle.lnbd_course.specs.Course.{Stood, on_side, beside}
 use Rattle.lnbd_course.specs.Laws.{AsksSource, AsksDestination}
 use Rattle.lnbd_course.proofs.Counting.{all_alike, calls_same, counted_alike, event_alike}
+use Rattle.lnbd_course.proofs.Flushed.{destination_flushes, flush_asking, source_flushes}
 
 -- Sides.
 
@@ -68,6 +69,8 @@ module _ (how : How) (has : ℕ → Bool) (slices : List Slice) (link : ℕ) (ev
         counted = counted_alike now now' s.source s.destination k.source2 k.destination2 (calls_same plays.calls now now' plays.world)
             (event_alike link event (on_side has before) (on_side has after) s.source k.source2 (side_happens link event before after happens has is) other s.reads k.reads)
             (all_alike (on_side (beside has) before) s.destination k.destination2 s.changes k.changes) s.counted;
+        flushed = source_flushes how slices link event (on_side has before) (on_side (beside has) before) plays.calls now now' s.source s.destination k.destination2 s.reads s.changes k.changes s.stands other
+            (subst (λ h. Adds event h plays.calls) (sym (on_here has before link is)) plays.told) plays.world s.flushed;
       }
 
   destination_event : (now now' : board.Seen) → has link ≡ false → Stood how has slices now before → is_issue event ≡ false → Plays (OneByOne board.Files) event (before link) now now' → Stood how has slices now' after
@@ -83,6 +86,8 @@ module _ (how : How) (has : ℕ → Bool) (slices : List Slice) (link : ℕ) (ev
         counted = counted_alike now now' s.source s.destination k.source2 k.destination2 (calls_same plays.calls now now' plays.world)
             (all_alike (on_side has before) s.source k.source2 s.reads k.reads)
             (event_alike link event (on_side (beside has) before) (on_side (beside has) after) s.destination k.destination2 (side_happens link event before after happens (beside has) (ap not is)) other s.changes k.changes) s.counted;
+        flushed = destination_flushes how slices link event (on_side (beside has) before) (on_side (beside has) after) plays.calls now now' s.source s.destination k.destination2 s.changes k.changes s.stands other
+            (side_happens link event before after happens (beside has) (ap not is)) (subst (λ h. Adds event h plays.calls) (sym (on_here (beside has) before link (ap not is))) plays.told) plays.world s.flushed;
       }
 
   -- whatever happens, but that the handle is asked
@@ -105,6 +110,7 @@ module _ (how : How) (has : ℕ → Bool) (slices : List Slice) (link : ℕ) (ev
         changes = same_track (on_side (beside has) after) (on_side (beside has) before) s.destination (side_stays link event before after happens (beside has) (ap not is)) s.changes;
         stands = s.stands;
         counted = s.counted;
+        flushed = s.flushed;
       }
       go false is = record {
         source = s.source;
@@ -113,6 +119,7 @@ module _ (how : How) (has : ℕ → Bool) (slices : List Slice) (link : ℕ) (ev
         changes = others_track link event (on_side (beside has) before) (on_side (beside has) after) s.destination s.changes other none (side_happens link event before after happens (beside has) (ap not is));
         stands = s.stands;
         counted = s.counted;
+        flushed = s.flushed;
       }
 
 -- a command that is asked of a side
@@ -128,6 +135,7 @@ module _ (how : How) (has : ℕ → Bool) (slices slices' : List Slice) (link : 
     changes = same_track (on_side (beside has) after) (on_side (beside has) before) s.destination (side_stays link (Issue command) before after happens (beside has) (ap not is)) s.changes;
     stands = λ none. asks.on s.source s.destination link (next has) (s.stands (asks.earlier none));
     counted = asks.counts s.source s.destination link (next has) s.counted;
+    flushed = λ none told. s.flushed (asks.earlier none) (sym asks.flushed ∙ told);
   }
 
   pub destination_asked : has link ≡ false → AsksDestination how command slices slices' now now' → Stood how has slices now before → Stood how has slices' now' after
@@ -138,6 +146,7 @@ module _ (how : How) (has : ℕ → Bool) (slices slices' : List Slice) (link : 
     changes = issues_track link command (on_side (beside has) before) (on_side (beside has) after) s.destination s.changes asks.bytes (side_happens link (Issue command) before after happens (beside has) (ap not is));
     stands = λ none. asks.on s.source s.destination link (next (beside has)) (s.stands (asks.earlier none));
     counted = asks.counts s.source s.destination link (next (beside has)) s.counted;
+    flushed = λ none told. flush_asking link (next (beside has)) command.done (asked_by command) s.destination (s.flushed (asks.earlier none) (sym asks.flushed ∙ told));
   }
 
 -- One link's history is another.

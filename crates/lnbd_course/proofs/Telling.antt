@@ -24,10 +24,12 @@ use Rattle.lnbd_board.specs.Requests as sides
 use Rattle.lnbd_board.specs.declared.ticket.Ticket.{Ticket}
 use Rattle.lnbd_board.specs.Files as board
 use Rattle.lnbd_board.specs.Holds.{WasToldZero}
+use Rattle.lnbd_tracks.specs.Awaiting.{Awaits}
 use Rattle.lnbd_tracks.specs.Laws.{is_coming}
-use Rattle.lnbd_tracks.specs.Mapping.{IsWanted, Maps, IsToldZero, ToldAlike}
+use Rattle.lnbd_tracks.specs.Mapping.{IsWanted, Maps, IsToldZero, ToldAlike, is_extents}
 use Rattle.lnbd_tracks.specs.Tracks.{NoneFails, Histories, Happens, is_issue}
 use Rattle.lnbd_tracks.specs.Heeding.{Heeds}
+use Rattle.lnbd_tracks.proofs.Awaiting.{asking_awaits, coming_awaits, others_await}
 use Rattle.lnbd_tracks.proofs.Heeding.{asking_heeds, coming_heeds, hearing_heeds, heeds_more, nothing_heeds, others_heed}
 use Rattle.lnbd_tracks.proofs.Mapped.{nothing_maps, not_issued, coming_maps, others_map, asking_maps, hearing_maps, zeroes_stay}
 use Rattle.lnbd_tracks.proofs.Written.{done_is_written}
@@ -75,6 +77,17 @@ module _ (sources sources2 : ℕ → Bool) (histories : Histories) (same : (link
     zero = z.zero;
   }
 
+  sides_awaits : (wanted : Option (ℕ × ℕ)) (now : board.Seen) → Awaits sources histories wanted now → Awaits sources2 histories wanted now
+  sides_awaits wanted now a = record {
+    on = λ some none unmapped.
+        let m = a.on some none unmapped in
+        record { link = m.link; cookie = m.cookie; asks = m.asks; source = same m.link m.cookie m.asks m.asked m.source; asked = m.asked; kind = m.kind; ends = m.ends; waits = m.waits };
+  }
+
+-- No extents are waited for.
+none_awaits : (sources : ℕ → Bool) (histories : Histories) (now : board.Seen) → Awaits sources histories None now
+none_awaits sources histories now = record { on = λ some none unmapped. absurd (false≢true some) }
+
 -- One event.
 
 module _ (how : How) (has : ℕ → Bool) (slices : List Slice) (wanted : Option (ℕ × ℕ)) (known : Known) where
@@ -84,6 +97,7 @@ module _ (how : How) (has : ℕ → Bool) (slices : List Slice) (wanted : Option
     pub maps : Maps has histories wanted now
     pub knows : (p : ℕ) → known.zero p ≡ true → IsToldZero has histories p
     pub heeds : Heeds histories wanted known.whole now
+    pub awaits : Awaits has histories wanted now
 
   -- no callback answered an error
   none_fails : (now : board.Seen) (histories : Histories) (link : ℕ) → Stood how has slices now histories → NoneFails (reading (histories link)).known.entries
@@ -100,6 +114,7 @@ module _ (how : How) (has : ℕ → Bool) (slices : List Slice) (wanted : Option
       maps = coming_maps has link event before after wanted plays.calls now now' b.maps (none_fails now before link b.stood) other happens plays.told plays.world;
       knows = λ p k. zeroes_stay has link event before after p happens (b.knows p k);
       heeds = coming_heeds link event before after wanted known.whole plays.calls now now' b.heeds other happens plays.told plays.world;
+      awaits = coming_awaits has link event before after wanted plays.calls now now' b.awaits other happens plays.told plays.world;
     }
 
     quiet_both : (now : board.Seen) → Both now before → is_issue event ≡ false → is_coming event ≡ false → Both now after
@@ -108,6 +123,7 @@ module _ (how : How) (has : ℕ → Bool) (slices : List Slice) (wanted : Option
       maps = others_map has link event before after wanted now now b.maps (not_issued event other) happens (record { told = refl; mapped = refl; short = refl });
       knows = λ p k. zeroes_stay has link event before after p happens (b.knows p k);
       heeds = others_heed link event before after wanted known.whole now now b.heeds (not_issued event other) none happens (record { told = refl; mapped = refl; short = refl });
+      awaits = others_await has link event before after wanted now now b.awaits none happens (record { error = λ e. e; mapped = λ e. e });
     }
 
 -- The beginning.
@@ -119,6 +135,7 @@ nothing_is_told how has now known none uncounted unknown = record {
   maps = nothing_maps has now;
   knows = λ p k. absurd (false≢true (sym (unknown p) ∙ k));
   heeds = nothing_heeds known.whole now;
+  awaits = none_awaits has (λ link. []) now;
 }
 
 pub opening_tells : OpeningTells
@@ -128,6 +145,7 @@ opening_tells how has slices now calls seens wanted known to link source t new =
   maps = sides_maps has (with_link link source has) t.course.histories same wanted now t.maps;
   knows = λ p k. sides_zero has (with_link link source has) t.course.histories same p (t.knows p k);
   heeds = t.heeds;
+  awaits = sides_awaits has (with_link link source has) t.course.histories same wanted now t.awaits;
 }
   where
     none_some : (asks : Request Ticket) → None ≡ Some asks → ⊥
@@ -143,7 +161,7 @@ opening_tells how has slices now calls seens wanted known to link source t new =
 pub settling_tells : SettlingTells
 unfolding settling_keeps
 settling_tells how how' has now now' calls seens known t none well unflushed none' uncounted =
-    record { course = settling_keeps how how' has now now' calls seens t.course none well unflushed none' uncounted; maps = t.maps; knows = t.knows; heeds = t.heeds }
+    record { course = settling_keeps how how' has now now' calls seens t.course none well unflushed none' uncounted; maps = t.maps; knows = t.knows; heeds = t.heeds; awaits = none_awaits has t.course.histories now' }
 
 -- Turns.
 
@@ -152,17 +170,18 @@ unfolding turned_keeps
 turns_tell how has slices now now' calls part before after wanted known moved t turns =
     let S : board.Seen → Histories → Type 0 = Both how has slices wanted known in
     let u = turns_all S (event_both how has slices wanted known) (quiet_both how has slices wanted known) before now part after now' (Whole moved) t.course.histories turns t.course.drive.own t.course.held
-    (record { stood = t.course.stood; maps = t.maps; knows = t.knows; heeds = t.heeds }) in
+    (record { stood = t.course.stood; maps = t.maps; knows = t.knows; heeds = t.heeds; awaits = t.awaits }) in
     record {
       course = turned_keeps how has slices now now' calls part before after moved t.course turns S u (λ histories b. b.stood);
       maps = u.stood.maps;
       knows = u.stood.knows;
       heeds = u.stood.heeds;
+      awaits = u.stood.awaits;
     }
 
 pub calls_tell : CallsTell
 unfolding calls_keep
-calls_tell how has slices now calls more seens wanted known t none = record { course = calls_keep how has slices now calls more seens t.course none; maps = t.maps; knows = t.knows; heeds = t.heeds }
+calls_tell how has slices now calls more seens wanted known t none = record { course = calls_keep how has slices now calls more seens t.course none; maps = t.maps; knows = t.knows; heeds = t.heeds; awaits = t.awaits }
 
 -- Asking.
 
@@ -177,6 +196,7 @@ source_asks_tell how has slices slices' now now' calls seens wanted known index 
   maps = others_map has seen.link (Issue command) t.course.histories ((then) (Issue command) t.course.histories seen.link) wanted now now' t.maps none (with_happens seen.link (Issue command) t.course.histories) alike;
   knows = then_knows has t.course.histories seen.link (Issue command) known.zero t.knows;
   heeds = others_heed seen.link (Issue command) t.course.histories ((then) (Issue command) t.course.histories seen.link) wanted known.whole now now' t.heeds none refl (with_happens seen.link (Issue command) t.course.histories) alike;
+  awaits = others_await has seen.link (Issue command) t.course.histories ((then) (Issue command) t.course.histories seen.link) wanted now now' t.awaits refl (with_happens seen.link (Issue command) t.course.histories) (record { error = asks.earlier; mapped = λ e. sym alike.mapped ∙ e });
 }
 
 pub destination_asks_tell : DestinationAsksTell
@@ -186,6 +206,7 @@ destination_asks_tell how has slices slices' now now' calls seens wanted known i
   maps = others_map has seen.link (Issue command) t.course.histories ((then) (Issue command) t.course.histories seen.link) wanted now now' t.maps none (with_happens seen.link (Issue command) t.course.histories) alike;
   knows = then_knows has t.course.histories seen.link (Issue command) known.zero t.knows;
   heeds = others_heed seen.link (Issue command) t.course.histories ((then) (Issue command) t.course.histories seen.link) wanted known.whole now now' t.heeds none refl (with_happens seen.link (Issue command) t.course.histories) alike;
+  awaits = others_await has seen.link (Issue command) t.course.histories ((then) (Issue command) t.course.histories seen.link) wanted now now' t.awaits refl (with_happens seen.link (Issue command) t.course.histories) (record { error = asks.earlier; mapped = λ e. sym alike.mapped ∙ e });
 }
 
 pub extents_ask_tell : ExtentsAskTell
@@ -195,6 +216,7 @@ extents_ask_tell how has slices slices' now now' calls seens range known index s
   maps = asking_maps has seen.link command range t.course.histories ((then) (Issue command) t.course.histories seen.link) now now' t.maps is wants.asks (with_happens seen.link (Issue command) t.course.histories) forgotten unmapped;
   knows = then_knows has t.course.histories seen.link (Issue command) known.zero t.knows;
   heeds = asking_heeds seen.link command range t.course.histories ((then) (Issue command) t.course.histories seen.link) known.whole now now' t.heeds wants (with_happens seen.link (Issue command) t.course.histories);
+  awaits = asking_awaits has seen.link command (Some range) t.course.histories ((then) (Issue command) t.course.histories seen.link) now' is wants.asks.kind (ap (λ (by : Ticket). is_extents by) wants.done) (with_happens seen.link (Issue command) t.course.histories);
 }
 
 -- the same of another board, which was told the same
@@ -231,14 +253,14 @@ alike_heeds histories (Some range) known now now' alike m = record {
 pub board_moves_tell : BoardMovesTell
 unfolding board_moves_keep
 board_moves_tell how has slices now now' calls seens wanted known t earlier same keeps alike =
-    record { course = board_moves_keep how has slices now now' calls seens t.course earlier same keeps; maps = alike_maps has t.course.histories wanted now now' alike t.maps; knows = t.knows; heeds = alike_heeds t.course.histories wanted known.whole now now' alike t.heeds }
+    record { course = board_moves_keep how has slices now now' calls seens t.course earlier same keeps; maps = alike_maps has t.course.histories wanted now now' alike t.maps; knows = t.knows; heeds = alike_heeds t.course.histories wanted known.whole now now' alike t.heeds; awaits = record { on = λ some none unmapped. t.awaits.on some (earlier none) (sym alike.mapped ∙ unmapped) } }
 
 -- Where no extents are waited for, it does not matter what the board was told of them.
 pub unasked_moves_tell : (how : How) (has : ℕ → Bool) (slices : List Slice) (now now' : board.Seen) (calls : List wire.Call) (seens : List (Seen Ticket)) (known : Known) → Told how has slices now calls seens None known → (now'.error ≡ None → now.error ≡ None) → CountsSame now now' →
     ((source destination : List sides.Request) → Keeps how now.rows source destination now'.rows source destination) → Told how has slices now' calls seens None known
 unfolding board_moves_keep
 unasked_moves_tell how has slices now now' calls seens known t earlier same keeps =
-    record { course = board_moves_keep how has slices now now' calls seens t.course earlier same keeps; maps = t.maps; knows = t.knows; heeds = t.heeds }
+    record { course = board_moves_keep how has slices now now' calls seens t.course earlier same keeps; maps = t.maps; knows = t.knows; heeds = t.heeds; awaits = none_awaits has t.course.histories now' }
 
 pub others_tell : OthersTell
 unfolding others_keep goes_on
@@ -247,6 +269,7 @@ others_tell how has slices now calls seens wanted known index seen event t there
   maps = others_map has seen.link event t.course.histories ((then) event t.course.histories seen.link) wanted now now t.maps (not_issued event other) (with_happens seen.link event t.course.histories) (record { told = refl; mapped = refl; short = refl });
   knows = then_knows has t.course.histories seen.link event known.zero t.knows;
   heeds = others_heed seen.link event t.course.histories ((then) event t.course.histories seen.link) wanted known.whole now now t.heeds (not_issued event other) none (with_happens seen.link event t.course.histories) (record { told = refl; mapped = refl; short = refl });
+  awaits = others_await has seen.link event t.course.histories ((then) event t.course.histories seen.link) wanted now now t.awaits none (with_happens seen.link event t.course.histories) (record { error = λ e. e; mapped = λ e. e });
 }
 
 -- Hearing.
@@ -259,11 +282,12 @@ hearing_tells how has slices now calls seens range known known' t answered short
       maps = h.0;
       knows = λ p k. elim (more p k) [ inl was ↦ t.knows p was | inr here ↦ h.1 p here ];
       heeds = hearing_heeds has t.course.histories range known.whole known'.whole now t.heeds t.maps (λ link. none_fails how has slices (Some range) known now t.course.histories link t.course.stood) answered short whole holds;
+      awaits = none_awaits has t.course.histories now;
     }
 
 pub fewer_tell : FewerTell
 fewer_tell how has slices now calls seens wanted known known' t fewer more =
-    record { course = t.course; maps = t.maps; knows = λ p k. t.knows p (fewer p k); heeds = heeds_more t.course.histories wanted known.whole known'.whole now more t.heeds }
+    record { course = t.course; maps = t.maps; knows = λ p k. t.knows p (fewer p k); heeds = heeds_more t.course.histories wanted known.whole known'.whole now more t.heeds; awaits = t.awaits }
 
 pub windows_tell : WindowsTell
 windows_tell start [] window p e = go (nat_lt p (start + window.count)) e
@@ -291,7 +315,7 @@ removed_tells : (how : How) (has : ℕ → Bool) (slices : List Slice) (now : bo
     Told how has slices now calls seens wanted known → slice_get seens index ≡ Some seen → StandsFor limit seen.history handle → Told how has slices now calls (removed index seens) wanted known
 unfolding removed_keeps
 removed_tells how has slices now calls seens wanted known index seen limit handle t there stands =
-    record { course = removed_keeps how has slices now calls seens index seen limit handle t.course there stands; maps = t.maps; knows = t.knows; heeds = t.heeds }
+    record { course = removed_keeps how has slices now calls seens index seen limit handle t.course there stands; maps = t.maps; knows = t.knows; heeds = t.heeds; awaits = t.awaits }
 
 pub taking_tells : TakingTells
 taking_tells how has slices now calls seens wanted known index seen limit handle t there stands =

@@ -56,19 +56,21 @@ pub record IsCounted (now : board.Seen) (source destination : List Request) : Ty
   pub zeroed : now.zeroed ≡ up_to_end (bytes_of is_zero destination)
   pub flushes : flushes_of destination ≡ cond now.flushing 1 0
 
--- It counted nothing yet, and no flush was asked for.
+-- It counted nothing yet, and no flush was asked for or answered.
 pub record HasNotCounted (now : board.Seen) : Type 0 where
   pub read : now.read ≡ 0
   pub written : now.written ≡ 0
   pub zeroed : now.zeroed ≡ 0
   pub flushing : now.flushing ≡ false
+  pub flushed : now.flushed ≡ false
 
--- It counted no more, and no flush more was asked for.
+-- It counted no more, and no flush more was asked for or answered.
 pub record CountsSame (now now' : board.Seen) : Type 0 where
   pub read : now'.read ≡ now.read
   pub written : now'.written ≡ now.written
   pub zeroed : now'.zeroed ≡ now.zeroed
   pub flushing : now'.flushing ≡ now.flushing
+  pub flushed : now'.flushed ≡ now.flushed
 
 -- It counted the first request of a slice,
 pub record CountsFirst (one : Ask) (now now' : board.Seen) : Type 0 where
@@ -76,6 +78,7 @@ pub record CountsFirst (one : Ask) (now now' : board.Seen) : Type 0 where
   pub written : now'.written ≡ risen now.written (written_first one)
   pub zeroed : now'.zeroed ≡ risen now.zeroed (zeroed_first one)
   pub flushing : now'.flushing ≡ now.flushing
+  pub flushed : now'.flushed ≡ now.flushed
 
 -- or a change that came next of one.
 pub record CountsNext (one : Change) (now now' : board.Seen) : Type 0 where
@@ -83,3 +86,4 @@ pub record CountsNext (one : Change) (now now' : board.Seen) : Type 0 where
   pub written : now'.written ≡ risen now.written (written_by one)
   pub zeroed : now'.zeroed ≡ risen now.zeroed (zeroed_by one)
   pub flushing : now'.flushing ≡ now.flushing
+  pub flushed : now'.flushed ≡ now.flushed

@@ -7,6 +7,7 @@ use Rattle.lnbd_history.specs.Commands as commands
 use Rattle.lnbd_history.specs.History.{request}
 use Rattle.lnbd_asked.specs.Driven.{DrivenSays, written}
 use Rattle.lnbd_asked.specs.Transcript.{is_of, on_link, dealt_with}
+use Rattle.lnbd_spoken.specs.Driven.{IsDriven}
 use Rattle.lnbd_poll.specs.Alone.{AreApart, calls_on}
 use Rattle.lnbd_poll.specs.Seen.{Seen}
 use Rattle.lnbd_drives.specs.Driving.{DriveOwnLinks}
@@ -21,6 +22,7 @@ use Rattle.lnbd_board.specs.Requests.{Request}
 use Rattle.lnbd_board.specs.Rows.{Stands}
 use Rattle.lnbd_tracks.specs.Tracks.{Histories, AllTrack}
 use Rattle.lnbd_course.specs.Counted.{IsCounted}
+use Rattle.lnbd_course.specs.Flushed.{HasDoneFlush}
 
 -- The two sides.
 
@@ -36,7 +38,8 @@ beside has link = not (has link)
 abbrev pub with_link : ℕ → Bool → (ℕ → Bool) → ℕ → Bool
 with_link link source has other = if link == other then source else has other
 
--- What both sides were asked, by the histories of all handles, is what the rows of the board say, if no error was told; and the board counts its bytes.
+-- What both sides were asked, by the histories of all handles, is what the rows of the board say, if no error was told; the board counts its bytes; and
+-- where it was told, and no error, that its flush was answered, a FLUSH of the destination is done.
 pub record Stood (how : How) (has : ℕ → Bool) (slices : List Slice) (now : board.Seen) (histories : Histories) : Type 0 where
   pub source : List Request
   pub destination : List Request
@@ -44,6 +47,7 @@ pub record Stood (how : How) (has : ℕ → Bool) (slices : List Slice) (now : b
   pub changes : AllTrack (on_side (beside has) histories) destination
   pub stands : now.error ≡ None → Stands how slices now.rows source destination
   pub counted : IsCounted now source destination
+  pub flushed : now.error ≡ None → now.flushed ≡ true → HasDoneFlush destination
 
 -- The handles.
 
@@ -59,7 +63,7 @@ pub record IsUnused (calls : List wire.Call) (seens : List (Seen Ticket)) (histo
   pub blank : histories link ≡ []
 
 -- Between two turns: by these calls the handles drive links of their own; a link without a handle says what the history of the handle says that it had, if
--- it had one; and what both sides were asked is what the board's rows say.
+-- it had one, and was driven by that handle alone; and what both sides were asked is what the board's rows say.
 pub record Course (how : How) (has : ℕ → Bool) (slices : List Slice) (now : board.Seen) (calls : List wire.Call) (seens : List (Seen Ticket)) : Type 0 where
   pub histories : Histories
   pub held : AllHave histories seens
@@ -67,6 +71,7 @@ pub record Course (how : How) (has : ℕ → Bool) (slices : List Slice) (now : 
   pub parted : (link : ℕ) → AreApart link seens → DrivenSays (histories link) (on_link link calls)
   pub unused : (link : ℕ) → is_given link calls ≡ false → IsUnused calls seens histories link
   pub stood : Stood how has slices now histories
+  pub driven : (link : ℕ) → AreApart link seens → IsDriven Ticket link calls
 
 -- The end.
 

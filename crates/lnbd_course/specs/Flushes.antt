@@ -1,5 +1,5 @@
--- How a copy flushes its destination: once at most, and behind all else.
-use Rattle.std.specs.Prelude.{◌≡◌, ◌≢◌, ℕ, Bool, true, false, List, [], ◌++◌, Some}
+-- How a copy flushes its destination: once at most, behind all else, and until that is done.
+use Rattle.std.specs.Prelude.{◌≡◌, ◌≢◌, ℕ, Bool, true, false, List, [], ◌++◌, Some, None}
 use Rattle.lnbd_model.specs.declared.target.Place.{Place}
 use Rattle.lnbd_link.specs.Call.{Call}
 use Rattle.lnbd_history.specs.Commands.{Command}
@@ -9,6 +9,7 @@ use Rattle.lnbd_plan.specs.declared.grid.Slice.{Slice}
 use Rattle.lnbd_plan.specs.declared.summary.Summary.{Summary}
 use Rattle.lnbd_board.specs.declared.how.How.{How}
 use Rattle.lnbd_board.specs.Files as board
+use Rattle.lnbd_tracks.specs.Laws.{IsDone}
 use Rattle.lnbd_course.specs.Asks.{EachAsked, WereDone}
 use Rattle.lnbd_course.specs.Between.{Between}
 use Rattle.lnbd_course.specs.Counted.{is_flush}
@@ -26,6 +27,19 @@ IsUnflushed place calls = NoneFlushes (dealt_with place calls)
 abbrev pub OneFlushes : Dealt → Type 0
 OneFlushes dealt = (link cookie link' cookie' : ℕ) (one other : Command Nobody) → dealt.asked link cookie ≡ Some one → dealt.asked link' cookie' ≡ Some other →
     is_flush one.kind ≡ true → is_flush other.kind ≡ true → (link' ≡ link) × (cookie' ≡ cookie)
+
+-- A FLUSH was asked, and it is done.
+pub record WasFlushed (dealt : Dealt) : Type 0 where
+  pub link : ℕ
+  pub cookie : ℕ
+  pub command : Command Nobody
+  pub asked : dealt.asked link cookie ≡ Some command
+  pub kind : is_flush command.kind ≡ true
+  pub done : IsDone (dealt.outcome link cookie)
+
+-- By these calls the export was flushed.
+abbrev pub IsFlushed : Place → List Call → Type 0
+IsFlushed place calls = WasFlushed (dealt_with place calls)
 
 -- By the first of these calls all was done that was to be read, written and zeroed: they have the copy's summary already, and no FLUSH is asked by them.
 pub record CameToRest (from to : Place) (summary : Summary) (calls : List Call) : Type 0 where
@@ -48,3 +62,7 @@ EndedFlushesOnce = (from to : Place) (size : ℕ) (how : How) (has : ℕ → Boo
 -- and not at all where the board asked for no flush.
 abbrev pub EndedUnflushed : Type 0
 EndedUnflushed = (from to : Place) (size : ℕ) (how : How) (has : ℕ → Bool) (slices : List Slice) (now : board.Seen) (calls : List Call) → Between from to (Some size) how has slices now calls [] → now.flushing ≡ false → from ≢ to → IsUnflushed to calls
+
+-- Where the board was told that its flush was answered, and no error, the export was flushed.
+abbrev pub EndedFlushed : Type 0
+EndedFlushed = (from to : Place) (size : ℕ) (how : How) (has : ℕ → Bool) (slices : List Slice) (now : board.Seen) (calls : List Call) → Between from to (Some size) how has slices now calls [] → now.error ≡ None → now.flushed ≡ true → from ≢ to → IsFlushed to calls

@@ -57,12 +57,13 @@ CallsKeep = (how : How) (has : ℕ → Bool) (slices : List Slice) (now : board.
 
 -- Asking.
 
--- With this command asked of the source the invariant of the copy stands, the board counts it, and no error was forgotten.
+-- With this command asked of the source the invariant of the copy stands, the board counts it, no error was forgotten, and no flush answered.
 pub record AsksSource (how : How) (command : commands.Command Ticket) (slices slices' : List Slice) (now now' : board.Seen) : Type 0 where
   pub bytes : OnlyWritesHaveBytes command
   pub earlier : now'.error ≡ None → now.error ≡ None
   pub on : (source destination : List Request) (link cookie : ℕ) → Stands how slices now.rows source destination → Stands how slices' now'.rows (asking link cookie command.done (asked_by command) source) destination
   pub counts : (source destination : List Request) (link cookie : ℕ) → IsCounted now source destination → IsCounted now' (asking link cookie command.done (asked_by command) source) destination
+  pub flushed : now'.flushed ≡ now.flushed
 
 -- So it is with this command asked of the destination.
 pub record AsksDestination (how : How) (command : commands.Command Ticket) (slices slices' : List Slice) (now now' : board.Seen) : Type 0 where
@@ -70,6 +71,7 @@ pub record AsksDestination (how : How) (command : commands.Command Ticket) (slic
   pub earlier : now'.error ≡ None → now.error ≡ None
   pub on : (source destination : List Request) (link cookie : ℕ) → Stands how slices now.rows source destination → Stands how slices' now'.rows source (asking link cookie command.done (asked_by command) destination)
   pub counts : (source destination : List Request) (link cookie : ℕ) → IsCounted now source destination → IsCounted now' source (asking link cookie command.done (asked_by command) destination)
+  pub flushed : now'.flushed ≡ now.flushed
 
 -- It stays on its course where a handle of the source is asked for that,
 abbrev pub SourceAsksKeep : Type 0

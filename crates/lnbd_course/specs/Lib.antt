@@ -12,3 +12,7 @@ pub mod Counts
 pub mod Spares
 pub mod Failed
 pub mod Flushes
+pub mod Flushed
+pub mod UnderWay
+pub mod Answered
+pub mod Driven

@@ -24,6 +24,7 @@ use Rattle.lnbd_board.specs.Asks.{Keeps}
 use Rattle.lnbd_board.specs.Files as board
 use Rattle.lnbd_board.specs.Holds.{WasToldZero}
 use Rattle.lnbd_board.specs.Requests.{Request}
+use Rattle.lnbd_tracks.specs.Awaiting.{Awaits}
 use Rattle.lnbd_tracks.specs.Laws.{is_coming}
 use Rattle.lnbd_tracks.specs.Mapping.{Maps, IsToldZero, HoldsZero, ToldAlike, asks_extents}
 use Rattle.lnbd_tracks.specs.Heeding.{Heeds, ListensTo, holds_whole}
@@ -39,12 +40,13 @@ pub record Known : Type 0 where
 
 -- Between two turns: the copy is on its course; of the range whose extents are asked for and not heard yet, if there is one, the board holds what the one block
 -- status for it told; and each position that is known as zero was told so by a block status of the source that is done; and
--- each block that one of those told as zero whole is known, or the board holds it.
+-- each block that one of those told as zero whole is known, or the board holds it; and the block status for that range is unanswered until the board is told.
 pub record Told (how : How) (has : ℕ → Bool) (slices : List Slice) (now : board.Seen) (calls : List wire.Call) (seens : List (Seen Ticket)) (wanted : Option (ℕ × ℕ)) (known : Known) : Type 0 where
   pub course : Course how has slices now calls seens
   pub maps : Maps has course.histories wanted now
   pub knows : (p : ℕ) → known.zero p ≡ true → IsToldZero has course.histories p
   pub heeds : Heeds course.histories wanted known.whole now
+  pub awaits : Awaits has course.histories wanted now
 
 -- The beginning.
 

@@ -1,15 +1,18 @@
 //! Laws of the course of a copy. Each is the contract of a function that does nothing.
 
+ghost use Rattle.lnbd_course.specs.Answered.{AnswersStay, NothingIsReadBehind, RangesWereAnswered};
 ghost use Rattle.lnbd_course.specs.Asks.{EndedAreDone, EndedAsksOnce};
 ghost use Rattle.lnbd_course.specs.Counts.{EndedSums};
+ghost use Rattle.lnbd_course.specs.Driven.{EndedAreDriven};
 ghost use Rattle.lnbd_course.specs.Failed.{TurnsFail};
-ghost use Rattle.lnbd_course.specs.Flushes.{EndedFlushesOnce, EndedUnflushed};
+ghost use Rattle.lnbd_course.specs.Flushes.{EndedFlushed, EndedFlushesOnce, EndedUnflushed};
 ghost use Rattle.lnbd_course.specs.Laws.{NothingIsOnCourse, OpensOnCourse, SettlingKeeps, TurnsKeep, CallsKeep, SourceAsksKeep, DestinationAsksKeep, BoardMovesKeep, OthersKeep, TakingKeeps, FinishedCopies};
 ghost use Rattle.lnbd_course.specs.Betweens.{NothingIsBetween, OpensBetween, SettlingKeepsBetween, AgreeingSettles, TurnsKeepBetween, CallsKeepBetween, SourceAsksKeepBetween, DestinationAsksKeepBetween, BoardMovesKeepBetween, OthersKeepBetween, TakingKeepsBetween, LinksAreOfSides, EndedCopies};
 ghost use Rattle.lnbd_course.specs.Spares.{EndedAreDense, EndedSpares};
 ghost use Rattle.lnbd_course.specs.Orders.{BeginningAsks, GoingAsks, OverAsksNothing};
 ghost use Rattle.lnbd_course.specs.Taken.{BuffersAreNoMatter, TakenAreSpelled};
 ghost use Rattle.lnbd_course.specs.Told.{NothingIsTold, OpeningTells, SettlingTells, TurnsTell, CallsTell, SourceAsksTell, DestinationAsksTell, ExtentsAskTell, BoardMovesTell, OthersTell, HearingTells, FewerTell, WindowsTell, TakingTells, KnownWasTold, SidesAreOfSource};
+ghost use Rattle.lnbd_course.specs.UnderWay.{QuietAwaits, QuietCounts};
 
 /// A copy is on its course before it has a handle, with each one that begins on a link which was just
 /// made, and where it is settled how it writes.
@@ -183,8 +186,29 @@ pub fn ended_spares()
     ensures writes { EndedAreDense }
 {}
 
-/// The destination is flushed once at most, and not before the board says that it is asked to.
+/// The destination is flushed once at most, and not before the board says that it is asked to; and its flush is
+/// done where the board says that it was answered.
 pub fn ended_flushes()
     ensures once { EndedFlushesOnce }
     ensures none { EndedUnflushed }
+    ensures done { EndedFlushed }
+{}
+
+/// Where no handle has anything to write, what is under way by the board is unanswered by the calls of a copy.
+pub fn quiet_counts()
+    ensures requests { QuietCounts }
+    ensures extents { QuietAwaits }
+{}
+
+/// A range whose extents were heard was answered; what is not planned yet is not read; and what was answered before it was
+/// read stays so.
+pub fn ended_answers()
+    ensures ranges { RangesWereAnswered }
+    ensures behind { NothingIsReadBehind }
+    ensures stay { AnswersStay }
+{}
+
+/// In the end each link was driven by one handle, or by none.
+pub fn ended_driven()
+    ensures { EndedAreDriven }
 {}

@@ -1,9 +1,9 @@
 //! The exports and the links, and where the schedule stands. Which calls are told is not known here.
 
-ghost use Rattle.std.specs.Prelude.{◌≡◌, ◌<◌, ◌≤◌, [], ℕ, false, map, length, vec_len, IfOk, IfSome, None};
+ghost use Rattle.std.specs.Prelude.{◌≡◌, ◌^◌, ◌<◌, ◌≤◌, [], ℕ, false, map, length, vec_len, IfOk, IfSome, None};
 ghost use Rattle.lnbd_link.specs.Answers.{IfMoved, IfSent, ReadFailed, WriteFailed};
 ghost use Rattle.lnbd_link.specs.Call.{read_told, write_told};
-ghost use Rattle.lnbd_export.specs.Export.{TellsTruly};
+ghost use Rattle.lnbd_export.specs.Export.{TellsTruly, size};
 ghost use Rattle.lnbd_memnet.specs.Network.{link_in, export_in, hosted_of, AreHosted};
 ghost use Rattle.lnbd_memnet.specs.Plays.{IsUnknown, Connects, ReadsIf, Reads, WritesIf, Writes, due_at, all_due, shut_at};
 ghost use Rattle.lnbd_memnet.specs.Schedule.{Moves};
@@ -69,6 +69,19 @@ impl Network {
         ensures { result.now ≡ (export_in self.now.exports place).export.bytes }
     {
         self.exports[place].export.bytes()
+    }
+
+    /// The size and the texts of the export at this place have room on the wire.
+    pub fn fits(&self, place: usize)
+        requires { place < length self.now.exports }
+        ensures size { size (export_in self.now.exports place).export < 2 ^ 63 }
+        ensures name { length (export_in self.now.exports place).export.name ≤ 4096 }
+        ensures description { length (export_in self.now.exports place).export.description ≤ 4096 }
+    {
+        let export = &self.exports[place].export;
+        let _size = export.size();
+        let _name = export.name().len();
+        let _description = export.description().len();
     }
 
     /// A new link to the export at this address, if there is one.

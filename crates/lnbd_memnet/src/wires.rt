@@ -1,7 +1,7 @@
 //! Wires that serve: the network behind them, their calls, and the counts. What a step of the schedule
 //! does to a link stands in `link`.
 
-ghost use Rattle.std.specs.Prelude.{◌≡◌, ◌<◌, ◌≤◌, ◌∷◌, ◌++◌, ℕ, List, Some, [], true, false, map, length, IfOk, OnOk, OnErr};
+ghost use Rattle.std.specs.Prelude.{◌≡◌, ◌^◌, ◌<◌, ◌≤◌, ◌∷◌, ◌++◌, ℕ, List, Some, [], true, false, map, length, IfOk, OnOk, OnErr};
 ghost use Rattle.lnbd_link.specs.Answers.{IfLink, AcceptFailed, IfMoved, ReadFailed, IfSent, WriteFailed};
 ghost use Rattle.lnbd_link.specs.Call.{Call, link_told, read_told, write_told};
 ghost use Rattle.lnbd_link.specs.Call.{Connect, Listen, Accept, Read, Write, Pause, Shut};
@@ -9,6 +9,7 @@ ghost use Rattle.lnbd_link.specs.Contents.{Keeps};
 ghost use Rattle.lnbd_link.specs.Count.{Rises, raised_by};
 ghost use Rattle.lnbd_link.specs.Numbers.{is_given, is_open};
 ghost use Rattle.lnbd_link.specs.Part.{Adds};
+ghost use Rattle.lnbd_export.specs.Export.{size};
 ghost use Rattle.lnbd_memnet.specs.Network.{AreApart, export_in, hosted_of, link_in, stored_of};
 ghost use Rattle.lnbd_memnet.specs.Plays.{Connects, IsUnknown, Reads, Writes, all_due, shut_at};
 ghost use Rattle.lnbd_memnet.specs.Schedule.{Moves};
@@ -81,6 +82,16 @@ impl ServedWires {
         ensures { result.now ≡ (export_in self.now.network.exports index).export.bytes }
     {
         self.network.bytes(index)
+    }
+
+    /// The size and the texts of the export at this place of the list have room on the wire.
+    pub fn fits(&self, index: usize)
+        requires { index < length self.now.network.exports }
+        ensures size { size (export_in self.now.network.exports index).export < 2 ^ 63 }
+        ensures name { length (export_in self.now.network.exports index).export.name ≤ 4096 }
+        ensures description { length (export_in self.now.network.exports index).export.description ≤ 4096 }
+    {
+        self.network.fits(index);
     }
 
     /// How often memory ran out.

@@ -1,2 +1,3 @@
+pub mod EqualLemmas
 pub mod RehearsedLemmas
 pub mod SumLemmas

@@ -1,8 +1,10 @@
 -- What stands behind the wires once a rehearsal is over.
-use Rattle.std.proofs.Common.{◌≡◌, ◌≢◌, ℕ, Bool, false, if◌then◌else◌, ◌==◌, List, [], ◌∷◌, get_or, length, map, Option, Some, None, sym, ap, subst, ◌∙◌, arith}
+use Rattle.std.proofs.Common.{◌≡◌, ◌≢◌, ℕ, Bool, true, false, if◌then◌else◌, ◌==◌, List, [], ◌∷◌, get_or, length, map, Option, Some, None, refl, sym, ap, subst, ◌∙◌, arith}
+use Rattle.std.proofs.lemmas.List.{length-replicate}
 use Rattle.lnbd_link.specs.Call.{Call}
 use Rattle.lnbd_link.specs.Contents.{Keeps, Origin, Stored, origin_of}
 use Rattle.lnbd_model.specs.declared.target.Place.{Place}
+use Rattle.lnbd_model.specs.declared.target.Target.{Target}
 use Rattle.lnbd_model.specs.declared.target.Target.TheVariants.{Unix}
 use Rattle.lnbd_export.specs.Generated.{IsGenerated}
 use Rattle.lnbd_memnet.specs.declared.hosted.Hosted.{Hosted}
@@ -10,9 +12,15 @@ use Rattle.lnbd_memnet.specs.declared.hosted.Served.{Served as Handed}
 use Rattle.lnbd_memnet.specs.Network.{export_in, hosted_of, stored_of}
 use Rattle.lnbd_memnet.specs.Wires.{Came, Served, contents_of, told_by}
 use Rattle.lnbd_plan.specs.declared.summary.Summary.{Summary}
+use Rattle.lnbd_course.specs.Asks.{EachAsked, GrewBy, HasAskedOnce, is_look}
 use Rattle.lnbd_course.specs.Copied.{Copied, Copies}
-use Rattle.lnbd_rehearsal.specs.Rehearsed.{HasRehearsed, IsDestination, IsNoise, IsSource, destination_name, place_of, source_name}
+use Rattle.lnbd_course.specs.Driven.{AreDriven}
+use Rattle.lnbd_asked.specs.Transcript.{dealt_with}
+use Rattle.lnbd_served.specs.Served.{IsServable}
+use Rattle.lnbd_served.specs.Served as served
+use Rattle.lnbd_rehearsal.specs.Rehearsed.{HasRehearsed, IsDestination, IsNoise, IsSource, OnlyLooks, destination_name, place_of, source_name}
 use Rattle.lnbd_rehearsal.specs.Sums.{sums_of}
+use Rattle.lnbd_rehearsal.proofs.EqualLemmas.{AreEqual, are_equal}
 
 -- What both are at first.
 
@@ -50,47 +58,80 @@ copies_between from to a b blank f t never copies =
     let three : Copies (place_of source_name) (place_of destination_name) blank a b = subst (λ (p : Place). Copies (place_of source_name) p blank a b) t two in
     subst (λ (x : Bool). Copies (place_of source_name) (place_of destination_name) x a b) never three
 
--- From no calls on, all that is told was copied.
-whole : (before after : Option (List Call)) (calls : List Call) → before ≡ Some [] → after ≡ Some calls → Copies (place_of source_name) (place_of destination_name) false before after → Copied (place_of source_name) (place_of destination_name) false calls
-whole before after calls none told copies = copies calls calls told (λ ys is. ([], none, cc (is, told)))
+pub looks_between : (from to : Place) (a b : Option (List Call)) (allocated : Bool) → from ≡ place_of source_name → to ≡ place_of destination_name → (from ≢ to → GrewBy (HasAskedOnce allocated from to) a b) → GrewBy OnlyLooks a b
+looks_between from to a b allocated f t asks all part is grown =
+    subst (λ (p : Place). EachAsked (λ command. is_look command.kind ≡ true) (dealt_with p part)) f (asks (λ e. apart (sym f ∙ e ∙ t)) all part is grown).asked.looks
 
--- Two exports with these origins, of which both hold what the first held.
+-- From no calls on, all that is told is so.
+grown : {Is : List Call → Type 0} (before after : Option (List Call)) (calls : List Call) → before ≡ Some [] → after ≡ Some calls → GrewBy Is before after → Is calls
+grown before after calls none told so = so calls calls told (λ ys is. ([], none, cc (is, told)))
 
-module _ (seed n : ℕ) (source destination : Handed) (at : source.at ≡ Unix source_name) (generated : IsGenerated source_name seed n false source.export) (to : destination.at ≡ Unix destination_name) (noise : IsNoise n destination.export) (content : List ℕ) (is : content ≡ source.export.bytes) (summary : Summary) (right : summary ≡ sums_of seed content) where
-  two : (both : List Hosted) (wires : Served) → map origin_of (map stored_of both) ≡ origin_of (first_told source) ∷ origin_of (first_told destination) ∷ []
-      → length both ≡ 2 → (export_in both 0).export.bytes ≡ content → (export_in both 1).export.bytes ≡ content
-      → contents_of wires ≡ Some (map stored_of both) → wires.shorts ≡ 0 → Came wires.calls wires.network
-      → Copied (place_of source_name) (place_of destination_name) false wires.calls → HasRehearsed seed n summary wires
-  two [] wires same count one other told shorts came copied = absurd (omega (arith, count))
-  two (x ∷ []) wires same count one other told shorts came copied = absurd (omega (arith, count))
-  two (x ∷ y ∷ z ∷ more) wires same count one other told shorts came copied = absurd (omega (arith, count))
-  two (x ∷ y ∷ []) wires same count one other told shorts came copied =
-      let first : origin_of (stored_of x) ≡ origin_of (first_told source) = cc same in
-      let second : origin_of (stored_of y) ≡ origin_of (first_told destination) = cc same in
-      let start : x.start ≡ source.export.bytes = ap (λ (o : Origin). o.start) first in
-      record {
-        source = stored_of x;
-        destination = stored_of y;
-        contents = told;
-        from = source_is seed n source (stored_of x) at generated first;
-        to = destination_is n destination (stored_of y) to noise second;
-        shorts = shorts;
-        came = came;
-        copied = copied;
-        kept = one ∙ is ∙ sym start;
-        equal = other ∙ is ∙ sym start;
-        sums = right ∙ ap (λ (b : List ℕ). sums_of seed b) (is ∙ sym start);
-      }
+-- Two exports.
 
-  pub rehearsed : (exports : List Handed) (before after : Served) → exports ≡ source ∷ destination ∷ []
+both_there : (both : List Hosted) → length both ≡ 2 → both ≡ export_in both 0 ∷ export_in both 1 ∷ []
+both_there [] count = absurd (omega (arith, count))
+both_there (x ∷ []) count = absurd (omega (arith, count))
+both_there (x ∷ y ∷ []) count = refl
+both_there (x ∷ y ∷ z ∷ more) count = absurd (omega (arith, count))
+
+place_at : (hosted : Hosted) (name : List ℕ) → hosted.at ≡ Unix name → hosted.export.name ≡ name → served.place_of hosted ≡ place_of name
+place_at hosted name at called = ap (λ (t : Target). record { to = t; name = hosted.export.name }) at ∙ ap (λ (x : List ℕ). record { to = Unix name; name = x }) called
+
+-- Two exports with these origins.
+
+module _ (seed n : ℕ) (source destination : Handed) (at : source.at ≡ Unix source_name) (generated : IsGenerated source_name seed n false source.export) (to : destination.at ≡ Unix destination_name) (noise : IsNoise n destination.export) where
+  -- What stands behind the wires when the copy is over.
+  pub record Ended (wires : Served) : Type 0 where
+    pub told : contents_of wires ≡ Some (stored_of (export_in wires.network.exports 0) ∷ stored_of (export_in wires.network.exports 1) ∷ [])
+    pub first : origin_of (stored_of (export_in wires.network.exports 0)) ≡ origin_of (first_told source)
+    pub second : origin_of (stored_of (export_in wires.network.exports 1)) ≡ origin_of (first_told destination)
+    pub copied : Copied (place_of source_name) (place_of destination_name) false wires.calls
+    pub equal : AreEqual wires.network
+    -- how many bytes the first holds
+    pub long : length (export_in wires.network.exports 0).export.bytes ≡ n
+
+  pub ended : (exports : List Handed) (before after : Served) → exports ≡ source ∷ destination ∷ []
       → contents_of before ≡ Some (map stored_of (map hosted_of exports)) → Keeps (contents_of before) (contents_of after)
-      → after.shorts ≡ 0 → length after.network.exports ≡ 2 → (export_in after.network.exports 0).export.bytes ≡ content → (export_in after.network.exports 1).export.bytes ≡ content
-      → Came after.calls after.network → told_by before ≡ Some [] → Copies (place_of source_name) (place_of destination_name) false (told_by before) (told_by after) → HasRehearsed seed n summary after
-  rehearsed exports before after are held keeps shorts count one other came none copies =
+      → after.shorts ≡ 0 → length after.network.exports ≡ 2 → Came after.calls after.network → IsServable (export_in after.network.exports 0).export → IsServable (export_in after.network.exports 1).export
+      → told_by before ≡ Some [] → Copies (place_of source_name) (place_of destination_name) false (told_by before) (told_by after) → GrewBy OnlyLooks (told_by before) (told_by after) → GrewBy AreDriven (told_by before) (told_by after)
+      → Ended after
+  ended exports before after are held keeps shorts count came fits fits' none copies looks driven =
+      let both = both_there after.network.exports count in
       let told : contents_of after ≡ Some (map stored_of after.network.exports) = ap (λ (s : ℕ). if s == 0 then Some (map stored_of after.network.exports) else None) shorts in
+      let calls : told_by after ≡ Some after.calls = ap (λ (s : ℕ). if s == 0 then Some after.calls else None) shorts in
       let kept = keeps (map stored_of after.network.exports) told in
       let same : kept.0 ≡ map stored_of (map hosted_of exports) = cc (sym kept.1 ∙ held) in
-      two after.network.exports after
-      (kept.2 ∙ ap (λ (s : List Stored). map origin_of s) same ∙ ap (λ (es : List Handed). map origin_of (map stored_of (map hosted_of es))) are)
-      count one other told shorts came
-      (whole (told_by before) (told_by after) after.calls none (ap (λ (s : ℕ). if s == 0 then Some after.calls else None) shorts) copies)
+      let origins : origin_of (stored_of (export_in after.network.exports 0)) ∷ origin_of (stored_of (export_in after.network.exports 1)) ∷ [] ≡ origin_of (first_told source) ∷ origin_of (first_told destination) ∷ [] =
+      sym (ap (λ (es : List Hosted). map origin_of (map stored_of es)) both) ∙ kept.2 ∙ ap (λ (s : List Stored). map origin_of s) same ∙ ap (λ (es : List Handed). map origin_of (map stored_of (map hosted_of es))) are in
+      let first : origin_of (stored_of (export_in after.network.exports 0)) ≡ origin_of (first_told source) = cc origins in
+      let second : origin_of (stored_of (export_in after.network.exports 1)) ≡ origin_of (first_told destination) = cc origins in
+      let from = source_is seed n source (stored_of (export_in after.network.exports 0)) at generated first in
+      let into = destination_is n destination (stored_of (export_in after.network.exports 1)) to noise second in
+      let copied = grown {Is = Copied (place_of source_name) (place_of destination_name) false} (told_by before) (told_by after) after.calls none calls copies in
+      let equal =
+      are_equal (place_of source_name) (place_of destination_name) after.calls after.network came (grown {Is = AreDriven} (told_by before) (told_by after) after.calls none calls driven) count fits fits'
+      (place_at (export_in after.network.exports 0) source_name from.at from.name) (place_at (export_in after.network.exports 1) destination_name into.at into.name)
+      (ap (λ (b : List ℕ). length b) into.bytes ∙ length-replicate {A = ℕ} n 255 ∙ sym from.size) copied (grown {Is = OnlyLooks} (told_by before) (told_by after) after.calls none calls looks) in
+      record {
+        told = told ∙ ap (λ (es : List Hosted). Some (map stored_of es)) both;
+        first = first;
+        second = second;
+        copied = copied;
+        equal = equal;
+        long = ap (λ (b : List ℕ). length b) equal.kept ∙ from.size;
+      }
+
+  pub rehearsed : (wires : Served) (summary : Summary) → wires.shorts ≡ 0 → Came wires.calls wires.network → summary ≡ sums_of seed (export_in wires.network.exports 0).export.bytes → Ended wires → HasRehearsed seed n summary wires
+  rehearsed wires summary shorts came right e = record {
+    source = stored_of (export_in wires.network.exports 0);
+    destination = stored_of (export_in wires.network.exports 1);
+    contents = e.told;
+    from = source_is seed n source (stored_of (export_in wires.network.exports 0)) at generated e.first;
+    to = destination_is n destination (stored_of (export_in wires.network.exports 1)) to noise e.second;
+    shorts = shorts;
+    came = came;
+    copied = e.copied;
+    kept = e.equal.kept;
+    equal = e.equal.equal;
+    sums = right ∙ ap (λ (b : List ℕ). sums_of seed b) e.equal.kept;
+  }

@@ -1,9 +1,12 @@
 -- A copy that was rehearsed: the two exports that it was between, and what they hold afterwards.
-use Rattle.std.specs.Prelude.{◌≡◌, ◌<◌, ◌∷◌, ℕ, List, [], Some, false, codes, get_or, length, replicate}
+use Rattle.std.specs.Prelude.{◌≡◌, ◌<◌, ◌∷◌, ℕ, List, [], Some, false, true, codes, get_or, length, replicate}
 use Rattle.lnbd_model.specs.declared.target.Place.{Place}
 use Rattle.lnbd_model.specs.declared.target.Target.TheVariants.{Unix}
+use Rattle.lnbd_link.specs.Call.{Call}
 use Rattle.lnbd_link.specs.Contents.{Stored}
+use Rattle.lnbd_asked.specs.Transcript.{dealt_with}
 use Rattle.lnbd_plan.specs.declared.summary.Summary.{Summary}
+use Rattle.lnbd_course.specs.Asks.{EachAsked, is_look}
 use Rattle.lnbd_course.specs.Copied.{Copied}
 use Rattle.lnbd_export.specs.Export.{Export}
 use Rattle.lnbd_export.specs.Generated.{byte_at}
@@ -52,3 +55,7 @@ pub record HasRehearsed (seed n : ℕ) (summary : Summary) (wires : Served) : Ty
 pub record IsNoise (n : ℕ) (export : Export) : Type 0 where
   pub name : export.name ≡ destination_name
   pub bytes : export.bytes ≡ replicate n 255
+
+-- Of the source only READ and BLOCK_STATUS were asked.
+abbrev pub OnlyLooks : List Call → Type 0
+OnlyLooks calls = EachAsked (λ command. is_look command.kind ≡ true) (dealt_with (place_of source_name) calls)

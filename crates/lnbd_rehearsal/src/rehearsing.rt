@@ -1,12 +1,12 @@
-//! The copy between the two exports, and the comparison that ends it.
+//! The copy between the two exports. What they are at first is not known here.
 
 ghost use Rattle.std.specs.Prelude.{◌≡◌, ◌≤◌, IfOk, OnOk, false, length, true};
 ghost use Rattle.lnbd_link.specs.Contents.{Keeps};
+ghost use Rattle.lnbd_course.specs.Asks.{GrewBy};
 ghost use Rattle.lnbd_course.specs.Copied.{Copies};
-ghost use Rattle.lnbd_memnet.specs.Network.{export_in};
+ghost use Rattle.lnbd_course.specs.Driven.{AreDriven};
 ghost use Rattle.lnbd_memnet.specs.Wires.{contents_of, told_by};
-ghost use Rattle.lnbd_rehearsal.specs.Rehearsed.{HasRehearsed, destination_name, place_of, source_name};
-ghost use Rattle.lnbd_rehearsal.specs.Sums.{sums_of};
+ghost use Rattle.lnbd_rehearsal.specs.Rehearsed.{HasRehearsed, OnlyLooks, destination_name, place_of, source_name};
 
 use crate::exports::{destination, from, source, to};
 use crate::sums::{is_same, sums_of};
@@ -44,6 +44,8 @@ const USUAL: CopyOptions = CopyOptions {
 fn copy(alloc: Global, wires: &mut ServedWires) -> Result<Summary, NoMemory>
     ensures kept { OnOk result (Keeps (contents_of wires.old) (contents_of wires.new)) }
     ensures copies { OnOk result (Copies (place_of source_name) (place_of destination_name) false (told_by wires.old) (told_by wires.new)) }
+    ensures looks { OnOk result (GrewBy OnlyLooks (told_by wires.old) (told_by wires.new)) }
+    ensures driven { OnOk result (GrewBy AreDriven (told_by wires.old) (told_by wires.new)) }
 {
     let from = from(alloc)?;
     let to = to(alloc)?;
@@ -53,25 +55,18 @@ fn copy(alloc: Global, wires: &mut ServedWires) -> Result<Summary, NoMemory>
     }
 }
 
-/// Whether all that was called is told, both exports hold these bytes, which the seed gave, and the sums are those of their blocks.
-fn is_right(wires: &ServedWires, seed: u64, bytes: &[u8], summary: Summary) -> bool
-    requires { length bytes.now ≤ 16777216 }
+/// Whether all that was called is told, between two exports.
+fn is_told(wires: &ServedWires) -> bool
     ensures shorts { result ≡ true → wires.now.shorts ≡ 0 }
     ensures two { result ≡ true → length wires.now.network.exports ≡ 2 }
-    ensures first { result ≡ true → (export_in wires.now.network.exports 0).export.bytes ≡ bytes.now }
-    ensures second { result ≡ true → (export_in wires.now.network.exports 1).export.bytes ≡ bytes.now }
-    ensures sums { result ≡ true → summary ≡ sums_of seed bytes.now }
 {
-    wires.shorts() == 0
-        && wires.exports() == 2
-        && wires.bytes(0) == bytes
-        && wires.bytes(1) == bytes
-        && is_same(summary, sums_of(seed, bytes))
+    wires.shorts() == 0 && wires.exports() == 2
 }
 
 /// Copies an export with the contents that the seed gives to one of as many bytes 0xff, as nbdcopy does where no option is
 /// given, over wires in memory that cut what moves, and pick which reply comes first, by the seed. Both then hold what the first
-/// held, and the sums are those of its blocks: that is compared when the copy is over.
+/// held: that is proved, since these wires are honest whatever the schedule. The sums are those of its blocks: that is compared when
+/// the copy is over.
 ///
 /// # Errors
 ///
@@ -81,13 +76,17 @@ pub fn rehearse(alloc: Global, seed: u64, size: u64) -> Result<Rehearsed, NoMemo
     ensures { IfOk result (λ rehearsed. HasRehearsed seed size rehearsed.summary rehearsed.wires) }
 {
     let source = source(alloc, seed, size)?;
-    let content = source.export.bytes().to_vec(alloc)?;
     let exports = vec![in alloc; source, destination(alloc, size)?]?;
     let mut wires = ServedWires::new(alloc, exports, Schedule::Seeded(seed))?;
     let summary = copy(alloc, &mut wires)?;
-    if !is_right(&wires, seed, &content, summary) {
+    if !is_told(&wires) {
         return Err(NoMemory);
     }
     wires.came();
+    wires.fits(0);
+    wires.fits(1);
+    if !is_same(summary, sums_of(seed, wires.bytes(0))) {
+        return Err(NoMemory);
+    }
     Ok(Rehearsed { summary, wires })
 }

@@ -39,7 +39,7 @@ module _ {K : Type 0} (before : History K) (P : List (Entry K) → Type 0) (Allo
       go true e = file_keeps c item known a e p
       go false e = p
 
-  all_keep : (item : Item) (list : List ℕ) (known : Known K) → Allowed item → P known.entries → P (file_all before item list known).entries
+  pub all_keep : (item : Item) (list : List ℕ) (known : Known K) → Allowed item → P known.entries → P (file_all before item list known).entries
   all_keep item [] known a p = p
   all_keep item (c ∷ list) known a p = all_keep item list (if in_flight before known.entries c then file before c item known else known) a (one_keeps c item known a p)
 

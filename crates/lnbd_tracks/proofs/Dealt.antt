@@ -16,7 +16,7 @@ use Rattle.lnbd_tracks.specs.Dealing.{AreOf, TrackedAreDealt}
 use Rattle.lnbd_tracks.specs.Tracks.{Histories, AllTrack, under, request_of}
 use Rattle.lnbd_tracks.proofs.Under.{same_key, found}
 
-in_under : (r : Request) (xs : List Request) → IsIn r xs → IsIn r (under r.link r.cookie xs)
+pub in_under : (r : Request) (xs : List Request) → IsIn r xs → IsIn r (under r.link r.cookie xs)
 in_under r [] h = h
 in_under r (x ∷ xs) (inl e) = subst (λ (k : Bool). IsIn r (cond k (x ∷ under r.link r.cookie xs) (under r.link r.cookie xs))) (sym there) (inl e)
   where
@@ -26,7 +26,7 @@ in_under r (x ∷ xs) (inr h) =
     let more = in_under r xs h in
     elim ((x.link == r.link) && (x.cookie == r.cookie)) as (λ b. IsIn r (cond b (x ∷ under r.link r.cookie xs) (under r.link r.cookie xs))) [ true ↦ inr more | false ↦ more ]
 
-in_middle : (r : Request) (front back : List Request) → IsIn r (front ++ r ∷ back)
+pub in_middle : (r : Request) (front back : List Request) → IsIn r (front ++ r ∷ back)
 in_middle r [] back = inl refl
 in_middle r (x ∷ front) back = inr (in_middle r front back)
 

@@ -16,3 +16,6 @@ pub mod Staying
 pub mod Mapped
 pub mod Heeding
 pub mod Failing
+pub mod Unanswered
+pub mod Awaiting
+pub mod Living

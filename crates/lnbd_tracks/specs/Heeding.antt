@@ -51,10 +51,11 @@ abbrev pub Heeds : Histories → (wanted : Option (ℕ × ℕ)) → (known : (bl
 Heeds histories None known now = AllHeard histories known
 Heeds histories (Some range) known now = IsAwaited histories range known now
 
--- a block status of this range, whose extents are told to a callback for extents
+-- a block status of this range, whose extents and whose end are told to callbacks for extents
 pub record ListensTo (range : ℕ × ℕ) (command : Command Ticket) : Type 0 where
   pub asks : AsksRange range command
   pub first : command.first ≡ Some ticket.Extents
+  pub done : command.done ≡ ticket.Extents
 
 -- Laws.
 

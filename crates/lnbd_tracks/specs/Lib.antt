@@ -4,3 +4,5 @@ pub mod Dealing
 pub mod Mapping
 pub mod Heeding
 pub mod Failing
+pub mod Unanswered
+pub mod Awaiting

@@ -1,10 +1,12 @@
 //! Laws of what the handles of a copy were asked. Each is the contract of a function that does nothing.
 
 ghost use Rattle.lnbd_tracks.specs.Laws.{NothingTracks, OpeningTracks, OneHappens, IssueTracks, OthersTrack, BytesComeBack, SourceKeeps, DestinationKeeps, FinishedAreDone, FinishedTracks};
+ghost use Rattle.lnbd_tracks.specs.Awaiting.{AskingAwaits, ComingAwaits, OthersAwait};
 ghost use Rattle.lnbd_tracks.specs.Dealing.{DoneIsWritten, TrackedAreDealt};
 ghost use Rattle.lnbd_tracks.specs.Failing.{AnsweredIsWritten, DestinationFails, FailuresAreKnown, FailuresStay, SourceFails};
 ghost use Rattle.lnbd_tracks.specs.Heeding.{NothingHeeds, ComingHeeds, OthersHeed, AskingHeeds, HearingHeeds};
 ghost use Rattle.lnbd_tracks.specs.Mapping.{NothingMaps, ComingMaps, OthersMap, AskingMaps, HearingMaps, ZeroesStay};
+ghost use Rattle.lnbd_tracks.specs.Unanswered.{OverCame, TrackedAreUnanswered, WaitingLives};
 
 /// Before any handle was asked anything, nothing was asked; and a handle that begins changes nothing.
 pub fn nothing_tracks()
@@ -95,4 +97,28 @@ pub fn heeding_keeps()
     ensures others { OthersHeed }
     ensures asking { AskingHeeds }
     ensures hearing { HearingHeeds }
+{}
+
+/// As many of the requests that were dealt with an export are unanswered as of the list that tracks its
+/// handles.
+pub fn tracked_are_unanswered()
+    ensures { TrackedAreUnanswered }
+{}
+
+/// A block status of which the board was told no end is under way, whatever happens, until the board is told
+/// of an error.
+pub fn awaiting_keeps()
+    ensures coming { ComingAwaits }
+    ensures others { OthersAwait }
+    ensures asking { AskingAwaits }
+{}
+
+/// A command of a handle waits only while the handle lives.
+pub fn waiting_lives<K>()
+    ensures { WaitingLives K }
+{}
+
+/// A command of a copy that is over came to something.
+pub fn over_came()
+    ensures { OverCame }
 {}

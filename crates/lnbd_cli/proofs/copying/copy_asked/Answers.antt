@@ -8,6 +8,11 @@ returns-in-Ok-copy-clause-ends g c = record {
   once = c.in-Ok-copy.ensures.once;
   done = c.in-Ok-copy.ensures.done;
   spares = c.in-Ok-copy.ensures.spares;
+  dense = c.in-Ok-copy.ensures.dense;
+  answered = c.in-Ok-copy.ensures.answered;
+  flushes = c.in-Ok-copy.ensures.flushes;
+  flushed = c.in-Ok-copy.ensures.flushed;
+  unflushed = c.in-Ok-copy.ensures.unflushed;
 }
 
 pub returns-in-Err-clause-ends : goal.returns-in-Err-clause-ends

@@ -2,7 +2,7 @@ use Rattle.std.proofs.Common.{List, length, ap, arith}
 use Rattle.lnbd_poll.specs.Held.{Held}
 use Rattle.lnbd_board.specs.declared.ticket.Ticket.{Ticket}
 use Rattle.lnbd_copy.proofs.CauseLemmas.{goes_then}
-use Rattle.lnbd_copy.proofs.GroundLemmas.{lasts_then}
+use Rattle.lnbd_copy.proofs.LastLemmas.{lasts_then}
 use Rattle.lnbd_copy.proofs.parting.shut_all.Goals as goal
 
 pub handles-preserved : goal.handles-preserved

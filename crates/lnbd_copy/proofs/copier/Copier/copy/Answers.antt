@@ -53,3 +53,9 @@ returns-in_err-turn-clause-grounds g c =
     handed_on _ c.from_residual-in_err-turn.result _ c.from_residual-in_err-turn.ensures.1 (
     grounded_as (g.W.Wires.told c.args.wires.now) (g.W.Wires.told c.turn.new.wires) _ _ _ _ _ (ap (λ (s : Seen). s.from) c.turns.invariant.kept) (ap (λ (s : Seen). s.to) c.turns.invariant.kept)
     (c.in_err-turn.ensures.grounds (g.W.Wires.told c.args.wires.now) c.turns.invariant.on))
+
+pub returns-in_err-rest-in-Still-clause-counts : goal.returns-in_err-rest-in-Still-clause-counts
+returns-in_err-rest-in-Still-clause-counts g c = goes_then _ _ _ _ _ _ _ _ _ c.turns.invariant.counts (goes_then _ _ _ _ _ _ _ _ _ c.turn.ensures.counts c.rest.ensures.counts)
+
+pub returns-in-Finished-clause-counts : goal.returns-in-Finished-clause-counts
+returns-in-Finished-clause-counts g c = goes_then _ _ _ _ _ _ _ _ _ c.turns.invariant.counts c.turn.ensures.counts

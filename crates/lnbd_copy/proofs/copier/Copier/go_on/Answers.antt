@@ -1,8 +1,9 @@
 use Rattle.std.proofs.Common.{refl, ap, sym, ◌∙◌}
 use Rattle.lnbd_copy.specs.Copier.{Seen}
-use Rattle.lnbd_copy.proofs.EndLemmas.{finished, has_job, way_asks}
+use Rattle.lnbd_copy.proofs.EndLemmas.{finished, has_job, way_answers, way_asks}
 use Rattle.lnbd_copy.proofs.FlushLemmas.{flushed}
 use Rattle.lnbd_copy.proofs.SummedLemmas.{summed}
+use Rattle.lnbd_copy.proofs.UnansweredLemmas.{way_all_asked}
 use Rattle.lnbd_copy.proofs.copier.Copier.go_on.Goals as goal
 
 pub returns-then-is_finished-clause-turns : goal.returns-then-is_finished-clause-turns
@@ -50,3 +51,25 @@ returns-then-is_finished-clause-busy g c = c.part-parted.ensures.busy (c.in_ok-a
 
 pub returns-clause-busy : goal.returns-clause-busy
 returns-clause-busy g c = c.part-parted.ensures.busy (c.in_ok-acted.ensures.busy c.requires.going.start _ (c.in_ok-moved.ensures.on c.requires.going.start c.requires.going.on))
+
+pub returns-then-is_finished-clause-under_way : goal.returns-then-is_finished-clause-under_way
+returns-then-is_finished-clause-under_way g c start on two =
+    let left = c.part-parted.ensures.on start (c.in_ok-acted.ensures.on start _ (c.in_ok-moved.ensures.on start on)) in
+    let busy = c.part-parted.ensures.busy (c.in_ok-acted.ensures.busy c.requires.going.start _ (c.in_ok-moved.ensures.on c.requires.going.start c.requires.going.on)) in
+    way_all_asked _ start _ (sym (ap (λ (s : Seen). s.board.error) c.self.view_is) ∙ c.in_ok-check_well.ensures) busy left two
+
+pub returns-clause-under_way : goal.returns-clause-under_way
+returns-clause-under_way g c start on two =
+    let left = c.part-parted.ensures.on start (c.in_ok-acted.ensures.on start _ (c.in_ok-moved.ensures.on start on)) in
+    let busy = c.part-parted.ensures.busy (c.in_ok-acted.ensures.busy c.requires.going.start _ (c.in_ok-moved.ensures.on c.requires.going.start c.requires.going.on)) in
+    way_all_asked _ start _ (sym (ap (λ (s : Seen). s.board.error) c.self.view_is) ∙ c.in_ok-check_well.ensures) busy left two
+
+pub returns-then-is_finished-clause-answered : goal.returns-then-is_finished-clause-answered
+returns-then-is_finished-clause-answered g c start on two =
+    let left = c.part-parted.ensures.on start (c.in_ok-acted.ensures.on start _ (c.in_ok-moved.ensures.on start on)) in
+    way_answers _ start _ (sym (ap (λ (s : Seen). s.board.error) c.self.view_is) ∙ c.in_ok-check_well.ensures) left two
+
+pub returns-clause-answered : goal.returns-clause-answered
+returns-clause-answered g c start on two =
+    let left = c.part-parted.ensures.on start (c.in_ok-acted.ensures.on start _ (c.in_ok-moved.ensures.on start on)) in
+    way_answers _ start _ (sym (ap (λ (s : Seen). s.board.error) c.self.view_is) ∙ c.in_ok-check_well.ensures) left two

@@ -18,4 +18,4 @@ returns-clause-acts c = λ held.
     subst (λ (told : List Extent). (whole : ℕ → Bool) (slices : List Slice) → IsSpared c.self.inside.windows whole slices → IsSpared c.hear.new.self (λ p. whole p || whole_heard c.self.inside.windows.grain (windows.wanted c.self.inside.windows) told p) slices)
     c.told.ensures c.in_ok-hear.ensures.spared in
     subst (λ (j : Seen). Acts j new c.args.board.now c.args.board.now held held) c.self.view_is
-    (acts_heard was new c.hear.new.self c.args.board.now held (ap (λ (j : Seen). j.phase) c.self.view_is ∙ c.requires) (ap (λ (j : Seen). j.asked) c.self.view_is ∙ c.has_come.ensures.asked c.if-not-has_come.false) (c.has_come.ensures.mapped c.if-not-has_come.false) (sym c.is_short.ensures ∙ c.if-is_short.false) refl c.hear.ensures.cells c.hear.ensures.size c.hear.ensures.grain spares hears)
+    (acts_heard was new c.hear.new.self c.args.board.now held (ap (λ (j : Seen). j.phase) c.self.view_is ∙ c.requires) (ap (λ (j : Seen). j.asked) c.self.view_is ∙ c.has_come.ensures.asked c.if-not-has_come.false) (c.has_come.ensures.mapped c.if-not-has_come.false) (sym c.is_short.ensures ∙ c.if-is_short.false) refl c.hear.ensures.cells c.hear.ensures.size c.hear.ensures.grain spares hears c.in_ok-hear.ensures.heard)

@@ -3,5 +3,5 @@ use Rattle.lnbd_copy.proofs.JobLemmas.{job_begins}
 use Rattle.lnbd_copy.proofs.job.Job.new.Goals as goal
 
 pub returns-clause-job : goal.returns-clause-job
-returns-clause-job c way now size writes how sides blank asked unknown unflushed =
-    job_begins _ way now refl refl c.in_ok-windows.ensures.zeros c.in_ok-windows.ensures.size c.in_ok-windows.ensures.grain c.requires.block c.in_ok-windows.ensures.planned size writes how sides blank asked unknown unflushed
+returns-clause-job c way now size writes how sides blank asked unknown unflushed all =
+    job_begins _ way now refl refl c.in_ok-windows.ensures.zeros c.in_ok-windows.ensures.size c.in_ok-windows.ensures.grain c.in_ok-windows.ensures.planned size writes how sides blank asked unknown unflushed (c.in_ok-windows.ensures.heard way.heard all)

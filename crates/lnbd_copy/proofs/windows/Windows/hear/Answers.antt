@@ -1,10 +1,13 @@
-use Rattle.std.proofs.Common.{refl, sym, true, ◌≡◌, ◌<◌, ◌≤◌, ◌+◌, ◌-◌, ◌||◌, ℕ, Bool, List, subst, arith}
+use Rattle.std.proofs.Common.{refl, ap, sym, true, ◌≡◌, ◌<◌, ◌≤◌, ◌+◌, ◌-◌, ◌||◌, ℕ, Bool, List, subst, arith}
 use Rattle.lnbd_model.specs.declared.export.Extent.{Extent}
 use Rattle.lnbd_extents.specs.Lists.{flags_at}
 use Rattle.lnbd_asked.specs.Transcript.{is_zero}
+use Rattle.lnbd_plan.specs.Plans.{Planned}
 use Rattle.lnbd_plan.specs.declared.grid.Slice.{Slice}
+use Rattle.lnbd_copy.specs.Heard.{IsHeardTo, has_position}
 use Rattle.lnbd_copy.specs.Windows.{Seen, IsPlanned, wanted, zero_heard}
 use Rattle.lnbd_copy.specs.Spared.{IsSpared, whole_heard}
+use Rattle.lnbd_copy.proofs.ReachLemmas.{heard_further, heard_still}
 use Rattle.lnbd_copy.proofs.SparedLemmas.{spared_partly, spared_wholly}
 use Rattle.lnbd_copy.proofs.WindowLemmas.{window_kept, hear_wholly}
 use Rattle.lnbd_copy.proofs.windows.Windows.hear.Goals as goal
@@ -56,3 +59,26 @@ returns-clause-spared c =
     (spared_wholly was c.self.inside.start c.end_of-end.result c.self.inside.grain c.args.told.now c.deref.result.now c.hold_zeroes.new.zero c.self.invariant.begins ahead c.end_of-end.ensures.end left c.self.invariant.some
     (λ p low e. subst (λ (l : List Extent). is_zero (flags_at l p) ≡ true) (sym c.deref.ensures.value) (c.in_ok-joined.ensures.all p low e)) c.in_ok-reached.ensures.kept c.in_ok-reached.ensures.whole now
     (c.self.inside.at + c.passed.result - c.self.inside.start) c.in_ok-window.ensures.ok last fits)
+
+pub returns-then-self-end-clause-heard : goal.returns-then-self-end-clause-heard
+returns-then-self-end-clause-heard c =
+    let was : Seen = record { plan = c.self.inside.plan; size = c.self.inside.size; grain = c.self.inside.grain; at = c.self.inside.at; zero = c.self.inside.zero } in
+    let now : Seen = record { plan = c.self.inside.plan; size = c.self.inside.size; grain = c.self.inside.grain; at = c.self.inside.at + c.passed.result; zero = c.hold_zeroes.new.zero } in
+    let left : c.self.inside.at < c.end_of-end.result = omega arith in
+    let begins = c.self.invariant.begins in
+    let ahead = c.self.invariant.ahead in
+    subst (λ (w : Seen). (heard : ℕ → Bool) → IsHeardTo w heard → IsHeardTo now (λ p. heard p || has_position (wanted w) p)) c.self.view_is
+    (heard_further was now c.self.inside.start c.end_of-end.result c.passed.result begins c.end_of-end.ensures.end left c.passed.ensures refl (omega (arith, begins, ahead)))
+
+pub returns-clause-heard : goal.returns-clause-heard
+returns-clause-heard c =
+    let was : Seen = record { plan = c.self.inside.plan; size = c.self.inside.size; grain = c.self.inside.grain; at = c.self.inside.at; zero = c.self.inside.zero } in
+    let now : Seen = record { plan = c.window.new.self; size = c.self.inside.size; grain = c.self.inside.grain; at = c.self.inside.at + c.passed.result; zero = c.new.result } in
+    let left : c.self.inside.at < c.end_of-end.result = omega arith in
+    let ahead = c.self.invariant.ahead in
+    let ends = ap (λ (p : Planned). p.end) c.in_ok-window.ensures.ok in
+    subst (λ (w : Seen). (heard : ℕ → Bool) → IsHeardTo w heard → IsHeardTo now (λ p. heard p || has_position (wanted w) p)) c.self.view_is
+    (heard_further was now c.self.inside.start c.end_of-end.result c.passed.result c.self.invariant.begins c.end_of-end.ensures.end left c.passed.ensures refl (omega (arith, ends, ahead)))
+
+pub returns-then-end-self-clause-heard : goal.returns-then-end-self-clause-heard
+returns-then-end-self-clause-heard c = λ heard was. heard_still c.args.self.now heard was

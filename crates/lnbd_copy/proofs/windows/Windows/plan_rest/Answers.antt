@@ -1,5 +1,7 @@
-use Rattle.std.proofs.Common.{◌≤◌, ◌+◌, ◌-◌, ◌≡◌, sym, subst, arith}
+use Rattle.std.proofs.Common.{◌≤◌, ◌+◌, ◌-◌, ◌≡◌, ap, sym, subst, arith}
 use Rattle.lnbd_copy.specs.Windows.{Seen, IsPlanned}
+use Rattle.lnbd_plan.specs.Plans.{Planned}
+use Rattle.lnbd_copy.proofs.ReachLemmas.{heard_all}
 use Rattle.lnbd_copy.proofs.WindowLemmas.{window_kept, window_planned}
 use Rattle.lnbd_copy.proofs.windows.Windows.plan_rest.Goals as goal
 
@@ -17,3 +19,10 @@ returns-clause-planned c = λ blank slices planned.
     let fits : c.self.inside.start + (c.self.inside.size - c.self.inside.start) ≤ c.self.inside.size = omega arith in
     let was = subst (λ (w : Seen). IsPlanned w blank slices) (sym c.self.view_is) planned in
     window_planned _ _ blank slices c.self.inside.start (c.self.inside.size - c.self.inside.start) c.self.inside.zero was c.self.invariant.begins c.in_ok-window.ensures.ok fits was.under_way was.under_way
+
+pub returns-clause-heard : goal.returns-clause-heard
+returns-clause-heard c = λ heard all.
+    let ends = ap (λ (p : Planned). p.end) c.in_ok-window.ensures.ok in
+    let ahead = c.self.invariant.ahead in
+    let inside = c.self.invariant.inside in
+    heard_all _ heard (omega (arith, ends, ahead, inside)) all

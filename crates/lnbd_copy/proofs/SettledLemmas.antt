@@ -1,0 +1,47 @@
+-- What is so of the calls of a copy by what both sides told.
+use Rattle.std.proofs.Common.{◌≡◌, List, [], ◌∷◌, ◌++◌, Option, Some, ap, sym, subst, ◌∙◌}
+use Rattle.lnbd_link.specs.Call as wire
+use Rattle.lnbd_model.specs.declared.export.ExportInfo.{ExportInfo}
+use Rattle.lnbd_model.specs.declared.target.Place.{Place}
+use Rattle.lnbd_plan.specs.declared.options.CopyOptions.{CopyOptions}
+use Rattle.lnbd_copy.specs.declared.terms.Terms.{Terms}
+use Rattle.lnbd_copy.specs.Grounds.{Drove, IsShown}
+use Rattle.lnbd_copy.specs.Lasting.{AtSome}
+use Rattle.lnbd_copy.specs.Settled.{HasSettled, Settled}
+use Rattle.lnbd_copy.specs.Way.{Since, Told}
+
+pub same_rest : (one two three : List wire.Call) → one ++ two ≡ one ++ three → two ≡ three
+same_rest [] two three e = e
+same_rest (call ∷ one) two three e = same_rest one two three (cc e)
+
+pub same_calls : (one two : List wire.Call) → Some one ≡ Some two → one ≡ two
+same_calls one two e = cc
+
+-- The calls since the start are the same, whatever is said of them.
+same_since : {Is Is' : List wire.Call → Type 0} (start : Option (List wire.Call)) (all : List wire.Call) → (one : Since start all Is) → (other : Since start all Is') → one.calls ≡ other.calls
+same_since start all one other =
+    let same : one.before ≡ other.before = same_calls one.before other.before (sym one.was ∙ other.was) in
+    same_rest one.before one.calls other.calls (sym one.now ∙ other.now ∙ ap (λ (l : List wire.Call). l ++ other.calls) (sym same))
+
+pub settled_with : (Is : (source destination : ExportInfo) → List wire.Call → Type 0) (options : CopyOptions) (from to : Place) (start told : Option (List wire.Call)) (terms : Terms) → (s : HasSettled options from to start told terms) → Told start told (Is s.source s.destination) →
+    Told start told (λ calls. Settled from to (λ source destination. Is source destination calls) calls)
+settled_with Is options from to start told terms s so = record {
+  since = λ all is.
+      let one = so.since all is in
+      let source = s.shown.since all is in
+      let destination = s.shown'.since all is in
+      record {
+        before = one.before;
+        calls = one.calls;
+        was = one.was;
+        now = one.now;
+        is = record {
+          source = s.source;
+          destination = s.destination;
+          shown = subst (AtSome (Drove from (IsShown s.source))) (same_since start all source one) source.is;
+          shown' = subst (AtSome (Drove to (IsShown s.destination))) (same_since start all destination one) destination.is;
+          none = s.none;
+          is = one.is;
+        };
+      };
+}

@@ -1,0 +1,14 @@
+-- What is so of a front of the calls stays so while calls are added.
+use Rattle.std.specs.Prelude.{◌≡◌, List, ◌++◌, Option, Some}
+use Rattle.lnbd_link.specs.Call as wire
+
+-- A front of the calls is so.
+pub record AtSome (Is : List wire.Call → Type 0) (calls : List wire.Call) : Type 0 where
+  pub before : List wire.Call
+  pub after : List wire.Call
+  pub are : calls ≡ before ++ after
+  pub is : Is before
+
+-- The transcript goes on, where it is told.
+pub record Lasts (told told' : Option (List wire.Call)) : Type 0 where
+  pub on : (all : List wire.Call) → told' ≡ Some all → AtSome (λ before. told ≡ Some before) all
