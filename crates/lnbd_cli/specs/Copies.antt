@@ -103,7 +103,7 @@ pub record HasCopied (words : List (String Global)) (told told' : Option (List C
   pub done : asked.transfer.from ≢ asked.transfer.to → GrewBy (WereDone asked.transfer.from asked.transfer.to) told told'
   pub spares : asked.transfer.from ≢ asked.transfer.to → GrewBy (SparesTold asked.transfer.from asked.transfer.to) told told'
   pub dense : asked.transfer.from ≢ asked.transfer.to → GrewBy (SparesFound asked.transfer.options asked.transfer.from asked.transfer.to) told told'
-  pub answered : asked.transfer.from ≢ asked.transfer.to → GrewBy (ReadsAreAnswered asked.transfer.from) told told'
+  pub answered : asked.transfer.from ≢ asked.transfer.to → GrewBy (ReadsAreAnswered asked.transfer.options.extents asked.transfer.from) told told'
   pub flushes : asked.transfer.from ≢ asked.transfer.to → GrewBy (FlushesBehind asked.transfer.from asked.transfer.to) told told'
   pub flushed : asked.transfer.from ≢ asked.transfer.to → GrewBy (FlushesWanted asked.transfer.options asked.transfer.from asked.transfer.to) told told'
   pub unflushed : asked.transfer.options.flush ≡ false → asked.transfer.from ≢ asked.transfer.to → GrewBy (IsUnflushed asked.transfer.to) told told'

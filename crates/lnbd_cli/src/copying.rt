@@ -75,7 +75,7 @@ fn copy<W: Wires>(alloc: Global, what: Transfer, wires: &mut W) -> Result<(), Co
     ensures done { what.from ≢ what.to → OnOk result (GrewBy (WereDone what.from what.to) (W.told wires.old) (W.told wires.new)) }
     ensures spares { what.from ≢ what.to → OnOk result (GrewBy (SparesTold what.from what.to) (W.told wires.old) (W.told wires.new)) }
     ensures dense { what.from ≢ what.to → OnOk result (GrewBy (SparesFound what.options what.from what.to) (W.told wires.old) (W.told wires.new)) }
-    ensures answered { what.from ≢ what.to → OnOk result (GrewBy (ReadsAreAnswered what.from) (W.told wires.old) (W.told wires.new)) }
+    ensures answered { what.from ≢ what.to → OnOk result (GrewBy (ReadsAreAnswered what.options.extents what.from) (W.told wires.old) (W.told wires.new)) }
     ensures flushes { what.from ≢ what.to → OnOk result (GrewBy (FlushesBehind what.from what.to) (W.told wires.old) (W.told wires.new)) }
     ensures flushed { what.from ≢ what.to → OnOk result (GrewBy (FlushesWanted what.options what.from what.to) (W.told wires.old) (W.told wires.new)) }
     ensures unflushed { what.options.flush ≡ false → what.from ≢ what.to → OnOk result (GrewBy (IsUnflushed what.to) (W.told wires.old) (W.told wires.new)) }

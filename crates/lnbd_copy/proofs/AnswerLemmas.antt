@@ -60,7 +60,7 @@ module _ (way : Way) (size : ℕ) (has : ℕ → Bool) (now : board.Seen) (calls
       }
 
   -- Where what is planned was heard, and may be read, each read was so.
-  pub reads_are_answered : (rest : List Slice) (cells : Cells) (told : ℕ → Bool) (end : ℕ) → ((p : ℕ) → IsPlannedOnce cells told 0 end p (way.slices ++ rest)) → ((p : ℕ) → p < end → MayBeRead way.from p calls) → ReadsAreAnswered way.from calls
+  pub reads_are_answered : (rest : List Slice) (cells : Cells) (told : ℕ → Bool) (end : ℕ) → ((p : ℕ) → IsPlannedOnce cells told 0 end p (way.slices ++ rest)) → ((p : ℕ) → p < end → MayBeRead way.extents way.from p calls) → ReadsAreAnswered way.extents way.from calls
   reads_are_answered rest cells told end planned may = record {
     each = λ link cookie command is p reads. elim (cases_lt p end) [
       | inl low ↦ may p low
@@ -84,13 +84,13 @@ wanted_starts planned range = elim (nat_lt planned.at (windows.window_end planne
 -- The extents that were asked for were answered: their range may be read.
 pub range_may_be_read : (way : Way) (size : ℕ) (planned : windows.Seen) (told : ℕ → Bool) (now : board.Seen) (calls : List wire.Call) (held : List (Held Ticket)) → way.size ≡ Some size → way.asked ≡ windows.wanted planned → IsHeardTo planned way.heard →
     ((p : ℕ) → IsPlannedOnce planned.plan.cells told 0 planned.plan.end p (way.slices ++ planned.plan.slices)) → now.mapped ≡ true → (on : IsOn way now calls held) → now.error ≡ None → way.from ≢ way.to →
-    (p : ℕ) → has_position way.asked p ≡ true → MayBeRead way.from p calls
+    (p : ℕ) → has_position way.asked p ≡ true → MayBeRead way.extents way.from p calls
 range_may_be_read way size planned told now calls held settled asked heard once mapped on well two p inside = go way.asked refl inside
   where
     s : Stands way on.has now calls []
     s = none_held way on.has now calls held on.seens on.at on.stands
 
-    go : (o : Option (ℕ × ℕ)) → way.asked ≡ o → has_position o p ≡ true → MayBeRead way.from p calls
+    go : (o : Option (ℕ × ℕ)) → way.asked ≡ o → has_position o p ≡ true → MayBeRead way.extents way.from p calls
     go None is none = absurd (false≢true none)
     go (Some range) is here =
         let starts : range.0 ≡ planned.at = wanted_starts planned range (sym asked ∙ is) in

@@ -1,5 +1,5 @@
 -- From a copy's first connection to all that it makes.
-use Rattle.std.proofs.Common.{◌≡◌, inr, ℕ, ◌+◌, ◌≤◌, Bool, true, false, not, List, [], length, Option, Some, None, Result, Ok, Err, IfOk, OnOk, if◌then◌else◌, refl, ap, sym, subst, ◌∙◌, arith}
+use Rattle.std.proofs.Common.{◌≡◌, ◌≢◌, inr, ℕ, ◌+◌, ◌≤◌, Bool, true, false, not, List, [], length, Option, Some, None, Result, Ok, Err, IfOk, OnOk, if◌then◌else◌, refl, ap, sym, subst, ◌∙◌, arith}
 use Rattle.std.proofs.lemmas.Bool.{false≢true}
 use Rattle.lnbd_model.specs.declared.target.Place.{Place}
 use Rattle.lnbd_link.specs.Call as wire
@@ -53,12 +53,12 @@ module _ (copy : Seen) (sides : Sides) (first : ℕ) where
   pub further_none : (now : board.Seen) (held : List (Held Ticket)) (told : Option (List wire.Call)) → GoesFurther copy sides first now held told now held told
   further_none now held told = record { stand = λ s. s; filed = λ s. filed_none now; on = λ size how start s count on. on; lasts = λ s. lasts_none told }
 
-  pub further_dials : (place : Place) (now now' : board.Seen) (held held2 held3 : List (Held Ticket)) (a b c : Option (List wire.Call)) → GoesFurther copy sides first now held a now' held2 b → Dials place now' held2 b held3 c →
-      (length held ≡ first → (size : Option ℕ) (how : How) → place_of (beginning copy size how sides) (length held2) ≡ place) → GoesFurther copy sides first now held a now' held3 c
-  further_dials place now now' held held2 held3 a b c further dials there = record {
+  pub further_dials : (place : Place) (extents : Bool) (now now' : board.Seen) (held held2 held3 : List (Held Ticket)) (a b c : Option (List wire.Call)) → GoesFurther copy sides first now held a now' held2 b → Dials place extents now' held2 b held3 c →
+      (length held ≡ first → length held2 ≢ 0) → (length held ≡ first → (size : Option ℕ) (how : How) → place_of (beginning copy size how sides) (length held2) ≡ place) → GoesFurther copy sides first now held a now' held3 c
+  further_dials place extents now now' held held2 held3 a b c further dials some there = record {
     stand = λ s. dials.stand (further.stand s);
     filed = further.filed;
-    on = λ size how start s count on. dials.on (beginning copy size how sides) start (there count size how) (further.on size how start s count on);
+    on = λ size how start s count on. dials.on (beginning copy size how sides) start (there count size how) (λ none. absurd (some count none)) (further.on size how start s count on);
     lasts = λ s. lasts_then a b c (further.lasts s) dials.lasts;
   }
 
@@ -112,34 +112,41 @@ agreed_on copy size how sides calls agrees on =
       hears = on.hears;
     }
 
-pub first_on : (copy : Seen) (h : List (Held Ticket)) (t u : Option (List wire.Call)) (how : How) (sides : Sides) → HasNotBegun copy → Dials copy.from copy.board copy.held t h u → Told t u (λ calls. IsOn (beginning copy None how sides) copy.board calls h)
+pub first_on : (copy : Seen) (h : List (Held Ticket)) (t u : Option (List wire.Call)) (how : How) (sides : Sides) → HasNotBegun copy → Dials copy.from copy.options.extents copy.board copy.held t h u → Told t u (λ calls. IsOn (beginning copy None how sides) copy.board calls h)
 first_on copy h t u how sides none first =
     let none_held : length copy.held ≡ 0 = ap (λ (l : List (Held Ticket)). length l) none.held in
-    first.on (beginning copy None how sides) t (from_first copy how sides (length copy.held) none_held) (told_begins t (begins_on copy how sides none))
+    first.on (beginning copy None how sides) t (from_first copy how sides (length copy.held) none_held) (λ none. refl) (told_begins t (begins_on copy how sides none))
+
+one_some : (n : ℕ) → n ≡ 1 → n ≢ 0
+one_some n one none = absurd (omega (arith, one, none))
+
+-- What the first handle asks for is what the options want.
+pub dials_as : (options : CopyOptions) (place : Place) (extents : Bool) (now : board.Seen) (held held' : List (Held Ticket)) (a b : Option (List wire.Call)) → extents ≡ options.extents → Dials place extents now held a held' b → Dials place options.extents now held a held' b
+dials_as options place extents now held held' a b same dials = subst (λ (e : Bool). Dials place e now held a held' b) same dials
 
 -- Both stand where a copy begins, however it is to be made.
-pub second_on : (copy : Seen) (b : board.Seen) (h i j : List (Held Ticket)) (t u v w : Option (List wire.Call)) (how : How) (sides : Sides) → HasNotBegun copy → Dials copy.from copy.board copy.held t h u → Goes copy.board h u b i v → Dials copy.to b i v j w →
+pub second_on : (copy : Seen) (b : board.Seen) (h i j : List (Held Ticket)) (t u v w : Option (List wire.Call)) (how : How) (sides : Sides) → HasNotBegun copy → Dials copy.from copy.options.extents copy.board copy.held t h u → Goes copy.board h u b i v → Dials copy.to false b i v j w →
     Stand j × Told t w (λ calls. IsOn (beginning copy None how sides) b calls j)
 second_on copy b h i j t u v w how sides none first one second =
     let way = beginning copy None how sides in
     let s1 = first.stand (no_handles copy none) in
     let one_held : length i ≡ 1 = one.many s1 ∙ first.many ∙ ap (λ (n : ℕ). n + 1) (ap (λ (l : List (Held Ticket)). length l) none.held) in
-    (second.stand (one.stand s1), second.on way t (to_second copy how sides (length i) one_held) (one.on false way t s1 (first_on copy h t u how sides none first)))
+    (second.stand (one.stand s1), second.on way t (to_second copy how sides (length i) one_held) (λ none. absurd (one_some (length i) one_held none)) (one.on false way t s1 (first_on copy h t u how sides none first)))
 
 module _ (copy : Seen) (b c : board.Seen) (h i j k : List (Held Ticket)) (t u v w x : Option (List wire.Call)) where
-  two_stand : Dials copy.from copy.board copy.held t h u → Goes copy.board h u b i v → Dials copy.to b i v j w → Goes b j w c k x → HasNotBegun copy → length k ≡ 2
+  two_stand : Dials copy.from copy.options.extents copy.board copy.held t h u → Goes copy.board h u b i v → Dials copy.to false b i v j w → Goes b j w c k x → HasNotBegun copy → length k ≡ 2
   two_stand first one second two none =
       let s1 = first.stand (no_handles copy none) in
       let s2 = one.stand s1 in
       let s3 = second.stand s2 in
       two.many s3 ∙ second.many ∙ ap (λ (n : ℕ). n + 1) (one.many s1 ∙ first.many ∙ ap (λ (n : ℕ). n + 1) (ap (λ (l : List (Held Ticket)). length l) none.held))
 
-  pub two_on : (how : How) (sides : Sides) → HasNotBegun copy → Dials copy.from copy.board copy.held t h u → Goes copy.board h u b i v → Dials copy.to b i v j w → Goes b j w c k x → Told t x (λ calls. IsOn (beginning copy None how sides) c calls k)
+  pub two_on : (how : How) (sides : Sides) → HasNotBegun copy → Dials copy.from copy.options.extents copy.board copy.held t h u → Goes copy.board h u b i v → Dials copy.to false b i v j w → Goes b j w c k x → Told t x (λ calls. IsOn (beginning copy None how sides) c calls k)
   two_on how sides none first one second two =
       let both = second_on copy b h i j t u v w how sides none first one second in
       two.on false (beginning copy None how sides) t both.0 both.1
 
-  pub has_met : (terms : Terms) → IsWished copy.options terms → IsLimited copy.options terms → HasSettled copy.options copy.from copy.to t x terms → Agrees terms.size k → HasNotBegun copy → Dials copy.from copy.board copy.held t h u → Goes copy.board h u b i v → Dials copy.to b i v j w → Goes b j w c k x →
+  pub has_met : (terms : Terms) → IsWished copy.options terms → IsLimited copy.options terms → HasSettled copy.options copy.from copy.to t x terms → Agrees terms.size k → HasNotBegun copy → Dials copy.from copy.options.extents copy.board copy.held t h u → Goes copy.board h u b i v → Dials copy.to false b i v j w → Goes b j w c k x →
       HasMet (record copy { held = k; board = c }) t x terms
   has_met terms wished limited settled agrees none first one second two =
       let s0 = no_handles copy none in
@@ -168,14 +175,14 @@ destination_place copy size how sides n is = ap (λ (b : Bool). if b then copy.f
 
 -- A connection more is made where these were made before.
 module _ (copy mid new : Seen) (sides : Sides) (first : ℕ) (a b c : Option (List wire.Call)) (kept : mid ≡ record copy { held = mid.held; board = mid.board }) (same : new.board ≡ mid.board) (further : GoesFurther copy sides first copy.board copy.held a mid.board mid.held b) where
-  pub source_more : Dials mid.from mid.board mid.held b new.held c → (length copy.held ≡ first → is_source sides (length mid.held) ≡ true) → GoesFurther copy sides first copy.board copy.held a new.board new.held c
-  source_more dials side = subst (λ (n : board.Seen). GoesFurther copy sides first copy.board copy.held a n new.held c) (sym same)
-      (further_dials copy sides first mid.from copy.board mid.board copy.held mid.held new.held a b c further dials
+  pub source_more : (extents : Bool) → Dials mid.from extents mid.board mid.held b new.held c → (length copy.held ≡ first → length mid.held ≢ 0) → (length copy.held ≡ first → is_source sides (length mid.held) ≡ true) → GoesFurther copy sides first copy.board copy.held a new.board new.held c
+  source_more extents dials some side = subst (λ (n : board.Seen). GoesFurther copy sides first copy.board copy.held a n new.held c) (sym same)
+      (further_dials copy sides first mid.from extents copy.board mid.board copy.held mid.held new.held a b c further dials some
       (λ count size how. source_place copy size how sides (length mid.held) (side count) ∙ sym (ap (λ (s : Seen). s.from) kept)))
 
-  pub destination_more : Dials mid.to mid.board mid.held b new.held c → (length copy.held ≡ first → is_source sides (length mid.held) ≡ false) → GoesFurther copy sides first copy.board copy.held a new.board new.held c
-  destination_more dials side = subst (λ (n : board.Seen). GoesFurther copy sides first copy.board copy.held a n new.held c) (sym same)
-      (further_dials copy sides first mid.to copy.board mid.board copy.held mid.held new.held a b c further dials
+  pub destination_more : (extents : Bool) → Dials mid.to extents mid.board mid.held b new.held c → (length copy.held ≡ first → length mid.held ≢ 0) → (length copy.held ≡ first → is_source sides (length mid.held) ≡ false) → GoesFurther copy sides first copy.board copy.held a new.board new.held c
+  destination_more extents dials some side = subst (λ (n : board.Seen). GoesFurther copy sides first copy.board copy.held a n new.held c) (sym same)
+      (further_dials copy sides first mid.to extents copy.board mid.board copy.held mid.held new.held a b c further dials some
       (λ count size how. destination_place copy size how sides (length mid.held) (side count) ∙ sym (ap (λ (s : Seen). s.to) kept)))
 
 -- Its connections and its board go on.
@@ -188,13 +195,13 @@ kept_then a b c one two = two ∙ ap (λ (s : Seen). with_held s c) one
 -- The first connection of each side stands, and both have settled.
 pub meets : (s0 s1 s2 s3 s4 : Seen) (t u v w x : Option (List wire.Call)) (options : CopyOptions) (held : List (Held Ticket)) (terms : Terms) →
     s1 ≡ with_held s0 s1 → s2 ≡ with_held s1 s2 → s3 ≡ with_held s2 s3 → s4 ≡ with_held s3 s4 → s1.board ≡ s0.board → s3.board ≡ s2.board → options ≡ s4.options → held ≡ s4.held →
-    Dials s0.from s0.board s0.held t s1.held u → Goes s1.board s1.held u s2.board s2.held v → Dials s2.to s2.board s2.held v s3.held w → Goes s3.board s3.held w s4.board s4.held x →
+    Dials s0.from s0.options.extents s0.board s0.held t s1.held u → Goes s1.board s1.held u s2.board s2.held v → Dials s2.to false s2.board s2.held v s3.held w → Goes s3.board s3.held w s4.board s4.held x →
     HasNotBegun s0 → AreAgreed options terms held → HasSettled options s0.from s0.to t x terms → HasMet s4 t x terms
 meets s0 s1 s2 s3 s4 t u v w x options held terms k1 k2 k3 k4 b1 b3 same_options same_held first one second two none agreed settled =
     let k02 = kept_then s0 s1 s2 k1 k2 in
     let k04 = kept_then s0 s2 s4 k02 (kept_then s2 s3 s4 k3 k4) in
     let one' : Goes s0.board s1.held u s2.board s2.held v = subst (λ (b : board.Seen). Goes b s1.held u s2.board s2.held v) b1 one in
-    let second' : Dials s0.to s2.board s2.held v s3.held w = subst (λ (p : Place). Dials p s2.board s2.held v s3.held w) (ap (λ (s : Seen). s.to) k02) second in
+    let second' : Dials s0.to false s2.board s2.held v s3.held w = subst (λ (p : Place). Dials p false s2.board s2.held v s3.held w) (ap (λ (s : Seen). s.to) k02) second in
     let two' : Goes s2.board s3.held w s4.board s4.held x = subst (λ (b : board.Seen). Goes b s3.held w s4.board s4.held x) b3 two in
     subst (λ (s : Seen). HasMet s t x terms) (sym k04)
     (has_met s0 s2.board s4.board s1.held s2.held s3.held s4.held t u v w x terms (subst (λ (o : CopyOptions). IsWished o terms) (same_options ∙ ap (λ (s : Seen). s.options) k04) agreed.wished)
@@ -203,11 +210,11 @@ meets s0 s1 s2 s3 s4 t u v w x options held terms k1 k2 k3 k4 b1 b3 same_options
     (subst (Agrees terms.size) same_held agreed.size) none first one' second' two')
 
 pub two_meet : (s0 s1 s2 s3 s4 : Seen) (t u v w x : Option (List wire.Call)) → s1 ≡ with_held s0 s1 → s2 ≡ with_held s1 s2 → s1.board ≡ s0.board → s3.board ≡ s2.board →
-    Dials s0.from s0.board s0.held t s1.held u → Goes s1.board s1.held u s2.board s2.held v → Dials s2.to s2.board s2.held v s3.held w → Goes s3.board s3.held w s4.board s4.held x → HasNotBegun s0 → length s4.held ≡ 2
+    Dials s0.from s0.options.extents s0.board s0.held t s1.held u → Goes s1.board s1.held u s2.board s2.held v → Dials s2.to false s2.board s2.held v s3.held w → Goes s3.board s3.held w s4.board s4.held x → HasNotBegun s0 → length s4.held ≡ 2
 two_meet s0 s1 s2 s3 s4 t u v w x k1 k2 b1 b3 first one second two none =
     let k02 = kept_then s0 s1 s2 k1 k2 in
     let one' : Goes s0.board s1.held u s2.board s2.held v = subst (λ (b : board.Seen). Goes b s1.held u s2.board s2.held v) b1 one in
-    let second' : Dials s0.to s2.board s2.held v s3.held w = subst (λ (p : Place). Dials p s2.board s2.held v s3.held w) (ap (λ (s : Seen). s.to) k02) second in
+    let second' : Dials s0.to false s2.board s2.held v s3.held w = subst (λ (p : Place). Dials p false s2.board s2.held v s3.held w) (ap (λ (s : Seen). s.to) k02) second in
     let two' : Goes s2.board s3.held w s4.board s4.held x = subst (λ (b : board.Seen). Goes b s3.held w s4.board s4.held x) b3 two in
     two_stand s0 s2.board s4.board s1.held s2.held s3.held s4.held t u v w x first one' second' two' none
 
@@ -233,7 +240,7 @@ further_kept copy mid sides first now now' held held' a b kept further =
     record { stand = same.stand; filed = same.filed; on = λ size how start s count on. same.on size how start s count on; lasts = same.lasts }
 
 -- Where no extents may be asked for, every position counts as heard.
-all_heard : (way : Way) (extents : Bool) (now : board.Seen) (calls : List wire.Call) (held : List (Held Ticket)) → (extents ≡ false → FirstAgreedNone way.from calls) → IsOn way now calls held → IsOn (record way { heard = λ p. not extents }) now calls held
+all_heard : (way : Way) (extents : Bool) (now : board.Seen) (calls : List wire.Call) (held : List (Held Ticket)) → (extents ≡ false → FirstAgreedNone way.extents way.from calls) → IsOn way now calls held → IsOn (record way { heard = λ p. not extents }) now calls held
 all_heard way extents now calls held silent on = record {
   has = on.has;
   seens = on.seens;
@@ -243,7 +250,7 @@ all_heard way extents now calls held silent on = record {
   stands = record { between = on.stands.between; told = on.stands.told };
   rest = on.rest;
   all = on.all;
-  hears = record { answered = λ well two p h. inr (silent (not_true extents h)); first = on.hears.first };
+  hears = record { answered = λ well two p h. inr (silent (not_true extents h)); first = on.hears.first; begun = on.hears.begun };
 }
   where
     not_true : (b : Bool) → not b ≡ true → b ≡ false
@@ -252,7 +259,7 @@ all_heard way extents now calls held silent on = record {
 
 -- What is settled begins.
 pub begins_job : (copy : Seen) (start told : Option (List wire.Call)) (terms : Terms) (j : job.Seen) (now : board.Seen) (extents : Bool) → HasMet copy start told terms → copy.board.error ≡ None → now.rows ≡ [] → now.begun ≡ 0 → HasNotCounted now → now.how ≡ terms.how → j.terms ≡ terms → j.phase ≡ Copying →
-    (extents ≡ false → (calls : List wire.Call) → IsOn (beginning copy (Some terms.size) terms.how terms.sides) copy.board calls copy.held → FirstAgreedNone copy.from calls) →
+    (extents ≡ false → (calls : List wire.Call) → IsOn (beginning copy (Some terms.size) terms.how terms.sides) copy.board calls copy.held → FirstAgreedNone copy.options.extents copy.from calls) →
     ((way : Way) (b : board.Seen) → way.size ≡ Some terms.size → b.how ≡ terms.how → way.how ≡ terms.how → way.sides ≡ terms.sides → way.slices ≡ [] → way.asked ≡ None → ((block p : ℕ) → way.whole block p ≡ false) → b.flushing ≡ false → (extents ≡ false → (p : ℕ) → way.heard p ≡ true) → job.IsJob j way b) →
     IsOnItsWay start told (record copy { board = now; job = Some j })
 begins_job copy start told terms j now extents met well empty new uncounted writes same copying silent is =
@@ -265,6 +272,7 @@ begins_job copy start told terms j now extents met well empty new uncounted writ
       way = way;
       from = refl;
       to = refl;
+      extents = refl;
       wished = subst (IsWished copy.options) (sym same) met.wished;
       limited = subst (IsLimited copy.options) (sym same) met.limited;
       most = subst (λ (rows : List (ℕ × Row)). length rows ≤ j.terms.limit) (sym empty) (omega arith);

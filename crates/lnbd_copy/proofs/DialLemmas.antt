@@ -31,10 +31,12 @@ use Rattle.lnbd_course.specs.Told as course
 use Rattle.lnbd_course.proofs.Opening.{opens_between}
 use Rattle.lnbd_course.proofs.Telling.{opening_tells, others_tell}
 use Rattle.lnbd_copy.specs.declared.sides.Sides.{Sides}
-use Rattle.lnbd_copy.specs.Opening.{Dials, base_allocation, context_of, opened, place_of, with_context}
+use Rattle.lnbd_copy.specs.Begun.{BeganAs, base_allocation, context_of, opened, with_context}
+use Rattle.lnbd_copy.specs.Opening.{Dials, place_of}
 use Rattle.lnbd_copy.specs.Way.{AreSided, HasRested, IsOn, Way, is_source, known_of}
 use Rattle.lnbd_copy.proofs.LastLemmas.{lasts_adds}
 use Rattle.lnbd_copy.proofs.HeldLemmas.{held_more}
+use Rattle.lnbd_copy.proofs.BegunLemmas.{first_stays, went_none}
 use Rattle.lnbd_copy.proofs.HeardLemmas.{hears_dialed, hears_on}
 use Rattle.lnbd_copy.proofs.StepLemmas.{nothing_stands, settling_stands}
 use Rattle.lnbd_copy.proofs.TurnLemmas.{at_count, rested_on, none_some, since_on, some_same}
@@ -50,7 +52,7 @@ nothing_is_on way now unsettled none unasked unknown empty new uncounted unreste
   stands = nothing_stands way (λ link. false) now unsettled none unasked unknown empty uncounted;
   rest = subst (λ (o : Option board.Seen). HasRested way.from way.to way.size o []) (sym unrested) tt;
   all = λ link apart. refl;
-  hears = record { answered = λ well two p h. absurd (false≢true (sym (unheard p) ∙ h)); first = refl };
+  hears = record { answered = λ well two p h. absurd (false≢true (sym (unheard p) ∙ h)); first = refl; begun = tt };
 }
 
 -- Another board, of a copy that writes otherwise, takes the place of one that is empty, before any slice is begun.
@@ -65,7 +67,7 @@ settled way how now now' calls held none unasked empty well unflushed empty' new
   stands = settling_stands way on.has how now now' calls on.seens none unasked on.stands empty well unflushed empty' uncounted;
   rest = on.rest;
   all = on.all;
-  hears = hears_on false way.from way.to way.heard now.error now'.error (λ none. well) calls on.seens on.seens refl on.hears;
+  hears = hears_on false way.extents way.from way.to way.heard now.error now'.error (λ none. well) calls on.seens on.seens (first_stays on.seens) on.hears;
 }
 
 -- The last of some handles.
@@ -161,9 +163,9 @@ side_place way n place is = is
 
 -- With a handle more, on a link that was just made, a copy is on its way.
 dialed : (way : Way) (now : board.Seen) (calls : List wire.Call) (held : List (Held Ticket)) (place : Place) (link : ℕ) (extents : Bool) (handle : Machine Ticket)
-    → place_of way (length held) ≡ place → IsOn way now calls held → is_given link calls ≡ false → length place.name ≤ max_text → StandsFor max_unretired (opened place.name extents) handle
+    → place_of way (length held) ≡ place → (length held ≡ 0 → way.extents ≡ extents) → IsOn way now calls held → is_given link calls ≡ false → length place.name ≤ max_text → StandsFor max_unretired (opened place.name extents) handle
     → IsOn way now (calls ++ wire.Connect place.to (Some link) ∷ []) (held ++ record { link = link; handle = handle; inbox = [] } ∷ [])
-dialed way now calls held place link extents handle there on new short stands =
+dialed way now calls held place link extents handle there wants on new short stands =
     let side = is_source way.sides (length on.seens) in
     let history = opened place.name extents in
     let last : Seen Ticket = record { link = link; history = history; unread = [] } in
@@ -183,8 +185,14 @@ dialed way now calls held place link extents handle there on new short stands =
       };
       rest = rested_on way.from way.to way.size way.rested calls (wire.Connect place.to (Some link) ∷ []) on.rest;
       all = held_more calls place.to link on.seens last refl on.all;
-      hears = hears_dialed way.from way.to way.heard now.error calls on.seens place.to last on.hears;
+      hears = hears_dialed way.extents way.from way.to way.heard now.error calls on.seens place.to last (λ none. began_first none (at_count held on.seens on.at)) on.hears;
     }
+  where
+    began_first : length on.seens ≡ 0 → length held ≡ length on.seens → BeganAs (opened way.from.name way.extents) (opened place.name extents)
+    began_first none count =
+        let at : way.from ≡ place = ap (λ (n : ℕ). place_of way n) (sym (count ∙ none)) ∙ there in
+        subst (λ (e : Bool). BeganAs (opened way.from.name e) (opened place.name extents)) (sym (wants (count ∙ none)))
+        (subst (λ (p : Place). BeganAs (opened p.name extents) (opened place.name extents)) (sym at) (went_none (opened place.name extents)))
 
 -- what is given by none of some calls is given by none of the last
 last_free : (link : ℕ) (before calls : List wire.Call) → is_given link (before ++ calls) ≡ false → is_given link calls ≡ false
@@ -200,17 +208,17 @@ count_more (first ∷ others) one = let rest = count_more others one in omega (a
 
 pub dials : (a b c : Option (List wire.Call)) (place : Place) (now : board.Seen) (held held' : List (Held Ticket)) (link : ℕ) (extents : Bool) (handle : Machine Ticket)
     → Adds a b (wire.Connect place.to (Some link)) → ((calls : List wire.Call) → a ≡ Some calls → is_given link calls ≡ false) → c ≡ b → length place.name ≤ max_text → StandsFor max_unretired (opened place.name extents) handle
-    → held' ≡ held ++ record { link = link; handle = handle; inbox = [] } ∷ [] → Dials place now held a held' c
+    → held' ≡ held ++ record { link = link; handle = handle; inbox = [] } ∷ [] → Dials place extents now held a held' c
 dials a b c place now held held' link extents handle adds fresh told_is short stands held_is =
-    subst (λ (t : Option (List wire.Call)). Dials place now held a held' t) (sym told_is) (subst (λ (l : List (Held Ticket)). Dials place now held a l b) (sym held_is) (record {
+    subst (λ (t : Option (List wire.Call)). Dials place extents now held a held' t) (sym told_is) (subst (λ (l : List (Held Ticket)). Dials place extents now held a l b) (sym held_is) (record {
       stand = λ s. record { seens = s.seens ++ record { link = link; history = opened place.name extents; unread = [] } ∷ []; at = last_at held s.seens link handle (opened place.name extents) s.at stands };
       many = count_more held (record { link = link; handle = handle; inbox = [] });
-      on = λ way start is told. record {
+      on = λ way start is wants told. record {
         since = λ all told_all.
             let grown = adds all told_all in
             let since = told.since grown.0 grown.1 in
             let free = last_free link since.before since.calls (subst (λ (l : List wire.Call). is_given link l ≡ false) since.now (fresh grown.0 grown.1)) in
-            since_on start grown.0 all (wire.Connect place.to (Some link) ∷ []) grown.2 since (dialed way now since.calls held place link extents handle is since.is free short stands);
+            since_on start grown.0 all (wire.Connect place.to (Some link) ∷ []) grown.2 since (dialed way now since.calls held place link extents handle is wants since.is free short stands);
       };
       lasts = lasts_adds a b (wire.Connect place.to (Some link)) adds;
     }))

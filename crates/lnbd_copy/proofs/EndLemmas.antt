@@ -98,6 +98,7 @@ module _ (copy : Seen) (start : Option (List wire.Call)) where
     way = on.way;
     from = on.from;
     to = on.to;
+    extents = on.extents;
     wished = on.wished;
     limited = on.limited;
     most = (let many = (goes.filed on.stand).many in let most = on.most in omega (arith, many, most));
@@ -119,6 +120,7 @@ module _ (copy : Seen) (start : Option (List wire.Call)) where
         way = acted.way';
         from = acted.one.from ∙ on.from;
         to = acted.one.to ∙ on.to;
+        extents = acted.one.extents ∙ on.extents;
         wished = subst (IsWished copy.options) (ap (λ (x : job.Seen). x.terms) same ∙ sym terms) on.wished;
         limited = subst (IsLimited copy.options) (ap (λ (x : job.Seen). x.terms) same ∙ sym terms) on.limited;
         most = subst (λ (t : Terms). length now.rows ≤ t.limit) (sym terms) (few (subst (λ (x : job.Seen). length copy.board.rows ≤ x.terms.limit) same on.most));
@@ -143,6 +145,7 @@ module _ (copy : Seen) (start : Option (List wire.Call)) where
         way = on.way;
         from = on.from;
         to = on.to;
+        extents = on.extents;
         wished = on.wished;
         limited = on.limited;
         most = (let many = leaves.filed.many in let most = on.most in omega (arith, many, most));
@@ -278,16 +281,16 @@ way_asks copy start told well on two =
     on.on
 
 -- Each read of the source so far was answered before, or no block status could be asked for.
-under_way_answers : (j : job.Seen) (way : Way) (now : board.Seen) (parting : Bool) (calls : List wire.Call) (held : List (Held Ticket)) → job.IsJob j way now → now.error ≡ None → IsUnderWay parting way now calls held → way.from ≢ way.to → ReadsAreAnswered way.from calls
+under_way_answers : (j : job.Seen) (way : Way) (now : board.Seen) (parting : Bool) (calls : List wire.Call) (held : List (Held Ticket)) → job.IsJob j way now → now.error ≡ None → IsUnderWay parting way now calls held → way.from ≢ way.to → ReadsAreAnswered way.extents way.from calls
 under_way_answers j way now parting calls held is well on two =
     let reached = is.heard.planned in
     reads_are_answered way j.terms.size on.has now calls is.size (none_held way on.has now calls held on.seens on.at on.stands) well two j.windows.plan.slices j.windows.plan.cells (told_by 0 is.planned.parts) j.windows.plan.end (planned_once j way now is)
     (λ p low. on.hears.answered well two p (is.heard.before p (omega (arith, low, reached))))
 
-pub way_answers : (copy : Seen) (start told : Option (List wire.Call)) → copy.board.error ≡ None → IsOnItsWay start told copy → copy.from ≢ copy.to → Told start told (ReadsAreAnswered copy.from)
+pub way_answers : (copy : Seen) (start told : Option (List wire.Call)) → copy.board.error ≡ None → IsOnItsWay start told copy → copy.from ≢ copy.to → Told start told (ReadsAreAnswered copy.options.extents copy.from)
 way_answers copy start told well on two =
     let apart : on.way.from ≢ on.way.to = λ e. two (sym on.from ∙ e ∙ on.to) in
-    told_as start told (λ calls is. subst (λ (f : Place). ReadsAreAnswered f calls) on.from (under_way_answers on.job on.way copy.board (job.is_parting on.job.phase) calls copy.held on.is well is apart)) on.on
+    told_as start told (λ calls is. subst (λ (b : Bool). ReadsAreAnswered b copy.from calls) on.extents (subst (λ (f : Place). ReadsAreAnswered on.way.extents f calls) on.from (under_way_answers on.job on.way copy.board (job.is_parting on.job.phase) calls copy.held on.is well is apart))) on.on
 
 -- No block of the source was read that one answer told as zero whole.
 way_spares : (j : job.Seen) (way : Way) (now : board.Seen) (calls : List wire.Call) → (is : job.IsJob j way now) → job.IsOver j now → (has : ℕ → Bool) → Stands way has now calls [] → now.error ≡ None → way.from ≢ way.to → ReadsNoZeros j.terms.grain (dealt_with way.from calls)
@@ -445,10 +448,10 @@ done_flushed copy new a b c kept same two done =
     subst (λ (t : Option (List wire.Call)). GrewBy (FlushesWanted copy.options copy.from copy.to) a t) (sym same) (told_part a b (so.flushed two))
 
 -- Each read was answered before, or no block status could be asked for.
-pub done_answers : (copy new : Seen) (a b c : Option (List wire.Call)) → new ≡ record copy { start = new.start; held = new.held; board = new.board; job = new.job } → c ≡ b → copy.from ≢ copy.to → IsDone a b new → GrewBy (ReadsAreAnswered copy.from) a c
+pub done_answers : (copy new : Seen) (a b c : Option (List wire.Call)) → new ≡ record copy { start = new.start; held = new.held; board = new.board; job = new.job } → c ≡ b → copy.from ≢ copy.to → IsDone a b new → GrewBy (ReadsAreAnswered copy.options.extents copy.from) a c
 done_answers copy new a b c kept same two done =
     let so = subst (λ (s : Seen). IsDone a b s) kept done in
-    subst (λ (t : Option (List wire.Call)). GrewBy (ReadsAreAnswered copy.from) a t) (sym same) (told_part a b (so.answered two))
+    subst (λ (t : Option (List wire.Call)). GrewBy (ReadsAreAnswered copy.options.extents copy.from) a t) (sym same) (told_part a b (so.answered two))
 
 -- It asked for no flush where its options want none.
 pub done_unflushed : (copy new : Seen) (a b c : Option (List wire.Call)) → new ≡ record copy { start = new.start; held = new.held; board = new.board; job = new.job } → c ≡ b → copy.options.flush ≡ false → copy.from ≢ copy.to → IsDone a b new → GrewBy (IsUnflushed copy.to) a c

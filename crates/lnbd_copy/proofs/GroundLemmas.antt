@@ -248,7 +248,7 @@ one_side : Sides
 one_side = record { source = 1; destination = 1 }
 
 -- A step fails behind the source's first connection,
-pub source_fails : (s0 s1 : copier.Seen) (t u c : Option (List wire.Call)) (why : CopyFault) → s1.board ≡ s0.board → Dials s0.from s0.board s0.held t s1.held u → HasNotBegun s0 → FailsOn false s1.board s1.held u c why → IsGrounded t c s0.from s0.to why
+pub source_fails : (s0 s1 : copier.Seen) (t u c : Option (List wire.Call)) (why : CopyFault) → s1.board ≡ s0.board → Dials s0.from s0.options.extents s0.board s0.held t s1.held u → HasNotBegun s0 → FailsOn false s1.board s1.held u c why → IsGrounded t c s0.from s0.to why
 source_fails s0 s1 t u c why same first none fails =
     let how = s0.board.how in
     fails.on (beginning s0 None how one_side) t (first.stand (no_handles s0 none)) (subst (λ (b : board.Seen). Told t u (λ calls. IsOn (beginning s0 None how one_side) b calls s1.held)) (sym same) (first_on s0 s1.held t u how one_side none first))
@@ -256,12 +256,12 @@ source_fails s0 s1 t u c why same first none fails =
 goes_first : (s0 s1 s2 : copier.Seen) (u v : Option (List wire.Call)) → s1.board ≡ s0.board → Goes s1.board s1.held u s2.board s2.held v → Goes s0.board s1.held u s2.board s2.held v
 goes_first s0 s1 s2 u v same one = subst (λ (b : board.Seen). Goes b s1.held u s2.board s2.held v) same one
 
-dials_second : (s0 s1 s2 s3 : copier.Seen) (v w : Option (List wire.Call)) → s1 ≡ with_held s0 s1 → s2 ≡ with_held s1 s2 → Dials s2.to s2.board s2.held v s3.held w → Dials s0.to s2.board s2.held v s3.held w
-dials_second s0 s1 s2 s3 v w k1 k2 second = subst (λ (p : Place). Dials p s2.board s2.held v s3.held w) (ap (λ (s : copier.Seen). s.to) (kept_then s0 s1 s2 k1 k2)) second
+dials_second : (s0 s1 s2 s3 : copier.Seen) (v w : Option (List wire.Call)) → s1 ≡ with_held s0 s1 → s2 ≡ with_held s1 s2 → Dials s2.to false s2.board s2.held v s3.held w → Dials s0.to false s2.board s2.held v s3.held w
+dials_second s0 s1 s2 s3 v w k1 k2 second = subst (λ (p : Place). Dials p false s2.board s2.held v s3.held w) (ap (λ (s : copier.Seen). s.to) (kept_then s0 s1 s2 k1 k2)) second
 
 -- or behind the destination's,
 pub destination_fails : (s0 s1 s2 s3 : copier.Seen) (t u v w c : Option (List wire.Call)) (why : CopyFault) → s1 ≡ with_held s0 s1 → s2 ≡ with_held s1 s2 → s1.board ≡ s0.board → s3.board ≡ s2.board →
-    Dials s0.from s0.board s0.held t s1.held u → Goes s1.board s1.held u s2.board s2.held v → Dials s2.to s2.board s2.held v s3.held w → HasNotBegun s0 → FailsOn false s3.board s3.held w c why → IsGrounded t c s0.from s0.to why
+    Dials s0.from s0.options.extents s0.board s0.held t s1.held u → Goes s1.board s1.held u s2.board s2.held v → Dials s2.to false s2.board s2.held v s3.held w → HasNotBegun s0 → FailsOn false s3.board s3.held w c why → IsGrounded t c s0.from s0.to why
 destination_fails s0 s1 s2 s3 t u v w c why k1 k2 b1 b3 first one second none fails =
     let how = s0.board.how in
     let both = second_on s0 s2.board s1.held s2.held s3.held t u v w how one_side none first (goes_first s0 s1 s2 u v b1 one) (dials_second s0 s1 s2 s3 v w k1 k2 second) in
@@ -269,7 +269,7 @@ destination_fails s0 s1 s2 s3 t u v w c why k1 k2 b1 b3 first one second none fa
 
 -- or what both were told is refused.
 pub found_fails : (s0 s1 s2 s3 s4 : copier.Seen) (t u v w x : Option (List wire.Call)) (held : List (Held Ticket)) (why : CopyFault) → s1 ≡ with_held s0 s1 → s2 ≡ with_held s1 s2 → s1.board ≡ s0.board → s3.board ≡ s2.board → held ≡ s4.held →
-    Dials s0.from s0.board s0.held t s1.held u → Goes s1.board s1.held u s2.board s2.held v → Dials s2.to s2.board s2.held v s3.held w → Goes s3.board s3.held w s4.board s4.held x → HasNotBegun s0 → ((sides : Sides) → IsFound sides held why) →
+    Dials s0.from s0.options.extents s0.board s0.held t s1.held u → Goes s1.board s1.held u s2.board s2.held v → Dials s2.to false s2.board s2.held v s3.held w → Goes s3.board s3.held w s4.board s4.held x → HasNotBegun s0 → ((sides : Sides) → IsFound sides held why) →
     IsGrounded t x s0.from s0.to why
 found_fails s0 s1 s2 s3 s4 t u v w x held why k1 k2 b1 b3 same first one second two none found =
     let how = s0.board.how in
@@ -279,7 +279,7 @@ found_fails s0 s1 s2 s3 s4 t u v w x held why k1 k2 b1 b3 same first one second 
 
 -- What both were told settles the terms.
 pub found_terms : (s0 s1 s2 s3 s4 : copier.Seen) (t u v w x : Option (List wire.Call)) (options : CopyOptions) (terms : Terms) (held : List (Held Ticket)) → s1 ≡ with_held s0 s1 → s2 ≡ with_held s1 s2 → s1.board ≡ s0.board → s3.board ≡ s2.board → held ≡ s4.held →
-    Dials s0.from s0.board s0.held t s1.held u → Goes s1.board s1.held u s2.board s2.held v → Dials s2.to s2.board s2.held v s3.held w → Goes s3.board s3.held w s4.board s4.held x → HasNotBegun s0 → FindsTerms options terms held →
+    Dials s0.from s0.options.extents s0.board s0.held t s1.held u → Goes s1.board s1.held u s2.board s2.held v → Dials s2.to false s2.board s2.held v s3.held w → Goes s3.board s3.held w s4.board s4.held x → HasNotBegun s0 → FindsTerms options terms held →
     HasSettled options s0.from s0.to t x terms
 found_terms s0 s1 s2 s3 s4 t u v w x options terms held k1 k2 b1 b3 same first one second two none finds =
     let how = s0.board.how in

@@ -1,17 +1,17 @@
 -- What stands of the positions that count as heard goes on standing, and so does the first connection.
-use Rattle.std.proofs.Common.{◌≡◌, ◌||◌, inl, inr, ℕ, zero, suc, Bool, true, false, List, [], ◌∷◌, ◌++◌, Option, Some, None, slice_get, refl, ap, sym, ◌∙◌}
+use Rattle.std.proofs.Common.{◌≡◌, ◌||◌, inl, inr, ℕ, Bool, true, false, List, [], ◌∷◌, ◌++◌, length, Option, Some, None, slice_get, refl, ap, sym, ◌∙◌}
 use Rattle.std.proofs.lemmas.Bool.{eq-eqb, false≢true}
 use Rattle.std.proofs.lemmas.List.{append_assoc}
 use Rattle.lnbd_model.specs.declared.target.Place.{Place}
 use Rattle.lnbd_model.specs.declared.target.Target.{Target}
 use Rattle.lnbd_link.specs.Call as wire
 use Rattle.lnbd_link.specs.Numbers.{given_by, gives, is_given, is_number}
-use Rattle.lnbd_history.specs.Events.{Event}
 use Rattle.lnbd_poll.specs.Seen.{Seen}
-use Rattle.lnbd_drives.specs.Driving.{with_event}
 use Rattle.lnbd_board.specs.declared.ticket.Ticket.{Ticket}
 use Rattle.lnbd_course.proofs.Answering.{answers_stay}
+use Rattle.lnbd_copy.specs.Begun.{BeganAs, opened}
 use Rattle.lnbd_copy.specs.Statuses.{FirstAgreedNone, Hears, IsFirst, MayBeRead, first_given, first_held, or_later}
+use Rattle.lnbd_copy.proofs.BegunLemmas.{FirstGoes, began_stays, last_began, link_stays}
 
 -- The first number that calls gave.
 
@@ -55,11 +55,6 @@ none_given (call ∷ calls) none = go (none_given calls (λ link. others (gives 
 
 -- The first handle.
 
-pub event_first : (index : ℕ) (event : Event Ticket) (seens : List (Seen Ticket)) → first_held (with_event index event seens) ≡ first_held seens
-event_first index event [] = refl
-event_first zero event (seen ∷ others) = refl
-event_first (suc index) event (seen ∷ others) = refl
-
 some_same : (one other : Seen Ticket) → Some one ≡ Some other → one ≡ other
 some_same one other e = cc
 
@@ -90,8 +85,8 @@ no_more_given more seens none = ap (or_later (first_held seens)) (none_given mor
 
 -- What may be read.
 
-none_stays : (from : Place) (calls more : List wire.Call) → FirstAgreedNone from calls → FirstAgreedNone from (calls ++ more)
-none_stays from calls more agreed = record {
+none_stays : (extents : Bool) (from : Place) (calls more : List wire.Call) → FirstAgreedNone extents from calls → FirstAgreedNone extents from (calls ++ more)
+none_stays extents from calls more agreed = record {
   before = agreed.before;
   after = agreed.after ++ more;
   are = ap (λ (l : List wire.Call). l ++ more) agreed.are ∙ append_assoc agreed.before agreed.after more;
@@ -102,34 +97,36 @@ none_stays from calls more agreed = record {
   drives = agreed.drives;
   address = agreed.address;
   name = agreed.name;
+  begun = agreed.begun;
   none = agreed.none;
 }
 
-may_stay : (from : Place) (p : ℕ) (calls more : List wire.Call) → MayBeRead from p calls → MayBeRead from p (calls ++ more)
-may_stay from p calls more (inl answered) = inl (answers_stay from p calls more answered)
-may_stay from p calls more (inr agreed) = inr (none_stays from calls more agreed)
+may_stay : (extents : Bool) (from : Place) (p : ℕ) (calls more : List wire.Call) → MayBeRead extents from p calls → MayBeRead extents from p (calls ++ more)
+may_stay extents from p calls more (inl answered) = inl (answers_stay from p calls more answered)
+may_stay extents from p calls more (inr agreed) = inr (none_stays extents from calls more agreed)
 
 -- Between two turns.
 
-module _ (parting : Bool) (from to : Place) (heard : ℕ → Bool) (error error' : Option ℕ) (earlier : error' ≡ None → error ≡ None) (calls : List wire.Call) (seens seens' : List (Seen Ticket)) (same : first_held seens' ≡ first_held seens)
-    (hears : Hears parting from to heard error calls seens) where
+module _ (parting extents : Bool) (from to : Place) (heard : ℕ → Bool) (error error' : Option ℕ) (earlier : error' ≡ None → error ≡ None) (calls : List wire.Call) (seens seens' : List (Seen Ticket)) (goes : FirstGoes seens seens')
+    (hears : Hears parting extents from to heard error calls seens) where
   -- no call was made
-  pub hears_on : Hears parting from to heard error' calls seens'
-  hears_on = record { answered = λ well two p h. hears.answered (earlier well) two p h; first = first_same parting calls seens seens' same hears.first }
+  pub hears_on : Hears parting extents from to heard error' calls seens'
+  hears_on = record { answered = λ well two p h. hears.answered (earlier well) two p h; first = first_same parting calls seens seens' (link_stays seens seens' goes) hears.first; begun = began_stays parting (opened from.name extents) seens seens' goes hears.begun }
 
   -- these calls were made
-  pub hears_later : (more : List wire.Call) → or_later (first_held seens) (first_given more) ≡ first_held seens → Hears parting from to heard error' (calls ++ more) seens'
-  hears_later more still = record { answered = λ well two p h. may_stay from p calls more (hears.answered (earlier well) two p h); first = first_later parting calls more seens seens' same still hears.first }
+  pub hears_later : (more : List wire.Call) → or_later (first_held seens) (first_given more) ≡ first_held seens → Hears parting extents from to heard error' (calls ++ more) seens'
+  hears_later more still = record { answered = λ well two p h. may_stay extents from p calls more (hears.answered (earlier well) two p h); first = first_later parting calls more seens seens' (link_stays seens seens' goes) still hears.first; begun = began_stays parting (opened from.name extents) seens seens' goes hears.begun }
 
 -- One link more was made, and a handle begins on it.
-pub hears_dialed : (from to : Place) (heard : ℕ → Bool) (error : Option ℕ) (calls : List wire.Call) (seens : List (Seen Ticket)) (at : Target) (last : Seen Ticket) → Hears false from to heard error calls seens →
-    Hears false from to heard error (calls ++ wire.Connect at (Some last.link) ∷ []) (seens ++ last ∷ [])
-hears_dialed from to heard error calls seens at last hears = record {
-  answered = λ well two p h. may_stay from p calls (wire.Connect at (Some last.link) ∷ []) (hears.answered well two p h);
+pub hears_dialed : (extents : Bool) (from to : Place) (heard : ℕ → Bool) (error : Option ℕ) (calls : List wire.Call) (seens : List (Seen Ticket)) (at : Target) (last : Seen Ticket) → (length seens ≡ 0 → BeganAs (opened from.name extents) last.history) → Hears false extents from to heard error calls seens →
+    Hears false extents from to heard error (calls ++ wire.Connect at (Some last.link) ∷ []) (seens ++ last ∷ [])
+hears_dialed extents from to heard error calls seens at last only hears = record {
+  answered = λ well two p h. may_stay extents from p calls (wire.Connect at (Some last.link) ∷ []) (hears.answered well two p h);
   first = given_then calls (wire.Connect at (Some last.link) ∷ []) ∙ ap (λ (o : Option ℕ). or_later o (Some last.link)) hears.first ∙ last_first seens last;
+  begun = last_began (opened from.name extents) seens last hears.begun only;
 }
 
 -- While handles are taken out it does not matter which one is the first.
-pub hears_parting : (parting : Bool) (from to : Place) (heard : ℕ → Bool) (error error' : Option ℕ) (earlier : error' ≡ None → error ≡ None) (calls : List wire.Call) (seens seens' : List (Seen Ticket)) → Hears parting from to heard error calls seens →
-    Hears true from to heard error' calls seens'
-hears_parting parting from to heard error error' earlier calls seens seens' hears = record { answered = λ well two p h. hears.answered (earlier well) two p h; first = tt }
+pub hears_parting : (parting extents : Bool) (from to : Place) (heard : ℕ → Bool) (error error' : Option ℕ) (earlier : error' ≡ None → error ≡ None) (calls : List wire.Call) (seens seens' : List (Seen Ticket)) → Hears parting extents from to heard error calls seens →
+    Hears true extents from to heard error' calls seens'
+hears_parting parting extents from to heard error error' earlier calls seens seens' hears = record { answered = λ well two p h. hears.answered (earlier well) two p h; first = tt; begun = tt }

@@ -41,7 +41,8 @@ use Rattle.lnbd_copy.specs.Statuses.{MayBeRead}
 use Rattle.lnbd_copy.specs.Windows as windows
 use Rattle.lnbd_copy.proofs.AnswerLemmas.{range_may_be_read}
 use Rattle.lnbd_copy.proofs.EndLemmas.{planned_once}
-use Rattle.lnbd_copy.proofs.HeardLemmas.{event_first, hears_on}
+use Rattle.lnbd_copy.proofs.BegunLemmas.{event_first}
+use Rattle.lnbd_copy.proofs.HeardLemmas.{hears_on}
 use Rattle.lnbd_copy.proofs.SparedLemmas.{spared_none}
 use Rattle.lnbd_copy.proofs.WindowLemmas.{or_first, or_second}
 use Rattle.lnbd_copy.proofs.HeldLemmas.{held_event}
@@ -52,10 +53,10 @@ use Rattle.lnbd_copy.proofs.WayLemmas.{destination_keeps, sided_after}
 -- One step after another.
 
 one_same : (way : Way) → AreOfOne way way
-one_same way = record { from = refl; to = refl; how = refl; sides = refl }
+one_same way = record { from = refl; to = refl; how = refl; sides = refl; extents = refl }
 
 one_then : (a b c : Way) → AreOfOne a b → AreOfOne b c → AreOfOne a c
-one_then a b c first second = record { from = second.from ∙ first.from; to = second.to ∙ first.to; how = second.how ∙ first.how; sides = second.sides ∙ first.sides }
+one_then a b c first second = record { from = second.from ∙ first.from; to = second.to ∙ first.to; how = second.how ∙ first.how; sides = second.sides ∙ first.sides; extents = second.extents ∙ first.extents }
 
 pub acts_none : (job : Seen) (now : board.Seen) (held : List (Held Ticket)) → Acts job job now now held held
 acts_none job now held = record { stand = λ s. s; on = λ way had. record { way' = way; one = one_same way; job' = had; on = λ calls on. on } }
@@ -90,7 +91,7 @@ heard_stands way (Some range) some has now calls seens mapped short s =
     hearing_stands way has now calls seens range (λ p. way.zero p || windows.zero_within range now.told p) (λ block p. way.whole block p || whole_within block range now.told p) some s mapped short (heard_in way range now)
     (λ block p e. or_first (way.whole block p) _ e) (λ block p e. or_second (way.whole block p) _ e)
 
-heard_on : (way : Way) (now : board.Seen) (calls : List wire.Call) (held : List (Held Ticket)) → now.mapped ≡ true → now.short ≡ false → (now.error ≡ None → way.from ≢ way.to → (p : ℕ) → has_position way.asked p ≡ true → MayBeRead way.from p calls) → IsOn way now calls held →
+heard_on : (way : Way) (now : board.Seen) (calls : List wire.Call) (held : List (Held Ticket)) → now.mapped ≡ true → now.short ≡ false → (now.error ≡ None → way.from ≢ way.to → (p : ℕ) → has_position way.asked p ≡ true → MayBeRead way.extents way.from p calls) → IsOn way now calls held →
     IsOn (with_heard now.told way) now calls held
 heard_on way now calls held mapped short may on = record {
   has = on.has;
@@ -104,6 +105,7 @@ heard_on way now calls held mapped short may on = record {
   hears = record {
     answered = λ well two p h. elim (or_heard (way.heard p) (has_position way.asked p) h) [ inl was ↦ on.hears.answered well two p was | inr here ↦ may well two p here ];
     first = on.hears.first;
+    begun = on.hears.begun;
   };
 }
 
@@ -148,7 +150,7 @@ asked_on way now now' calls held held' offset size none is asked on =
           (record { asks = record { kind = refl; offset = refl; length_ = refl }; first = refl; done = refl }) (ap (λ (b : board.Seen). b.told) is) (ap (λ (b : board.Seen). b.mapped) is);
       rest = on.rest;
       all = held_event calls 0 (Issue command) on.seens on.all;
-      hears = hears_on false way.from way.to way.heard now.error now'.error (λ none. sym (ap (λ (b : board.Seen). b.error) is) ∙ none) calls on.seens (with_event 0 (Issue command) on.seens) (event_first 0 (Issue command) on.seens) on.hears;
+      hears = hears_on false way.extents way.from way.to way.heard now.error now'.error (λ none. sym (ap (λ (b : board.Seen). b.error) is) ∙ none) calls on.seens (with_event 0 (Issue command) on.seens) (event_first 0 (Issue command) on.seens) on.hears;
     }
 
 -- Slices go on.
@@ -185,7 +187,7 @@ acts_heard job job' windows' now held copying asked mapped short is cells size g
       let range : way.asked ≡ windows.wanted job.windows = had.asked ∙ ap (λ (b : Bool). if b then windows.wanted job.windows else None) asked in
       record {
         way' = with_heard now.told way;
-        one = record { from = refl; to = refl; how = refl; sides = refl };
+        one = record { from = refl; to = refl; how = refl; sides = refl; extents = refl };
         job' = record {
           size = had.size;
           how = had.how;
@@ -220,7 +222,7 @@ acts_asked job job' now now' held held' offset size copying none range is forget
       let blank : way.asked ≡ None = had.asked ∙ ap (λ (b : Bool). if b then windows.wanted job.windows else None) none in
       record {
         way' = with_asked (Some (offset, size)) way;
-        one = record { from = refl; to = refl; how = refl; sides = refl };
+        one = record { from = refl; to = refl; how = refl; sides = refl; extents = refl };
         job' = record { size = had.size; how = had.how; writes = ap (λ (b : board.Seen). b.how) forgets ∙ had.writes; sides = had.sides; ends = had.ends; zeros = had.zeros; planned = had.planned; grain = had.grain; spared = had.spared; asked = sym range; over = λ other. absurd (other copying); unwanted = λ no. ap (λ (b : board.Seen). b.flushing) forgets ∙ had.unwanted no; unflushed = λ c. ap (λ (b : board.Seen). b.flushing) forgets ∙ had.unflushed c; rests = λ other. absurd (other copying); flushed = λ parts. absurd (still_copying job.phase copying parts); heard = had.heard };
         on = λ calls on. asked_on way now now' calls held held' offset size blank forgets asked on;
       };
@@ -262,7 +264,7 @@ acts_begun job job' windows' how sides now now' held held' copying h s is begins
   stand = begins.keeps.stand;
   on = λ way had. record {
     way' = with_slices begins.more way;
-    one = record { from = refl; to = refl; how = refl; sides = refl };
+    one = record { from = refl; to = refl; how = refl; sides = refl; extents = refl };
     job' = record {
       size = had.size;
       how = had.how;
@@ -294,7 +296,7 @@ acts_concludes job job' phase' now now' held held' is past copying over same unw
   stand = stand;
   on = λ way had. record {
     way' = record way { rested = Some now };
-    one = record { from = refl; to = refl; how = refl; sides = refl };
+    one = record { from = refl; to = refl; how = refl; sides = refl; extents = refl };
     job' = record {
       size = had.size;
       how = had.how;

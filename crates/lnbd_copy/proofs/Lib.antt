@@ -8,6 +8,7 @@ pub mod AskedLemmas
 pub mod WindowLemmas
 pub mod SparedLemmas
 pub mod FiledLemmas
+pub mod BegunLemmas
 pub mod HeardLemmas
 pub mod ReachLemmas
 pub mod AnswerLemmas

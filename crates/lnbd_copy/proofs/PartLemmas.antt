@@ -26,7 +26,8 @@ use Rattle.lnbd_copy.specs.Way.{Filed, IsLeaving, IsOn, Keeps, Stands, Way}
 use Rattle.lnbd_copy.proofs.FiledLemmas.{filed_none, filed_then}
 use Rattle.lnbd_copy.proofs.LastLemmas.{lasts_adds, lasts_none, lasts_then}
 use Rattle.lnbd_copy.proofs.HeldLemmas.{held_event}
-use Rattle.lnbd_copy.proofs.HeardLemmas.{event_first, hears_on, hears_parting}
+use Rattle.lnbd_copy.proofs.BegunLemmas.{event_first}
+use Rattle.lnbd_copy.proofs.HeardLemmas.{hears_on, hears_parting}
 use Rattle.lnbd_copy.proofs.StepLemmas.{others_stand, taking_stands, unasked_moves_stand}
 use Rattle.lnbd_copy.proofs.TurnLemmas.{SameLinks, called, links_stay, none_some, placed_same, some_same, told_on}
 
@@ -91,7 +92,7 @@ parts how sides now index held handle handle' adds is = record {
         stands = others_stand way on.has now calls on.seens index did.seen Disconnect on.stands did.there (record { inward = refl; unasked = refl; still = refl; spelled = tt; mode = refl }) refl;
         rest = on.rest;
         all = held_event calls index Disconnect on.seens on.all;
-        hears = hears_on false way.from way.to way.heard now.error now.error (λ well. well) calls on.seens after (event_first index Disconnect on.seens) on.hears;
+        hears = hears_on false way.extents way.from way.to way.heard now.error now.error (λ well. well) calls on.seens after (event_first index Disconnect on.seens) on.hears;
       });
 }
 
@@ -191,7 +192,7 @@ hung_up way now now' calls held index taken is unasked filed unanswered none on 
       stands = filed_stands way on.has now now' calls left unasked filed (unanswered one.seen.history one.stands) none (taking_stands way on.has now calls on.seens index one.seen max_unretired taken.1 on.stands one.there one.stands);
       rest = on.rest;
       all = tt;
-      hears = hears_parting true way.from way.to way.heard now.error now'.error filed.error calls on.seens left on.hears;
+      hears = hears_parting true way.extents way.from way.to way.heard now.error now'.error filed.error calls on.seens left on.hears;
     }
 
 -- A handle is taken out and closed, and its link is shut.
@@ -218,4 +219,4 @@ leaves_then now now2 now3 held held2 held3 a b c one two = record {
 
 -- A copy on its way may leave.
 pub on_leaving : (way : Way) (now : board.Seen) (calls : List wire.Call) (held : List (Held Ticket)) → IsOn way now calls held → IsLeaving way now calls held
-on_leaving way now calls held on = record { has = on.has; seens = on.seens; at = on.at; sided = tt; begun = on.begun; stands = on.stands; rest = on.rest; all = tt; hears = hears_parting false way.from way.to way.heard now.error now.error (λ well. well) calls on.seens on.seens on.hears }
+on_leaving way now calls held on = record { has = on.has; seens = on.seens; at = on.at; sided = tt; begun = on.begun; stands = on.stands; rest = on.rest; all = tt; hears = hears_parting false way.extents way.from way.to way.heard now.error now.error (λ well. well) calls on.seens on.seens on.hears }

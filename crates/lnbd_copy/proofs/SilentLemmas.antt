@@ -14,9 +14,11 @@ use Rattle.lnbd_board.specs.Files as board
 use Rattle.lnbd_course.specs.Between.{place_of}
 use Rattle.lnbd_course.proofs.Asking.{not_one}
 use Rattle.lnbd_course.proofs.Holding.{one_has}
+use Rattle.lnbd_copy.specs.Begun.{opened}
 use Rattle.lnbd_copy.specs.Grounds.{Happens, IsShown}
 use Rattle.lnbd_copy.specs.Statuses.{FirstAgreedNone, HasNoContext, contexts_in}
 use Rattle.lnbd_copy.specs.Way.{IsOn, Way}
+use Rattle.lnbd_copy.proofs.BegunLemmas.{first_began}
 use Rattle.lnbd_copy.proofs.GroundLemmas.{drive_at, given_at}
 use Rattle.lnbd_copy.proofs.HeardLemmas.{first_there}
 
@@ -33,7 +35,7 @@ has_no_context info index held none happens = record {
     empty (first ∷ others) e = absurd (cc e)
 
 -- The calls show it, while all connections are held.
-pub first_agreed_none : (way : Way) (now : board.Seen) (calls : List wire.Call) (held : List (Held Ticket)) → Happens HasNoContext 0 held → IsOn way now calls held → FirstAgreedNone way.from calls
+pub first_agreed_none : (way : Way) (now : board.Seen) (calls : List wire.Call) (held : List (Held Ticket)) → Happens HasNoContext 0 held → IsOn way now calls held → FirstAgreedNone way.extents way.from calls
 first_agreed_none way now calls held happens on =
     let h = happens.on on.seens on.at in
     let between = on.stands.between in
@@ -51,5 +53,6 @@ first_agreed_none way now calls held happens on =
       drives = drive_at calls 0 h.seen on.seens h.there course.drive.drive;
       address = subst (λ (b : Bool). target_of h.seen.link calls ≡ Some (place_of way.from way.to b).to) side (between.placed.address h.seen.link given);
       name = ap (λ (history : History Ticket). name_set history) (sym (one_has 0 h.seen course.histories on.seens h.there course.held)) ∙ subst (λ (b : Bool). name_set (course.histories h.seen.link) ≡ (place_of way.from way.to b).name) side (between.placed.name h.seen.link given);
+      begun = first_began (opened way.from.name way.extents) on.seens h.seen h.there on.hears.begun;
       none = h.is;
     }

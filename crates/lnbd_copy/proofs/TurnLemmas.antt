@@ -37,6 +37,8 @@ use Rattle.lnbd_copy.specs.Statuses.{first_given, first_held, or_later}
 use Rattle.lnbd_copy.proofs.FiledLemmas.{filed_none, filed_then, plays_filed}
 use Rattle.lnbd_copy.proofs.LastLemmas.{lasts_adds, lasts_none, lasts_then}
 use Rattle.lnbd_copy.proofs.HeldLemmas.{held_on}
+use Rattle.lnbd_copy.specs.Begun.{BeganAs}
+use Rattle.lnbd_copy.proofs.BegunLemmas.{FirstGoes, first_stays, went_event, went_same, went_then, writes_went}
 use Rattle.lnbd_copy.proofs.HeardLemmas.{hears_later, no_more_given}
 use Rattle.lnbd_copy.proofs.StepLemmas.{calls_stand, turns_stand}
 
@@ -112,13 +114,14 @@ writes_filed link old now calls new now' moved (Goes_on _ _ _ _ _ _ notice own m
 
 record Led (seen here : Seen Ticket) (now now' : board.Seen) : Type 0 where
   link : here.link ≡ seen.link
+  went : BeganAs seen.history here.history
   filed : Filed now now'
 
 follows : (seen here : Seen Ticket) (event : Event Ticket) (left : List ℕ) (now now' : board.Seen) → Follows steps event left seen here now now' → Led seen here now now'
-follows seen here event left now now' f = record { link = ap (λ (s : Seen Ticket). s.link) f.is; filed = plays_filed event seen.history now now' f.plays }
+follows seen here event left now now' f = record { link = ap (λ (s : Seen Ticket). s.link) f.is; went = went_event event seen.history here.history (ap (λ (s : Seen Ticket). s.history) f.is); filed = plays_filed event seen.history now now' f.plays }
 
 stays : (seen here : Seen Ticket) (now now' : board.Seen) → here ≡ seen → now' ≡ now → Led seen here now now'
-stays seen here now now' same still = record { link = ap (λ (s : Seen Ticket). s.link) same; filed = subst (Filed now) (sym still) (filed_none now) }
+stays seen here now now' same still = record { link = ap (λ (s : Seen Ticket). s.link) same; went = went_same seen.history here.history (ap (λ (s : Seen Ticket). s.history) same); filed = subst (Filed now) (sym still) (filed_none now) }
 
 arrives : (bytes : List ℕ) (notice : Noticed) (seen here : Seen Ticket) (now now' : board.Seen) → Arrives steps bytes notice seen here now now' → Led seen here now now'
 arrives bytes (noticed.Moved n) seen here now now' h = follows seen here (Arrived bytes h.1.0) [] now now' h.1.1
@@ -146,15 +149,17 @@ one_led : (notice : Noticed) (seen here : Seen Ticket) (calls : List wire.Call) 
 one_led notice seen here calls now now' moved t =
     let half : Seen Ticket = record { link = seen.link; history = t.middle; unread = seen.unread } in
     let r = reads_if (is_reading t.middle) notice half here t.read t.half now' t.reads in
-    record { link = r.link; filed = filed_then now t.half now' (writes_filed seen.link seen.history now t.written t.middle t.half t.sent t.writes) r.filed }
+    record { link = r.link; went = went_then seen.history t.middle here.history (writes_went steps seen.link seen.history now t.written t.middle t.half t.sent t.writes) r.went; filed = filed_then now t.half now' (writes_filed seen.link seen.history now t.written t.middle t.half t.sent t.writes) r.filed }
 
 pub record AllLed (before after : List (Seen Ticket)) (now now' : board.Seen) : Type 0 where
   pub links : SameLinks before after
+  pub first : FirstGoes before after
   pub filed : Filed now now'
 
 pub turns_led : (before : List (Seen Ticket)) (now : board.Seen) (part : List wire.Call) (after : List (Seen Ticket)) (now' : board.Seen) (ending : Ending) → Turns steps before now part after now' ending → AllLed before after now now'
 turns_led before now part after now' ending (All_took _ _ _ _ _ _ is none after_is world_is end) = record {
   links = subst (λ (l : List (Seen Ticket)). SameLinks before l) (is ∙ sym after_is) (links_stay before);
+  first = subst (λ (l : List (Seen Ticket)). FirstGoes before l) (is ∙ sym after_is) (first_stays before);
   filed = subst (Filed now) (sym world_is) (filed_none now);
 }
 turns_led before now part after now' ending (Takes _ _ _ _ _ _ seen others notice own here half moved other there rest is one enough more calls_are after_is end) =
@@ -162,12 +167,14 @@ turns_led before now part after now' ending (Takes _ _ _ _ _ _ seen others notic
     let all = turns_led others half other there now' rest more in
     record {
       links = subst (λ (l : List (Seen Ticket)). SameLinks l after) (sym is) (subst (λ (l : List (Seen Ticket)). SameLinks (seen ∷ others) l) (sym after_is) (led.link, all.links));
+      first = subst (λ (l : List (Seen Ticket)). FirstGoes l after) (sym is) (subst (λ (l : List (Seen Ticket)). FirstGoes (seen ∷ others) l) (sym after_is) (led.link, led.went));
       filed = filed_then now half now' led.filed all.filed;
     }
 turns_led before now part after now' ending (Runs_short _ _ _ _ _ _ seen others here moved is one after_is end) =
     let led = one_led noticed.NoMemory seen here part now now' moved one in
     record {
       links = subst (λ (l : List (Seen Ticket)). SameLinks l after) (sym is) (subst (λ (l : List (Seen Ticket)). SameLinks (seen ∷ others) l) (sym after_is) (led.link, links_stay others));
+      first = subst (λ (l : List (Seen Ticket)). FirstGoes l after) (sym is) (subst (λ (l : List (Seen Ticket)). FirstGoes (seen ∷ others) l) (sym after_is) (led.link, led.went));
       filed = led.filed;
     }
 
@@ -179,12 +186,6 @@ rested_on from to size (Some was) calls more rest = λ bytes is room well two.
     record { before = r.before; after = r.after ++ more; parts = ap (λ (l : List wire.Call). l ++ more) r.parts ∙ append_assoc r.before r.after more; sums = r.sums; done = r.done; unflushed = r.unflushed }
 
 -- The first handle stays the first one.
-
-links_first : (before after : List (Seen Ticket)) → SameLinks before after → first_held after ≡ first_held before
-links_first [] [] same = refl
-links_first [] (here ∷ there) same = absurd same
-links_first (seen ∷ others) [] same = absurd same
-links_first (seen ∷ others) (here ∷ there) same = ap (λ (n : ℕ). Some n) same.0
 
 no_seen : (seen : Seen Ticket) (others : List (Seen Ticket)) → [] ≡ seen ∷ others → ⊥
 no_seen seen others e = cc
@@ -214,7 +215,7 @@ turned parting way now now' calls part held held' after moved on turns at =
       stands = turns_stand way on.has now now' calls part on.seens after moved on.stands turns;
       rest = rested_on way.from way.to way.size way.rested calls part on.rest;
       all = held_on parting calls part on.seens after (apart_same on.seens after led.links) (λ link. turns_give_none steps link part on.seens after now now' (Whole moved) turns) on.all;
-      hears = hears_later parting way.from way.to way.heard now.error now'.error led.filed.error calls on.seens after (links_first on.seens after led.links) on.hears part (turned_first on.seens after now now' part (Whole moved) turns);
+      hears = hears_later parting way.extents way.from way.to way.heard now.error now'.error led.filed.error calls on.seens after led.first on.hears part (turned_first on.seens after now now' part (Whole moved) turns);
     }
 
 -- The calls since the start go on.
@@ -261,7 +262,7 @@ called parting way now calls more held none given on = record {
   stands = calls_stand way on.has now calls more on.seens on.stands none given;
   rest = rested_on way.from way.to way.size way.rested calls more on.rest;
   all = held_on parting calls more on.seens on.seens (λ link apart. apart) given on.all;
-  hears = hears_later parting way.from way.to way.heard now.error now.error (λ well. well) calls on.seens on.seens refl on.hears more (no_more_given more on.seens given);
+  hears = hears_later parting way.extents way.from way.to way.heard now.error now.error (λ well. well) calls on.seens on.seens (first_stays on.seens) on.hears more (no_more_given more on.seens given);
 }
 
 -- Where the transcript is told, what a call leads from leads on.

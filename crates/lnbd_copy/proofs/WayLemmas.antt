@@ -23,7 +23,8 @@ use Rattle.lnbd_copy.specs.Asked.{WasAsked}
 use Rattle.lnbd_copy.specs.Dealing.{IsAskedOf}
 use Rattle.lnbd_copy.specs.Way.{AreSided, IsOn, Keeps, Stands, Way, is_source, with_slices}
 use Rattle.lnbd_copy.proofs.HeldLemmas.{held_event}
-use Rattle.lnbd_copy.proofs.HeardLemmas.{event_first, hears_on}
+use Rattle.lnbd_copy.proofs.BegunLemmas.{event_first, first_stays}
+use Rattle.lnbd_copy.proofs.HeardLemmas.{hears_on}
 use Rattle.lnbd_copy.proofs.StepLemmas.{board_moves_stand, destination_asks_stand, source_asks_stand}
 
 none_some : (seen : Seen Ticket) → None ≡ Some seen → ⊥
@@ -57,7 +58,7 @@ asked_on way calls more now now' held held' index command on begun was stands ea
   stands = stands;
   rest = on.rest;
   all = held_event calls index (Issue (without_buffer command)) on.seens on.all;
-  hears = hears_on false way.from way.to way.heard now.error now'.error earlier calls on.seens (with_event index (Issue (without_buffer command)) on.seens) (event_first index (Issue (without_buffer command)) on.seens) on.hears;
+  hears = hears_on false way.extents way.from way.to way.heard now.error now'.error earlier calls on.seens (with_event index (Issue (without_buffer command)) on.seens) (event_first index (Issue (without_buffer command)) on.seens) on.hears;
 }
 
 -- The board went on, and nothing was asked.
@@ -72,7 +73,7 @@ moved_on way calls now now' held on begun stands earlier = record {
   stands = stands;
   rest = on.rest;
   all = on.all;
-  hears = hears_on false way.from way.to way.heard now.error now'.error earlier calls on.seens on.seens refl on.hears;
+  hears = hears_on false way.extents way.from way.to way.heard now.error now'.error earlier calls on.seens on.seens (first_stays on.seens) on.hears;
 }
 
 -- as far as with no slices more

@@ -48,7 +48,7 @@ pub record HasNotBegun (copy : Seen) : Type 0 where
 
 -- no slice is begun, of a copy that writes so
 abbrev pub beginning : Seen → (size : Option ℕ) → How → Sides → Way
-beginning copy size how sides = record { from = copy.from; to = copy.to; size = size; how = how; sides = sides; slices = []; zero = λ p. false; whole = λ block p. false; asked = None; rested = None; heard = λ p. false }
+beginning copy size how sides = record { from = copy.from; to = copy.to; size = size; how = how; sides = sides; slices = []; zero = λ p. false; whole = λ block p. false; asked = None; rested = None; heard = λ p. false; extents = copy.options.extents }
 
 -- No slice was begun, and no flush asked for.
 pub record IsBlank (now : board.Seen) : Type 0 where
@@ -83,6 +83,7 @@ pub record IsOnItsWay (start told : Option (List wire.Call)) (copy : Seen) : Typ
   pub way : Way
   pub from : way.from ≡ copy.from
   pub to : way.to ≡ copy.to
+  pub extents : way.extents ≡ copy.options.extents
   pub wished : IsWished copy.options job.terms
   -- no more slices are begun and not over than may be
   pub limited : IsLimited copy.options job.terms
@@ -119,7 +120,7 @@ pub record IsDone (start told : Option (List wire.Call)) (copy : Seen) : Type 0 
   pub unflushed : copy.options.flush ≡ false → copy.from ≢ copy.to → Told start told (IsUnflushed copy.to)
   pub flushed : copy.from ≢ copy.to → Told start told (FlushesWanted copy.options copy.from copy.to)
   pub dense : copy.from ≢ copy.to → Told start told (SparesFound copy.options copy.from copy.to)
-  pub answered : copy.from ≢ copy.to → Told start told (ReadsAreAnswered copy.from)
+  pub answered : copy.from ≢ copy.to → Told start told (ReadsAreAnswered copy.options.extents copy.from)
   pub driven : Told start told AreDriven
 
 -- After a turn it is on its way still, or it is finished.

@@ -75,6 +75,7 @@ pub record AreOfOne (way way' : Way) : Type 0 where
   pub to : way'.to ≡ way.to
   pub how : way'.how ≡ way.how
   pub sides : way'.sides ≡ way.sides
+  pub extents : way'.extents ≡ way.extents
 
 -- A copy that was on its way is further on it, and has this job.
 pub record IsFurther (way : Way) (job : Seen) (now now' : board.Seen) (held held' : List (Held Ticket)) : Type 0 where

@@ -3,6 +3,7 @@ pub mod Terms
 pub mod Limit
 pub mod Asked
 pub mod Lasting
+pub mod Begun
 pub mod Statuses
 pub mod Way
 pub mod Dealing

@@ -1,4 +1,5 @@
--- Which positions of the source may be read: those for which a block status was answered before, or all where the first connection agreed no meta context.
+-- Which positions of the source may be read: those for which a block status was answered before, or all where the first connection agreed no meta context, though
+-- it had asked for that of the allocated blocks, where extents are wanted.
 use Rattle.std.specs.Prelude.{◌≡◌, ◌≢◌, ◌⊎◌, ℕ, Bool, true, false, List, [], ◌∷◌, ◌++◌, Option, Some, None}
 use Rattle.lnbd_model.specs.declared.export.Context.{Context}
 use Rattle.lnbd_model.specs.declared.export.ExportInfo.{ExportInfo}
@@ -17,6 +18,7 @@ use Rattle.lnbd_board.specs.declared.ticket.Ticket.{Ticket}
 use Rattle.lnbd_board.specs.Requests.{reads}
 use Rattle.lnbd_course.specs.Answered.{WasAnsweredFirst}
 use Rattle.lnbd_course.specs.Asks.{EachAsked}
+use Rattle.lnbd_copy.specs.Begun.{BeganAs, opened}
 
 -- No meta context.
 
@@ -41,8 +43,9 @@ abbrev pub first_given : List Call → Option ℕ
 first_given [] = None
 first_given (call ∷ calls) = or_later (given_by call) (first_given calls)
 
--- By a front of the calls the first link that was made was one to this place, and the handle that drove it, and asked for the export there, agreed no meta context.
-pub record FirstAgreedNone (from : Place) (calls : List Call) : Type 0 where
+-- By a front of the calls the first link that was made was one to this place, and the handle that drove it, and asked for the export there, and
+-- before for base:allocation where extents are wanted, agreed no meta context.
+pub record FirstAgreedNone (extents : Bool) (from : Place) (calls : List Call) : Type 0 where
   pub before : List Call
   pub after : List Call
   pub are : calls ≡ before ++ after
@@ -53,17 +56,18 @@ pub record FirstAgreedNone (from : Place) (calls : List Call) : Type 0 where
   pub drives : Drives link before history unread
   pub address : target_of link before ≡ Some from.to
   pub name : name_set history ≡ from.name
+  pub begun : BeganAs (opened from.name extents) history
   pub none : HasNoContext history
 
 -- What is read.
 
 -- A block status was answered for the position before it was read, or none could be asked for.
-abbrev pub MayBeRead : (from : Place) → (p : ℕ) → List Call → Type 0
-MayBeRead from p calls = WasAnsweredFirst from p calls ⊎ FirstAgreedNone from calls
+abbrev pub MayBeRead : (extents : Bool) → (from : Place) → (p : ℕ) → List Call → Type 0
+MayBeRead extents from p calls = WasAnsweredFirst from p calls ⊎ FirstAgreedNone extents from calls
 
--- So it is with each position of each READ of the source.
-pub record ReadsAreAnswered (from : Place) (calls : List Call) : Type 0 where
-  pub each : EachAsked (λ command. (p : ℕ) → reads command p ≡ true → MayBeRead from p calls) (dealt_with from calls)
+-- So it is with each position of each READ of the source, where extents are wanted or not.
+pub record ReadsAreAnswered (extents : Bool) (from : Place) (calls : List Call) : Type 0 where
+  pub each : EachAsked (λ command. (p : ℕ) → reads command p ≡ true → MayBeRead extents from p calls) (dealt_with from calls)
 
 -- Between two turns.
 
@@ -77,7 +81,14 @@ abbrev pub IsFirst : (parting : Bool) → List Call → List (Seen Ticket) → T
 IsFirst false calls seens = first_given calls ≡ first_held seens
 IsFirst true calls seens = Unit {0}
 
+-- Until a handle is taken out, the first one began as this history.
+abbrev pub FirstBegan : (parting : Bool) → (first : History Ticket) → List (Seen Ticket) → Type 0
+FirstBegan false first [] = Unit {0}
+FirstBegan false first (seen ∷ others) = BeganAs first seen.history
+FirstBegan true first seens = Unit {0}
+
 -- The positions that count as heard may be read. (No error was told, and the two exports are two.)
-pub record Hears (parting : Bool) (from to : Place) (heard : ℕ → Bool) (error : Option ℕ) (calls : List Call) (seens : List (Seen Ticket)) : Type 0 where
-  pub answered : error ≡ None → from ≢ to → (p : ℕ) → heard p ≡ true → MayBeRead from p calls
+pub record Hears (parting extents : Bool) (from to : Place) (heard : ℕ → Bool) (error : Option ℕ) (calls : List Call) (seens : List (Seen Ticket)) : Type 0 where
+  pub answered : error ≡ None → from ≢ to → (p : ℕ) → heard p ≡ true → MayBeRead extents from p calls
   pub first : IsFirst parting calls seens
+  pub begun : FirstBegan parting (opened from.name extents) seens

@@ -62,6 +62,8 @@ pub record Way : Type 0 where
   pub rested : Option board.Seen
   -- the positions of the source that count as heard
   pub heard : ℕ → Bool
+  -- extents are wanted
+  pub extents : Bool
 
 -- what is known of the source's zeros
 abbrev pub known_of : Way → course.Known
@@ -89,7 +91,7 @@ pub record IsUnderWay (parting : Bool) (way : Way) (now : board.Seen) (calls : L
   pub stands : Stands way has now calls seens
   pub rest : HasRested way.from way.to way.size way.rested calls
   pub all : AreHeld parting calls seens
-  pub hears : Hears parting way.from way.to way.heard now.error calls seens
+  pub hears : Hears parting way.extents way.from way.to way.heard now.error calls seens
 
 -- So it is while each connection that was made is held,
 abbrev pub IsOn : Way → board.Seen → List wire.Call → List (Held Ticket) → Type 0

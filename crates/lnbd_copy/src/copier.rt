@@ -194,7 +194,7 @@ impl Copier {
     fn dial_source<W: Wires>(&mut self, wires: &mut W, extents: bool) -> Result<(), CopyFault>
         requires faults { self.old.start.faults ≤ W.faults wires.old }
         ensures kept { self.new ≡ record self.old { held = self.new.held; board = self.new.board } }
-        ensures dials { OnOk result (Dials self.old.from self.old.board self.old.held (W.told wires.old) self.new.held (W.told wires.new)) }
+        ensures dials { OnOk result (Dials self.old.from extents self.old.board self.old.held (W.told wires.old) self.new.held (W.told wires.new)) }
         ensures board { OnOk result (self.new.board ≡ self.old.board) }
         ensures causes { IfErr result (λ told. HasCause self.old.start (W.faults wires.new) (W.idles wires.new) told) }
         ensures free { IfErr result (λ told. needs_no_ground told ≡ true) }
@@ -215,7 +215,7 @@ impl Copier {
     fn dial_destination<W: Wires>(&mut self, wires: &mut W) -> Result<(), CopyFault>
         requires faults { self.old.start.faults ≤ W.faults wires.old }
         ensures kept { self.new ≡ record self.old { held = self.new.held; board = self.new.board } }
-        ensures dials { OnOk result (Dials self.old.to self.old.board self.old.held (W.told wires.old) self.new.held (W.told wires.new)) }
+        ensures dials { OnOk result (Dials self.old.to false self.old.board self.old.held (W.told wires.old) self.new.held (W.told wires.new)) }
         ensures board { OnOk result (self.new.board ≡ self.old.board) }
         ensures causes { IfErr result (λ told. HasCause self.old.start (W.faults wires.new) (W.idles wires.new) told) }
         ensures free { IfErr result (λ told. needs_no_ground told ≡ true) }
@@ -326,8 +326,8 @@ impl Copier {
         ensures asks { OnOk result ((start : Option (List Call)) → IsOnItsWay start (W.told wires.old) self.old → self.new.from ≢ self.new.to → Told start (W.told wires.new) (HasAskedOnce self.new.options.allocated self.new.from self.new.to)) }
 
         // Each position that was read so far was read after a block status had been answered for it, or the source's first
-        // connection agreed no meta context.
-        ensures answered { OnOk result ((start : Option (List Call)) → IsOnItsWay start (W.told wires.old) self.old → self.new.from ≢ self.new.to → Told start (W.told wires.new) (ReadsAreAnswered self.new.from)) }
+        // connection agreed no meta context, though base:allocation had been asked for where extents are wanted.
+        ensures answered { OnOk result ((start : Option (List Call)) → IsOnItsWay start (W.told wires.old) self.old → self.new.from ≢ self.new.to → Told start (W.told wires.new) (ReadsAreAnswered self.new.options.extents self.new.from)) }
 
         // What the calls show of a fault.
         ensures grounds { IfErr result (λ told. (start : Option (List Call)) → IsOnItsWay start (W.told wires.old) self.old → IsGrounded start (W.told wires.new) self.old.from self.old.to told) }
@@ -356,7 +356,7 @@ impl Copier {
         ensures under_way { OnOk result ((start : Option (List Call)) → IsOnItsWay start (W.told wires.old) self.old → self.new.from ≢ self.new.to → HasAllAsked start (W.told wires.new) self.new) }
         ensures flushes { IfOk result (λ told. (start : Option (List Call)) → IsOnItsWay start (W.told wires.old) self.old → HasFlushed start (W.told wires.new) self.new told) }
         ensures asks { OnOk result ((start : Option (List Call)) → IsOnItsWay start (W.told wires.old) self.old → self.new.from ≢ self.new.to → Told start (W.told wires.new) (HasAskedOnce self.new.options.allocated self.new.from self.new.to)) }
-        ensures answered { OnOk result ((start : Option (List Call)) → IsOnItsWay start (W.told wires.old) self.old → self.new.from ≢ self.new.to → Told start (W.told wires.new) (ReadsAreAnswered self.new.from)) }
+        ensures answered { OnOk result ((start : Option (List Call)) → IsOnItsWay start (W.told wires.old) self.old → self.new.from ≢ self.new.to → Told start (W.told wires.new) (ReadsAreAnswered self.new.options.extents self.new.from)) }
         ensures causes { IfErr result (λ told. HasCause self.old.start (W.faults wires.new) (W.idles wires.new) told) }
         ensures grounds { IfErr result (λ told. (start : Option (List Call)) → IsOnItsWay start (W.told wires.old) self.old → IsGrounded start (W.told wires.new) self.old.from self.old.to told) }
         ensures counts { GoesOn (W.faults wires.old) (W.faults wires.new) (W.idles wires.old) (W.idles wires.new) (W.contents wires.old) (W.contents wires.new) }
@@ -466,8 +466,8 @@ impl Copier {
         ensures spares { self.from ≢ self.to → OnOk result (GrewBy (SparesTold self.from self.to) (W.told wires.old) (W.told wires.new)) }
         ensures dense { self.from ≢ self.to → OnOk result (GrewBy (SparesFound self.options self.from self.to) (W.told wires.old) (W.told wires.new)) }
         // Each position that was read was read after a block status had been answered for it, or the source's first connection
-        // agreed no meta context.
-        ensures answered { self.from ≢ self.to → OnOk result (GrewBy (ReadsAreAnswered self.from) (W.told wires.old) (W.told wires.new)) }
+        // agreed no meta context, though base:allocation had been asked for where extents are wanted.
+        ensures answered { self.from ≢ self.to → OnOk result (GrewBy (ReadsAreAnswered self.options.extents self.from) (W.told wires.old) (W.told wires.new)) }
         // The destination was asked to flush once at most, and only when all else was asked and done: it was, and that is done,
         // where it is wanted and the destination told that it can be flushed; and not at all where it is not wanted.
         ensures flushes { self.from ≢ self.to → IfOk result (λ told. GrewBy (FlushesLast self.from self.to told) (W.told wires.old) (W.told wires.new)) }

@@ -65,7 +65,7 @@ pub(crate) fn dial<W: Wires>(
     start: Counts,
 ) -> Result<(), CopyFault>
     requires counted { start.faults ≤ W.faults wires.old }
-    ensures dials { OnOk result (Dials place.now board.old handles.old (W.told wires.old) handles.new (W.told wires.new)) }
+    ensures dials { OnOk result (Dials place.now extents board.old handles.old (W.told wires.old) handles.new (W.told wires.new)) }
     ensures board { OnOk result (board.new ≡ board.old) }
     ensures causes { IfErr result (λ told. HasCause start (W.faults wires.new) (W.idles wires.new) told) }
     ensures free { IfErr result (λ told. needs_no_ground told ≡ true) }

@@ -30,7 +30,7 @@ returns-in-Ok-clause-dense g c two =
 
 pub returns-in-Ok-clause-answered : goal.returns-in-Ok-clause-answered
 returns-in-Ok-clause-answered g c two =
-    by_words (λ options from to calls. ReadsAreAnswered from calls) c.new.result c.args.what.from c.args.what.to c.args.what.options (g.W.Wires.told c.args.wires.now) (g.W.Wires.told c.run.new.wires) c.new.ensures.what c.in-Ok.ensures.answered two
+    by_words (λ options from to calls. ReadsAreAnswered options.extents from calls) c.new.result c.args.what.from c.args.what.to c.args.what.options (g.W.Wires.told c.args.wires.now) (g.W.Wires.told c.run.new.wires) c.new.ensures.what c.in-Ok.ensures.answered two
 
 pub returns-in-Ok-clause-flushes : goal.returns-in-Ok-clause-flushes
 returns-in-Ok-clause-flushes g c two =
