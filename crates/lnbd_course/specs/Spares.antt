@@ -1,10 +1,9 @@
 -- What a copy spares: no READ covers a block of the source that one answer told as zero whole, and no WRITE contains a block of zeros that was found.
-use Rattle.std.specs.Prelude.{◌≡◌, ◌≢◌, ◌≤◌, ℕ, Bool, true, false, ◌&&◌, List, [], ◌++◌, Some, None}
+use Rattle.std.specs.Prelude.{◌≡◌, ◌≢◌, ℕ, Bool, true, false, ◌&&◌, List, [], ◌++◌, Some, None}
 use Rattle.lnbd_model.specs.declared.kind.Kind.TheVariants.{BlockStatus}
 use Rattle.lnbd_model.specs.declared.target.Place.{Place}
 use Rattle.lnbd_link.specs.Call.{Call}
 use Rattle.lnbd_history.specs.Commands.{Command}
-use Rattle.lnbd_records.specs.Limits.{max_minimum_block}
 use Rattle.lnbd_asked.specs.Honest.{Done, has}
 use Rattle.lnbd_asked.specs.Link.{Nobody}
 use Rattle.lnbd_asked.specs.Transcript.{Dealt, dealt_with, is_of}
@@ -34,18 +33,6 @@ pub record WasToldWhole (block : ℕ) (dealt : Dealt) (p : ℕ) : Type 0 where
 -- No READ that was asked covers a position of such a block.
 abbrev pub ReadsNoZeros : (block : ℕ) → Dealt → Type 0
 ReadsNoZeros block dealt = (p : ℕ) → WasToldWhole block dealt p → EachAsked (λ command. reads command p ≡ false) dealt
-
--- The smallest block of an export may have so many bytes (NBD protocol, "Block size constraints").
-pub record IsLeastBlock (size : ℕ) : Type 0 where
-  pub some : 1 ≤ size
-  pub most : size ≤ max_minimum_block
-
--- For blocks of a size that the smallest of an export may have: none was read of the source that one answer told as zero whole.
-pub record SparesZeros (from : Place) (calls : List Call) : Type 0 where
-  -- the size of the blocks
-  pub block : ℕ
-  pub least : IsLeastBlock block
-  pub reads : ReadsNoZeros block (dealt_with from calls)
 
 -- With no handle held and no extents waited for, where each block of this size that is known was planned as zero, and no position was planned twice, none was read.
 abbrev pub EndedSpares : Type 0
