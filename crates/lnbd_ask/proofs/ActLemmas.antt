@@ -1,6 +1,6 @@
 -- Acts on the one handle that is held.
 use Rattle.std.proofs.Common.{◌≡◌, ◌≢◌, ◌==◌, ℕ, Bool, true, false, List, [], ◌∷◌, Option, Some, Result, Ok, Err, refl, sym, ◌∙◌, ap, subst}
-use Rattle.std.specs.Prelude.{IfErr, IfOk, OnOk, slice_get, if◌then◌else◌, ◌&&◌, not}
+use Rattle.std.specs.Prelude.{IfErr, OnOk, slice_get, if◌then◌else◌, ◌&&◌, not}
 use Rattle.std.specs.Option.{option_map}
 use Rattle.lnbd_model.specs.declared.export.ExportInfo.{ExportInfo}
 use Rattle.lnbd_model.specs.declared.export.Listed.{Listed}
@@ -28,7 +28,7 @@ use Rattle.lnbd_poll.specs.Seen.{Seen}
 use Rattle.lnbd_ask.specs.declared.conversation.Halt.{Halt}
 use Rattle.lnbd_ask.specs.declared.conversation.Halt.TheVariants as halt
 use Rattle.lnbd_ask.specs.Lists.{aborting, asking, is_opt_mode, naming, short_of, told_by}
-use Rattle.lnbd_ask.specs.Parts.{Acted, ActsOn, no_value}
+use Rattle.lnbd_ask.specs.Parts.{ActsOn, no_value}
 use Rattle.lnbd_ask.specs.Waits.{Holds}
 use Rattle.lnbd_ask.proofs.WaitLemmas.{at_handle}
 

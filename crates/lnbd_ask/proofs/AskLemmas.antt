@@ -1,11 +1,11 @@
 -- One range is asked for.
-use Rattle.std.proofs.Common.{◌≡◌, ◌≤◌, ◌<◌, ◌⊎◌, inl, inr, ℕ, false, List, [], ◌∷◌, ◌++◌, Option, Some, None, Result, Ok, Err, refl, sym, ◌∙◌, ap, subst}
+use Rattle.std.proofs.Common.{◌≡◌, ◌<◌, inl, inr, ℕ, false, List, [], ◌∷◌, ◌++◌, Option, Some, None, Result, Ok, Err, refl, sym, ◌∙◌, ap, subst}
 use Rattle.std.specs.Prelude.{IfErr, slice_get}
 use Rattle.std.specs.Option.{option_map}
 use Rattle.lnbd_model.specs.declared.export.Extent.{Extent}
 use Rattle.lnbd_model.specs.declared.state.State.{State}
 use Rattle.lnbd_history.specs.Answers.{state_after}
-use Rattle.lnbd_history.specs.Events.{Issue, Refuse}
+use Rattle.lnbd_history.specs.Events.{Issue}
 use Rattle.lnbd_machine.specs.Machine.{Machine}
 use Rattle.lnbd_handle.specs.Histories.{Adds, AddsFault, ForEach}
 use Rattle.lnbd_handle.specs.declared.issue.IssueFault.{IssueFault}
@@ -23,8 +23,8 @@ use Rattle.lnbd_ask.specs.declared.stops.Stop.{Stop}
 use Rattle.lnbd_ask.specs.declared.stops.Stop.TheVariants as stop
 use Rattle.lnbd_ask.specs.declared.survey.Surveyor.{Surveyor}
 use Rattle.lnbd_ask.specs.declared.survey.Survey.{Survey}
-use Rattle.lnbd_ask.specs.Maps.{Answers, Asked, HasWaited, Is_cut_off, Is_failed, Is_lost, Is_refused, Runs_short, Stops, issued, length_at, refused, status_of, stop_of}
-use Rattle.lnbd_ask.specs.MapSteps.{Asks, AsksOne, IsNotIssued}
+use Rattle.lnbd_ask.specs.Maps.{Answers, HasWaited, Is_cut_off, Is_failed, Is_lost, Is_refused, Runs_short, Stops, issued, length_at, refused, status_of, stop_of}
+use Rattle.lnbd_ask.specs.MapSteps.{AsksOne, IsNotIssued}
 use Rattle.lnbd_ask.specs.Surveys.{Surveys, error_in, told_in}
 use Rattle.lnbd_ask.specs.SurveyLaws.{surveys_none, surveys_on}
 use Rattle.lnbd_ask.specs.Waits.{Holds, Waited, Waits}

@@ -1,5 +1,5 @@
 -- Where the conversation about a map ends by a failed link, a call failed.
-use Rattle.std.proofs.Common.{◌≡◌, ◌==◌, ℕ, Bool, true, false, List, [], ◌∷◌, ◌++◌, Option, Some, None, Result, Ok, Err, refl, sym, ◌∙◌, ap, subst, if◌then◌else◌}
+use Rattle.std.proofs.Common.{◌≡◌, ◌==◌, ℕ, Bool, true, false, List, ◌++◌, Option, Some, None, Result, Ok, Err, refl, sym, ◌∙◌, ap, subst, if◌then◌else◌}
 use Rattle.std.specs.Prelude.{◌^◌, nat_le}
 use Rattle.std.specs.List.{list_any}
 use Rattle.lnbd_model.specs.declared.breach.Breach.TheVariants as breach
@@ -19,9 +19,9 @@ use Rattle.lnbd_ask.specs.declared.stops.Stop.{Stop}
 use Rattle.lnbd_ask.specs.declared.stops.Stop.TheVariants as stop
 use Rattle.lnbd_ask.specs.declared.survey.Surveyor.{Surveyor}
 use Rattle.lnbd_ask.specs.Asks.{begins, is_ready, parting}
-use Rattle.lnbd_ask.specs.Maps.{All_answered, Asked, Breaks_off, Cannot_ask, Discusses, HasWaited, Inquires, Is_answered, Is_cut_off, Is_cut_short, Is_failed, Is_lost, Is_refused, Is_stopped, Knows_all, Learned, Learns, Lesson, Parts, Runs_short, Stopped, Stops, death_stop, ended, export_known, is_agreed, is_parting, issued, known_after, known_at, length_at, refused, stop_of, told_stop}
+use Rattle.lnbd_ask.specs.Maps.{All_answered, Asked, Breaks_off, Cannot_ask, Discusses, HasWaited, Inquires, Is_answered, Is_cut_off, Is_cut_short, Is_failed, Is_lost, Is_refused, Is_stopped, Knows_all, Learned, Learns, Lesson, Parts, Runs_short, Stopped, Stops, death_stop, ended, export_known, is_agreed, is_parting, issued, known_at, length_at, stop_of}
 use Rattle.lnbd_ask.specs.Surveys.{Surveys}
-use Rattle.lnbd_ask.proofs.LostLemmas.{AllWell, IsKept, has_lost, lost_stage, parting_kept, waits_kept, well_first, well_later}
+use Rattle.lnbd_ask.proofs.LostLemmas.{AllWell, IsKept, lost_stage, parting_kept, waits_kept, well_first, well_later}
 
 -- ---- No call failed.
 

@@ -1,5 +1,5 @@
 -- One export after another.
-use Rattle.std.proofs.Common.{◌≡◌, ◌≤◌, ◌<◌, ◌+◌, ℕ, suc, List, [], ◌∷◌, ◌++◌, length, get_or, drop, Option, Result, Ok, Err, refl, sym, ◌∙◌, ap, subst, append_assoc, add-one, drop-cons}
+use Rattle.std.proofs.Common.{◌≡◌, ◌≤◌, ◌<◌, ◌+◌, ℕ, List, [], ◌∷◌, ◌++◌, length, get_or, drop, Option, Result, Ok, Err, refl, sym, ◌∙◌, ap, subst, append_assoc, add-one, drop-cons}
 use Rattle.std.proofs.lemmas.List.{append-nil}
 use Rattle.lnbd_model.specs.declared.export.Listed.{Listed}
 use Rattle.lnbd_callbacks.specs.Calls.{Call}
@@ -8,7 +8,7 @@ use Rattle.lnbd_link.specs.Call as wire
 use Rattle.lnbd_link.specs.Part.{Grows}
 use Rattle.lnbd_link.proofs.Parts.{grows_none, grows_on}
 use Rattle.lnbd_poll.specs.Held.{Held}
-use Rattle.lnbd_poll.specs.Seen.{Goes, Seen, Went}
+use Rattle.lnbd_poll.specs.Seen.{Seen, Went}
 use Rattle.lnbd_poll.specs.Turns.{Blames}
 use Rattle.lnbd_poll.proofs.TurnLemmas.{blames_on}
 use Rattle.lnbd_ask.specs.declared.conversation.Halt.{Halt}

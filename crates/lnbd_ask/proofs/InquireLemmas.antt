@@ -1,5 +1,5 @@
 -- One range after another.
-use Rattle.std.proofs.Common.{◌≡◌, ◌≤◌, ◌<◌, ◌+◌, ◌*◌, ℕ, List, [], ◌∷◌, ◌++◌, Option, Some, None, Result, Ok, Err, refl, sym, ◌∙◌, ap, subst, append_assoc, append-nil, arith}
+use Rattle.std.proofs.Common.{◌≡◌, ◌≤◌, ◌<◌, ◌+◌, ℕ, List, [], ◌∷◌, ◌++◌, Option, Result, Ok, Err, refl, sym, ◌∙◌, ap, subst, append_assoc, append-nil}
 use Rattle.lnbd_model.specs.declared.export.Extent.{Extent}
 use Rattle.lnbd_extents.specs.Lists.{span}
 use Rattle.lnbd_info.specs.Map.{IsMapOf}
@@ -14,7 +14,7 @@ use Rattle.lnbd_ask.specs.declared.conversation.Halt.TheVariants as halt
 use Rattle.lnbd_ask.specs.declared.stops.Stop.{Stop}
 use Rattle.lnbd_ask.specs.declared.stops.Stop.TheVariants as stop
 use Rattle.lnbd_ask.specs.declared.survey.Surveyor.{Surveyor}
-use Rattle.lnbd_ask.specs.Maps.{All_answered, AreAsked, Asked, Inquires, Is_answered, Runs_short, counting, counting_of, length_at, told_by}
+use Rattle.lnbd_ask.specs.Maps.{All_answered, AreAsked, Asked, Inquires, Is_answered, Runs_short, counting, length_at, told_by}
 use Rattle.lnbd_ask.specs.MapSteps.{AsksOne, Inquired, with_all}
 use Rattle.lnbd_ask.specs.Waits.{Holds}
 use Rattle.lnbd_ask.proofs.LayLemmas.{map_none, map_with_all, told_by_more}

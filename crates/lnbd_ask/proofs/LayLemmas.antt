@@ -5,7 +5,7 @@ use Rattle.std.proofs.lemmas.Bool.{cases_lt}
 use Rattle.std.proofs.lemmas.Bool.Decides.{nat_tests}
 use Rattle.std.proofs.lemmas.Nat.{div-add-mod', mod_below, mul-le}
 use Rattle.lnbd_model.specs.declared.export.Extent.{Extent}
-use Rattle.lnbd_extents.specs.Lists.{AreJoined, clipped, flags_at, span, with_extent}
+use Rattle.lnbd_extents.specs.Lists.{clipped, flags_at, span, with_extent}
 use Rattle.lnbd_extents.proofs.ListLaws.{flags_at_left, flags_at_right, flags_with_extent, joined_with_extent, span-append, span_clipped, span_with_extent}
 use Rattle.lnbd_info.specs.Map.{IsMapOf}
 use Rattle.lnbd_info.proofs.MapLemmas.{span_more}

@@ -1,21 +1,18 @@
 -- What is learned, and how the conversation about a map ends.
-use Rattle.std.proofs.Common.{◌≡◌, ◌≤◌, ◌<◌, ◌+◌, ◌-◌, ◌*◌, ◌/◌, ◌%◌, ◌^◌, ◌&&◌, ◌||◌, ℕ, Bool, true, false, List, [], ◌∷◌, ◌++◌, Option, Some, None, Result, Ok, Err, refl, sym, ◌∙◌, ap, subst, append_assoc, append-nil, arith, if◌then◌else◌}
+use Rattle.std.proofs.Common.{◌≡◌, ◌≤◌, ◌<◌, ◌+◌, ◌-◌, ◌*◌, ◌/◌, ◌%◌, ◌^◌, ◌&&◌, ℕ, Bool, true, false, List, [], ◌∷◌, ◌++◌, Option, Some, None, Result, Ok, Err, refl, sym, ◌∙◌, ap, subst, append-nil, arith, if◌then◌else◌}
 use Rattle.std.specs.Prelude.{IfErr, OnOk, nat_le, nat_lt}
 use Rattle.std.proofs.lemmas.Bool.Decides.{nat_tests}
 use Rattle.std.proofs.lemmas.Nat.{div-add-mod'}
 use Rattle.lnbd_model.specs.declared.breach.Breach.TheVariants as breach
 use Rattle.lnbd_model.specs.declared.export.ExportInfo.{ExportInfo}
 use Rattle.lnbd_model.specs.declared.export.Extent.{Extent}
-use Rattle.lnbd_model.specs.declared.state.Cause.{Cause}
-use Rattle.lnbd_model.specs.declared.state.Cause.TheVariants as cause
 use Rattle.lnbd_model.specs.declared.state.State.{State}
 use Rattle.lnbd_model.specs.declared.state.State.TheVariants as state
 use Rattle.lnbd_extents.specs.Lists.{span, with_extent}
 use Rattle.lnbd_extents.proofs.ListLaws.{span_with_extent}
 use Rattle.lnbd_history.specs.Answers.{state_after}
 use Rattle.lnbd_history.specs.Refusals.{minimum}
-use Rattle.lnbd_info.specs.Map.{AreFilled, IsMapOf}
-use Rattle.lnbd_info.proofs.MapLemmas.{filled}
+use Rattle.lnbd_info.specs.Map.{IsMapOf}
 use Rattle.lnbd_link.specs.Call as wire
 use Rattle.lnbd_link.proofs.Parts.{grows_on}
 use Rattle.lnbd_poll.specs.Held.{Held}
@@ -30,7 +27,7 @@ use Rattle.lnbd_ask.specs.declared.stops.Stop.TheVariants as stop
 use Rattle.lnbd_ask.specs.declared.survey.Surveyor.{Surveyor}
 use Rattle.lnbd_ask.specs.declared.survey.Survey.{Survey}
 use Rattle.lnbd_ask.specs.Asks.{parting}
-use Rattle.lnbd_ask.specs.Maps.{AreAsked, Asked, Breaks_off, Cannot_ask, Discusses, HasWaited, Is_cut_short, Is_stopped, IsMapTold, Knows_all, Learned, Learns, Lesson, Parts, Runs_short, Stopped, Stops, block_of, ended, ended_at, export_known, is_agreed, is_no_context, is_parting, known_after, known_at, least_block, told_by, whole_of}
+use Rattle.lnbd_ask.specs.Maps.{AreAsked, Asked, Breaks_off, Cannot_ask, HasWaited, Is_cut_short, Is_stopped, IsMapTold, Knows_all, Learned, Lesson, Parts, Runs_short, Stopped, Stops, block_of, ended, ended_at, is_agreed, is_no_context, is_parting, known_after, known_at, told_by, whole_of}
 use Rattle.lnbd_ask.specs.MapSteps.{Discussed, Inquired, IsFit, IsLesson, Taught, end_at, end_of, is_end_parting, plan_of, planned}
 use Rattle.lnbd_ask.specs.Surveys.{Surveys}
 use Rattle.lnbd_ask.specs.Waits.{Holds, Waited, Waits}

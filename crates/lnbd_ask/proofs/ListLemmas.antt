@@ -1,10 +1,8 @@
 -- What is told at the end of a listing, and the calls from the connect to the shut.
 use Rattle.std.proofs.Common.{◌≡◌, ◌≢◌, ◌≤◌, ◌==◌, ℕ, Bool, true, false, List, [], ◌∷◌, ◌++◌, Option, Some, None, Result, Ok, Err, refl, sym, ◌∙◌, ap, subst, arith}
-use Rattle.std.proofs.lemmas.Bool.{false≢true}
 use Rattle.std.specs.Prelude.{IfErr, if◌then◌else◌}
 use Rattle.std.specs.List.{list_any}
 use Rattle.lnbd_model.specs.declared.export.Listed.{Listed}
-use Rattle.lnbd_model.specs.declared.state.Cause.{Cause}
 use Rattle.lnbd_model.specs.declared.state.Cause.TheVariants as cause
 use Rattle.lnbd_model.specs.declared.state.State.{State}
 use Rattle.lnbd_model.specs.declared.state.State.TheVariants as state
@@ -14,8 +12,7 @@ use Rattle.lnbd_callbacks.specs.Calls.{Call}
 use Rattle.lnbd_history.specs.declared.kinds.OptAnswer.{OptAnswer}
 use Rattle.lnbd_history.specs.declared.kinds.OptAnswer.TheVariants as opt
 use Rattle.lnbd_history.specs.Answers.{listed_after, state_after}
-use Rattle.lnbd_history.specs.Events.{Abort, Event, History, Name, Opt, Set}
-use Rattle.lnbd_history.specs.History.{reading}
+use Rattle.lnbd_history.specs.Events.{Abort, History, Name, Opt, Set}
 use Rattle.lnbd_history.specs.Laws.{may_name}
 use Rattle.lnbd_info.specs.declared.told.Entry.{Entry}
 use Rattle.lnbd_link.specs.Call as wire
@@ -37,9 +34,9 @@ use Rattle.lnbd_ask.specs.declared.quiet.Quiet.{Quiet}
 use Rattle.lnbd_ask.specs.Asks.{IfLink}
 use Rattle.lnbd_ask.specs.Lists.{AsksEach, AsksFor, NegotiatesList, Breaks_off, GivesUp, HasInquired, HasListed, HasListedOn, Has_inquired, Inquires, Lists, None_left, Not_begun, Not_connected, Not_held, Runs_short, Tells, TellsAt, TellsEntries, aborting, answered, asking, begins_listing, begun_listing, entry_after, is_opt_mode, naming}
 use Rattle.lnbd_ask.specs.Parts.{Acted, Acts, Follows, Gives, Part, Stops, Then, no_value}
-use Rattle.lnbd_ask.specs.Waits.{Holds, Waits}
+use Rattle.lnbd_ask.specs.Waits.{Holds}
 use Rattle.lnbd_ask.proofs.EndLemmas.{death_context, halt_context}
-use Rattle.lnbd_ask.proofs.LostLemmas.{AllWell, IsKept, has_lost, lost_stage, waits_kept, well_first, well_later}
+use Rattle.lnbd_ask.proofs.LostLemmas.{AllWell, IsKept, lost_stage, waits_kept, well_first, well_later}
 
 -- A handle dies by a failed link only where a call failed.
 

@@ -1,8 +1,7 @@
 -- The calls on callbacks that turns make, and the world to which they lead.
-use Rattle.std.proofs.Common.{◌≡◌, ℕ, Bool, true, false, List, [], ◌∷◌, ◌++◌, Option, Some, None, Result, length, take, append_assoc, refl, sym, ◌∙◌, ap, subst}
+use Rattle.std.proofs.Common.{◌≡◌, ℕ, Bool, true, false, List, [], ◌∷◌, ◌++◌, Option, Some, None, Result, append_assoc, refl, sym, ◌∙◌, ap, subst}
 use Rattle.std.proofs.lemmas.List.{append-nil}
 use Rattle.lnbd_callbacks.specs.Calls.{Call}
-use Rattle.lnbd_history.specs.Answers.{out_after}
 use Rattle.lnbd_history.specs.Entries as entries
 use Rattle.lnbd_history.specs.Events.{Event, History, Arrived, End, LinkFailed}
 use Rattle.lnbd_history.specs.History.{reading}

@@ -1,5 +1,5 @@
 -- What is told of a map at the end, and the calls from the connect to the shut.
-use Rattle.std.proofs.Common.{◌≡◌, ◌≤◌, ◌<◌, ◌^◌, ℕ, true, List, [], ◌∷◌, ◌++◌, Option, Some, None, Result, Ok, Err, refl, sym, ◌∙◌, ap, subst, arith}
+use Rattle.std.proofs.Common.{◌≡◌, ◌≤◌, ◌^◌, ℕ, true, List, [], ◌∷◌, ◌++◌, Option, Some, None, Result, Ok, Err, refl, sym, ap, subst, arith}
 use Rattle.std.specs.List.{list_any}
 use Rattle.lnbd_model.specs.declared.export.Extent.{Extent}
 use Rattle.lnbd_model.specs.declared.state.Cause.TheVariants as cause
@@ -11,17 +11,15 @@ use Rattle.lnbd_link.specs.Call as wire
 use Rattle.lnbd_link.specs.Call.{Connect, Shut}
 use Rattle.lnbd_link.specs.Count.{Rises}
 use Rattle.lnbd_link.specs.Listed.{has_failed}
-use Rattle.lnbd_link.specs.Part.{Adds, Grows}
+use Rattle.lnbd_link.specs.Part.{Adds}
 use Rattle.lnbd_link.proofs.Parts.{grows_none, grows_on}
-use Rattle.lnbd_poll.specs.Seen.{Seen}
 use Rattle.lnbd_poll.specs.Turns.{Blames}
 use Rattle.lnbd_ask.specs.declared.fault.InfoFault.{InfoFault}
 use Rattle.lnbd_ask.specs.declared.fault.InfoFault.TheVariants as fault
 use Rattle.lnbd_ask.specs.declared.stops.Stop.{Stop}
 use Rattle.lnbd_ask.specs.declared.stops.Stop.TheVariants as stop
-use Rattle.lnbd_ask.specs.declared.survey.Surveyor.{Surveyor}
-use Rattle.lnbd_ask.specs.Asks.{IfLink, begins}
-use Rattle.lnbd_ask.specs.Maps.{Has_discussed, IsOfStop, Learned, Lesson, Mapped, Maps, Not_begun, Not_connected, Not_held, Stopped, TellsMap}
+use Rattle.lnbd_ask.specs.Asks.{IfLink}
+use Rattle.lnbd_ask.specs.Maps.{Has_discussed, IsOfStop, Learned, Lesson, Mapped, Not_begun, Not_connected, Not_held, Stopped, TellsMap}
 use Rattle.lnbd_ask.specs.MapSteps.{IsLesson, MappedOn, Talked_over}
 
 -- ---- What is told.

@@ -1,12 +1,13 @@
 -- What is told by one list of calls after another.
-use Rattle.std.proofs.Common.{◌≡◌, ℕ, List, [], ◌∷◌, ◌++◌, append_assoc, refl, sym, ◌∙◌, ap}
+use Rattle.std.proofs.Common.{◌≡◌, ℕ, List, [], ◌∷◌, ◌++◌, append_assoc, refl, sym, ◌∙◌, ap, arith}
 use Rattle.std.specs.Prelude.{if◌then◌else◌, bytes_eq}
 use Rattle.std.proofs.lemmas.List.{append-nil}
+use Rattle.std.proofs.lemmas.List.Elements.{All-append}
 use Rattle.lnbd_model.specs.declared.export.Extent.{Extent}
 use Rattle.lnbd_callbacks.specs.Calls.{Call, Chunk, Extents, Complete, Free}
 use Rattle.lnbd_ask.specs.declared.survey.Surveyor.{Surveyor}
 use Rattle.lnbd_ask.specs.declared.survey.Survey.{Survey}
-use Rattle.lnbd_ask.specs.Surveys.{Surveys, error_in, told_in}
+use Rattle.lnbd_ask.specs.Surveys.{IsGoing, Surveys, error_in, told_in}
 
 pub told_in_on : (context : List ℕ) (xs ys : List (Call Surveyor)) → told_in context (xs ++ ys) ≡ told_in context xs ++ told_in context ys
 told_in_on context [] ys = refl
@@ -25,10 +26,16 @@ error_in_on error (Chunk callback bytes offset status number heard ∷ xs) ys = 
 error_in_on error (Free callback ∷ xs) ys = error_in_on error xs ys
 
 pub surveys_none : (world : Survey) → Surveys world [] world
-surveys_none world = record { context = refl; error = refl; told = λ full. (full, sym (append-nil world.told.items)) }
+surveys_none world = record {
+  answered = λ k d h. absurd (omega (arith, h));
+  context = refl;
+  error = refl;
+  told = λ full. (full, sym (append-nil world.told.items));
+}
 
 pub surveys_on : (a b c : Survey) (first second : List (Call Surveyor)) → Surveys a first b → Surveys b second c → Surveys a (first ++ second) c
 surveys_on a b c first second one two = record {
+  answered = All-append IsGoing first second one.answered two.answered;
   context = two.context ∙ one.context;
   error = two.error ∙ ap (λ (e : ℕ). error_in e second) one.error ∙ sym (error_in_on a.error first second);
   told = λ full.

@@ -1,4 +1,4 @@
-use Rattle.std.proofs.Common.{◌∙◌, ◌+◌, ℕ, List, ap, arith, refl, sym}
+use Rattle.std.proofs.Common.{◌∙◌, ◌+◌, List, ap, arith, refl}
 use Rattle.lnbd_model.specs.declared.export.Extent.{Extent}
 use Rattle.lnbd_extents.specs.Lists.{span}
 use Rattle.lnbd_link.proofs.Parts.{keeps_none, keeps_on}

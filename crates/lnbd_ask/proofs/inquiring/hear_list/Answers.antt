@@ -1,6 +1,5 @@
 use Rattle.std.proofs.Common.{arith, refl}
 use Rattle.lnbd_history.specs.Answers.{listed_after}
-use Rattle.lnbd_ask.specs.Lists.{entry_after}
 use Rattle.lnbd_ask.specs.Parts.{Acts}
 use Rattle.lnbd_ask.specs.Waits.{Waits}
 use Rattle.lnbd_ask.specs.declared.conversation.Awaited.TheVariants as awaited

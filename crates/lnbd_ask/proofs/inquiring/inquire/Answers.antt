@@ -1,6 +1,6 @@
 use Rattle.std.proofs.Common.{List, Ok, ap, refl, sym, ◌∙◌}
 use Rattle.lnbd_model.specs.declared.export.Listed.{Listed}
-use Rattle.lnbd_ask.specs.Lists.{AsksEach, EndsWith, NegotiatesList, Surveys}
+use Rattle.lnbd_ask.specs.Lists.{NegotiatesList, Surveys}
 use Rattle.lnbd_ask.proofs.PartLemmas.{follows, stops}
 use Rattle.lnbd_ask.proofs.inquiring.inquire.Goals as goal
 

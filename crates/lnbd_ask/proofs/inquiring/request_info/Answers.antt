@@ -1,6 +1,6 @@
 use Rattle.std.proofs.Common.{◌≡◌, arith, refl}
-use Rattle.lnbd_records.specs.Options.{opt_info, opt_list}
-use Rattle.lnbd_ask.specs.Lists.{AnswersInfo, AnswersList, AsksInfo, asking, naming}
+use Rattle.lnbd_records.specs.Options.{opt_info}
+use Rattle.lnbd_ask.specs.Lists.{AnswersInfo, asking}
 use Rattle.lnbd_ask.specs.Parts.{Acts, no_value}
 use Rattle.lnbd_ask.specs.declared.conversation.Halt.TheVariants as halt
 use Rattle.lnbd_ask.proofs.ActLemmas.{short_silent}

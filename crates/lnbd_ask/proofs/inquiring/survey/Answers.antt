@@ -1,5 +1,5 @@
 use Rattle.std.proofs.Common.{refl}
-use Rattle.lnbd_ask.specs.Lists.{AsksEach, EndsWith, NegotiatesList, Surveys}
+use Rattle.lnbd_ask.specs.Lists.{AsksEach, EndsWith}
 use Rattle.lnbd_ask.proofs.PartLemmas.{follows, stops}
 use Rattle.lnbd_ask.proofs.inquiring.survey.Goals as goal
 

@@ -3,7 +3,7 @@ use Rattle.lnbd_ask.proofs.DiscussLemmas.{lost_by_call}
 use Rattle.lnbd_ask.proofs.MapEndLemmas.{lesson_filled, lesson_in, lesson_room, lesson_stopped, stop_rose, tells_fault, tells_map}
 use Rattle.lnbd_ask.proofs.mapping.converse.Goals as goal
 use Rattle.std.proofs.Common.{◌∙◌, Ok, ap}
-use Rattle.lnbd_ask.specs.Maps.{Lesson, Stopped}
+use Rattle.lnbd_ask.specs.Maps.{Stopped}
 use Rattle.lnbd_ask.specs.declared.stops.Stop.{Stop}
 
 pub returns-in-Ok-clause-converses : goal.returns-in-Ok-clause-converses

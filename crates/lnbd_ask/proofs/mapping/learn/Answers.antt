@@ -1,5 +1,3 @@
-use Rattle.std.proofs.Common.{◌∙◌, arith, refl}
-use Rattle.lnbd_link.proofs.Parts.{keeps_on}
 use Rattle.lnbd_ask.specs.declared.conversation.Awaited.TheVariants as awaited
 use Rattle.lnbd_ask.proofs.AskLemmas.{context_stays}
 use Rattle.lnbd_ask.proofs.InquireLemmas.{inquired_in}

@@ -1,5 +1,4 @@
-use Rattle.std.proofs.Common.{List, ℕ, refl, subst}
-use Rattle.lnbd_ask.specs.Maps.{Mapped}
+use Rattle.std.proofs.Common.{refl}
 use Rattle.lnbd_ask.proofs.MapEndLemmas.{mapped_in, not_mapped}
 use Rattle.lnbd_ask.proofs.mapping.map.Goals as goal
 
