@@ -1,5 +1,5 @@
 -- A session of a server: what a client's bytes do to it and to the export, and how its pending replies are made.
-use Rattle.std.specs.Prelude.{◌≡◌, ℕ, ◌+◌, ◌-◌, Bool, true, false, List, [], ◌∷◌, ◌++◌, length, take, if◌then◌else◌, nat_le, ◌≤◌, Result, Ok, Err}
+use Rattle.std.specs.Prelude.{◌≡◌, ℕ, ◌+◌, ◌-◌, Bool, true, false, List, [], ◌∷◌, ◌++◌, length, take, if◌then◌else◌, nat_le, ◌≤◌, ◌<◌, Result, Ok, Err}
 use Rattle.std.specs.List.{remove, slice_index_or}
 use Rattle.lnbd_records.specs.Flags.{flag_no_zeroes, flag_fixed_newstyle}
 use Rattle.lnbd_records.specs.Handshake.{hello}
@@ -128,8 +128,9 @@ pub record Takes (before : Session) (start : Export) (bytes : List ℕ) (after :
   pub counted : is_closed after.dialogue.stage ≡ false → after.came ≡ before.came + length bytes
   pub offers : after.offers ≡ before.offers
 
--- The pending reply at this place is made over the export, and goes out.
+-- A reply is pending at this place; it is made over the export, and goes out.
 pub record MakesReply (before : Dialogue) (pick : ℕ) (export : Export) (after : Dialogue) : Type 0 where
+  pub inside : pick < length before.waiting
   pub request : Request
   pub picked : slice_index_or before.waiting pick request ≡ request
   pub is : after ≡ record before {
