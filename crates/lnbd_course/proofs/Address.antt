@@ -19,7 +19,7 @@ or_none : (one : Option Target) → or_else one None ≡ one
 or_none None = refl
 or_none (Some one) = refl
 
-target_more : (link : ℕ) (some more : List wire.Call) → target_of link (some ++ more) ≡ or_else (target_of link some) (target_of link more)
+pub target_more : (link : ℕ) (some more : List wire.Call) → target_of link (some ++ more) ≡ or_else (target_of link some) (target_of link more)
 target_more link [] more = refl
 target_more link (Connect to None ∷ some) more = target_more link some more
 target_more link (Connect to (Some n) ∷ some) more = go (n == link) (target_more link some more)

@@ -20,7 +20,7 @@ use Rattle.lnbd_course.proofs.Placed.{links_are_of_sides}
 no_write : (kind : Kind) → kind ≡ Flush → kind ≡ Write → ⊥
 no_write kind one other = let e = sym one ∙ other in absurd (cc e)
 
-dense_of : (how : How) (slices : List Slice) (by : Ticket) (command : Command Nobody) → AsksOfDestination how slices by command → IsDense how command
+pub dense_of : (how : How) (slices : List Slice) (by : Ticket) (command : Command Nobody) → AsksOfDestination how slices by command → IsDense how command
 dense_of how slices (ticket.Slice n) command asks = asks.2
 dense_of how slices ticket.Extents command asks = absurd asks
 dense_of how slices ticket.Flush command asks = λ finds writes. absurd (no_write command.kind asks writes)

@@ -60,14 +60,14 @@ in_each P [] h r there = absurd there
 in_each P (x ∷ xs) h r (inl e) = subst P e h.0
 in_each P (x ∷ xs) h r (inr there) = in_each P xs h.1 r there
 
-record Of (histories : Histories) (r : Request) : Type 0 where
-  asks : commands.Request Ticket
-  is : history_of.request (histories r.link) r.cookie ≡ Some asks
-  command : r.said.command ≡ bare asks
-  outcome : r.said.outcome ≡ outcome_after (histories r.link) r.cookie
+pub record Of (histories : Histories) (r : Request) : Type 0 where
+  pub asks : commands.Request Ticket
+  pub is : history_of.request (histories r.link) r.cookie ≡ Some asks
+  pub command : r.said.command ≡ bare asks
+  pub outcome : r.said.outcome ≡ outcome_after (histories r.link) r.cookie
 
 module _ (histories : Histories) where
-  of_it : (xs : List Request) (r : Request) → AllTrack histories xs → IsIn r xs → Of histories r
+  pub of_it : (xs : List Request) (r : Request) → AllTrack histories xs → IsIn r xs → Of histories r
   of_it xs r all there = go (history_of.request (histories r.link) r.cookie) refl (subst (λ l. IsIn r l) ((all r.link).each r.cookie) (in_under r xs there))
     where
       go : (a : Option (commands.Request Ticket)) → history_of.request (histories r.link) r.cookie ≡ a → IsIn r (request_of r.link r.cookie a (outcome_after (histories r.link) r.cookie)) → Of histories r
@@ -234,7 +234,7 @@ module _ (place : Place) (calls : List Call) (histories : Histories) (requests :
       on true here k = whole_one (nat_le cookie (written (histories link))) refl (sym ((says link here).requests cookie) ∙ k)
       on false here k = absurd (none_some k)
 
-  are_dealt : IsDealt (gone_out histories requests) (dealt_with place calls)
+  pub are_dealt : IsDealt (gone_out histories requests) (dealt_with place calls)
   are_dealt = record { shown = shown; only = only }
 
 -- A side.

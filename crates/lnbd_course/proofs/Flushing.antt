@@ -12,16 +12,16 @@ use Rattle.lnbd_course.proofs.Once.{each_asked, listed, none_meet, touching}
 use Rattle.lnbd_course.proofs.Placed.{links_are_of_sides}
 
 -- it is a FLUSH, whatever the position
-abbrev flushes : Command Nobody → ℕ → Bool
+abbrev pub flushes : Command Nobody → ℕ → Bool
 flushes command p = is_flush command.kind
 
-flushes_same : (p : ℕ) (xs : List Request) → length (touching flushes p xs) ≡ flushes_of xs
+pub flushes_same : (p : ℕ) (xs : List Request) → length (touching flushes p xs) ≡ flushes_of xs
 flushes_same p [] = refl
 flushes_same p (x ∷ xs) =
     let rest = flushes_same p xs in
     elim (is_flush x.said.command.kind) as (λ b. length (cond b (x.said ∷ touching flushes p xs) (touching flushes p xs)) ≡ cond b 1 0 + flushes_of xs) [ true ↦ omega (arith, rest) | false ↦ omega (arith, rest) ]
 
-none_there : (xs : List Request) → flushes_of xs ≡ 0 → (r : Request) → IsIn r xs → is_flush r.said.command.kind ≡ false
+pub none_there : (xs : List Request) → flushes_of xs ≡ 0 → (r : Request) → IsIn r xs → is_flush r.said.command.kind ≡ false
 none_there [] none r there = absurd there
 none_there (x ∷ xs) none r (inl same) = subst (λ (y : Request). is_flush y.said.command.kind ≡ false) same (go (is_flush x.said.command.kind) refl)
   where
@@ -33,7 +33,7 @@ none_there (x ∷ xs) none r (inr there) = none_there xs (fewer (cond (is_flush 
     fewer : (a b : ℕ) → a + b ≡ 0 → b ≡ 0
     fewer a b e = omega (arith, e)
 
-one_at_most : (b : Bool) (n : ℕ) → n ≡ cond b 1 0 → n ≤ 1
+pub one_at_most : (b : Bool) (n : ℕ) → n ≡ cond b 1 0 → n ≤ 1
 one_at_most true n e = omega (arith, e)
 one_at_most false n e = omega (arith, e)
 

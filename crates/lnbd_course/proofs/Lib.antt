@@ -24,4 +24,11 @@ pub mod Flushing
 pub mod Flushed
 pub mod Closing
 pub mod UnderWay
+pub mod SliceCounts
+pub mod SliceStates
+pub mod Slices
 pub mod Answering
+pub mod Spread
+pub mod Unread
+pub mod Parts
+pub mod Quiet

@@ -133,7 +133,7 @@ at_most n said other same few = subst (λ (l : List Said). length l ≤ n) (sym 
 is_none : (said : List Said) → said ≡ [] → length said ≤ 0
 is_none said none = subst (λ (l : List Said). length l ≤ 0) (sym none) (omega arith)
 
-asked_once : (how : How) (cells : Cells) (told : ℕ → Bool) (end size : ℕ) (slices rest : List Slice) (rows : List (ℕ × Row)) (source destination : List Request) (dealt dealt' : Dealt) →
+pub asked_once : (how : How) (cells : Cells) (told : ℕ → Bool) (end size : ℕ) (slices rest : List Slice) (rows : List (ℕ × Row)) (source destination : List Request) (dealt dealt' : Dealt) →
     Stands how slices rows source destination → ((p : ℕ) → IsPlannedOnce cells told 0 end p (slices ++ rest)) → end ≤ size → AreListed source dealt → AreListed destination dealt' → AreAskedOnce how.allocated size dealt dealt'
 asked_once how cells told end size slices rest rows source destination dealt dealt' stands planned fits listed listed' =
     let law = once how cells told end slices rest rows source destination stands planned in
@@ -160,7 +160,7 @@ listed histories asked dealt d link cookie command asks =
 
 -- Links.
 
-own_links : (from to : Place) (size : Option ℕ) (how : How) (has : ℕ → Bool) (slices : List Slice) (now : board.Seen) (calls : List Call) → Between from to size how has slices now calls [] → AreOwnLinks from to calls
+pub own_links : (from to : Place) (size : Option ℕ) (how : How) (has : ℕ → Bool) (slices : List Slice) (now : board.Seen) (calls : List Call) → Between from to size how has slices now calls [] → AreOwnLinks from to calls
 own_links from to size how has slices now calls b = record {
   connected = λ link given. side (has link) (target_of link calls) (b.placed.address link given);
   used = λ link new. (b.course.unused link new).quiet;

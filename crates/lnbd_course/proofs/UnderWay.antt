@@ -39,6 +39,7 @@ use Rattle.lnbd_tracks.proofs.Unanswered.{tracked_are_unanswered}
 use Rattle.lnbd_course.specs.Between.{Between, place_of}
 use Rattle.lnbd_course.specs.Course.{beside, on_side}
 use Rattle.lnbd_course.specs.Failed.{AllStand}
+use Rattle.lnbd_course.specs.Slices.{AsksExtentsOf, QuietAsks}
 use Rattle.lnbd_course.specs.Told.{Known, Told}
 use Rattle.lnbd_course.specs.UnderWay.{AllHeld, AreUnderWay, AsksExtents, NoneWrites, QuietAwaits, QuietCounts, is_block_status}
 use Rattle.lnbd_course.proofs.Address.{both, name_is, target_is}
@@ -170,14 +171,14 @@ module _ (from to : Place) (size : Option ℕ) (how : How) (has : ℕ → Bool) 
 
   -- The two sides.
   module _ (two : from ≢ to) where
-    of_source : AreWaitingOn from calls (on_side has histories)
+    pub of_source : AreWaitingOn from calls (on_side has histories)
     of_source = are_of from has (λ link e. go link (has link) refl (only_side from link e)) (λ link e. ap (place_of from to) e)
       where
         go : (link : ℕ) (s : Bool) → has link ≡ s → place_of from to (has link) ≡ from → has link ≡ true
         go link true is e = is
         go link false is e = absurd (two (sym e ∙ ap (place_of from to) is))
 
-    of_destination : AreWaitingOn to calls (on_side (beside has) histories)
+    pub of_destination : AreWaitingOn to calls (on_side (beside has) histories)
     of_destination = are_of to (beside has) (λ link e. go link (has link) refl (only_side to link e)) (λ link e. ap (place_of from to) (is_not (has link) e))
       where
         is_not : (s : Bool) → not s ≡ true → s ≡ false
@@ -329,8 +330,33 @@ module _ (from to : Place) (size : Option ℕ) (how : How) (has : ℕ → Bool) 
           here_it link cookie (inl same) = subst (λ (n : ℕ). IsUnanswered is_block_status (dealt_with from calls) n cookie) same.0 (subst (λ (n : ℕ). IsUnanswered is_block_status (dealt_with from calls) a.link n) same.1 it)
           here_it link cookie (inr none) = absurd none
 
+      -- It asks for the range that is waited for.
+
+      same_asks : a.asks ≡ told.maps.asks
+      same_asks = some_same a.asks told.maps.asks (sym a.asked ∙ ap (λ (n : ℕ). request (others n) a.cookie) its_place.0 ∙ ap (λ (n : ℕ). request (others told.maps.link) n) its_place.1 ∙ told.maps.asked)
+
+      asks_range : AsksExtentsOf range from calls
+      asks_range =
+          let same = same_history a.link (told_given a.link a.cookie a.asks a.asked) in
+          let is : request (histories a.link) a.cookie ≡ Some a.asks = ap (λ (h : History Ticket). request h a.cookie) (sym same) ∙ a.asked in
+          let waits : outcome_after (histories a.link) a.cookie ≡ Unfinished = ap (λ (h : History Ticket). outcome_after h a.cookie) (sym same) ∙ a.waits in
+          record {
+            one = awaits.one;
+            link = a.link;
+            cookie = a.cookie;
+            command = bare a.asks;
+            asked = shown a.link a.cookie a.asks a.source is waits;
+            kind = ap is_block_status a.kind;
+            waits = came a.link a.cookie a.asks a.source is waits;
+            begins = ap (λ (q : Request Ticket). q.offset) same_asks ∙ told.maps.offset;
+            long = ap (λ (q : Request Ticket). q.length) same_asks ∙ told.maps.length_;
+          }
+
 pub quiet_counts : QuietCounts
 quiet_counts from to size how has slices now calls seens b well stands none all two = counts from to size how has slices now calls seens b stands none all two well
 
 pub quiet_awaits : QuietAwaits
 quiet_awaits from to size how has slices now calls seens range known b told well unmapped stands none all two = awaits from to size how has slices now calls seens b stands none all range known told two well unmapped
+
+pub quiet_asks : QuietAsks
+quiet_asks from to size how has slices now calls seens range known b told well unmapped stands none all two = asks_range from to size how has slices now calls seens b stands none all range known told two well unmapped

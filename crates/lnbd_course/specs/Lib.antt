@@ -14,5 +14,8 @@ pub mod Failed
 pub mod Flushes
 pub mod Flushed
 pub mod UnderWay
+pub mod Slices
 pub mod Answered
 pub mod Driven
+pub mod Spread
+pub mod Parts

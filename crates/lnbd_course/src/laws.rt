@@ -8,10 +8,13 @@ ghost use Rattle.lnbd_course.specs.Failed.{TurnsFail};
 ghost use Rattle.lnbd_course.specs.Flushes.{EndedFlushed, EndedFlushesOnce, EndedUnflushed};
 ghost use Rattle.lnbd_course.specs.Laws.{NothingIsOnCourse, OpensOnCourse, SettlingKeeps, TurnsKeep, CallsKeep, SourceAsksKeep, DestinationAsksKeep, BoardMovesKeep, OthersKeep, TakingKeeps, FinishedCopies};
 ghost use Rattle.lnbd_course.specs.Betweens.{NothingIsBetween, OpensBetween, SettlingKeepsBetween, AgreeingSettles, TurnsKeepBetween, CallsKeepBetween, SourceAsksKeepBetween, DestinationAsksKeepBetween, BoardMovesKeepBetween, OthersKeepBetween, TakingKeepsBetween, LinksAreOfSides, EndedCopies};
+ghost use Rattle.lnbd_course.specs.Slices.{EndedAreBegun, QuietAreBegun, QuietAsks};
+ghost use Rattle.lnbd_course.specs.Parts.{PartsAskOnce};
 ghost use Rattle.lnbd_course.specs.Spares.{EndedAreDense, EndedSpares};
 ghost use Rattle.lnbd_course.specs.Orders.{BeginningAsks, GoingAsks, OverAsksNothing};
 ghost use Rattle.lnbd_course.specs.Taken.{BuffersAreNoMatter, TakenAreSpelled};
 ghost use Rattle.lnbd_course.specs.Told.{NothingIsTold, OpeningTells, SettlingTells, TurnsTell, CallsTell, SourceAsksTell, DestinationAsksTell, ExtentsAskTell, BoardMovesTell, OthersTell, HearingTells, FewerTell, WindowsTell, TakingTells, KnownWasTold, SidesAreOfSource};
+ghost use Rattle.lnbd_course.specs.Spread.{HandlesHaveFew, LinksHaveFew, OthersHaveNone, OverHasNone};
 ghost use Rattle.lnbd_course.specs.UnderWay.{QuietAwaits, QuietCounts};
 
 /// A copy is on its course before it has a handle, with each one that begins on a link which was just
@@ -172,6 +175,7 @@ pub fn ended_copies()
 pub fn ended_asks_once()
     ensures once { EndedAsksOnce }
     ensures done { EndedAreDone }
+    ensures slices { EndedAreBegun }
 {}
 
 /// Where all slices are over, what the board counted is the summary of a copy's calls.
@@ -198,6 +202,18 @@ pub fn ended_flushes()
 pub fn quiet_counts()
     ensures requests { QuietCounts }
     ensures extents { QuietAwaits }
+    ensures range { QuietAsks }
+    ensures slices { QuietAreBegun }
+{}
+
+/// On the link of a handle no more is unanswered than rows of the board count for it, if each command of a slice that the handle
+/// was asked is of a slice whose row counts; and so it is on each link. None is on a link of the other side, nor where no
+/// slice is begun and not over.
+pub fn handles_have_few()
+    ensures handles { HandlesHaveFew }
+    ensures links { LinksHaveFew }
+    ensures others { OthersHaveNone }
+    ensures over { OverHasNone }
 {}
 
 /// A range whose extents were heard was answered; what is not planned yet is not read; and what was answered before it was
@@ -211,4 +227,10 @@ pub fn ended_answers()
 /// In the end each link was driven by one handle, or by none.
 pub fn ended_driven()
     ensures { EndedAreDriven }
+{}
+
+/// In a turn, whole or short, nothing is written but what handles had been asked before it: so what a copy asked is
+/// asked once, also where the turn fails.
+pub fn parts_ask_once()
+    ensures { PartsAskOnce }
 {}
