@@ -1,5 +1,5 @@
 -- What the words of nbdcopy come to, and the status of its run.
-use Rattle.std.proofs.Common.{◌≡◌, ◌≢◌, ◌⊎◌, inl, inr, ◌≤◌, ℕ, Bool, true, false, List, [], ◌∷◌, get_or, Option, Some, None, Result, Ok, Err, refl, sym, ◌∙◌, ap, subst, arith, String}
+use Rattle.std.proofs.Common.{◌≡◌, ◌≢◌, ◌⊎◌, inl, inr, ℕ, true, List, [], ◌∷◌, get_or, Option, None, Result, Ok, Err, refl, sym, ◌∙◌, ap, subst, arith, String}
 use Rattle.std.specs.Prelude.{codes}
 use Rattle.std.specs.declared.alloc.Global.{Global}
 use Rattle.lnbd_args.specs.declared.asked.Asked.{Asked}
@@ -8,20 +8,18 @@ use Rattle.lnbd_args.specs.Tools.{Asks}
 use Rattle.lnbd_args.specs.Words.{Word}
 use Rattle.lnbd_model.specs.declared.target.Place.{Place}
 use Rattle.lnbd_link.specs.Call.{Call}
-use Rattle.lnbd_link.specs.Count.{Rises}
 use Rattle.lnbd_plan.specs.declared.options.CopyOptions.{CopyOptions}
 use Rattle.lnbd_plan.specs.declared.fault.CopyFault.{CopyFault}
 use Rattle.lnbd_plan.specs.declared.fault.CopyFault.TheVariants as copying
-use Rattle.lnbd_course.specs.Asks.{GrewBy, HasAskedOnce, WereDone}
+use Rattle.lnbd_course.specs.Asks.{GrewBy}
 use Rattle.lnbd_course.specs.Copied.{Copies}
 use Rattle.lnbd_copy.specs.Copier as copier
 use Rattle.lnbd_copy.specs.Grounds.{IsGrounded}
-use Rattle.lnbd_copy.specs.Settled.{SparesFound, SparesTold}
 use Rattle.lnbd_cli.specs.declared.copying.Uncopied.{Uncopied}
 use Rattle.lnbd_cli.specs.declared.copying.Uncopied.TheVariants as why
 use Rattle.lnbd_cli.specs.Informs.{IsInfo, spelled}
 use Rattle.lnbd_cli.specs.Serves.{IsServe}
-use Rattle.lnbd_cli.specs.Copies.{IsCopy, IsCopyDone, IsTransfer, is_copy_status, status_of_copied, status_of_copy, transfer_of}
+use Rattle.lnbd_cli.specs.Copies.{IsCopy, IsCopyDone, is_copy_status, status_of_copied, status_of_copy, transfer_of}
 
 abbrev pub End : Type 0
 End = Result (Unit {0}) Uncopied

@@ -1,5 +1,5 @@
 -- What was heard of a server.
-use Rattle.std.proofs.Common.{◌≡◌, ◌≢◌, ℕ, Bool, true, false, List, Option, Result, Ok, Err, refl, sym, ◌∙◌, ap, subst, arith}
+use Rattle.std.proofs.Common.{◌≡◌, ◌≢◌, ℕ, Bool, true, List, Option, Result, Ok, Err, refl, sym, ◌∙◌, ap, subst, arith}
 use Rattle.std.specs.Prelude.{IfErr, IfOk}
 use Rattle.lnbd_args.specs.declared.asked.Predicate.{Predicate}
 use Rattle.lnbd_args.specs.declared.asked.What.{What}

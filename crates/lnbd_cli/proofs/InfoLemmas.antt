@@ -1,10 +1,9 @@
 -- What the words of nbdinfo come to, and the status of its run.
 use Rattle.std.proofs.Common.{◌≡◌, ◌≢◌, ◌⊎◌, inl, inr, ◌≤◌, ℕ, Bool, true, false, List, [], ◌∷◌, length, get_or, drop, Option, Some, None, Result, Ok, Err, refl, sym, ◌∙◌, ap, subst, arith, String}
-use Rattle.std.specs.Prelude.{IfErr, IfOk, IsErrOf}
+use Rattle.std.specs.Prelude.{IsErrOf}
 use Rattle.std.specs.declared.alloc.Global.{Global}
 use Rattle.lnbd_args.specs.declared.asked.Asked.{Asked}
 use Rattle.lnbd_args.specs.declared.asked.What.{What}
-use Rattle.lnbd_args.specs.declared.asked.What.TheVariants as what
 use Rattle.lnbd_args.specs.declared.fault.ArgsFault.{ArgsFault}
 use Rattle.lnbd_args.specs.declared.fault.ArgsFault.TheVariants as args
 use Rattle.lnbd_args.specs.Tools.{Asks}
@@ -13,14 +12,12 @@ use Rattle.lnbd_ask.specs.declared.fault.InfoFault.{InfoFault}
 use Rattle.lnbd_ask.specs.declared.fault.InfoFault.TheVariants as info
 use Rattle.lnbd_link.specs.Call.{Call}
 use Rattle.lnbd_link.specs.Count.{Rises}
-use Rattle.lnbd_link.specs.Part.{Takes}
 use Rattle.lnbd_model.specs.declared.target.Place.{Place}
-use Rattle.lnbd_script.specs.Streams.{TakesFront}
 use Rattle.lnbd_cli.specs.declared.ending.Uninformed.{Uninformed}
 use Rattle.lnbd_cli.specs.declared.ending.Uninformed.TheVariants as why
 use Rattle.lnbd_cli.specs.declared.hearing.Question.{Question}
-use Rattle.lnbd_cli.specs.Heard.{Fails, Says, Unheard, WasAsked}
-use Rattle.lnbd_cli.specs.Informs.{AskedEnds, InfoEnds, IsInfoDone, IsLawfulInfo, Printed, Tells, ended, is_info_status, question_of, spelled, status_of_asked, status_of_info, status_of_why}
+use Rattle.lnbd_cli.specs.Heard.{Says, Unheard}
+use Rattle.lnbd_cli.specs.Informs.{AskedEnds, InfoEnds, IsInfoDone, IsLawfulInfo, Tells, ended, is_info_status, question_of, spelled, status_of_asked, status_of_info, status_of_why}
 
 pub first_word : {A : Type 0} (words : List A) (x : A) → 1 ≤ length words → x ≡ get_or words 0 x → words ≡ x ∷ drop 1 words
 first_word [] x some is = absurd (omega (arith, some))

@@ -1,11 +1,11 @@
 -- What the words of serve come to, and the status of its run.
-use Rattle.std.proofs.Common.{◌≡◌, ◌≢◌, ◌⊎◌, inl, inr, ◌≤◌, ◌^◌, ℕ, Bool, true, false, List, [], ◌∷◌, ◌++◌, length, get_or, map, Option, Some, None, Result, Ok, Err, refl, sym, ◌∙◌, ap, subst, arith, String}
-use Rattle.std.specs.Prelude.{string_bytes, codes}
+use Rattle.std.proofs.Common.{◌≡◌, ◌≢◌, ◌⊎◌, inl, inr, ◌≤◌, ◌^◌, ℕ, true, List, [], ◌∷◌, get_or, Option, Some, None, Result, Ok, Err, refl, sym, ◌∙◌, ap, subst, arith, String}
+use Rattle.std.specs.Prelude.{codes}
 use Rattle.std.specs.declared.alloc.Global.{Global}
 use Rattle.lnbd_args.specs.declared.asked.Asked.{Asked}
 use Rattle.lnbd_args.specs.declared.asked.Asked.TheVariants as asked
 use Rattle.lnbd_args.specs.Tools.{Asks, IsSize}
-use Rattle.lnbd_args.specs.Words.{Word, value_of}
+use Rattle.lnbd_args.specs.Words.{Word}
 use Rattle.lnbd_link.specs.Call.{Call}
 use Rattle.lnbd_link.specs.Count.{Rises}
 use Rattle.lnbd_serve.specs.declared.fault.ServeFault.{ServeFault}
@@ -14,7 +14,7 @@ use Rattle.lnbd_cli.specs.declared.serving.Service.{Service}
 use Rattle.lnbd_cli.specs.declared.serving.Unserved.{Unserved}
 use Rattle.lnbd_cli.specs.declared.serving.Unserved.TheVariants as why
 use Rattle.lnbd_cli.specs.Informs.{IsInfo, spelled}
-use Rattle.lnbd_cli.specs.Serves.{HostEnds, IsServe, IsServeDone, IsService, ServeEnds, is_serve_status, service_of, status_of_serve, status_of_served}
+use Rattle.lnbd_cli.specs.Serves.{HostEnds, IsServe, IsServeDone, ServeEnds, is_serve_status, service_of, status_of_serve, status_of_served}
 
 abbrev pub End : Type 0
 End = Result ℕ Unserved

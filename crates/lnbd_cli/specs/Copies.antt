@@ -1,5 +1,5 @@
 -- What a run of nbdcopy is: what the words ask to be copied, and how the run ended.
-use Rattle.std.specs.Prelude.{◌≡◌, ◌≢◌, ◌⊎◌, ◌==◌, ◌||◌, ◌∷◌, ◌++◌, ℕ, Bool, true, false, List, [], Option, Some, None, Result, Ok, Err, String, codes, decimal, string_bytes}
+use Rattle.std.specs.Prelude.{◌≡◌, ◌≢◌, ◌⊎◌, ◌==◌, ◌||◌, ◌∷◌, ◌++◌, ℕ, Bool, List, [], Option, Some, None, Result, Ok, Err, String, codes, decimal, string_bytes}
 use Rattle.std.specs.declared.alloc.Global.{Global}
 use Rattle.lnbd_uri.specs.Fault.{name_of}
 use Rattle.lnbd_link.specs.Call.{Call}
@@ -7,17 +7,16 @@ use Rattle.lnbd_plan.specs.declared.fault.Rule.{Rule}
 use Rattle.lnbd_plan.specs.declared.fault.Rule.TheVariants as rule
 use Rattle.lnbd_plan.specs.declared.fault.CopyFault.{CopyFault}
 use Rattle.lnbd_plan.specs.declared.fault.CopyFault.TheVariants as copying
+use Rattle.lnbd_plan.specs.declared.options.CopyOptions.{CopyOptions}
 use Rattle.lnbd_plan.specs.declared.summary.Summary.{Summary}
 use Rattle.lnbd_model.specs.declared.target.Place.{Place}
 use Rattle.lnbd_args.specs.declared.asked.Asked.{Asked}
 use Rattle.lnbd_args.specs.declared.asked.Asked.TheVariants as asked
 use Rattle.lnbd_args.specs.Tools.{Asks, IsMisplaced, Reads, Wanted}
-use Rattle.lnbd_course.specs.Asks.{GrewBy, HasAskedOnce, WereDone}
+use Rattle.lnbd_course.specs.Asks.{GrewBy}
 use Rattle.lnbd_course.specs.Copied.{Copies}
-use Rattle.lnbd_course.specs.Flushes.{FlushesLast, IsUnflushed}
 use Rattle.lnbd_copy.specs.Grounds.{IsGrounded}
-use Rattle.lnbd_copy.specs.Settled.{FlushesWanted, SparesFound, SparesTold}
-use Rattle.lnbd_copy.specs.Statuses.{ReadsAreAnswered}
+use Rattle.lnbd_copy.specs.Made.{IsMade}
 use Rattle.lnbd_cli.specs.declared.copying.Transfer.{Transfer}
 use Rattle.lnbd_cli.specs.declared.copying.Uncopied.{Uncopied}
 use Rattle.lnbd_cli.specs.declared.copying.Uncopied.TheVariants as why
@@ -89,24 +88,15 @@ pub record IsTransfer (words : List (String Global)) : Type 0 where
   pub asks : Asks (spelled words) wish
   pub is : transfer_of wish ≡ Some transfer
 
--- The destination was asked to flush once at most, and only when all that was to be read, written and zeroed was done, and summed up.
-abbrev pub FlushesBehind : (from to : Place) → List Call → Type 0
-FlushesBehind from to calls = (summary : Summary) × FlushesLast from to summary calls
+-- By these calls a copy was made as these options say, of which some summary tells.
+abbrev pub WasMade : CopyOptions → (from to : Place) → List Call → Type 0
+WasMade options from to calls = (summary : Summary) × IsMade options from to summary calls
 
--- What the words ask to be copied, from one place to another, was copied by the calls that this transcript grew by; nothing was asked twice, all of it was done,
--- what was told as zero was not read, nor was anything before it was told of, where that could be asked, and no block that was found to be zero was written as bytes; the
--- destination was flushed last, where that was wanted.
+-- What the words ask to be copied, from one place to another, was copied by the calls that this transcript grew by, and these were made as the words say.
 pub record HasCopied (words : List (String Global)) (told told' : Option (List Call)) : Type 0 where
   pub asked : IsTransfer words
   pub copied : asked.transfer.from ≢ asked.transfer.to → Copies asked.transfer.from asked.transfer.to asked.transfer.options.destination_is_zero told told'
-  pub once : asked.transfer.from ≢ asked.transfer.to → GrewBy (HasAskedOnce asked.transfer.options.allocated asked.transfer.from asked.transfer.to) told told'
-  pub done : asked.transfer.from ≢ asked.transfer.to → GrewBy (WereDone asked.transfer.from asked.transfer.to) told told'
-  pub spares : asked.transfer.from ≢ asked.transfer.to → GrewBy (SparesTold asked.transfer.from asked.transfer.to) told told'
-  pub dense : asked.transfer.from ≢ asked.transfer.to → GrewBy (SparesFound asked.transfer.options asked.transfer.from asked.transfer.to) told told'
-  pub answered : asked.transfer.from ≢ asked.transfer.to → GrewBy (ReadsAreAnswered asked.transfer.options.extents asked.transfer.from) told told'
-  pub flushes : asked.transfer.from ≢ asked.transfer.to → GrewBy (FlushesBehind asked.transfer.from asked.transfer.to) told told'
-  pub flushed : asked.transfer.from ≢ asked.transfer.to → GrewBy (FlushesWanted asked.transfer.options asked.transfer.from asked.transfer.to) told told'
-  pub unflushed : asked.transfer.options.flush ≡ false → asked.transfer.from ≢ asked.transfer.to → GrewBy (IsUnflushed asked.transfer.to) told told'
+  pub made : asked.transfer.from ≢ asked.transfer.to → GrewBy (WasMade asked.transfer.options asked.transfer.from asked.transfer.to) told told'
 
 -- What the words ask to be copied did not come to its end, for a fault on the grounds that the calls show by which this transcript grew.
 pub record HasFailed (words : List (String Global)) (told told' : Option (List Call)) (fault : CopyFault) : Type 0 where

@@ -1,5 +1,5 @@
 -- What a server is asked for nbdinfo, what it told, and what is printed of that.
-use Rattle.std.specs.Prelude.{◌≡◌, ◌≢◌, ◌∷◌, ℕ, Bool, true, false, List, [], Option, Some, None, Result, Ok, Err, bytes_eq, codes}
+use Rattle.std.specs.Prelude.{◌≡◌, ◌≢◌, ◌∷◌, ℕ, Bool, true, false, List, [], Option, Result, Ok, Err, bytes_eq, codes}
 use Rattle.lnbd_model.specs.declared.export.ExportInfo.{ExportInfo}
 use Rattle.lnbd_model.specs.declared.export.Extent.{Extent}
 use Rattle.lnbd_model.specs.declared.fault.NoMemory.{NoMemory}

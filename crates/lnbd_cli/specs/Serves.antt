@@ -1,5 +1,5 @@
 -- What a run of serve is: the export that the words ask for, how it was served, and what was printed.
-use Rattle.std.specs.Prelude.{◌≡◌, ◌⊎◌, ◌==◌, ◌||◌, ◌∷◌, ◌++◌, ℕ, Bool, true, false, List, [], Option, Some, None, Result, Ok, Err, String, codes, string_bytes}
+use Rattle.std.specs.Prelude.{◌≡◌, ◌⊎◌, ◌==◌, ◌||◌, ◌∷◌, ◌++◌, ℕ, Bool, true, List, [], Option, Some, None, Result, Ok, Err, String, codes, string_bytes}
 use Rattle.std.specs.declared.alloc.Global.{Global}
 use Rattle.lnbd_uri.specs.Fault.{name_of}
 use Rattle.lnbd_args.specs.declared.asked.Asked.{Asked}
@@ -15,7 +15,7 @@ use Rattle.lnbd_serve.specs.declared.fault.ServeFault.TheVariants as serving
 use Rattle.lnbd_cli.specs.declared.serving.Service.{Service}
 use Rattle.lnbd_cli.specs.declared.serving.Unserved.{Unserved}
 use Rattle.lnbd_cli.specs.declared.serving.Unserved.TheVariants as why
-use Rattle.lnbd_cli.specs.Informs.{IsInfo, spelled}
+use Rattle.lnbd_cli.specs.Informs.{spelled}
 
 -- the first word names the tool
 pub record IsServe (words : List (String Global)) : Type 0 where

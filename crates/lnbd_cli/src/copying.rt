@@ -3,15 +3,12 @@
 ghost use Rattle.std.specs.Prelude.{◌≡◌, ◌≢◌, ◌⊎◌, ◌++◌, ℕ, IfErr, OnOk, Ok, Err, true, false, string_bytes};
 ghost use Rattle.lnbd_link.specs.Count.{Rises};
 ghost use Rattle.lnbd_script.specs.Seen.{patience};
-ghost use Rattle.lnbd_course.specs.Asks.{GrewBy, HasAskedOnce, WereDone};
+ghost use Rattle.lnbd_course.specs.Asks.{GrewBy};
 ghost use Rattle.lnbd_course.specs.Copied.{Copies};
 ghost use Rattle.lnbd_copy.specs.Grounds.{IsGrounded};
-ghost use Rattle.lnbd_course.specs.Flushes.{IsUnflushed};
-ghost use Rattle.lnbd_copy.specs.Settled.{FlushesWanted, SparesFound, SparesTold};
-ghost use Rattle.lnbd_copy.specs.Statuses.{ReadsAreAnswered};
 ghost use Rattle.lnbd_cli.specs.Runs.{Prints};
 ghost use Rattle.lnbd_cli.specs.declared.copying.Uncopied.TheVariants as why;
-ghost use Rattle.lnbd_cli.specs.Copies.{CopyEnds, CopyRan, FlushesBehind, IsCopy, IsCopyDone, IsTransfer, copied_text, copy_line, is_copy_status, rule_text, status_of_copied, status_of_copy, transfer_of, uncopied_text};
+ghost use Rattle.lnbd_cli.specs.Copies.{CopyEnds, CopyRan, IsCopy, IsCopyDone, IsTransfer, WasMade, copied_text, copy_line, is_copy_status, rule_text, status_of_copied, status_of_copy, transfer_of, uncopied_text};
 
 use crate::fault::push_broken;
 use crate::top::{no_memory, print};
@@ -71,14 +68,7 @@ fn transfer_in(wish: Asked) -> Option<Transfer>
 /// Copies.
 fn copy<W: Wires>(alloc: Global, what: Transfer, wires: &mut W) -> Result<(), CopyFault>
     ensures copies { what.from ≢ what.to → OnOk result (Copies what.from what.to what.options.destination_is_zero (W.told wires.old) (W.told wires.new)) }
-    ensures once { what.from ≢ what.to → OnOk result (GrewBy (HasAskedOnce what.options.allocated what.from what.to) (W.told wires.old) (W.told wires.new)) }
-    ensures done { what.from ≢ what.to → OnOk result (GrewBy (WereDone what.from what.to) (W.told wires.old) (W.told wires.new)) }
-    ensures spares { what.from ≢ what.to → OnOk result (GrewBy (SparesTold what.from what.to) (W.told wires.old) (W.told wires.new)) }
-    ensures dense { what.from ≢ what.to → OnOk result (GrewBy (SparesFound what.options what.from what.to) (W.told wires.old) (W.told wires.new)) }
-    ensures answered { what.from ≢ what.to → OnOk result (GrewBy (ReadsAreAnswered what.options.extents what.from) (W.told wires.old) (W.told wires.new)) }
-    ensures flushes { what.from ≢ what.to → OnOk result (GrewBy (FlushesBehind what.from what.to) (W.told wires.old) (W.told wires.new)) }
-    ensures flushed { what.from ≢ what.to → OnOk result (GrewBy (FlushesWanted what.options what.from what.to) (W.told wires.old) (W.told wires.new)) }
-    ensures unflushed { what.options.flush ≡ false → what.from ≢ what.to → OnOk result (GrewBy (IsUnflushed what.to) (W.told wires.old) (W.told wires.new)) }
+    ensures made { what.from ≢ what.to → OnOk result (GrewBy (WasMade what.options what.from what.to) (W.told wires.old) (W.told wires.new)) }
     ensures grounds { IfErr result (λ fault. IsGrounded (W.told wires.old) (W.told wires.new) what.from what.to fault) }
     ensures link { (before after : ℕ) → result ≡ Err (CopyFault.Link before after) → Rises 1 (W.faults wires.old) (W.faults wires.new) }
     ensures silent { (idles : ℕ) → result ≡ Err (CopyFault.Silent idles) → Rises patience (W.idles wires.old) (W.idles wires.new) }

@@ -16,15 +16,19 @@ use Rattle.lnbd_course.proofs.Placing.{agreeing_settles}
 use Rattle.lnbd_copy.specs.Agreed.{Agrees, AreAgreed, IsWished}
 use Rattle.lnbd_copy.specs.declared.job.Phase.TheVariants.{Copying}
 use Rattle.lnbd_copy.specs.Copier.{GoesFurther, HasMet, HasNotBegun, IsOnItsWay, Seen, beginning}
+use Rattle.lnbd_copy.specs.Dealt.{AreDealt}
 use Rattle.lnbd_copy.specs.Job as job
 use Rattle.lnbd_copy.specs.Limit.{IsLimited}
 use Rattle.lnbd_copy.specs.Opening.{Dials, place_of}
-use Rattle.lnbd_copy.specs.Settled.{HasSettled}
+use Rattle.lnbd_copy.specs.Alike.{AllAlike}
+use Rattle.lnbd_copy.specs.Firsts.{KnowBoth}
+use Rattle.lnbd_copy.specs.Settled.{AreSettledBy, HasTerms, HasSettled}
 use Rattle.lnbd_copy.specs.Statuses.{FirstAgreedNone}
 use Rattle.lnbd_copy.specs.Way.{Goes, IsOn, IsUnderWay, Stand, Told, Way, is_source}
 use Rattle.lnbd_copy.proofs.DialLemmas.{nothing_is_on, settled}
 use Rattle.lnbd_copy.proofs.FiledLemmas.{filed_none, filed_then}
-use Rattle.lnbd_copy.proofs.LastLemmas.{lasts_none, lasts_then, settled_later}
+use Rattle.lnbd_copy.proofs.LastLemmas.{terms_later, lasts_none, lasts_then}
+use Rattle.lnbd_copy.proofs.SpreadLemmas.{begins_dealt}
 use Rattle.lnbd_copy.proofs.TurnLemmas.{told_begins}
 
 pub told_as : {Is Is' : List wire.Call → Type 0} (start told : Option (List wire.Call)) → ((calls : List wire.Call) → Is calls → Is' calls) → Told start told Is → Told start told Is'
@@ -51,7 +55,7 @@ always_on_ok (Err fault) a = tt
 
 module _ (copy : Seen) (sides : Sides) (first : ℕ) where
   pub further_none : (now : board.Seen) (held : List (Held Ticket)) (told : Option (List wire.Call)) → GoesFurther copy sides first now held told now held told
-  further_none now held told = record { stand = λ s. s; filed = λ s. filed_none now; on = λ size how start s count on. on; lasts = λ s. lasts_none told }
+  further_none now held told = record { stand = λ s. s; filed = λ s. filed_none now; on = λ size how start s count on. on; lasts = λ s. lasts_none told; know = λ source destination both. both }
 
   pub further_dials : (place : Place) (extents : Bool) (now now' : board.Seen) (held held2 held3 : List (Held Ticket)) (a b c : Option (List wire.Call)) → GoesFurther copy sides first now held a now' held2 b → Dials place extents now' held2 b held3 c →
       (length held ≡ first → length held2 ≢ 0) → (length held ≡ first → (size : Option ℕ) (how : How) → place_of (beginning copy size how sides) (length held2) ≡ place) → GoesFurther copy sides first now held a now' held3 c
@@ -60,6 +64,7 @@ module _ (copy : Seen) (sides : Sides) (first : ℕ) where
     filed = further.filed;
     on = λ size how start s count on. dials.on (beginning copy size how sides) start (there count size how) (λ none. absurd (some count none)) (further.on size how start s count on);
     lasts = λ s. lasts_then a b c (further.lasts s) dials.lasts;
+    know = λ source destination both. dials.know source destination (further.know source destination both);
   }
 
   pub further_goes : (now now2 now3 : board.Seen) (held held2 held3 : List (Held Ticket)) (a b c : Option (List wire.Call)) → GoesFurther copy sides first now held a now2 held2 b → Goes now2 held2 b now3 held3 c → GoesFurther copy sides first now held a now3 held3 c
@@ -68,6 +73,7 @@ module _ (copy : Seen) (sides : Sides) (first : ℕ) where
     filed = λ s. filed_then now now2 now3 (further.filed s) (goes.filed (further.stand s));
     on = λ size how start s count on. goes.on false (beginning copy size how sides) start (further.stand s) (further.on size how start s count on);
     lasts = λ s. lasts_then a b c (further.lasts s) (goes.lasts (further.stand s));
+    know = λ source destination both. goes.know source destination (further.know source destination both);
   }
 
   pub further_then : (second : ℕ) (now now2 now3 : board.Seen) (held held2 held3 : List (Held Ticket)) (a b c : Option (List wire.Call)) → GoesFurther copy sides first now held a now2 held2 b → GoesFurther copy sides second now2 held2 b now3 held3 c →
@@ -77,6 +83,7 @@ module _ (copy : Seen) (sides : Sides) (first : ℕ) where
     filed = λ s. filed_then now now2 now3 (one.filed s) (two.filed (one.stand s));
     on = λ size how start s is on. two.on size how start (one.stand s) (count is) (one.on size how start s is on);
     lasts = λ s. lasts_then a b c (one.lasts s) (two.lasts (one.stand s));
+    know = λ source destination both. two.know source destination (one.know source destination both);
   }
 
 -- The first connection of each side.
@@ -90,7 +97,7 @@ from_first copy how sides n is = ap (λ (m : ℕ). place_of (beginning copy None
 to_second : (copy : Seen) (how : How) (sides : Sides) (n : ℕ) → n ≡ 1 → place_of (beginning copy None how sides) n ≡ copy.to
 to_second copy how sides n is = ap (λ (m : ℕ). place_of (beginning copy None how sides) m) is
 
-begins_on : (copy : Seen) (how : How) (sides : Sides) → HasNotBegun copy → IsOn (beginning copy None how sides) copy.board [] copy.held
+pub begins_on : (copy : Seen) (how : How) (sides : Sides) → HasNotBegun copy → IsOn (beginning copy None how sides) copy.board [] copy.held
 begins_on copy how sides none = subst (λ (held : List (Held Ticket)). IsOn (beginning copy None how sides) copy.board [] held) (sym none.held) (nothing_is_on (beginning copy None how sides) copy.board refl refl refl (λ p. refl) none.rows none.begun none.uncounted refl (λ p. refl))
 
 -- The first two handles agreed on the source's size.
@@ -110,6 +117,7 @@ agreed_on copy size how sides calls agrees on =
       rest = tt;
       all = on.all;
       hears = on.hears;
+      bound = on.bound;
     }
 
 pub first_on : (copy : Seen) (h : List (Held Ticket)) (t u : Option (List wire.Call)) (how : How) (sides : Sides) → HasNotBegun copy → Dials copy.from copy.options.extents copy.board copy.held t h u → Told t u (λ calls. IsOn (beginning copy None how sides) copy.board calls h)
@@ -146,9 +154,9 @@ module _ (copy : Seen) (b c : board.Seen) (h i j k : List (Held Ticket)) (t u v 
       let both = second_on copy b h i j t u v w how sides none first one second in
       two.on false (beginning copy None how sides) t both.0 both.1
 
-  pub has_met : (terms : Terms) → IsWished copy.options terms → IsLimited copy.options terms → HasSettled copy.options copy.from copy.to t x terms → Agrees terms.size k → HasNotBegun copy → Dials copy.from copy.options.extents copy.board copy.held t h u → Goes copy.board h u b i v → Dials copy.to false b i v j w → Goes b j w c k x →
+  pub has_met : (terms : Terms) → IsWished copy.options terms → IsLimited copy.options terms → (settled : HasTerms copy.options copy.from copy.to t x terms) → KnowBoth settled.source settled.destination k → Agrees terms.size k → HasNotBegun copy → Dials copy.from copy.options.extents copy.board copy.held t h u → Goes copy.board h u b i v → Dials copy.to false b i v j w → Goes b j w c k x →
       HasMet (record copy { held = k; board = c }) t x terms
-  has_met terms wished limited settled agrees none first one second two =
+  has_met terms wished limited settled know agrees none first one second two =
       let s0 = no_handles copy none in
       let s1 = first.stand s0 in
       let s2 = one.stand s1 in
@@ -163,7 +171,19 @@ module _ (copy : Seen) (b c : board.Seen) (h i j k : List (Held Ticket)) (t u v 
             told_as t x (λ calls on. agreed_on (record copy { held = k; board = c }) terms.size terms.how terms.sides calls agrees on)
             (two_on terms.how terms.sides none first one second two);
         settled = settled;
+        know = know;
       }
+
+-- the options are the same
+terms_as : (options options' : CopyOptions) (from to : Place) (start told : Option (List wire.Call)) (terms : Terms) → options ≡ options' → HasTerms options from to start told terms → HasTerms options' from to start told terms
+terms_as options options' from to start told terms same s = record {
+  source = s.source;
+  destination = s.destination;
+  shown = s.shown;
+  shown' = s.shown';
+  none = s.none;
+  settled = subst (λ (o : CopyOptions). AreSettledBy o s.source s.destination terms) same s.settled;
+}
 
 -- Behind them further ones.
 
@@ -196,8 +216,9 @@ kept_then a b c one two = two ∙ ap (λ (s : Seen). with_held s c) one
 pub meets : (s0 s1 s2 s3 s4 : Seen) (t u v w x : Option (List wire.Call)) (options : CopyOptions) (held : List (Held Ticket)) (terms : Terms) →
     s1 ≡ with_held s0 s1 → s2 ≡ with_held s1 s2 → s3 ≡ with_held s2 s3 → s4 ≡ with_held s3 s4 → s1.board ≡ s0.board → s3.board ≡ s2.board → options ≡ s4.options → held ≡ s4.held →
     Dials s0.from s0.options.extents s0.board s0.held t s1.held u → Goes s1.board s1.held u s2.board s2.held v → Dials s2.to false s2.board s2.held v s3.held w → Goes s3.board s3.held w s4.board s4.held x →
-    HasNotBegun s0 → AreAgreed options terms held → HasSettled options s0.from s0.to t x terms → HasMet s4 t x terms
-meets s0 s1 s2 s3 s4 t u v w x options held terms k1 k2 k3 k4 b1 b3 same_options same_held first one second two none agreed settled =
+    HasNotBegun s0 → AreAgreed options terms held → (settled : HasTerms options s0.from s0.to t x terms) → KnowBoth settled.source settled.destination s4.held → HasMet s4 t x terms
+unfolding terms_as
+meets s0 s1 s2 s3 s4 t u v w x options held terms k1 k2 k3 k4 b1 b3 same_options same_held first one second two none agreed settled know =
     let k02 = kept_then s0 s1 s2 k1 k2 in
     let k04 = kept_then s0 s2 s4 k02 (kept_then s2 s3 s4 k3 k4) in
     let one' : Goes s0.board s1.held u s2.board s2.held v = subst (λ (b : board.Seen). Goes b s1.held u s2.board s2.held v) b1 one in
@@ -206,7 +227,7 @@ meets s0 s1 s2 s3 s4 t u v w x options held terms k1 k2 k3 k4 b1 b3 same_options
     subst (λ (s : Seen). HasMet s t x terms) (sym k04)
     (has_met s0 s2.board s4.board s1.held s2.held s3.held s4.held t u v w x terms (subst (λ (o : CopyOptions). IsWished o terms) (same_options ∙ ap (λ (s : Seen). s.options) k04) agreed.wished)
     (subst (λ (o : CopyOptions). IsLimited o terms) (same_options ∙ ap (λ (s : Seen). s.options) k04) agreed.limited)
-    (subst (λ (o : CopyOptions). HasSettled o s0.from s0.to t x terms) (same_options ∙ ap (λ (s : Seen). s.options) k04) settled)
+    (terms_as options s0.options s0.from s0.to t x terms (same_options ∙ ap (λ (s : Seen). s.options) k04) settled) know
     (subst (Agrees terms.size) same_held agreed.size) none first one' second' two')
 
 pub two_meet : (s0 s1 s2 s3 s4 : Seen) (t u v w x : Option (List wire.Call)) → s1 ≡ with_held s0 s1 → s2 ≡ with_held s1 s2 → s1.board ≡ s0.board → s3.board ≡ s2.board →
@@ -218,8 +239,14 @@ two_meet s0 s1 s2 s3 s4 t u v w x k1 k2 b1 b3 first one second two none =
     let two' : Goes s2.board s3.held w s4.board s4.held x = subst (λ (b : board.Seen). Goes b s3.held w s4.board s4.held x) b3 two in
     two_stand s0 s2.board s4.board s1.held s2.held s3.held s4.held t u v w x first one' second' two' none
 
+-- So they stand.
+pub two_meet_stand : (s0 s1 s2 s3 s4 : Seen) (t u v w x : Option (List wire.Call)) → Dials s0.from s0.options.extents s0.board s0.held t s1.held u → Goes s1.board s1.held u s2.board s2.held v → Dials s2.to false s2.board s2.held v s3.held w → Goes s3.board s3.held w s4.board s4.held x →
+    HasNotBegun s0 → Stand s4.held
+two_meet_stand s0 s1 s2 s3 s4 t u v w x first one second two none = two.stand (second.stand (one.stand (first.stand (no_handles s0 none))))
+
 -- Further connections stand behind those that met.
 met_on : (copy : Seen) (now : board.Seen) (held : List (Held Ticket)) (t u v : Option (List wire.Call)) (terms : Terms) → HasMet copy t u terms → length copy.held ≡ 2 → GoesFurther copy terms.sides 2 copy.board copy.held u now held v → HasMet (record copy { held = held; board = now }) t v terms
+unfolding terms_later
 met_on copy now held t u v terms met two further =
     let filed = further.filed met.stand in
     record {
@@ -228,7 +255,8 @@ met_on copy now held t u v terms met two further =
       wished = met.wished;
       limited = met.limited;
       on = further.on (Some terms.size) terms.how t met.stand two met.on;
-      settled = settled_later copy.options copy.from copy.to t u v terms (further.lasts met.stand) met.settled;
+      settled = terms_later copy.options copy.from copy.to t u v terms (further.lasts met.stand) met.settled;
+      know = further.know met.settled.source met.settled.destination met.know;
     }
 
 pub met_further : (copy new : Seen) (t u v : Option (List wire.Call)) (terms : Terms) → new ≡ with_held copy new → HasMet copy t u terms → length copy.held ≡ 2 → GoesFurther copy terms.sides 2 copy.board copy.held u new.board new.held v → HasMet new t v terms
@@ -237,7 +265,7 @@ met_further copy new t u v terms kept met two further = subst (λ (s : Seen). Ha
 pub further_kept : (copy mid : Seen) (sides : Sides) (first : ℕ) (now now' : board.Seen) (held held' : List (Held Ticket)) (a b : Option (List wire.Call)) → mid ≡ with_held copy mid → GoesFurther mid sides first now held a now' held' b → GoesFurther copy sides first now held a now' held' b
 further_kept copy mid sides first now now' held held' a b kept further =
     let same : GoesFurther (with_held copy mid) sides first now held a now' held' b = subst (λ (s : Seen). GoesFurther s sides first now held a now' held' b) kept further in
-    record { stand = same.stand; filed = same.filed; on = λ size how start s count on. same.on size how start s count on; lasts = same.lasts }
+    record { stand = same.stand; filed = same.filed; on = λ size how start s count on. same.on size how start s count on; lasts = same.lasts; know = same.know }
 
 -- Where no extents may be asked for, every position counts as heard.
 all_heard : (way : Way) (extents : Bool) (now : board.Seen) (calls : List wire.Call) (held : List (Held Ticket)) → (extents ≡ false → FirstAgreedNone way.extents way.from calls) → IsOn way now calls held → IsOn (record way { heard = λ p. not extents }) now calls held
@@ -251,6 +279,7 @@ all_heard way extents now calls held silent on = record {
   rest = on.rest;
   all = on.all;
   hears = record { answered = λ well two p h. inr (silent (not_true extents h)); first = on.hears.first; begun = on.hears.begun };
+  bound = on.bound;
 }
   where
     not_true : (b : Bool) → not b ≡ true → b ≡ false
@@ -258,11 +287,12 @@ all_heard way extents now calls held silent on = record {
     not_true false e = refl
 
 -- What is settled begins.
-pub begins_job : (copy : Seen) (start told : Option (List wire.Call)) (terms : Terms) (j : job.Seen) (now : board.Seen) (extents : Bool) → HasMet copy start told terms → copy.board.error ≡ None → now.rows ≡ [] → now.begun ≡ 0 → HasNotCounted now → now.how ≡ terms.how → j.terms ≡ terms → j.phase ≡ Copying →
+pub begins_job : (copy : Seen) (start told : Option (List wire.Call)) (terms : Terms) (j : job.Seen) (now : board.Seen) (extents : Bool) → (met : HasMet copy start told terms) → copy.board.error ≡ None → now.rows ≡ [] → now.begun ≡ 0 → HasNotCounted now → now.how ≡ terms.how → j.terms ≡ terms → j.phase ≡ Copying → AreDealt terms.limit terms.sides j.bound [] →
     (extents ≡ false → (calls : List wire.Call) → IsOn (beginning copy (Some terms.size) terms.how terms.sides) copy.board calls copy.held → FirstAgreedNone copy.options.extents copy.from calls) →
+    ((calls : List wire.Call) → IsOn (beginning copy (Some terms.size) terms.how terms.sides) copy.board calls copy.held → AllAlike copy.from copy.to met.settled.source met.settled.destination calls) →
     ((way : Way) (b : board.Seen) → way.size ≡ Some terms.size → b.how ≡ terms.how → way.how ≡ terms.how → way.sides ≡ terms.sides → way.slices ≡ [] → way.asked ≡ None → ((block p : ℕ) → way.whole block p ≡ false) → b.flushing ≡ false → (extents ≡ false → (p : ℕ) → way.heard p ≡ true) → job.IsJob j way b) →
     IsOnItsWay start told (record copy { board = now; job = Some j })
-begins_job copy start told terms j now extents met well empty new uncounted writes same copying silent is =
+begins_job copy start told terms j now extents met well empty new uncounted writes same copying dealt silent alike is =
     let before = beginning copy (Some terms.size) terms.how terms.sides in
     let way : Way = record before { heard = λ p. not extents } in
     record {
@@ -281,5 +311,6 @@ begins_job copy start told terms j now extents met well empty new uncounted writ
           (λ calls on. subst (λ (p : Bool). IsUnderWay p way now calls copy.held) (sym (ap job.is_parting copying))
           (settled way terms.how copy.board now calls copy.held refl refl met.blank.rows well met.blank.unflushed empty new uncounted (all_heard before extents copy.board calls copy.held (λ none. silent none calls on) on)))
           met.on;
-      settled = subst (HasSettled copy.options copy.from copy.to start told) (sym same) met.settled;
+      settled = subst (HasSettled copy.options copy.from copy.to start told) (sym same) (record { first = met.settled; all = told_as start told alike met.on });
+      spread = begins_dealt j terms now same empty dealt;
     }

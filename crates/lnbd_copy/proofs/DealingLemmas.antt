@@ -1,5 +1,5 @@
 -- Slices that go on and begin keep a copy on its way.
-use Rattle.std.proofs.Common.{◌≡◌, ℕ, ◌+◌, Bool, true, false, List, [], ◌∷◌, ◌++◌, length, Option, Some, None, not, refl, ap, sym, subst, ◌∙◌, arith, Result, Ok, Err, OnOk, option_to_list}
+use Rattle.std.proofs.Common.{◌≡◌, ◌<◌, ℕ, ◌+◌, ◌-◌, ◌^◌, Bool, true, false, List, [], ◌∷◌, ◌++◌, length, Option, Some, None, not, refl, ap, sym, subst, ◌∙◌, arith, Result, Ok, Err, OnOk, option_to_list}
 use Rattle.std.proofs.lemmas.Bool.{false≢true}
 use Rattle.std.proofs.lemmas.List.{append-nil, append_assoc}
 use Rattle.std.proofs.lemmas.Result.{on_ok_weaker}
@@ -30,8 +30,9 @@ use Rattle.lnbd_course.proofs.Orders.{beginning_asks, going_asks, over_asks_noth
 use Rattle.lnbd_copy.specs.declared.sides.Sides.{Sides}
 use Rattle.lnbd_copy.specs.Asked.{IsAsked}
 use Rattle.lnbd_copy.specs.Dealing.{Begins, HasBegun, HasGoneOn, IsAskedFirst, IsAskedOf, IsAskedToRead}
-use Rattle.lnbd_copy.specs.Way.{Keeps, is_source}
+use Rattle.lnbd_copy.specs.Way.{Keeps, connection_of, is_source}
 use Rattle.lnbd_copy.specs.Windows as windows
+use Rattle.lnbd_copy.proofs.BindingLemmas.{Binds, SameBindings, binds_first, binds_on, same_without}
 use Rattle.lnbd_copy.proofs.WayLemmas.{board_keeps, destination_keeps, keeps_none, keeps_then, source_keeps}
 
 -- two facts on success
@@ -41,15 +42,15 @@ on_ok_both (Err fault) f a b = tt
 
 -- What was asked on success, of a side.
 module _ {X Y : Type 0} (r : Result X Y) (sides : Sides) (index : ℕ) (old new : List (Held Ticket)) where
-  pub asked_of : (source : Bool) (command : Command Ticket) → is_source sides index ≡ source → OnOk r (IsAsked index command old new) → OnOk r (IsAskedOf sides source command old new)
-  asked_of source command side asked =
-      let of : IsAsked index command old new → IsAskedOf sides source command old new = λ a. record { index = index; side = side; asked = a } in
-      on_ok_weaker r of asked
+  pub asked_of : (source : Bool) (connection : ℕ) (command : Command Ticket) → is_source sides index ≡ source → (index < 2 ^ 64 - 1 → connection_of sides index ≡ connection) → OnOk r (IsAsked index command old new) → OnOk r (index < 2 ^ 64 - 1) → OnOk r (IsAskedOf sides source connection command old new)
+  asked_of source connection command side here asked few =
+      let of : IsAsked index command old new → index < 2 ^ 64 - 1 → IsAskedOf sides source connection command old new = λ a less. record { index = index; side = side; here = here less; asked = a } in
+      on_ok_both r of asked few
 
-  pub asked_to_read : (bytes buf : List ℕ) (offset n : ℕ) → is_source sides index ≡ true → length bytes ≡ length buf → OnOk r (IsAsked index (read_of bytes offset (ticket.Slice n) 0) old new) →
-      OnOk r (IsAskedToRead sides n offset (length buf) old new)
-  asked_to_read bytes buf offset n side count asked =
-      let of : IsAsked index (read_of bytes offset (ticket.Slice n) 0) old new → IsAskedToRead sides n offset (length buf) old new = λ a. record { bytes = bytes; many = count; asked = record { index = index; side = side; asked = a } } in
+  pub asked_to_read : (bytes buf : List ℕ) (connection offset n : ℕ) → is_source sides index ≡ true → connection_of sides index ≡ connection → length bytes ≡ length buf → OnOk r (IsAsked index (read_of bytes offset (ticket.Slice n) 0) old new) →
+      OnOk r (IsAskedToRead sides connection n offset (length buf) old new)
+  asked_to_read bytes buf connection offset n side here count asked =
+      let of : IsAsked index (read_of bytes offset (ticket.Slice n) 0) old new → IsAskedToRead sides connection n offset (length buf) old new = λ a. record { bytes = bytes; many = count; asked = record { index = index; side = side; here = here; asked = a } } in
       on_ok_weaker r of asked
 
 -- told no more of extents
@@ -60,6 +61,11 @@ alike_of old new told mapped short = record { told = told; mapped = mapped; shor
 change_tells_none : (n : ℕ) (one : Change) → asks_extents (Issue (without_buffer (command_of n one))) ≡ false
 change_tells_none n (change.Write offset bytes) = refl
 change_tells_none n (change.Zero offset size flags) = refl
+
+-- its callback is that of the slice
+change_of : (n : ℕ) (one : Change) → (without_buffer (command_of n one)).done ≡ ticket.Slice n
+change_of n (change.Write offset bytes) = refl
+change_of n (change.Zero offset size flags) = refl
 
 no_more : (m n : ℕ) → n ≡ m → n ≡ m + 0
 no_more m n e = omega (arith, e)
@@ -83,29 +89,35 @@ module _ (how : How) (sides : Sides) where
   on_over n source destination old new held over =
       board_keeps how sides old new held (ap (λ (s : board.Seen). s.begun) over.now) (ap (λ (s : board.Seen). s.error) over.now)
       (record { read = ap (λ (s : board.Seen). s.read) over.now; written = ap (λ (s : board.Seen). s.written) over.now; zeroed = ap (λ (s : board.Seen). s.zeroed) over.now; flushing = ap (λ (s : board.Seen). s.flushing) over.now; flushed = ap (λ (s : board.Seen). s.flushed) over.now }) (alike_of old new (ap (λ (s : board.Seen). s.told) over.now) (ap (λ (s : board.Seen). s.mapped) over.now) (ap (λ (s : board.Seen). s.short) over.now)) (over_asks_nothing how n old new over.goes)
+      (λ rising. subst (λ (rows : List (ℕ × Row)). SameBindings old.rows rows) (sym (ap (λ (s : board.Seen). s.rows) over.now)) (same_without n old.rows rising))
 
-  pub on_asks : (n destination : ℕ) (one : Change) (old new : board.Seen) (held held' : List (Held Ticket)) → AsksOn how n destination one old new → IsAskedOf sides false (command_of n one) held held' → Keeps how sides [] old new held held'
+  pub on_asks : (n destination : ℕ) (one : Change) (old new : board.Seen) (held held' : List (Held Ticket)) → AsksOn how n destination one old new → IsAskedOf sides false destination (command_of n one) held held' → Keeps how sides [] old new held held'
   on_asks n destination one old new held held' goes asked =
       destination_keeps how sides [] (command_of n one) old new held held' (no_more old.begun new.begun (ap (λ (s : board.Seen). s.begun) goes.now)) (change_tells_none n one) (alike_of old new (ap (λ (s : board.Seen). s.told) goes.now) (ap (λ (s : board.Seen). s.mapped) goes.now) (ap (λ (s : board.Seen). s.short) goes.now))
       (λ slices count. subst (λ (more : List Slice). AsksDestination how (without_buffer (command_of n one)) slices more old new) (sym (append-nil slices))
       (going_asks how n one slices old new (λ none. sym (ap (λ (s : board.Seen). s.error) goes.now) ∙ none)
-      (record { read = ap (λ (s : board.Seen). s.read) goes.now; written = ap (λ (s : board.Seen). s.written) goes.now; zeroed = ap (λ (s : board.Seen). s.zeroed) goes.now; flushing = ap (λ (s : board.Seen). s.flushing) goes.now; flushed = ap (λ (s : board.Seen). s.flushed) goes.now }) goes.goes)) asked
+      (record { read = ap (λ (s : board.Seen). s.read) goes.now; written = ap (λ (s : board.Seen). s.written) goes.now; zeroed = ap (λ (s : board.Seen). s.zeroed) goes.now; flushing = ap (λ (s : board.Seen). s.flushing) goes.now; flushed = ap (λ (s : board.Seen). s.flushed) goes.now }) goes.goes))
+      destination
+      (subst (λ (c : ℕ). Binds false c (without_buffer (command_of n one)).done old new) (sym goes.writes)
+      (subst (λ (t : Ticket). Binds false goes.row.destination t old new) (sym (change_of n one)) (binds_on n goes.row goes.stage old new goes.held (ap (λ (s : board.Seen). s.rows) goes.now))))
+      asked
 
-  pub first_keeps : (slice : Slice) (one : Ask) (old new : board.Seen) (held held' : List (Held Ticket)) → new.begun ≡ old.begun + 1 → new.error ≡ old.error → CountsFirst one old new → ToldAlike old new →
-      asks.Begins how slice old.begun one old.rows new.rows → IsAskedFirst sides old.begun one held held' → Keeps how sides (slice ∷ []) old new held held'
-  first_keeps slice (ask.Read offset buf) old new held held' begun error counts alike begins asked =
+  pub first_keeps : (slice : Slice) (row : Row) (one : Ask) (old new : board.Seen) (held held' : List (Held Ticket)) → new.begun ≡ old.begun + 1 → new.error ≡ old.error → CountsFirst one old new → ToldAlike old new →
+      asks.Begins how slice old.begun one old.rows new.rows → new.rows ≡ old.rows ++ (old.begun, row) ∷ [] → IsAskedFirst sides row.source row.destination old.begun one held held' → Keeps how sides (slice ∷ []) old new held held'
+  first_keeps slice row (ask.Read offset buf) old new held held' begun error counts alike begins rows asked =
       source_keeps how sides (slice ∷ []) (read_of asked.bytes offset (ticket.Slice old.begun) 0) old new held held' begun refl alike
-      (λ slices count. beginning_asks how slice old.begun (ask.Read offset buf) slices old new count (λ none. sym error ∙ none) counts begins asked.bytes asked.many) asked.asked
-  first_keeps slice (ask.Change one) old new held held' begun error counts alike begins asked =
+      (λ slices count. beginning_asks how slice old.begun (ask.Read offset buf) slices old new count (λ none. sym error ∙ none) counts begins asked.bytes asked.many) row.source (binds_first true row old new rows) asked.asked
+  first_keeps slice row (ask.Change one) old new held held' begun error counts alike begins rows asked =
       destination_keeps how sides (slice ∷ []) (command_of old.begun one) old new held held' begun (change_tells_none old.begun one) alike
-      (λ slices count. beginning_asks how slice old.begun (ask.Change one) slices old new count (λ none. sym error ∙ none) counts begins) asked
+      (λ slices count. beginning_asks how slice old.begun (ask.Change one) slices old new count (λ none. sym error ∙ none) counts begins)
+      row.destination (subst (λ (t : Ticket). Binds false row.destination t old new) (sym (change_of old.begun one)) (binds_first false row old new rows)) asked
 
 -- the same with what the calls answered
 pub asks_keeps : (how : How) (sides sides' : Sides) (n destination : ℕ) (one : Change) (told : Next) (old mid new : board.Seen) (held held' : List (Held Ticket)) → sides' ≡ sides → told ≡ next.Asks n destination one →
-    IsNext how told old mid → new ≡ mid → IsAskedOf sides' false (command_of n one) held held' → Keeps how sides [] old new held held'
+    IsNext how told old mid → new ≡ mid → IsAskedOf sides' false destination (command_of n one) held held' → Keeps how sides [] old new held held'
 asks_keeps how sides sides' n destination one told old mid new held held' both is goes same asked =
     let goes' : AsksOn how n destination one old mid = subst (λ (x : Next). IsNext how x old mid) is goes in
-    let asked' : IsAskedOf sides false (command_of n one) held held' = subst (λ (x : Sides). IsAskedOf x false (command_of n one) held held') both asked in
+    let asked' : IsAskedOf sides false destination (command_of n one) held held' = subst (λ (x : Sides). IsAskedOf x false destination (command_of n one) held held') both asked in
     subst (λ (s : board.Seen). Keeps how sides [] old s held held') (sym same) (on_asks how sides n destination one old mid held held' goes' asked')
 
 pub over_keeps : (how : How) (sides : Sides) (n source destination : ℕ) (told : Next) (old new : board.Seen) (held : List (Held Ticket)) → told ≡ next.Over n source destination → IsNext how told old new → Keeps how sides [] old new held held
@@ -114,12 +126,12 @@ over_keeps how sides n source destination told old new held is ends =
     on_over how sides n source destination old new held ends'
 
 pub begun_keeps : (how : How) (sides sides' : Sides) (slice : Slice) (n : ℕ) (row : Row) (one : Ask) (old mid new : board.Seen) (held held' : List (Held Ticket)) → sides' ≡ sides → n ≡ old.begun →
-    mid ≡ begun_with old row one → asks.Begins how slice old.begun one old.rows mid.rows → new ≡ mid → IsAskedFirst sides' n one held held' → Keeps how sides (slice ∷ []) old new held held'
+    mid ≡ begun_with old row one → asks.Begins how slice old.begun one old.rows mid.rows → new ≡ mid → IsAskedFirst sides' row.source row.destination n one held held' → Keeps how sides (slice ∷ []) old new held held'
 begun_keeps how sides sides' slice n row one old mid new held held' both number is begins same asked =
-    let asked' : IsAskedFirst sides old.begun one held held' = subst (λ (m : ℕ). IsAskedFirst sides m one held held') number (subst (λ (x : Sides). IsAskedFirst x n one held held') both asked) in
+    let asked' : IsAskedFirst sides row.source row.destination old.begun one held held' = subst (λ (m : ℕ). IsAskedFirst sides row.source row.destination m one held held') number (subst (λ (x : Sides). IsAskedFirst x row.source row.destination n one held held') both asked) in
     subst (λ (s : board.Seen). Keeps how sides (slice ∷ []) old s held held') (sym same)
-    (first_keeps how sides slice one old mid held held' (ap (λ (s : board.Seen). s.begun) is) (ap (λ (s : board.Seen). s.error) is)
-    (record { read = ap (λ (s : board.Seen). s.read) is; written = ap (λ (s : board.Seen). s.written) is; zeroed = ap (λ (s : board.Seen). s.zeroed) is; flushing = ap (λ (s : board.Seen). s.flushing) is; flushed = ap (λ (s : board.Seen). s.flushed) is }) (alike_of old mid (ap (λ (s : board.Seen). s.told) is) (ap (λ (s : board.Seen). s.mapped) is) (ap (λ (s : board.Seen). s.short) is)) begins asked')
+    (first_keeps how sides slice row one old mid held held' (ap (λ (s : board.Seen). s.begun) is) (ap (λ (s : board.Seen). s.error) is)
+    (record { read = ap (λ (s : board.Seen). s.read) is; written = ap (λ (s : board.Seen). s.written) is; zeroed = ap (λ (s : board.Seen). s.zeroed) is; flushing = ap (λ (s : board.Seen). s.flushing) is; flushed = ap (λ (s : board.Seen). s.flushed) is }) (alike_of old mid (ap (λ (s : board.Seen). s.told) is) (ap (λ (s : board.Seen). s.mapped) is) (ap (λ (s : board.Seen). s.short) is)) begins (ap (λ (s : board.Seen). s.rows) is) asked')
 
 -- one after another, as the board says how and the bindings how many
 pub keeps_on : (sides sides' : Sides) (a b c : board.Seen) (i j k : List (Held Ticket)) → sides' ≡ sides → HasGoneOn a b → Keeps a.how sides [] a b i j → Keeps b.how sides' [] b c j k → Keeps a.how sides [] a c i k

@@ -8,6 +8,7 @@ use Rattle.lnbd_link.specs.Call as wire
 use Rattle.lnbd_link.specs.Numbers.{is_given}
 use Rattle.lnbd_link.specs.Part.{Adds}
 use Rattle.lnbd_link.proofs.Openings.{is_given-append}
+use Rattle.lnbd_history.specs.History.{request}
 use Rattle.lnbd_machine.specs.Machine.{Machine}
 use Rattle.lnbd_standing.specs.Standing.{StandsFor}
 use Rattle.lnbd_asked.specs.Driven.{Spells, is_inward}
@@ -36,7 +37,9 @@ use Rattle.lnbd_copy.specs.Opening.{Dials, place_of}
 use Rattle.lnbd_copy.specs.Way.{AreSided, HasRested, IsOn, Way, is_source, known_of}
 use Rattle.lnbd_copy.proofs.LastLemmas.{lasts_adds}
 use Rattle.lnbd_copy.proofs.HeldLemmas.{held_more}
+use Rattle.lnbd_copy.proofs.BindingLemmas.{bound_more, bound_none}
 use Rattle.lnbd_copy.proofs.BegunLemmas.{first_stays, went_none}
+use Rattle.lnbd_copy.proofs.FirstLemmas.{more_knowing}
 use Rattle.lnbd_copy.proofs.HeardLemmas.{hears_dialed, hears_on}
 use Rattle.lnbd_copy.proofs.StepLemmas.{nothing_stands, settling_stands}
 use Rattle.lnbd_copy.proofs.TurnLemmas.{at_count, rested_on, none_some, since_on, some_same}
@@ -53,6 +56,7 @@ nothing_is_on way now unsettled none unasked unknown empty new uncounted unreste
   rest = subst (λ (o : Option board.Seen). HasRested way.from way.to way.size o []) (sym unrested) tt;
   all = λ link apart. refl;
   hears = record { answered = λ well two p h. absurd (false≢true (sym (unheard p) ∙ h)); first = refl; begun = tt };
+  bound = bound_none way.sides now [] empty;
 }
 
 -- Another board, of a copy that writes otherwise, takes the place of one that is empty, before any slice is begun.
@@ -68,6 +72,7 @@ settled way how now now' calls held none unasked empty well unflushed empty' new
   rest = on.rest;
   all = on.all;
   hears = hears_on false way.extents way.from way.to way.heard now.error now'.error (λ none. well) calls on.seens on.seens (first_stays on.seens) on.hears;
+  bound = bound_none way.sides now' on.seens empty';
 }
 
 -- The last of some handles.
@@ -157,6 +162,11 @@ opened_name : (name : List ℕ) (extents : Bool) → name_set (opened name exten
 opened_name name true = refl
 opened_name name false = refl
 
+-- nothing was asked by then
+opened_asks : (name : List ℕ) (extents : Bool) (cookie : ℕ) → request (opened name extents) cookie ≡ None
+opened_asks name true cookie = refl
+opened_asks name false cookie = refl
+
 -- the place of a side, of a handle by its place among the handles
 side_place : (way : Way) (n : ℕ) (place : Place) → place_of way n ≡ place → between.place_of way.from way.to (is_source way.sides n) ≡ place
 side_place way n place is = is
@@ -186,6 +196,7 @@ dialed way now calls held place link extents handle there wants on new short sta
       rest = rested_on way.from way.to way.size way.rested calls (wire.Connect place.to (Some link) ∷ []) on.rest;
       all = held_more calls place.to link on.seens last refl on.all;
       hears = hears_dialed way.extents way.from way.to way.heard now.error calls on.seens place.to last (λ none. began_first none (at_count held on.seens on.at)) on.hears;
+      bound = bound_more way.sides now on.seens last (opened_asks place.name extents) (last_or on.seens last) on.bound;
     }
   where
     began_first : length on.seens ≡ 0 → length held ≡ length on.seens → BeganAs (opened way.from.name way.extents) (opened place.name extents)
@@ -195,7 +206,7 @@ dialed way now calls held place link extents handle there wants on new short sta
         (subst (λ (p : Place). BeganAs (opened p.name extents) (opened place.name extents)) (sym at) (went_none (opened place.name extents)))
 
 -- what is given by none of some calls is given by none of the last
-last_free : (link : ℕ) (before calls : List wire.Call) → is_given link (before ++ calls) ≡ false → is_given link calls ≡ false
+pub last_free : (link : ℕ) (before calls : List wire.Call) → is_given link (before ++ calls) ≡ false → is_given link calls ≡ false
 last_free link before calls free = second (is_given link before) (is_given link calls) (sym (is_given-append link before calls) ∙ free)
   where
     second : (a b : Bool) → (a || b) ≡ false → b ≡ false
@@ -221,4 +232,7 @@ dials a b c place now held held' link extents handle adds fresh told_is short st
             since_on start grown.0 all (wire.Connect place.to (Some link) ∷ []) grown.2 since (dialed way now since.calls held place link extents handle is wants since.is free short stands);
       };
       lasts = lasts_adds a b (wire.Connect place.to (Some link)) adds;
+      know = λ source destination both.
+          let last : Seen Ticket = record { link = link; history = opened place.name extents; unread = [] } in
+          record { seens = both.seens ++ last ∷ []; at = last_at held both.seens link handle (opened place.name extents) both.at stands; first = more_knowing 0 source both.seens (last ∷ []) both.first; second = more_knowing 1 destination both.seens (last ∷ []) both.second };
     }))

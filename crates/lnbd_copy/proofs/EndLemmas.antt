@@ -11,6 +11,7 @@ use Rattle.lnbd_poll.specs.Held.{Held, AreAt}
 use Rattle.lnbd_poll.specs.Seen as poll
 use Rattle.lnbd_plan.proofs.OnceLaws.{all_planned_once}
 use Rattle.lnbd_plan.specs.Laws.{IsPlannedOnce, told_by, windows_slices}
+use Rattle.lnbd_plan.specs.declared.cells.Cells.{Cells}
 use Rattle.lnbd_plan.specs.declared.grid.Slice.{Slice}
 use Rattle.lnbd_plan.specs.declared.summary.Summary.{Summary}
 use Rattle.lnbd_board.specs.declared.how.How.{How}
@@ -40,6 +41,7 @@ use Rattle.lnbd_copy.specs.Agreed.{IsWished}
 use Rattle.lnbd_copy.specs.Copier.{HasJob, HasTurned, IsDone, IsOnItsWay, Seen}
 use Rattle.lnbd_copy.specs.declared.copier.Progress.{Progress}
 use Rattle.lnbd_copy.specs.declared.copier.Progress.TheVariants.{Finished, Moved, Still}
+use Rattle.lnbd_copy.specs.Dealt.{HasDealt, Spreads}
 use Rattle.lnbd_copy.specs.Job as job
 use Rattle.lnbd_copy.specs.Leaving.{Leaves}
 use Rattle.lnbd_copy.specs.Limit.{IsLimited}
@@ -50,8 +52,9 @@ use Rattle.lnbd_copy.specs.Windows as windows
 use Rattle.lnbd_copy.specs.Way.{Filed, Goes, IsLeaving, IsOn, IsUnderWay, Stands, Told, Way, known_of}
 use Rattle.lnbd_copy.proofs.AnswerLemmas.{none_held, reads_are_answered}
 use Rattle.lnbd_copy.proofs.CopierLemmas.{told_as}
-use Rattle.lnbd_copy.proofs.LastLemmas.{settled_later}
+use Rattle.lnbd_copy.proofs.AlikeLemmas.{settled_later}
 use Rattle.lnbd_copy.proofs.PartLemmas.{on_leaving}
+use Rattle.lnbd_copy.proofs.SpreadLemmas.{dealt_filed}
 use Rattle.lnbd_copy.proofs.SettledLemmas.{same_calls, same_rest, settled_with}
 
 pub some_same : (one other : job.Seen) → Some one ≡ Some other → one ≡ other
@@ -65,7 +68,7 @@ job_filed j way now now' filed is = record {
   writes = filed.how ∙ is.writes;
   sides = is.sides;
   ends = is.ends;
-  zeros = is.zeros;
+  cells = is.cells;
   planned = is.planned;
   grain = is.grain;
   spared = is.spared;
@@ -104,13 +107,14 @@ module _ (copy : Seen) (start : Option (List wire.Call)) where
     most = (let many = (goes.filed on.stand).many in let most = on.most in omega (arith, many, most));
     is = job_filed on.job on.way copy.board now (goes.filed on.stand) on.is;
     on = goes.on (job.is_parting on.job.phase) on.way start on.stand on.on;
-    settled = settled_later copy.options copy.from copy.to start a b on.job.terms (goes.lasts on.stand) on.settled;
+    settled = settled_later copy.options copy.from copy.to start a b on.job.terms (goes.gives on.stand) on.settled;
+    spread = dealt_filed on.job copy.board now (goes.filed on.stand) on.spread;
   }
 
   -- The job goes on.
-  pub after_act : (j j' : job.Seen) (now : board.Seen) (held : List (Held Ticket)) (told : Option (List wire.Call)) → copy.job ≡ Some j → j'.terms ≡ j.terms → (length copy.board.rows ≤ j.terms.limit → length now.rows ≤ j.terms.limit) → job.is_parting j.phase ≡ false → job.Acts j j' copy.board now copy.held held →
+  pub after_act : (j j' : job.Seen) (now : board.Seen) (held : List (Held Ticket)) (told : Option (List wire.Call)) → copy.job ≡ Some j → j'.terms ≡ j.terms → (length copy.board.rows ≤ j.terms.limit → length now.rows ≤ j.terms.limit) → job.is_parting j.phase ≡ false → job.Acts j j' copy.board now copy.held held → Spreads j j' copy.board now →
       IsOnItsWay start told copy → IsOnItsWay start told (record copy { held = held; board = now; job = Some j' })
-  after_act j j' now held told there terms few going acts on =
+  after_act j j' now held told there terms few going acts spreads on =
       let same : on.job ≡ j = some_same on.job j (sym on.there ∙ there) in
       let acted = acts.on on.way (subst (λ (x : job.Seen). job.IsJob x on.way copy.board) same on.is) in
       record {
@@ -129,6 +133,7 @@ module _ (copy : Seen) (start : Option (List wire.Call)) where
             (λ calls is. from_on (job.is_parting j'.phase) acted.way' now calls held (acted.on calls (subst (λ (b : Bool). IsUnderWay b on.way copy.board calls copy.held) (ap (λ (x : job.Seen). job.is_parting x.phase) same ∙ going) is)))
             on.on;
         settled = subst (HasSettled copy.options copy.from copy.to start told) (ap (λ (x : job.Seen). x.terms) same ∙ sym terms) on.settled;
+        spread = spreads.on (subst (λ (x : job.Seen). HasDealt x copy.board) same on.spread);
       }
 
   -- Connections part.
@@ -152,7 +157,8 @@ module _ (copy : Seen) (start : Option (List wire.Call)) where
         is = job_filed on.job on.way copy.board now leaves.filed on.is;
         on = told_as start b (λ calls is. subst (λ (p : Bool). IsUnderWay p on.way now calls held) (sym parting) is)
             (leaves.on on.way start (on.is.asked ∙ ap (λ (b : Bool). if b then windows.wanted on.job.windows else None) over.heard) over.rows (told_as start a (λ calls is. subst (λ (p : Bool). IsUnderWay p on.way copy.board calls copy.held) parting is) on.on));
-        settled = settled_later copy.options copy.from copy.to start a b on.job.terms leaves.lasts on.settled;
+        settled = settled_later copy.options copy.from copy.to start a b on.job.terms leaves.gives on.settled;
+        spread = dealt_filed on.job copy.board now leaves.filed on.spread;
       }
 
 -- The job goes on, whatever it is at.
@@ -171,11 +177,11 @@ same_way copy start told j j' now held there one two three on =
     (subst (λ (b : board.Seen). IsOnItsWay start told (record copy { board = b; job = Some j' })) (sym two)
     (subst (λ (o : Option job.Seen). IsOnItsWay start told (record copy { job = o })) (there ∙ ap (λ (x : job.Seen). Some x) (sym one)) on))
 
-pub after_acting : (copy : Seen) (start told : Option (List wire.Call)) (j j' : job.Seen) (now : board.Seen) (held : List (Held Ticket)) → copy.job ≡ Some j → j'.terms ≡ j.terms → (length copy.board.rows ≤ j.terms.limit → length now.rows ≤ j.terms.limit) → job.Acts j j' copy.board now copy.held held →
+pub after_acting : (copy : Seen) (start told : Option (List wire.Call)) (j j' : job.Seen) (now : board.Seen) (held : List (Held Ticket)) → copy.job ≡ Some j → j'.terms ≡ j.terms → (length copy.board.rows ≤ j.terms.limit → length now.rows ≤ j.terms.limit) → job.Acts j j' copy.board now copy.held held → Spreads j j' copy.board now →
     (j.phase ≡ Parting → (j' ≡ j) × (now ≡ copy.board) × (held ≡ copy.held)) → IsOnItsWay start told copy → IsOnItsWay start told (record copy { held = held; board = now; job = Some j' })
-after_acting copy start told j j' now held there terms few acts parted on = elim (cases_bool (job.is_parting j.phase)) [
+after_acting copy start told j j' now held there terms few acts spreads parted on = elim (cases_bool (job.is_parting j.phase)) [
   | inl parts ↦ (let same = parted (is_past j.phase parts) in same_way copy start told j j' now held there same.0 same.1 same.2 on)
-  | inr going ↦ after_act copy start j j' now held told there terms few going acts on
+  | inr going ↦ after_act copy start j j' now held told there terms few going acts spreads on
 ]
 
 -- From turn to turn.
@@ -232,7 +238,7 @@ planned_whole j way now calls is over has s two =
       are = sym (append-nil way.slices) ∙ ap (λ (l : List Slice). way.slices ++ l) (sym over.handed) ∙ is.planned.are;
       whole = is.planned.end ∙ over.planned;
       told = λ p less zero. known_was_told way.from way.how has way.slices now calls way.asked (known_of way) s.told source p (is.planned.told p zero);
-      left_out = λ none. ap (λ (h : How). h.skip) is.how ∙ not_false j.terms.how.skip (sym is.zeros ∙ none);
+      left_out = λ none. ap (λ (h : How). h.skip) is.how ∙ not_false j.terms.how.skip (sym (ap (λ (c : Cells). c.zeros) is.cells) ∙ none);
     }
 
 -- What is under way is settled.
@@ -342,7 +348,7 @@ finished copy start told j there parts none well on =
           let leaving : IsLeaving on.way copy.board calls [] =
           subst (λ (h : List (Held Ticket)). IsLeaving on.way copy.board calls h) none (subst (λ (p : Bool). IsUnderWay p on.way copy.board calls copy.held) parting is) in
           let s = stands_alone on.way copy.board calls leaving in
-          subst (λ (block : ℕ). ReadsNoZeros block (dealt_with copy.from calls)) on.settled.settled.grain
+          subst (λ (block : ℕ). ReadsNoZeros block (dealt_with copy.from calls)) on.settled.first.settled.grain
           (subst (λ (f : Place). ReadsNoZeros on.job.terms.grain (dealt_with f calls)) on.from (way_spares on.job on.way copy.board calls on.is over leaving.has s well apart)))
           on.on);
       copied = λ two.
@@ -374,7 +380,7 @@ finished copy start told j there parts none well on =
           let leaving : IsLeaving on.way copy.board calls [] =
           subst (λ (h : List (Held Ticket)). IsLeaving on.way copy.board calls h) none (subst (λ (p : Bool). IsUnderWay p on.way copy.board calls copy.held) parting is) in
           let s = stands_alone on.way copy.board calls leaving in
-          let answered : copy.board.flushed ≡ true = on.is.flushed (is_past on.job.phase parting) (on.settled.settled.flush ∙ wanted) in
+          let answered : copy.board.flushed ≡ true = on.is.flushed (is_past on.job.phase parting) (on.settled.first.settled.flush ∙ wanted) in
           subst (λ (t : Place). IsFlushed t calls) on.to
           (ended_flushed on.way.from on.way.to on.job.terms.size on.way.how leaving.has on.way.slices copy.board calls (between_sized on.way on.job.terms.size leaving.has copy.board calls on.is.size s) well answered apart))
           on.on);
@@ -386,7 +392,7 @@ finished copy start told j there parts none well on =
           let leaving : IsLeaving on.way copy.board calls [] =
           subst (λ (h : List (Held Ticket)). IsLeaving on.way copy.board calls h) none (subst (λ (p : Bool). IsUnderWay p on.way copy.board calls copy.held) parting is) in
           let s = stands_alone on.way copy.board calls leaving in
-          subst (λ (how : How). WritesNoZeros how (dealt_with copy.to calls)) on.settled.settled.how
+          subst (λ (how : How). WritesNoZeros how (dealt_with copy.to calls)) on.settled.first.settled.how
           (subst (λ (t : Place). WritesNoZeros on.job.terms.how (dealt_with t calls)) on.to (way_dense on.job on.way copy.board calls on.is leaving.has s well apart)))
           on.on);
       answered = λ two. way_answers copy start told well on two;
@@ -446,18 +452,6 @@ pub done_flushed : (copy new : Seen) (a b c : Option (List wire.Call)) → new �
 done_flushed copy new a b c kept same two done =
     let so = subst (λ (s : Seen). IsDone a b s) kept done in
     subst (λ (t : Option (List wire.Call)). GrewBy (FlushesWanted copy.options copy.from copy.to) a t) (sym same) (told_part a b (so.flushed two))
-
--- Each read was answered before, or no block status could be asked for.
-pub done_answers : (copy new : Seen) (a b c : Option (List wire.Call)) → new ≡ record copy { start = new.start; held = new.held; board = new.board; job = new.job } → c ≡ b → copy.from ≢ copy.to → IsDone a b new → GrewBy (ReadsAreAnswered copy.options.extents copy.from) a c
-done_answers copy new a b c kept same two done =
-    let so = subst (λ (s : Seen). IsDone a b s) kept done in
-    subst (λ (t : Option (List wire.Call)). GrewBy (ReadsAreAnswered copy.options.extents copy.from) a t) (sym same) (told_part a b (so.answered two))
-
--- It asked for no flush where its options want none.
-pub done_unflushed : (copy new : Seen) (a b c : Option (List wire.Call)) → new ≡ record copy { start = new.start; held = new.held; board = new.board; job = new.job } → c ≡ b → copy.options.flush ≡ false → copy.from ≢ copy.to → IsDone a b new → GrewBy (IsUnflushed copy.to) a c
-done_unflushed copy new a b c kept same unwanted two done =
-    let so = subst (λ (s : Seen). IsDone a b s) kept done in
-    subst (λ (t : Option (List wire.Call)). GrewBy (IsUnflushed copy.to) a t) (sym same) (told_part a b (so.unflushed unwanted two))
 
 -- One handle drove each of its links.
 pub done_driven : (new : Seen) (a b c : Option (List wire.Call)) → c ≡ b → IsDone a b new → GrewBy AreDriven a c

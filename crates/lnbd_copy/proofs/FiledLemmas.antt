@@ -12,10 +12,11 @@ use Rattle.lnbd_board.specs.declared.ticket.Ticket.TheVariants as ticket
 use Rattle.lnbd_board.specs.Files.{Files, Hears, came_with, filed_done, is_map, is_unfit, or_error, rows_with}
 use Rattle.lnbd_board.specs.Files as board
 use Rattle.lnbd_copy.specs.Way.{Filed}
+use Rattle.lnbd_copy.proofs.BoundLemmas.{rows_bound}
 use Rattle.lnbd_copy.proofs.UnderWayLemmas.{rows_many}
 
 pub filed_none : (now : board.Seen) → Filed now now
-filed_none now = record { how = refl; begun = refl; none = λ e. e; many = refl; error = λ e. e; read = refl; written = refl; zeroed = refl; flushing = refl; flushed = λ e. e }
+filed_none now = record { how = refl; begun = refl; none = λ e. e; many = refl; error = λ e. e; read = refl; written = refl; zeroed = refl; flushing = refl; flushed = λ e. e; reads = refl; writes = refl }
 
 pub filed_then : (a b c : board.Seen) → Filed a b → Filed b c → Filed a c
 filed_then a b c one two = record {
@@ -29,6 +30,8 @@ filed_then a b c one two = record {
   zeroed = two.zeroed ∙ one.zeroed;
   flushing = two.flushing ∙ one.flushing;
   flushed = λ e. two.flushed (one.flushed e);
+  reads = two.reads ∙ one.reads;
+  writes = two.writes ∙ one.writes;
 }
 
 filed_same : (old new : board.Seen) → new ≡ old → Filed old new
@@ -39,7 +42,7 @@ no_error None error e = refl
 no_error (Some first) error e = e
 
 error_filed : (old : board.Seen) (error : ℕ) → Filed old (record old { error = or_error old.error error })
-error_filed old error = record { how = refl; begun = refl; none = λ e. e; many = refl; error = λ e. no_error old.error error e; read = refl; written = refl; zeroed = refl; flushing = refl; flushed = λ e. e }
+error_filed old error = record { how = refl; begun = refl; none = λ e. e; many = refl; error = λ e. no_error old.error error e; read = refl; written = refl; zeroed = refl; flushing = refl; flushed = λ e. e; reads = refl; writes = refl }
 
 slice_filed : (unfit : Bool) (n : ℕ) (buf : List ℕ) (old : board.Seen)
     → Filed old (if unfit then record old { error = or_error old.error 71 } else record old { rows = rows_with (value_at n old.rows) n buf old.rows; came = came_with (value_at n old.rows) n old.came })
@@ -55,20 +58,22 @@ slice_filed false n buf old = record {
   zeroed = refl;
   flushing = refl;
   flushed = λ e. e;
+  reads = rows_bound (λ row. row.source) (λ row stage. refl) n buf old.rows;
+  writes = rows_bound (λ row. row.destination) (λ row stage. refl) n buf old.rows;
 }
 
 done_filed : (by : Ticket) (buf : List ℕ) (old : board.Seen) → Filed old (filed_done by buf old)
 done_filed (ticket.Slice n) buf old = slice_filed (is_unfit (value_at n old.rows) buf) n buf old
-done_filed ticket.Extents buf old = record { how = refl; begun = refl; none = λ e. e; many = refl; error = λ e. e; read = refl; written = refl; zeroed = refl; flushing = refl; flushed = λ e. e }
-done_filed ticket.Flush buf old = record { how = refl; begun = refl; none = λ e. e; many = refl; error = λ e. e; read = refl; written = refl; zeroed = refl; flushing = refl; flushed = λ e. refl }
+done_filed ticket.Extents buf old = record { how = refl; begun = refl; none = λ e. e; many = refl; error = λ e. e; read = refl; written = refl; zeroed = refl; flushing = refl; flushed = λ e. e; reads = refl; writes = refl }
+done_filed ticket.Flush buf old = record { how = refl; begun = refl; none = λ e. e; many = refl; error = λ e. e; read = refl; written = refl; zeroed = refl; flushing = refl; flushed = λ e. refl; reads = refl; writes = refl }
 
 completed_filed : (well : Bool) (by : Ticket) (error : ℕ) (buf : List ℕ) (old : board.Seen) → Filed old (if well then filed_done by buf old else record old { error = or_error old.error error })
 completed_filed true by error buf old = done_filed by buf old
 completed_filed false by error buf old = error_filed old error
 
 hears_filed : (is : Bool) (entries : List Extent) (old new : board.Seen) → Hears is entries old new → Filed old new
-hears_filed true entries old new (inl e) = subst (Filed old) (sym e.1) (record { how = refl; begun = refl; none = λ e. e; many = refl; error = λ e. e; read = refl; written = refl; zeroed = refl; flushing = refl; flushed = λ e. e })
-hears_filed true entries old new (inr e) = subst (Filed old) (sym e) (record { how = refl; begun = refl; none = λ e. e; many = refl; error = λ e. e; read = refl; written = refl; zeroed = refl; flushing = refl; flushed = λ e. e })
+hears_filed true entries old new (inl e) = subst (Filed old) (sym e.1) (record { how = refl; begun = refl; none = λ e. e; many = refl; error = λ e. e; read = refl; written = refl; zeroed = refl; flushing = refl; flushed = λ e. e; reads = refl; writes = refl })
+hears_filed true entries old new (inr e) = subst (Filed old) (sym e) (record { how = refl; begun = refl; none = λ e. e; many = refl; error = λ e. e; read = refl; written = refl; zeroed = refl; flushing = refl; flushed = λ e. e; reads = refl; writes = refl })
 hears_filed false entries old new e = filed_same old new e
 
 call_filed : (old new : board.Seen) (call : Call Ticket) → Files old call new → Filed old new

@@ -21,7 +21,7 @@ use Rattle.lnbd_asked.specs.Driven.{Drives}
 use Rattle.lnbd_asked.specs.Exports.{name_set}
 use Rattle.lnbd_poll.specs.Held.{Held, AreAt}
 use Rattle.lnbd_poll.specs.Seen.{Seen}
-use Rattle.lnbd_drives.specs.Driving.{AllDrive}
+use Rattle.lnbd_drives.specs.Driving.{AllDrive, AllPlain, IsPlain}
 use Rattle.lnbd_plan.specs.declared.fault.CopyFault.{CopyFault}
 use Rattle.lnbd_plan.specs.declared.fault.CopyFault.TheVariants as fault
 use Rattle.lnbd_plan.specs.declared.fault.Rule.{Rule}
@@ -37,10 +37,12 @@ use Rattle.lnbd_copy.specs.Copier.{GoesFurther, HasMet, HasNotBegun, IsOnItsWay,
 use Rattle.lnbd_copy.specs.Job as work
 use Rattle.lnbd_copy.specs.Copier as copier
 use Rattle.lnbd_copy.specs.Grounds.{AllSame, Answers, AreSame, AtSome, Blames, Differ, Drove, FailsOn, Finds, FindsBeside, FindsDead, FindsOther, Happened, Happens, HasDied, IsDead, IsFound, IsGrounded, IsShown, Lasts, Settle, fault_by, fault_of, first_of, needs_no_ground}
+use Rattle.lnbd_copy.specs.DrivenBy.{DrivenBy}
+use Rattle.lnbd_copy.specs.Firsts.{KnowBoth}
 use Rattle.lnbd_copy.specs.Opening.{Dials}
-use Rattle.lnbd_copy.specs.Settled.{FindsTerms, HasSettled}
-use Rattle.lnbd_copy.specs.Way.{Goes, IsOn, IsUnderWay, Told, Way, is_source}
-use Rattle.lnbd_copy.proofs.CopierLemmas.{first_on, kept_then, no_handles, second_on, told_as, two_on, with_held}
+use Rattle.lnbd_copy.specs.Settled.{FindsTerms, HasTerms}
+use Rattle.lnbd_copy.specs.Way.{Goes, IsOn, IsUnderWay, Stand, Told, Way, is_source}
+use Rattle.lnbd_copy.proofs.CopierLemmas.{first_on, kept_then, no_handles, second_on, told_as, two_meet_stand, two_on, with_held}
 use Rattle.lnbd_copy.proofs.LastLemmas.{at_once, told_later}
 
 -- By the handles.
@@ -112,10 +114,23 @@ some_seen seen e = cc
 seen_same : (one other : Seen Ticket) → Some one ≡ Some other → one ≡ other
 seen_same one other e = cc
 
-pub drive_at : (calls : List wire.Call) (index : ℕ) (seen : Seen Ticket) (seens : List (Seen Ticket)) → slice_get seens index ≡ Some seen → AllDrive calls seens → Drives seen.link calls seen.history seen.unread
-drive_at calls index seen [] there drive = absurd (some_seen seen there)
-drive_at calls zero seen (first ∷ others) there drive = subst (λ (s : Seen Ticket). Drives s.link calls s.history s.unread) (seen_same first seen there) drive.0
-drive_at calls (suc index) seen (first ∷ others) there drive = drive_at calls index seen others there drive.1
+-- Each handle that is held drives its link.
+
+driven_one : (calls : List wire.Call) (handle : Machine Ticket) (seen : Seen Ticket) → StandsFor max_unretired seen.history handle → Drives seen.link calls seen.history seen.unread → IsPlain seen → DrivenBy seen.link seen.history calls
+driven_one calls handle seen stands drives plain = record {
+  limit = max_unretired;
+  lawful = stands.lawful;
+  going = stands.going;
+  spelled = plain.spelled;
+  mode = plain.mode;
+  drives = subst (λ (l : List ℕ). Drives seen.link calls seen.history l) plain.arrived drives;
+}
+
+pub driven_at : (calls : List wire.Call) (index : ℕ) (seen : Seen Ticket) (held : List (Held Ticket)) (seens : List (Seen Ticket)) → slice_get seens index ≡ Some seen → AreAt held seens → AllDrive calls seens → AllPlain seens → DrivenBy seen.link seen.history calls
+driven_at calls index seen held [] there at drive plain = absurd (some_seen seen there)
+driven_at calls index seen [] (first ∷ others) there at drive plain = absurd at
+driven_at calls zero seen (one ∷ more) (first ∷ others) there at drive plain = subst (λ (s : Seen Ticket). DrivenBy s.link s.history calls) (seen_same first seen there) (driven_one calls one.handle first at.0.stands drive.0 plain.0)
+driven_at calls (suc index) seen (one ∷ more) (first ∷ others) there at drive plain = driven_at calls index seen more others there at.1 drive.1 plain.1
 
 pub given_at : (calls : List wire.Call) (link : ℕ) (b : Bool) → is_given link calls ≡ b → (is_given link calls ≡ false → ⊥) → is_given link calls ≡ true
 given_at calls link true is other = is
@@ -134,8 +149,7 @@ module _ (parting : Bool) (way : Way) (now : board.Seen) (calls : List wire.Call
       record {
         link = h.seen.link;
         history = h.seen.history;
-        unread = h.seen.unread;
-        drives = drive_at calls index h.seen on.seens h.there course.drive.drive;
+        drives = driven_at calls index h.seen held on.seens h.there on.at course.drive.drive course.drive.plain;
         address = between.placed.address h.seen.link given;
         name = ap (λ (history : History Ticket). name_set history) (sym (one_has index h.seen course.histories on.seens h.there course.held)) ∙ between.placed.name h.seen.link given;
         is = h.is;
@@ -253,10 +267,10 @@ source_fails s0 s1 t u c why same first none fails =
     let how = s0.board.how in
     fails.on (beginning s0 None how one_side) t (first.stand (no_handles s0 none)) (subst (λ (b : board.Seen). Told t u (λ calls. IsOn (beginning s0 None how one_side) b calls s1.held)) (sym same) (first_on s0 s1.held t u how one_side none first))
 
-goes_first : (s0 s1 s2 : copier.Seen) (u v : Option (List wire.Call)) → s1.board ≡ s0.board → Goes s1.board s1.held u s2.board s2.held v → Goes s0.board s1.held u s2.board s2.held v
+pub goes_first : (s0 s1 s2 : copier.Seen) (u v : Option (List wire.Call)) → s1.board ≡ s0.board → Goes s1.board s1.held u s2.board s2.held v → Goes s0.board s1.held u s2.board s2.held v
 goes_first s0 s1 s2 u v same one = subst (λ (b : board.Seen). Goes b s1.held u s2.board s2.held v) same one
 
-dials_second : (s0 s1 s2 s3 : copier.Seen) (v w : Option (List wire.Call)) → s1 ≡ with_held s0 s1 → s2 ≡ with_held s1 s2 → Dials s2.to false s2.board s2.held v s3.held w → Dials s0.to false s2.board s2.held v s3.held w
+pub dials_second : (s0 s1 s2 s3 : copier.Seen) (v w : Option (List wire.Call)) → s1 ≡ with_held s0 s1 → s2 ≡ with_held s1 s2 → Dials s2.to false s2.board s2.held v s3.held w → Dials s0.to false s2.board s2.held v s3.held w
 dials_second s0 s1 s2 s3 v w k1 k2 second = subst (λ (p : Place). Dials p false s2.board s2.held v s3.held w) (ap (λ (s : copier.Seen). s.to) (kept_then s0 s1 s2 k1 k2)) second
 
 -- or behind the destination's,
@@ -277,22 +291,30 @@ found_fails s0 s1 s2 s3 s4 t u v w x held why k1 k2 b1 b3 same first one second 
     found_grounded (beginning s0 None how one_side) s4.board s4.held t x why (subst (λ (l : List (Held Ticket)). IsFound one_side l why) same (found one_side))
     (two_on s0 s2.board s4.board s1.held s2.held s3.held s4.held t u v w x how one_side none first (goes_first s0 s1 s2 u v b1 one) (dials_second s0 s1 s2 s3 v w k1 k2 second) two')
 
+-- what both were told, and the handles know it
+pub record AreFound (options : CopyOptions) (from to : Place) (start told : Option (List wire.Call)) (terms : Terms) (held : List (Held Ticket)) : Type 0 where
+  pub first : HasTerms options from to start told terms
+  pub know : KnowBoth first.source first.destination held
+
 -- What both were told settles the terms.
 pub found_terms : (s0 s1 s2 s3 s4 : copier.Seen) (t u v w x : Option (List wire.Call)) (options : CopyOptions) (terms : Terms) (held : List (Held Ticket)) → s1 ≡ with_held s0 s1 → s2 ≡ with_held s1 s2 → s1.board ≡ s0.board → s3.board ≡ s2.board → held ≡ s4.held →
-    Dials s0.from s0.options.extents s0.board s0.held t s1.held u → Goes s1.board s1.held u s2.board s2.held v → Dials s2.to false s2.board s2.held v s3.held w → Goes s3.board s3.held w s4.board s4.held x → HasNotBegun s0 → FindsTerms options terms held →
-    HasSettled options s0.from s0.to t x terms
-found_terms s0 s1 s2 s3 s4 t u v w x options terms held k1 k2 b1 b3 same first one second two none finds =
+    Dials s0.from s0.options.extents s0.board s0.held t s1.held u → Goes s1.board s1.held u s2.board s2.held v → Dials s2.to false s2.board s2.held v s3.held w → Goes s3.board s3.held w s4.board s4.held x → HasNotBegun s0 → (finds : FindsTerms options terms held) →
+    (Stand s4.held → KnowBoth finds.source finds.destination s4.held) → AreFound options s0.from s0.to t x terms s4.held
+found_terms s0 s1 s2 s3 s4 t u v w x options terms held k1 k2 b1 b3 same first one second two none finds know =
     let how = s0.board.how in
     let way = beginning s0 None how one_side in
     let two' : Goes s2.board s3.held w s4.board s4.held x = subst (λ (b : board.Seen). Goes b s3.held w s4.board s4.held x) b3 two in
     let on = two_on s0 s2.board s4.board s1.held s2.held s3.held s4.held t u v w x how one_side none first (goes_first s0 s1 s2 u v b1 one) (dials_second s0 s1 s2 s3 v w k1 k2 second) two' in
     record {
-      source = finds.source;
-      destination = finds.destination;
-      shown = told_as t x (λ calls at. at_once calls (drove way s4.board calls s4.held (IsShown finds.source) 0 at (subst (λ (l : List (Held Ticket)). Happens (IsShown finds.source) 0 l) same finds.shown))) on;
-      shown' = told_as t x (λ calls at. at_once calls (drove way s4.board calls s4.held (IsShown finds.destination) 1 at (subst (λ (l : List (Held Ticket)). Happens (IsShown finds.destination) 1 l) same finds.shown'))) on;
-      none = finds.none;
-      settled = finds.settled;
+      first = record {
+        source = finds.source;
+        destination = finds.destination;
+        shown = told_as t x (λ calls at. at_once calls (drove way s4.board calls s4.held (IsShown finds.source) 0 at (subst (λ (l : List (Held Ticket)). Happens (IsShown finds.source) 0 l) same finds.shown))) on;
+        shown' = told_as t x (λ calls at. at_once calls (drove way s4.board calls s4.held (IsShown finds.destination) 1 at (subst (λ (l : List (Held Ticket)). Happens (IsShown finds.destination) 1 l) same finds.shown'))) on;
+        none = finds.none;
+        settled = finds.settled;
+      };
+      know = know (two_meet_stand s0 s1 s2 s3 s4 t u v w x first one second two none);
     }
 
 -- Further connections.

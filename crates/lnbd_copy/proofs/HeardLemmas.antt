@@ -92,7 +92,6 @@ none_stays extents from calls more agreed = record {
   are = ap (λ (l : List wire.Call). l ++ more) agreed.are ∙ append_assoc agreed.before agreed.after more;
   link = agreed.link;
   history = agreed.history;
-  unread = agreed.unread;
   first = agreed.first;
   drives = agreed.drives;
   address = agreed.address;
@@ -101,7 +100,7 @@ none_stays extents from calls more agreed = record {
   none = agreed.none;
 }
 
-may_stay : (extents : Bool) (from : Place) (p : ℕ) (calls more : List wire.Call) → MayBeRead extents from p calls → MayBeRead extents from p (calls ++ more)
+pub may_stay : (extents : Bool) (from : Place) (p : ℕ) (calls more : List wire.Call) → MayBeRead extents from p calls → MayBeRead extents from p (calls ++ more)
 may_stay extents from p calls more (inl answered) = inl (answers_stay from p calls more answered)
 may_stay extents from p calls more (inr agreed) = inr (none_stays extents from calls more agreed)
 

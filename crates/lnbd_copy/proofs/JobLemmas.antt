@@ -1,5 +1,5 @@
 -- What a job does keeps a copy on its way: its slices go on and begin, extents are asked for and heard, and in the end all connections part.
-use Rattle.std.proofs.Common.{◌≡◌, ◌≢◌, ◌⊎◌, inl, inr, ◌&&◌, ◌||◌, ℕ, Bool, true, false, not, List, [], ◌++◌, cond, Option, Some, None, if◌then◌else◌, refl, ap, sym, subst, ◌∙◌, arith}
+use Rattle.std.proofs.Common.{◌≡◌, ◌≢◌, ◌⊎◌, inl, inr, ◌&&◌, ◌||◌, ℕ, Bool, true, false, List, [], ◌++◌, cond, Option, Some, None, if◌then◌else◌, refl, ap, sym, subst, ◌∙◌, arith}
 use Rattle.std.proofs.lemmas.Bool.{false≢true}
 use Rattle.std.proofs.lemmas.List.{append-nil, append_assoc}
 use Rattle.lnbd_link.specs.Call as wire
@@ -12,7 +12,6 @@ use Rattle.lnbd_poll.specs.Held.{Held}
 use Rattle.lnbd_poll.specs.Seen as poll
 use Rattle.lnbd_drives.specs.Driving.{with_event}
 use Rattle.lnbd_model.specs.Kind.{is_read, is_write}
-use Rattle.lnbd_plan.specs.declared.cells.Cells.{Cells}
 use Rattle.lnbd_plan.specs.declared.grid.Slice.{Slice}
 use Rattle.lnbd_plan.specs.Laws.{told_by}
 use Rattle.lnbd_board.specs.declared.how.How.{How}
@@ -34,8 +33,8 @@ use Rattle.lnbd_copy.specs.declared.sides.Sides.{Sides}
 use Rattle.lnbd_copy.specs.Asked.{IsAsked}
 use Rattle.lnbd_copy.specs.Dealing.{Begins}
 use Rattle.lnbd_copy.specs.Heard.{IsHeardTo, has_position}
-use Rattle.lnbd_copy.specs.Job.{Acts, AreOfOne, IsJob, IsOver, Seen, with_asked, with_heard}
-use Rattle.lnbd_copy.specs.Way.{IsOn, Keeps, Stand, Stands, Way, with_slices}
+use Rattle.lnbd_copy.specs.Job.{Acts, AreOfOne, IsJob, IsOver, Seen, cells_of, with_asked, with_heard}
+use Rattle.lnbd_copy.specs.Way.{IsOn, Keeps, Stand, Stands, Way, connection_of, with_slices}
 use Rattle.lnbd_copy.specs.Spared.{IsSpared, whole_heard, whole_within}
 use Rattle.lnbd_copy.specs.Statuses.{MayBeRead}
 use Rattle.lnbd_copy.specs.Windows as windows
@@ -49,6 +48,7 @@ use Rattle.lnbd_copy.proofs.HeldLemmas.{held_event}
 use Rattle.lnbd_copy.proofs.StepLemmas.{extents_ask_stand, hearing_stands, unheard_stands}
 use Rattle.lnbd_copy.proofs.RestLemmas.{at_rest, came_to_rest}
 use Rattle.lnbd_copy.proofs.WayLemmas.{destination_keeps, sided_after}
+use Rattle.lnbd_copy.proofs.BindingLemmas.{asks_bound, binds_none}
 
 -- One step after another.
 
@@ -107,6 +107,7 @@ heard_on way now calls held mapped short may on = record {
     first = on.hears.first;
     begun = on.hears.begun;
   };
+  bound = on.bound;
 }
 
 -- no slice more was begun
@@ -134,6 +135,13 @@ extents_ask how now now' offset size slices is =
       flushed = ap (λ (b : board.Seen). b.flushed) is;
     }
 
+-- what is asked beside slices is of none
+extents_differ : (n : ℕ) → ticket.Extents ≡ ticket.Slice n → ⊥
+extents_differ n e = cc
+
+flush_differs : (n : ℕ) → ticket.Flush ≡ ticket.Slice n → ⊥
+flush_differs n e = cc
+
 -- Extents of a range are asked for, of the source's first connection, while none are.
 asked_on : (way : Way) (now now' : board.Seen) (calls : List wire.Call) (held held' : List (Held Ticket)) (offset size : ℕ) → way.asked ≡ None → now' ≡ record now { told = []; mapped = false } →
     IsAsked 0 (block_status_of size offset ticket.Extents ticket.Extents 0) held held' → IsOn way now calls held → IsOn (with_asked (Some (offset, size)) way) now' calls held'
@@ -151,6 +159,8 @@ asked_on way now now' calls held held' offset size none is asked on =
       rest = on.rest;
       all = held_event calls 0 (Issue command) on.seens on.all;
       hears = hears_on false way.extents way.from way.to way.heard now.error now'.error (λ none. sym (ap (λ (b : board.Seen). b.error) is) ∙ none) calls on.seens (with_event 0 (Issue command) on.seens) (event_first 0 (Issue command) on.seens) on.hears;
+      bound = asks_bound way on.has now calls on.seens on.stands now' on.begun (λ none. sym (ap (λ (b : board.Seen). b.error) is) ∙ none) on.bound true 0 0 command refl refl
+          (binds_none true 0 ticket.Extents now now' extents_differ (ap (λ (b : board.Seen). b.rows) is));
     }
 
 -- Slices go on.
@@ -168,7 +178,7 @@ acts_keeps job how sides now now' held held' h s copying writes unflushed keeps 
   on = λ way had. record {
     way' = way;
     one = one_same way;
-    job' = record { size = had.size; how = had.how; writes = writes ∙ had.writes; sides = had.sides; ends = had.ends; zeros = had.zeros; planned = had.planned; grain = had.grain; spared = had.spared; asked = had.asked; over = λ other. absurd (other copying); unwanted = λ no. unflushed ∙ had.unwanted no; unflushed = λ c. unflushed ∙ had.unflushed c; rests = λ other. absurd (other copying); flushed = λ parts. absurd (still_copying job.phase copying parts); heard = had.heard };
+    job' = record { size = had.size; how = had.how; writes = writes ∙ had.writes; sides = had.sides; ends = had.ends; cells = had.cells; planned = had.planned; grain = had.grain; spared = had.spared; asked = had.asked; over = λ other. absurd (other copying); unwanted = λ no. unflushed ∙ had.unwanted no; unflushed = λ c. unflushed ∙ had.unflushed c; rests = λ other. absurd (other copying); flushed = λ parts. absurd (still_copying job.phase copying parts); heard = had.heard };
     on = λ calls on. none_on how sides now now' held held' keeps way calls (had.how ∙ sym h) (had.sides ∙ sym s) on;
   };
 }
@@ -194,7 +204,7 @@ acts_heard job job' windows' now held copying asked mapped short is cells size g
           writes = had.writes;
           sides = had.sides;
           ends = size ∙ had.ends;
-          zeros = ap (λ (c : Cells). c.zeros) cells ∙ had.zeros;
+          cells = cells ∙ had.cells;
           planned = subst (λ (r : Option (ℕ × ℕ)). windows.IsPlanned windows' (λ p. way.zero p || windows.zero_heard r now.told p) way.slices) (sym range) (hears way.zero way.slices had.planned);
           grain = grain ∙ had.grain;
           spared = subst (λ (g : ℕ). IsSpared windows' (λ p. way.whole g p || whole_heard g way.asked now.told p) way.slices) (sym grain)
@@ -223,7 +233,7 @@ acts_asked job job' now now' held held' offset size copying none range is forget
       record {
         way' = with_asked (Some (offset, size)) way;
         one = record { from = refl; to = refl; how = refl; sides = refl; extents = refl };
-        job' = record { size = had.size; how = had.how; writes = ap (λ (b : board.Seen). b.how) forgets ∙ had.writes; sides = had.sides; ends = had.ends; zeros = had.zeros; planned = had.planned; grain = had.grain; spared = had.spared; asked = sym range; over = λ other. absurd (other copying); unwanted = λ no. ap (λ (b : board.Seen). b.flushing) forgets ∙ had.unwanted no; unflushed = λ c. ap (λ (b : board.Seen). b.flushing) forgets ∙ had.unflushed c; rests = λ other. absurd (other copying); flushed = λ parts. absurd (still_copying job.phase copying parts); heard = had.heard };
+        job' = record { size = had.size; how = had.how; writes = ap (λ (b : board.Seen). b.how) forgets ∙ had.writes; sides = had.sides; ends = had.ends; cells = had.cells; planned = had.planned; grain = had.grain; spared = had.spared; asked = sym range; over = λ other. absurd (other copying); unwanted = λ no. ap (λ (b : board.Seen). b.flushing) forgets ∙ had.unwanted no; unflushed = λ c. ap (λ (b : board.Seen). b.flushing) forgets ∙ had.unflushed c; rests = λ other. absurd (other copying); flushed = λ parts. absurd (still_copying job.phase copying parts); heard = had.heard };
         on = λ calls on. asked_on way now now' calls held held' offset size blank forgets asked on;
       };
 })
@@ -271,7 +281,7 @@ acts_begun job job' windows' how sides now now' held held' copying h s is begins
       writes = ap (λ (b : board.Seen). b.how) begins.begun ∙ had.writes;
       sides = had.sides;
       ends = ap (λ (w : windows.Seen). w.size) begins.others ∙ had.ends;
-      zeros = ap (λ (w : windows.Seen). w.plan.cells.zeros) begins.others ∙ had.zeros;
+      cells = ap (λ (w : windows.Seen). w.plan.cells) begins.others ∙ had.cells;
       planned = handed_planned job.windows windows' way.zero way.slices begins.more begins.handed begins.others had.planned;
       grain = ap (λ (w : windows.Seen). w.grain) begins.others ∙ had.grain;
       spared = handed_spared job.windows windows' way.whole way.slices begins.more begins.handed begins.others had.spared;
@@ -303,7 +313,7 @@ acts_concludes job job' phase' now now' held held' is past copying over same unw
       writes = ap (λ (b : board.Seen). b.how) same ∙ had.writes;
       sides = had.sides;
       ends = had.ends;
-      zeros = had.zeros;
+      cells = had.cells;
       planned = had.planned;
       grain = had.grain;
       spared = had.spared;
@@ -350,7 +360,7 @@ acts_flushed job job' now held held' answered is flushing keeps =
           writes = had.writes;
           sides = had.sides;
           ends = had.ends;
-          zeros = had.zeros;
+          cells = had.cells;
           planned = had.planned;
           grain = had.grain;
           spared = had.spared;
@@ -396,18 +406,19 @@ acts_flushing job job' now now' held held' wanted is copying over asks asked =
     acts_concludes job job' Flushing now now' held held' is phases_differ copying over (asks ∙ ap (λ (b : board.Seen). record now { flushing = b.flushing }) (sym asks)) (λ none no. absurd (false≢true (sym no ∙ wanted))) (λ parts. absurd (flushing_differs parts)) (stand_asked 1 (flush_of ticket.Flush 0) held held' asked)
     (λ way had. destination_keeps job.terms.how job.terms.sides [] (flush_of ticket.Flush 0) now now' held held' (omega (arith, begun)) refl (record { told = ap (λ (b : board.Seen). b.told) asks; mapped = ap (λ (b : board.Seen). b.mapped) asks; short = ap (λ (b : board.Seen). b.short) asks })
     (λ slices count. flush_asks job.terms.how now now' slices asks (had.unflushed copying))
-    (record { index = 1; side = refl; asked = asked }))
+    (connection_of job.terms.sides 1) (binds_none false (connection_of job.terms.sides 1) ticket.Flush now now' flush_differs (ap (λ (b : board.Seen). b.rows) asks))
+    (record { index = 1; side = refl; here = refl; asked = asked }))
 
 -- A job begins.
-pub job_begins : (job : Seen) (way : Way) (now : board.Seen) → job.asked ≡ false → job.phase ≡ Copying → job.windows.plan.cells.zeros ≡ not job.terms.how.skip → job.windows.size ≡ job.terms.size → job.windows.grain ≡ job.terms.grain → ((blank : ℕ → Bool) → windows.IsPlanned job.windows blank []) →
+pub job_begins : (job : Seen) (way : Way) (now : board.Seen) → job.asked ≡ false → job.phase ≡ Copying → job.windows.plan.cells ≡ cells_of job.terms → job.windows.size ≡ job.terms.size → job.windows.grain ≡ job.terms.grain → ((blank : ℕ → Bool) → windows.IsPlanned job.windows blank []) →
     way.size ≡ Some job.terms.size → now.how ≡ job.terms.how → way.how ≡ job.terms.how → way.sides ≡ job.terms.sides → way.slices ≡ [] → way.asked ≡ None → ((block p : ℕ) → way.whole block p ≡ false) → now.flushing ≡ false → IsHeardTo job.windows way.heard → IsJob job way now
-job_begins job way now none copying zeros ends grain planned z w h s blank asked unknown unflushed heard = record {
+job_begins job way now none copying cells ends grain planned z w h s blank asked unknown unflushed heard = record {
   size = z;
   how = h;
   writes = w;
   sides = s;
   ends = ends;
-  zeros = zeros;
+  cells = cells;
   planned = subst (λ (l : List Slice). windows.IsPlanned job.windows way.zero l) (sym blank) (planned way.zero);
   grain = grain;
   spared = subst (λ (l : List Slice). IsSpared job.windows (way.whole job.windows.grain) l) (sym blank) (spared_none job.windows way.zero (way.whole job.windows.grain) [] (unknown job.windows.grain) (planned way.zero));

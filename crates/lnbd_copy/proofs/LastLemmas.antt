@@ -7,7 +7,7 @@ use Rattle.lnbd_model.specs.declared.target.Place.{Place}
 use Rattle.lnbd_plan.specs.declared.options.CopyOptions.{CopyOptions}
 use Rattle.lnbd_copy.specs.declared.terms.Terms.{Terms}
 use Rattle.lnbd_copy.specs.Lasting.{AtSome, Lasts}
-use Rattle.lnbd_copy.specs.Settled.{HasSettled}
+use Rattle.lnbd_copy.specs.Settled.{HasTerms}
 use Rattle.lnbd_copy.specs.Way.{Told}
 
 -- At the time itself.
@@ -45,8 +45,8 @@ told_later start a b lasts t = record {
 }
 
 -- What both sides told is told still.
-pub settled_later : (options : CopyOptions) (from to : Place) (start a b : Option (List wire.Call)) (terms : Terms) → Lasts a b → HasSettled options from to start a terms → HasSettled options from to start b terms
-settled_later options from to start a b terms lasts s = record {
+unfoldable pub terms_later : (options : CopyOptions) (from to : Place) (start a b : Option (List wire.Call)) (terms : Terms) → Lasts a b → HasTerms options from to start a terms → HasTerms options from to start b terms
+terms_later options from to start a b terms lasts s = record {
   source = s.source;
   destination = s.destination;
   shown = told_later start a b lasts s.shown;

@@ -24,8 +24,10 @@ use Rattle.lnbd_copy.specs.declared.sides.Sides.{Sides}
 use Rattle.lnbd_copy.specs.Leaving.{Leaves}
 use Rattle.lnbd_copy.specs.Way.{Filed, IsLeaving, IsOn, Keeps, Stands, Way}
 use Rattle.lnbd_copy.proofs.FiledLemmas.{filed_none, filed_then}
+use Rattle.lnbd_copy.proofs.FirstLemmas.{adds_none, gives_none, gives_then}
 use Rattle.lnbd_copy.proofs.LastLemmas.{lasts_adds, lasts_none, lasts_then}
 use Rattle.lnbd_copy.proofs.HeldLemmas.{held_event}
+use Rattle.lnbd_copy.proofs.BindingLemmas.{bound_event}
 use Rattle.lnbd_copy.proofs.BegunLemmas.{event_first}
 use Rattle.lnbd_copy.proofs.HeardLemmas.{hears_on, hears_parting}
 use Rattle.lnbd_copy.proofs.StepLemmas.{others_stand, taking_stands, unasked_moves_stand}
@@ -93,6 +95,7 @@ parts how sides now index held handle handle' adds is = record {
         rest = on.rest;
         all = held_event calls index Disconnect on.seens on.all;
         hears = hears_on false way.extents way.from way.to way.heard now.error now.error (λ well. well) calls on.seens after (event_first index Disconnect on.seens) on.hears;
+        bound = bound_event way.sides now index Disconnect on.seens refl on.bound;
       });
 }
 
@@ -110,6 +113,7 @@ stays how sides now index held handle handle' same is = record {
     rest = on.rest;
     all = on.all;
     hears = on.hears;
+    bound = on.bound;
   });
 }
 
@@ -193,6 +197,7 @@ hung_up way now now' calls held index taken is unasked filed unanswered none on 
       rest = on.rest;
       all = tt;
       hears = hears_parting true way.extents way.from way.to way.heard now.error now'.error filed.error calls on.seens left on.hears;
+      bound = tt;
     }
 
 -- A handle is taken out and closed, and its link is shut.
@@ -204,10 +209,11 @@ leaves_one a b now now' held held' index one is held_is filed unanswered adds = 
   on = λ way start unasked none told. told_on start a b (wire.Shut one.0) adds
       (λ calls on. called true way now' calls (wire.Shut one.0 ∷ []) (take index held ++ drop (index + 1) held) (λ n. refl) (λ n. refl) (hung_up way now now' calls held index one is unasked filed unanswered none on)) told;
   lasts = lasts_adds a b (wire.Shut one.0) adds;
+  gives = adds_none a b (wire.Shut one.0) (λ link. refl) adds;
 })
 
 pub leaves_none : (now : board.Seen) (held : List (Held Ticket)) (told : Option (List wire.Call)) → Leaves now held told now held told
-leaves_none now held told = record { stand = λ s. s; filed = filed_none now; on = λ way start unasked none is. is; lasts = lasts_none told }
+leaves_none now held told = record { stand = λ s. s; filed = filed_none now; on = λ way start unasked none is. is; lasts = lasts_none told; gives = gives_none told }
 
 pub leaves_then : (now now2 now3 : board.Seen) (held held2 held3 : List (Held Ticket)) (a b c : Option (List wire.Call)) → Leaves now held a now2 held2 b → Leaves now2 held2 b now3 held3 c → Leaves now held a now3 held3 c
 leaves_then now now2 now3 held held2 held3 a b c one two = record {
@@ -215,8 +221,9 @@ leaves_then now now2 now3 held held2 held3 a b c one two = record {
   filed = filed_then now now2 now3 one.filed two.filed;
   on = λ way start unasked none told. two.on way start unasked (one.filed.none none) (one.on way start unasked none told);
   lasts = lasts_then a b c one.lasts two.lasts;
+  gives = gives_then a b c one.gives two.gives;
 }
 
 -- A copy on its way may leave.
 pub on_leaving : (way : Way) (now : board.Seen) (calls : List wire.Call) (held : List (Held Ticket)) → IsOn way now calls held → IsLeaving way now calls held
-on_leaving way now calls held on = record { has = on.has; seens = on.seens; at = on.at; sided = tt; begun = on.begun; stands = on.stands; rest = on.rest; all = tt; hears = hears_parting false way.extents way.from way.to way.heard now.error now.error (λ well. well) calls on.seens on.seens on.hears }
+on_leaving way now calls held on = record { has = on.has; seens = on.seens; at = on.at; sided = tt; begun = on.begun; stands = on.stands; rest = on.rest; all = tt; hears = hears_parting false way.extents way.from way.to way.heard now.error now.error (λ well. well) calls on.seens on.seens on.hears; bound = tt }

@@ -47,4 +47,5 @@ at_rest way was now calls held on rest = record {
   rest = rest;
   all = on.all;
   hears = on.hears;
+  bound = on.bound;
 }

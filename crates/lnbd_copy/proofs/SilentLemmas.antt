@@ -19,7 +19,7 @@ use Rattle.lnbd_copy.specs.Grounds.{Happens, IsShown}
 use Rattle.lnbd_copy.specs.Statuses.{FirstAgreedNone, HasNoContext, contexts_in}
 use Rattle.lnbd_copy.specs.Way.{IsOn, Way}
 use Rattle.lnbd_copy.proofs.BegunLemmas.{first_began}
-use Rattle.lnbd_copy.proofs.GroundLemmas.{drive_at, given_at}
+use Rattle.lnbd_copy.proofs.GroundLemmas.{driven_at, given_at}
 use Rattle.lnbd_copy.proofs.HeardLemmas.{first_there}
 
 -- What was told names no context.
@@ -48,9 +48,8 @@ first_agreed_none way now calls held happens on =
       are = sym (append-nil calls);
       link = h.seen.link;
       history = h.seen.history;
-      unread = h.seen.unread;
       first = on.hears.first ∙ first_there on.seens h.seen h.there;
-      drives = drive_at calls 0 h.seen on.seens h.there course.drive.drive;
+      drives = driven_at calls 0 h.seen held on.seens h.there on.at course.drive.drive course.drive.plain;
       address = subst (λ (b : Bool). target_of h.seen.link calls ≡ Some (place_of way.from way.to b).to) side (between.placed.address h.seen.link given);
       name = ap (λ (history : History Ticket). name_set history) (sym (one_has 0 h.seen course.histories on.seens h.there course.held)) ∙ subst (λ (b : Bool). name_set (course.histories h.seen.link) ≡ (place_of way.from way.to b).name) side (between.placed.name h.seen.link given);
       begun = first_began (opened way.from.name way.extents) on.seens h.seen h.there on.hears.begun;

@@ -39,7 +39,9 @@ use Rattle.lnbd_copy.proofs.LastLemmas.{lasts_adds, lasts_none, lasts_then}
 use Rattle.lnbd_copy.proofs.HeldLemmas.{held_on}
 use Rattle.lnbd_copy.specs.Begun.{BeganAs}
 use Rattle.lnbd_copy.proofs.BegunLemmas.{FirstGoes, first_stays, went_event, went_same, went_then, writes_went}
+use Rattle.lnbd_copy.proofs.FirstLemmas.{AllGo, adds_none, all_stay, gives_none, gives_then, goes_knowing}
 use Rattle.lnbd_copy.proofs.HeardLemmas.{hears_later, no_more_given}
+use Rattle.lnbd_copy.proofs.BindingLemmas.{Was, turn_stays_bound}
 use Rattle.lnbd_copy.proofs.StepLemmas.{calls_stand, turns_stand}
 
 abbrev steps : board.Seen → List (Call Ticket) → board.Seen → Type 0
@@ -69,12 +71,6 @@ links_count [] [] same = refl
 links_count [] (here ∷ there) same = absurd same
 links_count (seen ∷ others) [] same = absurd same
 links_count (seen ∷ others) (here ∷ there) same = ap suc (links_count others there same.1)
-
--- one of them had this link, in this place
-record Was (before : List (Seen Ticket)) (index : ℕ) (here : Seen Ticket) : Type 0 where
-  seen : Seen Ticket
-  there : slice_get before index ≡ Some seen
-  link : here.link ≡ seen.link
 
 pub none_some : {A : Type 0} (one : A) → None ≡ Some one → ⊥
 none_some one e = cc
@@ -155,12 +151,14 @@ pub record AllLed (before after : List (Seen Ticket)) (now now' : board.Seen) : 
   pub links : SameLinks before after
   pub first : FirstGoes before after
   pub filed : Filed now now'
+  pub all : AllGo before after
 
 pub turns_led : (before : List (Seen Ticket)) (now : board.Seen) (part : List wire.Call) (after : List (Seen Ticket)) (now' : board.Seen) (ending : Ending) → Turns steps before now part after now' ending → AllLed before after now now'
 turns_led before now part after now' ending (All_took _ _ _ _ _ _ is none after_is world_is end) = record {
   links = subst (λ (l : List (Seen Ticket)). SameLinks before l) (is ∙ sym after_is) (links_stay before);
   first = subst (λ (l : List (Seen Ticket)). FirstGoes before l) (is ∙ sym after_is) (first_stays before);
   filed = subst (Filed now) (sym world_is) (filed_none now);
+  all = subst (λ (l : List (Seen Ticket)). AllGo before l) (is ∙ sym after_is) (all_stay before);
 }
 turns_led before now part after now' ending (Takes _ _ _ _ _ _ seen others notice own here half moved other there rest is one enough more calls_are after_is end) =
     let led = one_led notice seen here own now half moved one in
@@ -169,6 +167,7 @@ turns_led before now part after now' ending (Takes _ _ _ _ _ _ seen others notic
       links = subst (λ (l : List (Seen Ticket)). SameLinks l after) (sym is) (subst (λ (l : List (Seen Ticket)). SameLinks (seen ∷ others) l) (sym after_is) (led.link, all.links));
       first = subst (λ (l : List (Seen Ticket)). FirstGoes l after) (sym is) (subst (λ (l : List (Seen Ticket)). FirstGoes (seen ∷ others) l) (sym after_is) (led.link, led.went));
       filed = filed_then now half now' led.filed all.filed;
+      all = subst (λ (l : List (Seen Ticket)). AllGo l after) (sym is) (subst (λ (l : List (Seen Ticket)). AllGo (seen ∷ others) l) (sym after_is) (led.went, all.all));
     }
 turns_led before now part after now' ending (Runs_short _ _ _ _ _ _ seen others here moved is one after_is end) =
     let led = one_led noticed.NoMemory seen here part now now' moved one in
@@ -176,6 +175,7 @@ turns_led before now part after now' ending (Runs_short _ _ _ _ _ _ seen others 
       links = subst (λ (l : List (Seen Ticket)). SameLinks l after) (sym is) (subst (λ (l : List (Seen Ticket)). SameLinks (seen ∷ others) l) (sym after_is) (led.link, links_stay others));
       first = subst (λ (l : List (Seen Ticket)). FirstGoes l after) (sym is) (subst (λ (l : List (Seen Ticket)). FirstGoes (seen ∷ others) l) (sym after_is) (led.link, led.went));
       filed = led.filed;
+      all = subst (λ (l : List (Seen Ticket)). AllGo l after) (sym is) (subst (λ (l : List (Seen Ticket)). AllGo (seen ∷ others) l) (sym after_is) (led.went, all_stay others));
     }
 
 -- Calls that come later leave a copy at rest.
@@ -216,6 +216,8 @@ turned parting way now now' calls part held held' after moved on turns at =
       rest = rested_on way.from way.to way.size way.rested calls part on.rest;
       all = held_on parting calls part on.seens after (apart_same on.seens after led.links) (λ link. turns_give_none steps link part on.seens after now now' (Whole moved) turns) on.all;
       hears = hears_later parting way.extents way.from way.to way.heard now.error now'.error led.filed.error calls on.seens after led.first on.hears part (turned_first on.seens after now now' part (Whole moved) turns);
+      bound = turn_stays_bound parting way.sides now now' part on.seens after (Whole moved) on.stands.between.course.histories turns on.stands.between.course.drive.own on.stands.between.course.held
+          (λ index here is. was on.seens after index here led.links is) led.filed.error on.bound;
     }
 
 -- The calls since the start go on.
@@ -248,6 +250,16 @@ turned_goes a b f g turn now now' held held' goes = record {
         let grown = went.grown all is in
         record { before = grown.0; after = went.calls; are = grown.2; is = grown.1 };
   };
+  know = λ source destination both.
+      let went = goes both.seens both.at in
+      let all = (turns_led both.seens now went.calls went.after now' (Whole went.leads.moved) went.leads.turns).all in
+      record { seens = went.after; at = went.at; first = goes_knowing 0 source both.seens went.after held' all went.at both.first; second = goes_knowing 1 destination both.seens went.after held' all went.at both.second };
+  gives = λ s. record {
+    on = λ all is.
+        let went = goes s.seens s.at in
+        let grown = went.grown all is in
+        record { before = grown.0; more = went.calls; was = grown.1; are = grown.2; none = λ link. turns_give_none steps link went.calls s.seens went.after now now' (Whole went.leads.moved) went.leads.turns };
+  };
 }
 
 -- Calls that read and write no link.
@@ -263,6 +275,7 @@ called parting way now calls more held none given on = record {
   rest = rested_on way.from way.to way.size way.rested calls more on.rest;
   all = held_on parting calls more on.seens on.seens (λ link apart. apart) given on.all;
   hears = hears_later parting way.extents way.from way.to way.heard now.error now.error (λ well. well) calls on.seens on.seens (first_stays on.seens) on.hears more (no_more_given more on.seens given);
+  bound = on.bound;
 }
 
 -- Where the transcript is told, what a call leads from leads on.
@@ -281,12 +294,14 @@ paused_goes a b wants now held held' same adds = subst (λ (l : List (Held Ticke
   filed = λ s. filed_none now;
   on = λ parting way start s told. told_on start a b (wire.Pause wants) adds (λ calls on. called parting way now calls (wire.Pause wants ∷ []) held (λ link. refl) (λ link. refl) on) told;
   lasts = λ s. lasts_adds a b (wire.Pause wants) adds;
+  know = λ source destination both. both;
+  gives = λ s. adds_none a b (wire.Pause wants) (λ link. refl) adds;
 })
 
 -- Steps follow one another.
 
 pub goes_none : (now : board.Seen) (held : List (Held Ticket)) (told : Option (List wire.Call)) → Goes now held told now held told
-goes_none now held told = record { stand = λ s. s; many = λ s. refl; filed = λ s. filed_none now; on = λ parting way start s told. told; lasts = λ s. lasts_none told }
+goes_none now held told = record { stand = λ s. s; many = λ s. refl; filed = λ s. filed_none now; on = λ parting way start s told. told; lasts = λ s. lasts_none told; know = λ source destination both. both; gives = λ s. gives_none told }
 
 pub goes_on : (now now2 now3 : board.Seen) (held held2 held3 : List (Held Ticket)) (a b c : Option (List wire.Call)) → Goes now held a now2 held2 b → Goes now2 held2 b now3 held3 c → Goes now held a now3 held3 c
 goes_on now now2 now3 held held2 held3 a b c one two = record {
@@ -295,6 +310,8 @@ goes_on now now2 now3 held held2 held3 a b c one two = record {
   filed = λ s. filed_then now now2 now3 (one.filed s) (two.filed (one.stand s));
   on = λ parting way start s told. two.on parting way start (one.stand s) (one.on parting way start s told);
   lasts = λ s. lasts_then a b c (one.lasts s) (two.lasts (one.stand s));
+  know = λ source destination both. two.know source destination (one.know source destination both);
+  gives = λ s. gives_then a b c (one.gives s) (two.gives (one.stand s));
 }
 
 -- What is so of the calls is so where the transcript is told.

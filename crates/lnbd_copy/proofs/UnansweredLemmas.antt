@@ -1,5 +1,5 @@
 -- While slices are copied, and no handle has anything to write, as much is unanswered by the calls of a copy as may be.
-use Rattle.std.proofs.Common.{◌≡◌, ◌≢◌, ℕ, Bool, true, false, not, ◌||◌, ◌==◌, List, [], ◌∷◌, Option, Some, None, is_some, if◌then◌else◌, refl, ap, sym, subst, ◌∙◌, arith}
+use Rattle.std.proofs.Common.{◌≡◌, ◌≢◌, ◌⊎◌, inl, inr, ◌+◌, ◌-◌, ℕ, Bool, true, false, not, ◌||◌, ◌==◌, nat_lt, List, [], ◌∷◌, ◌++◌, length, min, Option, Some, None, is_some, if◌then◌else◌, refl, ap, sym, subst, ◌∙◌, arith}
 use Rattle.std.proofs.lemmas.Bool.{eq-eqb, false≢true}
 use Rattle.lnbd_model.specs.declared.target.Place.{Place}
 use Rattle.lnbd_link.specs.Call as wire
@@ -9,21 +9,37 @@ use Rattle.lnbd_model.specs.declared.state.State.{State}
 use Rattle.lnbd_poll.specs.Held.{Held, AreAt, is_on_its_way, is_wanting, want_of, wants_after, wants_now, with_want}
 use Rattle.lnbd_poll.proofs.HeldLemmas.{wants_same}
 use Rattle.lnbd_poll.specs.Seen.{Seen}
+use Rattle.lnbd_asked.specs.Transcript.{dealt_with}
+use Rattle.lnbd_plan.specs.declared.cells.Cells.{Cells}
+use Rattle.lnbd_plan.specs.declared.grid.Slice.{Slice}
+use Rattle.lnbd_plan.specs.Laws.{windows_slices}
+use Rattle.lnbd_board.specs.declared.how.How.{How}
 use Rattle.lnbd_board.specs.declared.ticket.Ticket.{Ticket}
 use Rattle.lnbd_board.specs.Files as board
 use Rattle.lnbd_course.specs.Told as course
-use Rattle.lnbd_course.specs.UnderWay.{AreUnderWay, AsksExtents, NoneWrites}
-use Rattle.lnbd_course.proofs.UnderWay.{quiet_awaits, quiet_counts}
+use Rattle.lnbd_course.specs.Between.{Between}
+use Rattle.lnbd_course.specs.Slices.{AreBegun, AsksExtentsOf}
+use Rattle.lnbd_course.specs.UnderWay.{AreUnderWay, NoneWrites}
+use Rattle.lnbd_course.proofs.Placed.{links_are_of_sides}
+use Rattle.lnbd_course.proofs.Slices.{ended_are_begun, quiet_are_begun}
+use Rattle.lnbd_course.proofs.Telling.{known_was_told, sides_are_of_source}
+use Rattle.lnbd_course.proofs.UnderWay.{quiet_asks, quiet_counts}
+use Rattle.lnbd_copy.specs.declared.job.Phase.{Phase}
+use Rattle.lnbd_copy.specs.declared.job.Phase.TheVariants.{Copying, Flushing, Parting}
 use Rattle.lnbd_copy.specs.Copier.{IsOnItsWay}
 use Rattle.lnbd_copy.specs.Copier as copier
+use Rattle.lnbd_copy.specs.Full.{ArePlannedTo, IsFull, IsFullBy}
 use Rattle.lnbd_copy.specs.Job as work
-use Rattle.lnbd_copy.specs.Unanswered.{AreAllAsked, HasAllAsked, NoneForWriting}
-use Rattle.lnbd_copy.specs.UnderWay.{AreAwaited, IsBusy, IsFull}
-use Rattle.lnbd_copy.specs.Way.{IsOn, IsUnderWay, Way, known_of}
+use Rattle.lnbd_copy.specs.Unanswered.{HasAllAsked, NoneForWriting}
+use Rattle.lnbd_copy.specs.UnderWay.{AreAwaited, IsBusy}
+use Rattle.lnbd_copy.specs.UnderWay as state
+use Rattle.lnbd_copy.specs.Way.{IsOn, IsUnderWay, Stands, Way, known_of}
 use Rattle.lnbd_copy.specs.Windows as windows
+use Rattle.lnbd_copy.proofs.AnswerLemmas.{none_held}
 use Rattle.lnbd_copy.proofs.CopierLemmas.{told_as}
+use Rattle.lnbd_copy.proofs.EndLemmas.{between_sized}
 use Rattle.lnbd_copy.proofs.FailLemmas.{all_stand}
-use Rattle.lnbd_copy.proofs.TurnLemmas.{some_same}
+use Rattle.lnbd_copy.proofs.SettledLemmas.{settled_with}
 
 -- A pause wants no link for writing where no handle has anything to write.
 
@@ -32,12 +48,12 @@ or_third true b c e = refl
 or_third false true c e = refl
 or_third false false c e = e
 
-one_unwritten : (state : State) (link in_flight direction : ℕ) (others : List Want) → NoneForWriting (with_want (want_of link state in_flight direction) others) → (direction ≢ 3) × NoneForWriting others
-one_unwritten state link in_flight direction others none = go (is_wanting state in_flight direction) refl none
+one_unwritten : (at : State) (link in_flight direction : ℕ) (others : List Want) → NoneForWriting (with_want (want_of link at in_flight direction) others) → (direction ≢ 3) × NoneForWriting others
+one_unwritten at link in_flight direction others none = go (is_wanting at in_flight direction) refl none
   where
-    go : (b : Bool) → is_wanting state in_flight direction ≡ b → NoneForWriting (with_want (if b then Some (record { link = link; direction = direction }) else None) others) → (direction ≢ 3) × NoneForWriting others
+    go : (b : Bool) → is_wanting at in_flight direction ≡ b → NoneForWriting (with_want (if b then Some (record { link = link; direction = direction }) else None) others) → (direction ≢ 3) × NoneForWriting others
     go true is none = let l = none.0 in ((λ e. omega (arith, l, e)), none.1)
-    go false is none = ((λ e. false≢true (sym is ∙ or_third (is_on_its_way state) (not (in_flight == 0)) (direction == 3) (eq-eqb direction 3 e))), none)
+    go false is none = ((λ e. false≢true (sym is ∙ or_third (is_on_its_way at) (not (in_flight == 0)) (direction == 3) (eq-eqb direction 3 e))), none)
 
 all_unwritten : (seens : List (Seen Ticket)) → NoneForWriting (wants_after seens) → NoneWrites seens
 all_unwritten [] none = tt
@@ -45,37 +61,113 @@ all_unwritten (seen ∷ all) none =
     let one = one_unwritten (state_after seen.history) seen.link (in_flight_after seen.history) (direction_after seen.history) (wants_after all) none in
     (one.0, all_unwritten all one.1)
 
-none_writes : (held : List (Held Ticket)) (seens : List (Seen Ticket)) → AreAt held seens → NoneForWriting (wants_now held) → NoneWrites seens
+pub none_writes : (held : List (Held Ticket)) (seens : List (Seen Ticket)) → AreAt held seens → NoneForWriting (wants_now held) → NoneWrites seens
 none_writes held seens at none = all_unwritten seens (subst NoneForWriting (wants_same held seens at) none)
 
-module _ (j : work.Seen) (way : Way) (now : board.Seen) (calls : List wire.Call) (held : List (Held Ticket)) (is : work.IsJob j way now) (full : IsFull j now) (well : now.error ≡ None) (on : IsOn way now calls held) (written : NoneForWriting (wants_now held)) (two : way.from ≢ way.to) where
+-- a range that is wanted
+wanted_is : (planned : windows.Seen) → is_some (windows.wanted planned) ≡ true → windows.wanted planned ≡ Some (planned.at, windows.window_end planned - planned.at)
+wanted_is planned = elim (nat_lt planned.at (windows.window_end planned)) as (λ b. let range : Option (ℕ × ℕ) = if b then Some (planned.at, windows.window_end planned - planned.at) else None in is_some range ≡ true → range ≡ Some (planned.at, windows.window_end planned - planned.at)) [
+  | true ↦ λ some. refl
+  | false ↦ λ none. absurd (false≢true none)
+]
+
+-- Of a copy that is under way, whatever it is at.
+module _ (j : work.Seen) (way : Way) (now : board.Seen) (calls : List wire.Call) (held : List (Held Ticket)) (parting : Bool) (is : work.IsJob j way now) (on : IsUnderWay parting way now calls held) (two : way.from ≢ way.to) where
+  -- what stands with all handles taken out
+  abbrev alone : Stands way on.has now calls []
+  alone = none_held way on.has now calls held on.seens on.at on.stands
+
+  abbrev between : Between way.from way.to (Some j.terms.size) way.how on.has way.slices now calls []
+  between = between_sized way j.terms.size on.has now calls is.size alone
+
+  planned_to : ArePlannedTo j.windows.plan.end way.from j.terms.size (work.cells_of j.terms) (way.slices ++ j.windows.plan.slices) calls
+  planned_to =
+      let within = is.planned.within in
+      let ends = is.ends in
+      let sides = (links_are_of_sides way.from way.to j.terms.size way.how on.has way.slices now calls between two).0 in
+      let source = sides_are_of_source way.from way.to way.how on.has way.slices now calls between.course sides in
+      record {
+        parts = is.planned.parts;
+        are = subst (λ (c : Cells). way.slices ++ j.windows.plan.slices ≡ windows_slices c 0 is.planned.parts) is.cells is.planned.are;
+        ends = is.planned.end;
+        within = omega (arith, within, ends);
+        told = λ p zero. known_was_told way.from way.how on.has way.slices now calls way.asked (known_of way) alone.told source p (is.planned.told p zero);
+      }
+
+  -- Once all slices are over nothing is under way, and nothing is left.
+  full_over : now.error ≡ None → work.IsOver j now → IsFull j.terms way.from way.to calls
+  full_over well over =
+      let ended = ended_are_begun way.from way.to j.terms.size way.how on.has way.slices now calls between over.rows well two in
+      let none : length j.windows.plan.slices ≡ 0 = ap (λ (l : List Slice). length l) over.handed in
+      let all = over.planned in
+      record {
+        begun = way.slices;
+        left = j.windows.plan.slices;
+        end = j.windows.plan.end;
+        planned = planned_to;
+        unfinished = 0;
+        are = subst (λ (how : How). AreBegun how (dealt_with way.from calls) (dealt_with way.to calls) way.slices 0) is.how ended.0;
+        requests = subst (λ (n : ℕ). AreUnderWay way.from way.to n calls) (omega (arith, none)) ended.1;
+        extents = λ less left. absurd (omega (arith, left, all));
+      }
+
+-- While slices are copied.
+module _ (j : work.Seen) (way : Way) (now : board.Seen) (calls : List wire.Call) (held : List (Held Ticket)) (is : work.IsJob j way now) (full : state.IsFull j now) (well : now.error ≡ None) (on : IsOn way now calls held) (written : NoneForWriting (wants_now held)) (two : way.from ≢ way.to) where
   -- extents are awaited of this range
-  awaits : (o : Option (ℕ × ℕ)) → way.asked ≡ o → is_some o ≡ true → AreAwaited j.asked now → AsksExtents way.from calls
-  awaits None e some awaited = absurd (false≢true some)
-  awaits (Some range) e some awaited =
-      quiet_awaits way.from way.to way.size way.how on.has way.slices now calls on.seens range (known_of way) on.stands.between
+  awaits : (range : ℕ × ℕ) → way.asked ≡ Some range → AreAwaited j.asked now → AsksExtentsOf range way.from calls
+  awaits range e awaited =
+      quiet_asks way.from way.to way.size way.how on.has way.slices now calls on.seens range (known_of way) on.stands.between
       (subst (λ (o : Option (ℕ × ℕ)). course.Told way.how on.has way.slices now calls on.seens o (known_of way)) e on.stands.told) well awaited.untold (all_stand held on.seens on.at) (none_writes held on.seens on.at written) on.all two
 
-  all_asked : AreAllAsked j now way.from way.to calls
-  all_asked = record {
+  full_copying : IsFull j.terms way.from way.to calls
+  full_copying = record {
+    begun = way.slices;
+    left = j.windows.plan.slices;
+    end = j.windows.plan.end;
+    planned = planned_to j way now calls held false is on two;
+    unfinished = length now.rows;
+    are = subst (λ (how : How). AreBegun how (dealt_with way.from calls) (dealt_with way.to calls) way.slices (length now.rows)) is.how
+        (quiet_are_begun way.from way.to way.size way.how on.has way.slices now calls on.seens on.stands.between well (all_stand held on.seens on.at) (none_writes held on.seens on.at written) on.all two full.requests);
     requests = subst (λ (n : ℕ). AreUnderWay way.from way.to n calls) (full.requests ∙ full.slices)
         (quiet_counts way.from way.to way.size way.how on.has way.slices now calls on.seens on.stands.between well (all_stand held on.seens on.at) (none_writes held on.seens on.at written) on.all two);
     extents = λ less left.
-        let awaited = full.extents less left in
-        awaits (windows.wanted j.windows) (is.asked ∙ ap (λ (b : Bool). if b then windows.wanted j.windows else None) awaited.awaited) left awaited;
+        let ends = is.ends in
+        let some = full.left (omega (arith, left, ends)) in
+        let awaited = full.extents less some in
+        let wanted : windows.wanted j.windows ≡ Some (j.windows.at, windows.window_end j.windows - j.windows.at) = wanted_is j.windows some in
+        record {
+          at = j.windows.at;
+          ahead = is.heard.planned;
+          asks = subst (λ (size : ℕ). AsksExtentsOf (j.windows.at, min (j.windows.plan.end + windows.window) size - j.windows.at) way.from calls) ends
+              (awaits (j.windows.at, windows.window_end j.windows - j.windows.at) (is.asked ∙ ap (λ (b : Bool). if b then windows.wanted j.windows else None) awaited.awaited ∙ wanted) awaited);
+        };
   }
+
+copies_or : (phase : Phase) → (phase ≡ Copying) ⊎ (phase ≢ Copying)
+copies_or Copying = inl refl
+copies_or Flushing = inr (λ e. cc e)
+copies_or Parting = inr (λ e. cc e)
+
+-- Whatever the copy is at.
+is_full : (j : work.Seen) (way : Way) (now : board.Seen) (calls : List wire.Call) (held : List (Held Ticket)) → work.IsJob j way now → (j.phase ≡ Copying → state.IsFull j now) → now.error ≡ None → IsUnderWay (work.is_parting j.phase) way now calls held → NoneForWriting (wants_now held) →
+    way.from ≢ way.to → IsFull j.terms way.from way.to calls
+is_full j way now calls held is busy well on written two = elim (copies_or j.phase) [
+  | inl copying ↦ full_copying j way now calls held is (busy copying) well (subst (λ (p : Bool). IsUnderWay p way now calls held) (ap work.is_parting copying) on) written two
+  | inr past ↦ full_over j way now calls held (work.is_parting j.phase) is on two well (is.over past)
+]
 
 pub way_all_asked : (copy : copier.Seen) (start told : Option (List wire.Call)) → copy.board.error ≡ None → IsBusy copy.job copy.board → IsOnItsWay start told copy → copy.from ≢ copy.to → HasAllAsked start told copy
 way_all_asked copy start told well busy on two = record {
-  on = λ job there copying written.
-      let same : on.job ≡ job = some_same on.job job (sym on.there ∙ there) in
-      let onward : work.is_parting on.job.phase ≡ false = ap (λ (x : work.Seen). work.is_parting x.phase) same ∙ ap work.is_parting copying in
+  on = λ written.
       let apart : on.way.from ≢ on.way.to = λ e. two (sym on.from ∙ e ∙ on.to) in
-      let job_is : work.IsJob job on.way copy.board = subst (λ (x : work.Seen). work.IsJob x on.way copy.board) same on.is in
-      told_as start told
-      (λ calls is.
-      subst (λ (t : Place). AreAllAsked job copy.board copy.from t calls) on.to
-      (subst (λ (f : Place). AreAllAsked job copy.board f on.way.to calls) on.from
-      (all_asked job on.way copy.board calls copy.held job_is (busy.full job there copying) well (subst (λ (p : Bool). IsUnderWay p on.way copy.board calls copy.held) onward is) written apart)))
-      on.on;
+      settled_with (λ source destination calls. IsFullBy copy.options copy.from copy.to source destination calls) copy.options copy.from copy.to start told on.job.terms on.settled
+      (told_as start told
+      (λ calls is. record {
+        terms = on.job.terms;
+        settled = on.settled.first.settled;
+        limited = on.limited;
+        full = subst (λ (t : Place). IsFull on.job.terms copy.from t calls) on.to
+            (subst (λ (f : Place). IsFull on.job.terms f on.way.to calls) on.from (is_full on.job on.way copy.board calls copy.held on.is (busy.full on.job on.there) well is written apart));
+      })
+      on.on);
 }

@@ -19,10 +19,11 @@ use Rattle.lnbd_board.specs.Rows.{busy, is_busy}
 use Rattle.lnbd_copy.specs.declared.job.Phase.{Phase}
 use Rattle.lnbd_copy.specs.declared.job.Phase.TheVariants.{Copying, Flushing, Parting}
 use Rattle.lnbd_copy.specs.declared.terms.Terms.{Terms}
+use Rattle.lnbd_copy.specs.Bound.{Bound}
 use Rattle.lnbd_copy.specs.Copier.{IsOnItsWay, IsParting, Seen}
 use Rattle.lnbd_copy.specs.Dealing.{HasBegun}
 use Rattle.lnbd_copy.specs.Job as work
-use Rattle.lnbd_copy.specs.UnderWay.{AreAwaited, Fills, HasAsked, HasBegunOne, HasFilled, HasLooked, HaveLooked, IsBusy, IsFull, IsPast, Refills, unfinished}
+use Rattle.lnbd_copy.specs.UnderWay.{AreAwaited, Fills, HasAsked, HasBegunOne, HasFilled, HasLooked, HaveLooked, IsBusy, IsFull, IsPast, IsWantedOf, Refills, unfinished}
 use Rattle.lnbd_copy.specs.Windows as windows
 
 -- A row that something came for is a row still.
@@ -113,36 +114,39 @@ least_of begun left limit limit' most none same = elim (cases_lt begun limit) [
 ]
 
 -- Extents are not asked for: they are already, enough slices are planned, or no window is left.
-pub unasked : (j : work.Seen) (now : board.Seen) → (j.asked ≡ false → j.terms.limit ≤ unfinished j.windows now) → HasAsked j j now now
-unasked j now enough = record {
+pub unasked : (j : work.Seen) (now : board.Seen) → (j.asked ≡ false → j.terms.limit ≤ unfinished j.windows now) → IsWantedOf j.windows → HasAsked j j now now
+unasked j now enough wanted = record {
   job = refl;
   board = refl;
   extents = λ untold less left. elim j.asked as (λ b. j.asked ≡ b → AreAwaited j.asked now) [
     | true ↦ λ is. record { awaited = is; untold = untold is }
     | false ↦ λ is. absurd (let l = enough is in omega (arith, l, less))
   ] refl;
+  left = wanted;
 }
 
 some_is : (range : Option (ℕ × ℕ)) → range ≡ None → is_some range ≡ true → ⊥
 some_is range none some = false≢true (sym (ap (λ (o : Option (ℕ × ℕ)). is_some o) none) ∙ some)
 
-pub unwanted : (j : work.Seen) (now : board.Seen) → windows.wanted j.windows ≡ None → HasAsked j j now now
-unwanted j now none = record { job = refl; board = refl; extents = λ untold less left. absurd (some_is (windows.wanted j.windows) none left) }
+pub unwanted : (j : work.Seen) (now : board.Seen) → windows.wanted j.windows ≡ None → IsWantedOf j.windows → HasAsked j j now now
+unwanted j now none wanted = record { job = refl; board = refl; extents = λ untold less left. absurd (some_is (windows.wanted j.windows) none left); left = wanted }
 
 -- They are asked for.
-pub has_asked : (j : work.Seen) (now now' : board.Seen) → now' ≡ record now { told = []; mapped = false } → HasAsked j (record j { asked = true }) now now'
-has_asked j now now' is = record {
+pub has_asked : (j : work.Seen) (now now' : board.Seen) → now' ≡ record now { told = []; mapped = false } → IsWantedOf j.windows → HasAsked j (record j { asked = true }) now now'
+has_asked j now now' is wanted = record {
   job = refl;
   board = is ∙ ap (λ (s : board.Seen). record now { told = s.told; mapped = s.mapped }) (sym is);
   extents = λ untold less left. record { awaited = refl; untold = ap (λ (s : board.Seen). s.mapped) is };
+  left = wanted;
 }
 
 -- Slices are begun.
-pub has_filled : (j : work.Seen) (planned : windows.Seen) (now now' : board.Seen) → planned ≡ record j.windows { plan = record j.windows.plan { slices = planned.plan.slices } } → HasBegun now now' → Fills j.terms.limit j.windows planned now now' →
-    HasFilled j (record j { windows = planned }) now now'
-has_filled j planned now now' others begun fills = record {
+pub has_filled : (j : work.Seen) (planned : windows.Seen) (bound : Bound) (now now' : board.Seen) → planned ≡ record j.windows { plan = record j.windows.plan { slices = planned.plan.slices } } → HasBegun now now' → Fills j.terms.limit j.windows planned now now' →
+    HasFilled j (record j { windows = planned; bound = bound }) now now'
+has_filled j planned bound now now' others begun fills = record {
   job = refl;
   wanted = ap (λ (w : windows.Seen). windows.wanted w) others;
+  left = λ left. subst IsWantedOf (sym others) left;
   came = ap (λ (s : board.Seen). s.came) begun;
   mapped = ap (λ (s : board.Seen). s.mapped) begun;
   fills = fills;
@@ -169,6 +173,7 @@ refilled j0 j2 j3 j4 b0 b1 b3 b4 looked terms untold asked filled quiet =
             let all = filled.fills.all in
             let was = asked.extents untold (omega (arith, less, all, rows, slices, limit3, limit4)) (sym (ap (λ (w : windows.Seen). is_some (windows.wanted w)) same) ∙ sym (ap (λ (o : Option (ℕ × ℕ)). is_some o) filled.wanted) ∙ left) in
             record { awaited = ap (λ (j : work.Seen). j.asked) filled.job ∙ was.awaited; untold = filled.mapped ∙ was.untold };
+        left = filled.left (subst IsWantedOf (sym same) asked.left);
       };
     }
 

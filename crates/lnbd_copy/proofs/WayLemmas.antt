@@ -9,6 +9,7 @@ use Rattle.lnbd_poll.specs.Held.{Held}
 use Rattle.lnbd_poll.specs.Seen.{Seen}
 use Rattle.lnbd_drives.specs.Driving.{happened, with_event}
 use Rattle.lnbd_plan.specs.declared.grid.Slice.{Slice}
+use Rattle.lnbd_keyed.specs.Keyed.{IsRising}
 use Rattle.lnbd_board.specs.declared.how.How.{How}
 use Rattle.lnbd_board.specs.declared.ticket.Ticket.{Ticket}
 use Rattle.lnbd_board.specs.Asks as asks
@@ -21,8 +22,9 @@ use Rattle.lnbd_course.specs.Taken.{without_buffer}
 use Rattle.lnbd_copy.specs.declared.sides.Sides.{Sides}
 use Rattle.lnbd_copy.specs.Asked.{WasAsked}
 use Rattle.lnbd_copy.specs.Dealing.{IsAskedOf}
-use Rattle.lnbd_copy.specs.Way.{AreSided, IsOn, Keeps, Stands, Way, is_source, with_slices}
+use Rattle.lnbd_copy.specs.Way.{AreBound, AreSided, IsOn, Keeps, Stands, Way, connection_of, is_source, with_slices}
 use Rattle.lnbd_copy.proofs.HeldLemmas.{held_event}
+use Rattle.lnbd_copy.proofs.BindingLemmas.{Binds, SameBindings, asks_bound, rows_bound}
 use Rattle.lnbd_copy.proofs.BegunLemmas.{event_first, first_stays}
 use Rattle.lnbd_copy.proofs.HeardLemmas.{hears_on}
 use Rattle.lnbd_copy.proofs.StepLemmas.{board_moves_stand, destination_asks_stand, source_asks_stand}
@@ -48,8 +50,8 @@ sided_after sides has index event seens sided = λ at now there. sided_event (is
 -- A handle took a command, and the course goes on with it.
 asked_on : (way : Way) (calls : List wire.Call) (more : List Slice) (now now' : board.Seen) (held held' : List (Held Ticket)) (index : ℕ) (command : Command Ticket) →
     (on : IsOn way now calls held) → now'.begun ≡ now.begun + length more → WasAsked index command on.seens held' →
-    Stands (with_slices more way) on.has now' calls (with_event index (Issue (without_buffer command)) on.seens) → (now'.error ≡ None → now.error ≡ None) → IsOn (with_slices more way) now' calls held'
-asked_on way calls more now now' held held' index command on begun was stands earlier = record {
+    Stands (with_slices more way) on.has now' calls (with_event index (Issue (without_buffer command)) on.seens) → (now'.error ≡ None → now.error ≡ None) → AreBound way.sides now' (with_event index (Issue (without_buffer command)) on.seens) → IsOn (with_slices more way) now' calls held'
+asked_on way calls more now now' held held' index command on begun was stands earlier bound = record {
   has = on.has;
   seens = with_event index (Issue (without_buffer command)) on.seens;
   at = was.at;
@@ -59,12 +61,13 @@ asked_on way calls more now now' held held' index command on begun was stands ea
   rest = on.rest;
   all = held_event calls index (Issue (without_buffer command)) on.seens on.all;
   hears = hears_on false way.extents way.from way.to way.heard now.error now'.error earlier calls on.seens (with_event index (Issue (without_buffer command)) on.seens) (event_first index (Issue (without_buffer command)) on.seens) on.hears;
+  bound = bound;
 }
 
 -- The board went on, and nothing was asked.
 moved_on : (way : Way) (calls : List wire.Call) (now now' : board.Seen) (held : List (Held Ticket)) →
-    (on : IsOn way now calls held) → now'.begun ≡ now.begun → Stands way on.has now' calls on.seens → (now'.error ≡ None → now.error ≡ None) → IsOn way now' calls held
-moved_on way calls now now' held on begun stands earlier = record {
+    (on : IsOn way now calls held) → now'.begun ≡ now.begun → Stands way on.has now' calls on.seens → (now'.error ≡ None → now.error ≡ None) → AreBound way.sides now' on.seens → IsOn way now' calls held
+moved_on way calls now now' held on begun stands earlier bound = record {
   has = on.has;
   seens = on.seens;
   at = on.at;
@@ -74,6 +77,7 @@ moved_on way calls now now' held on begun stands earlier = record {
   rest = on.rest;
   all = on.all;
   hears = hears_on false way.extents way.from way.to way.heard now.error now'.error earlier calls on.seens on.seens (first_stays on.seens) on.hears;
+  bound = bound;
 }
 
 -- as far as with no slices more
@@ -92,35 +96,37 @@ module _ (how : How) (sides : Sides) where
   }
 
   pub board_keeps : (now now' : board.Seen) (held : List (Held Ticket)) → now'.begun ≡ now.begun → now'.error ≡ now.error → CountsSame now now' → ToldAlike now now' →
-      ((source destination : List Request) → asks.Keeps how now.rows source destination now'.rows source destination) → Keeps how sides [] now now' held held
-  board_keeps now now' held begun error same alike goes = record {
+      ((source destination : List Request) → asks.Keeps how now.rows source destination now'.rows source destination) → (IsRising now.rows → SameBindings now.rows now'.rows) → Keeps how sides [] now now' held held
+  board_keeps now now' held begun error same alike goes bindings = record {
     stand = λ s. s;
     on = λ way calls h s on.
         no_more way calls now' held (moved_on way calls now now' held on begun
         (board_moves_stand way on.has now now' calls on.seens on.stands (λ none. sym error ∙ none) same
-        (subst (λ (w : How). (source destination : List Request) → asks.Keeps w now.rows source destination now'.rows source destination) (sym h) goes) alike) (λ none. sym error ∙ none));
+        (subst (λ (w : How). (source destination : List Request) → asks.Keeps w now.rows source destination now'.rows source destination) (sym h) goes) alike) (λ none. sym error ∙ none) (rows_bound way on.has now calls on.seens on.stands now' (λ none. sym error ∙ none) bindings on.bound));
   }
 
   pub source_keeps : (more : List Slice) (command : Command Ticket) (now now' : board.Seen) (held held' : List (Held Ticket)) → now'.begun ≡ now.begun + length more → asks_extents (Issue (without_buffer command)) ≡ false → ToldAlike now now' →
-      ((slices : List Slice) → length slices ≡ now.begun → AsksSource how (without_buffer command) slices (slices ++ more) now now') → IsAskedOf sides true command held held' → Keeps how sides more now now' held held'
-  source_keeps more command now now' held held' begun other alike says asked = record {
+      ((slices : List Slice) → length slices ≡ now.begun → AsksSource how (without_buffer command) slices (slices ++ more) now now') → (connection : ℕ) → Binds true connection (without_buffer command).done now now' → IsAskedOf sides true connection command held held' → Keeps how sides more now now' held held'
+  source_keeps more command now now' held held' begun other alike says connection binds asked = record {
     stand = λ s. record { seens = with_event asked.index (Issue (without_buffer command)) s.seens; at = (asked.asked.on s.seens s.at).at };
     on = λ way calls h s on.
         let was : WasAsked asked.index command on.seens held' = asked.asked.on on.seens on.at in
         let side : on.has was.seen.link ≡ true = on.sided asked.index was.seen was.there ∙ ap (λ (x : Sides). is_source x asked.index) s ∙ asked.side in
         asked_on way calls more now now' held held' asked.index command on begun was
         (source_asks_stand way on.has (way.slices ++ more) now now' calls on.seens asked.index was.seen (without_buffer command) on.stands was.there side was.spells
-        (subst (λ (w : How). AsksSource w (without_buffer command) way.slices (way.slices ++ more) now now') (sym h) (says way.slices on.begun)) other alike) (says way.slices on.begun).earlier;
+        (subst (λ (w : How). AsksSource w (without_buffer command) way.slices (way.slices ++ more) now now') (sym h) (says way.slices on.begun)) other alike) (says way.slices on.begun).earlier
+        (asks_bound way on.has now calls on.seens on.stands now' on.begun (says way.slices on.begun).earlier on.bound true connection asked.index (without_buffer command) (ap (λ (x : Sides). is_source x asked.index) s ∙ asked.side) (ap (λ (x : Sides). connection_of x asked.index) s ∙ asked.here) binds);
   }
 
   pub destination_keeps : (more : List Slice) (command : Command Ticket) (now now' : board.Seen) (held held' : List (Held Ticket)) → now'.begun ≡ now.begun + length more → asks_extents (Issue (without_buffer command)) ≡ false → ToldAlike now now' →
-      ((slices : List Slice) → length slices ≡ now.begun → AsksDestination how (without_buffer command) slices (slices ++ more) now now') → IsAskedOf sides false command held held' → Keeps how sides more now now' held held'
-  destination_keeps more command now now' held held' begun other alike says asked = record {
+      ((slices : List Slice) → length slices ≡ now.begun → AsksDestination how (without_buffer command) slices (slices ++ more) now now') → (connection : ℕ) → Binds false connection (without_buffer command).done now now' → IsAskedOf sides false connection command held held' → Keeps how sides more now now' held held'
+  destination_keeps more command now now' held held' begun other alike says connection binds asked = record {
     stand = λ s. record { seens = with_event asked.index (Issue (without_buffer command)) s.seens; at = (asked.asked.on s.seens s.at).at };
     on = λ way calls h s on.
         let was : WasAsked asked.index command on.seens held' = asked.asked.on on.seens on.at in
         let side : on.has was.seen.link ≡ false = on.sided asked.index was.seen was.there ∙ ap (λ (x : Sides). is_source x asked.index) s ∙ asked.side in
         asked_on way calls more now now' held held' asked.index command on begun was
         (destination_asks_stand way on.has (way.slices ++ more) now now' calls on.seens asked.index was.seen (without_buffer command) on.stands was.there side was.spells
-        (subst (λ (w : How). AsksDestination w (without_buffer command) way.slices (way.slices ++ more) now now') (sym h) (says way.slices on.begun)) other alike) (says way.slices on.begun).earlier;
+        (subst (λ (w : How). AsksDestination w (without_buffer command) way.slices (way.slices ++ more) now now') (sym h) (says way.slices on.begun)) other alike) (says way.slices on.begun).earlier
+        (asks_bound way on.has now calls on.seens on.stands now' on.begun (says way.slices on.begun).earlier on.bound false connection asked.index (without_buffer command) (ap (λ (x : Sides). is_source x asked.index) s ∙ asked.side) (ap (λ (x : Sides). connection_of x asked.index) s ∙ asked.here) binds);
   }

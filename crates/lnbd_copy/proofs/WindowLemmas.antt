@@ -103,6 +103,7 @@ window_kept plan new start at size grain n last held kept ends inside is = recor
   room = kept.room;
   some = kept.some;
   fit = subst (λ (p : Planned). AreFit p.cells.zeros p.slices) (sym is) (fit_both plan.cells.zeros plan.slices _ kept.fit (fit_window plan.cells (holds held) start n (omega (arith, kept.room, ends, inside))));
+  left = λ some. omega (arith, some);
 }
 
 -- Extents laid end to end.

@@ -1,5 +1,6 @@
 -- What a contract sees of a copy, and what stands between two of its turns.
 use Rattle.std.specs.Prelude.{◌≡◌, ◌≢◌, ◌≤◌, ℕ, true, false, List, [], length, Option, Some, None}
+use Rattle.lnbd_model.specs.declared.export.ExportInfo.{ExportInfo}
 use Rattle.lnbd_model.specs.declared.target.Place.{Place}
 use Rattle.lnbd_link.specs.Call as wire
 use Rattle.lnbd_plan.specs.declared.options.CopyOptions.{CopyOptions}
@@ -18,10 +19,12 @@ use Rattle.lnbd_copy.specs.declared.counts.Counts.{Counts}
 use Rattle.lnbd_copy.specs.declared.sides.Sides.{Sides}
 use Rattle.lnbd_copy.specs.declared.terms.Terms.{Terms}
 use Rattle.lnbd_copy.specs.Agreed.{IsWished}
+use Rattle.lnbd_copy.specs.Dealt.{HasDealt}
 use Rattle.lnbd_copy.specs.Job as work
+use Rattle.lnbd_copy.specs.Firsts.{KnowBoth}
 use Rattle.lnbd_copy.specs.Lasting.{Lasts}
 use Rattle.lnbd_copy.specs.Limit.{IsLimited}
-use Rattle.lnbd_copy.specs.Settled.{FlushesWanted, HasSettled, SparesFound, SparesTold}
+use Rattle.lnbd_copy.specs.Settled.{FlushesWanted, HasSettled, HasTerms, SparesFound, SparesTold}
 use Rattle.lnbd_copy.specs.Statuses.{ReadsAreAnswered}
 use Rattle.lnbd_copy.specs.Way.{Filed, IsOn, IsUnderWay, Stand, Told, Way}
 
@@ -63,7 +66,8 @@ pub record HasMet (copy : Seen) (start told : Option (List wire.Call)) (terms : 
   pub wished : IsWished copy.options terms
   pub limited : IsLimited copy.options terms
   pub on : Told start told (λ calls. IsOn (beginning copy (Some terms.size) terms.how terms.sides) copy.board calls copy.held)
-  pub settled : HasSettled copy.options copy.from copy.to start told terms
+  pub settled : HasTerms copy.options copy.from copy.to start told terms
+  pub know : KnowBoth settled.source settled.destination copy.held
 
 -- Further connections are made, each to the side that its place says, where so many were made before.
 pub record GoesFurther (copy : Seen) (sides : Sides) (first : ℕ) (now : board.Seen) (held : List (Held Ticket)) (told : Option (List wire.Call)) (now' : board.Seen) (held' : List (Held Ticket)) (told' : Option (List wire.Call)) : Type 0 where
@@ -72,6 +76,7 @@ pub record GoesFurther (copy : Seen) (sides : Sides) (first : ℕ) (now : board.
   pub on : (size : Option ℕ) (how : How) (start : Option (List wire.Call)) → Stand held → length held ≡ first →
       Told start told (λ calls. IsOn (beginning copy size how sides) now calls held) → Told start told' (λ calls. IsOn (beginning copy size how sides) now' calls held')
   pub lasts : Stand held → Lasts told told'
+  pub know : (source destination : ExportInfo) → KnowBoth source destination held → KnowBoth source destination held'
 
 -- Turns.
 
@@ -92,6 +97,8 @@ pub record IsOnItsWay (start told : Option (List wire.Call)) (copy : Seen) : Typ
   pub on : Told start told (λ calls. IsUnderWay (work.is_parting job.phase) way copy.board calls copy.held)
   -- it is made as both sides told
   pub settled : HasSettled copy.options copy.from copy.to start told job.terms
+  -- the slices that are begun and not over are spread over its connections
+  pub spread : HasDealt job copy.board
 
 -- It has begun and goes on, where this transcript is told now.
 pub record IsGoing (told : Option (List wire.Call)) (copy : Seen) : Type 0 where

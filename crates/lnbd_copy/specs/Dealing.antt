@@ -13,25 +13,26 @@ use Rattle.lnbd_board.specs.Files as board
 use Rattle.lnbd_course.specs.Orders.{command_of}
 use Rattle.lnbd_copy.specs.declared.sides.Sides.{Sides}
 use Rattle.lnbd_copy.specs.Asked.{IsAsked}
-use Rattle.lnbd_copy.specs.Way.{Keeps, is_source}
+use Rattle.lnbd_copy.specs.Way.{Keeps, connection_of, is_source}
 use Rattle.lnbd_copy.specs.Windows as windows
 
--- A connection of the source, or else of the destination, was asked the command.
-pub record IsAskedOf (sides : Sides) (source : Bool) (command : Command Ticket) (old new : List (Held Ticket)) : Type 0 where
+-- This connection of the source, or else of the destination, was asked the command.
+pub record IsAskedOf (sides : Sides) (source : Bool) (connection : ℕ) (command : Command Ticket) (old new : List (Held Ticket)) : Type 0 where
   pub index : ℕ
   pub side : is_source sides index ≡ source
+  pub here : connection_of sides index ≡ connection
   pub asked : IsAsked index command old new
 
--- The source was asked to read so many bytes of a slice, into some buffer.
-pub record IsAskedToRead (sides : Sides) (n offset count : ℕ) (old new : List (Held Ticket)) : Type 0 where
+-- This connection of the source was asked to read so many bytes of a slice, into some buffer.
+pub record IsAskedToRead (sides : Sides) (connection n offset count : ℕ) (old new : List (Held Ticket)) : Type 0 where
   pub bytes : List ℕ
   pub many : length bytes ≡ count
-  pub asked : IsAskedOf sides true (read_of bytes offset (ticket.Slice n) 0) old new
+  pub asked : IsAskedOf sides true connection (read_of bytes offset (ticket.Slice n) 0) old new
 
--- The first request of a slice was asked of its side.
-abbrev pub IsAskedFirst : Sides → (n : ℕ) → Ask → (old new : List (Held Ticket)) → Type 0
-IsAskedFirst sides n (ask.Read offset buf) old new = IsAskedToRead sides n offset (length buf) old new
-IsAskedFirst sides n (ask.Change one) old new = IsAskedOf sides false (command_of n one) old new
+-- The first request of a slice was asked of its connection, which is this one of the source, or this one of the destination.
+abbrev pub IsAskedFirst : Sides → (source destination n : ℕ) → Ask → (old new : List (Held Ticket)) → Type 0
+IsAskedFirst sides source destination n (ask.Read offset buf) old new = IsAskedToRead sides source n offset (length buf) old new
+IsAskedFirst sides source destination n (ask.Change one) old new = IsAskedOf sides false destination (command_of n one) old new
 
 -- Slices of a board went on: no other was begun, and nothing was told.
 abbrev pub HasGoneOn : (old new : board.Seen) → Type 0

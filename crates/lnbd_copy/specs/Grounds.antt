@@ -13,7 +13,6 @@ use Rattle.lnbd_link.specs.Call as wire
 use Rattle.lnbd_link.specs.Traffic.{target_of}
 use Rattle.lnbd_history.specs.Answers.{info_after, state_after}
 use Rattle.lnbd_history.specs.Events.{History}
-use Rattle.lnbd_asked.specs.Driven.{Drives}
 use Rattle.lnbd_asked.specs.Exports.{name_set}
 use Rattle.lnbd_plan.specs.declared.fault.CopyFault.{CopyFault}
 use Rattle.lnbd_plan.specs.declared.fault.CopyFault.TheVariants as fault
@@ -25,6 +24,7 @@ use Rattle.lnbd_board.specs.Files as board
 use Rattle.lnbd_course.specs.Between.{place_of}
 use Rattle.lnbd_course.specs.Failed.{SideFails}
 use Rattle.lnbd_copy.specs.declared.sides.Sides.{Sides}
+use Rattle.lnbd_copy.specs.DrivenBy.{DrivenBy}
 pub use Rattle.lnbd_copy.specs.Lasting.{AtSome, Lasts}
 use Rattle.lnbd_copy.specs.Terms.{broken_rule}
 use Rattle.lnbd_copy.specs.Way.{IsUnderWay, Stand, Told, Way, is_source}
@@ -107,8 +107,7 @@ pub record FindsDead (why : CopyFault) (held : List (Held Ticket)) : Type 0 wher
 pub record Drove (place : Place) (Is : History Ticket → Type 0) (calls : List wire.Call) : Type 0 where
   pub link : ℕ
   pub history : History Ticket
-  pub unread : List ℕ
-  pub drives : Drives link calls history unread
+  pub drives : DrivenBy link history calls
   pub address : target_of link calls ≡ Some place.to
   pub name : name_set history ≡ place.name
   pub is : Is history

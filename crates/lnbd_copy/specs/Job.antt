@@ -2,6 +2,7 @@
 use Rattle.std.specs.Prelude.{◌≡◌, ◌≢◌, ◌||◌, ℕ, Bool, true, false, List, [], not, Option, Some, None, if◌then◌else◌}
 use Rattle.lnbd_link.specs.Call as wire
 use Rattle.lnbd_model.specs.declared.export.Extent.{Extent}
+use Rattle.lnbd_plan.specs.declared.cells.Cells.{Cells}
 use Rattle.lnbd_poll.specs.Held.{Held}
 use Rattle.lnbd_board.specs.Files as board
 use Rattle.lnbd_board.specs.declared.ticket.Ticket.{Ticket}
@@ -9,6 +10,7 @@ use Rattle.lnbd_copy.specs.declared.job.Phase.{Phase}
 use Rattle.lnbd_copy.specs.declared.job.Phase.TheVariants.{Copying, Flushing, Parting}
 use Rattle.lnbd_copy.specs.declared.sides.Sides.{Sides}
 use Rattle.lnbd_copy.specs.declared.terms.Terms.{Terms}
+use Rattle.lnbd_copy.specs.Bound.{Bound}
 use Rattle.lnbd_copy.specs.Heard.{IsHeardTo, has_position}
 use Rattle.lnbd_copy.specs.Spared.{IsSpared, whole_heard}
 use Rattle.lnbd_copy.specs.Way.{Way, IsOn, Stand}
@@ -20,6 +22,12 @@ pub record Seen : Type 0 where
   -- extents were asked for, and not heard yet
   pub asked : Bool
   pub phase : Phase
+  -- how many slices are bound to each connection
+  pub bound : Bound
+
+-- how slices are cut by these terms; zeros are left out where the destination is zero
+abbrev pub cells_of : Terms → Cells
+cells_of terms = record { cell = terms.cell; zero_cell = terms.zero_cell; zeros = not terms.how.skip }
 
 -- the connections part
 abbrev pub is_parting : Phase → Bool
@@ -50,7 +58,7 @@ pub record IsJob (job : Seen) (way : Way) (now : board.Seen) : Type 0 where
   pub writes : now.how ≡ job.terms.how
   pub sides : way.sides ≡ job.terms.sides
   pub ends : job.windows.size ≡ job.terms.size
-  pub zeros : job.windows.plan.cells.zeros ≡ not job.terms.how.skip
+  pub cells : job.windows.plan.cells ≡ cells_of job.terms
   pub planned : windows.IsPlanned job.windows way.zero way.slices
   pub grain : job.windows.grain ≡ job.terms.grain
   pub spared : IsSpared job.windows (way.whole job.windows.grain) way.slices

@@ -4,6 +4,7 @@ use Rattle.lnbd_link.specs.Call as wire
 use Rattle.lnbd_poll.specs.Held.{Held}
 use Rattle.lnbd_board.specs.declared.ticket.Ticket.{Ticket}
 use Rattle.lnbd_board.specs.Files as board
+use Rattle.lnbd_copy.specs.Giving.{GivesNone}
 use Rattle.lnbd_copy.specs.Lasting.{Lasts}
 use Rattle.lnbd_copy.specs.Way.{Filed, IsLeaving, Stand, Told, Way}
 
@@ -13,3 +14,4 @@ pub record Leaves (now : board.Seen) (held : List (Held Ticket)) (told : Option 
   pub filed : Filed now now'
   pub on : (way : Way) (start : Option (List wire.Call)) → way.asked ≡ None → now.rows ≡ [] → Told start told (λ calls. IsLeaving way now calls held) → Told start told' (λ calls. IsLeaving way now' calls held')
   pub lasts : Lasts told told'
+  pub gives : GivesNone told told'

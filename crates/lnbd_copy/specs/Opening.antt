@@ -1,10 +1,12 @@
 -- What one handle more is to a copy.
 use Rattle.std.specs.Prelude.{◌≡◌, ℕ, ◌+◌, Bool, List, length, Option, if◌then◌else◌}
+use Rattle.lnbd_model.specs.declared.export.ExportInfo.{ExportInfo}
 use Rattle.lnbd_model.specs.declared.target.Place.{Place}
 use Rattle.lnbd_link.specs.Call as wire
 use Rattle.lnbd_poll.specs.Held.{Held}
 use Rattle.lnbd_board.specs.declared.ticket.Ticket.{Ticket}
 use Rattle.lnbd_board.specs.Files as board
+use Rattle.lnbd_copy.specs.Firsts.{KnowBoth}
 use Rattle.lnbd_copy.specs.Lasting.{Lasts}
 use Rattle.lnbd_copy.specs.Way.{IsOn, Stand, Told, Way, is_source}
 
@@ -20,3 +22,4 @@ pub record Dials (place : Place) (extents : Bool) (now : board.Seen) (held : Lis
   pub on : (way : Way) (start : Option (List wire.Call)) → place_of way (length held) ≡ place → (length held ≡ 0 → way.extents ≡ extents) →
       Told start told (λ calls. IsOn way now calls held) → Told start told' (λ calls. IsOn way now calls held')
   pub lasts : Lasts told told'
+  pub know : (source destination : ExportInfo) → KnowBoth source destination held → KnowBoth source destination held'

@@ -10,6 +10,7 @@ use Rattle.lnbd_board.specs.declared.ticket.Ticket.{Ticket}
 use Rattle.lnbd_course.specs.Flushes.{IsFlushed}
 use Rattle.lnbd_course.specs.Spares.{ReadsNoZeros, WritesNoZeros}
 use Rattle.lnbd_copy.specs.declared.terms.Terms.{Terms}
+use Rattle.lnbd_copy.specs.Alike.{AllAlike}
 use Rattle.lnbd_copy.specs.Grounds.{Drove, Happens, IsShown}
 use Rattle.lnbd_copy.specs.Lasting.{AtSome}
 use Rattle.lnbd_copy.specs.Terms as both
@@ -35,7 +36,7 @@ pub record FindsTerms (options : CopyOptions) (terms : Terms) (held : List (Held
   pub settled : AreSettledBy options source destination terms
 
 -- So it is by the calls since the transcript was this.
-pub record HasSettled (options : CopyOptions) (from to : Place) (start told : Option (List wire.Call)) (terms : Terms) : Type 0 where
+pub record HasTerms (options : CopyOptions) (from to : Place) (start told : Option (List wire.Call)) (terms : Terms) : Type 0 where
   pub source : ExportInfo
   pub destination : ExportInfo
   pub shown : Told start told (AtSome (Drove from (IsShown source)))
@@ -43,7 +44,22 @@ pub record HasSettled (options : CopyOptions) (from to : Place) (start told : Op
   pub none : both.broken_rule source destination ≡ None
   pub settled : AreSettledBy options source destination terms
 
+-- And each link that these calls gave was told the same export as the first one of its side.
+pub record HasSettled (options : CopyOptions) (from to : Place) (start told : Option (List wire.Call)) (terms : Terms) : Type 0 where
+  pub first : HasTerms options from to start told terms
+  pub all : Told start told (AllAlike from to first.source first.destination)
+
 -- By these calls a connection to each of both places was told of an export, between which all rules hold; and of what was told this is so.
+pub record IsToldFirst (from to : Place) (Is : (source destination : ExportInfo) → Type 0) (calls : List wire.Call) : Type 0 where
+  pub source : ExportInfo
+  pub destination : ExportInfo
+  pub shown : AtSome (Drove from (IsShown source)) calls
+  pub shown' : AtSome (Drove to (IsShown destination)) calls
+  pub none : both.broken_rule source destination ≡ None
+  pub is : Is source destination
+
+-- By these calls a connection to each of both places was told of an export, between which all rules hold; and of what was told this is so. Each link that
+-- they gave was to one of both places, and told the same export as that connection.
 pub record Settled (from to : Place) (Is : (source destination : ExportInfo) → Type 0) (calls : List wire.Call) : Type 0 where
   pub source : ExportInfo
   pub destination : ExportInfo
@@ -51,6 +67,7 @@ pub record Settled (from to : Place) (Is : (source destination : ExportInfo) →
   pub shown' : AtSome (Drove to (IsShown destination)) calls
   pub none : both.broken_rule source destination ≡ None
   pub is : Is source destination
+  pub all : AllAlike from to source destination calls
 
 -- No READ covers a block of the source that one answer told as zero whole, for blocks as large as the larger least block of both sides.
 abbrev pub SparesTold : (from to : Place) → List wire.Call → Type 0

@@ -10,7 +10,6 @@ use Rattle.lnbd_link.specs.Numbers.{given_by}
 use Rattle.lnbd_link.specs.Traffic.{target_of}
 use Rattle.lnbd_history.specs.Answers.{info_after, state_after}
 use Rattle.lnbd_history.specs.Events.{History}
-use Rattle.lnbd_asked.specs.Driven.{Drives}
 use Rattle.lnbd_asked.specs.Exports.{name_set}
 use Rattle.lnbd_asked.specs.Transcript.{dealt_with}
 use Rattle.lnbd_poll.specs.Seen.{Seen}
@@ -19,6 +18,7 @@ use Rattle.lnbd_board.specs.Requests.{reads}
 use Rattle.lnbd_course.specs.Answered.{WasAnsweredFirst}
 use Rattle.lnbd_course.specs.Asks.{EachAsked}
 use Rattle.lnbd_copy.specs.Begun.{BeganAs, opened}
+use Rattle.lnbd_copy.specs.DrivenBy.{DrivenBy}
 
 -- No meta context.
 
@@ -51,9 +51,8 @@ pub record FirstAgreedNone (extents : Bool) (from : Place) (calls : List Call) :
   pub are : calls ≡ before ++ after
   pub link : ℕ
   pub history : History Ticket
-  pub unread : List ℕ
   pub first : first_given before ≡ Some link
-  pub drives : Drives link before history unread
+  pub drives : DrivenBy link history before
   pub address : target_of link before ≡ Some from.to
   pub name : name_set history ≡ from.name
   pub begun : BeganAs (opened from.name extents) history

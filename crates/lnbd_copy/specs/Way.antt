@@ -1,19 +1,25 @@
 -- What stands between two steps of a copy: by what its handles were asked and told so far, what its board holds is so.
-use Rattle.std.specs.Prelude.{◌≡◌, ◌≢◌, ◌≤◌, ℕ, Bool, true, false, ◌&&◌, ◌||◌, ◌==◌, nat_lt, nat_le, List, [], ◌++◌, length, Option, Some, None, slice_get}
+use Rattle.std.specs.Prelude.{◌≡◌, ◌≢◌, ◌≤◌, ℕ, ◌-◌, Bool, true, false, ◌&&◌, ◌||◌, ◌==◌, nat_lt, nat_le, List, [], ◌++◌, length, Option, Some, None, slice_get, if◌then◌else◌}
+use Rattle.lnbd_model.specs.declared.export.ExportInfo.{ExportInfo}
 use Rattle.lnbd_model.specs.declared.target.Place.{Place}
 use Rattle.lnbd_link.specs.Call as wire
 use Rattle.lnbd_poll.specs.Held.{Held, AreAt}
 use Rattle.lnbd_poll.specs.Seen.{Seen}
 use Rattle.lnbd_plan.specs.declared.grid.Slice.{Slice}
 use Rattle.lnbd_board.specs.declared.how.How.{How}
+use Rattle.lnbd_board.specs.declared.row.Row.{Row}
 use Rattle.lnbd_board.specs.declared.ticket.Ticket.{Ticket}
 use Rattle.lnbd_board.specs.Files as board
 use Rattle.lnbd_course.specs.Between.{Between}
 use Rattle.lnbd_course.specs.Counts.{summary_of}
 use Rattle.lnbd_course.specs.Flushes.{CameToRest}
+use Rattle.lnbd_course.specs.Spread.{AllCount}
 use Rattle.lnbd_course.specs.Told as course
 use Rattle.lnbd_course.specs.UnderWay.{AllHeld}
 use Rattle.lnbd_copy.specs.declared.sides.Sides.{Sides}
+use Rattle.lnbd_copy.specs.Bound.{on_destination, on_source}
+use Rattle.lnbd_copy.specs.Firsts.{KnowBoth}
+use Rattle.lnbd_copy.specs.Giving.{GivesNone}
 use Rattle.lnbd_copy.specs.Lasting.{Lasts}
 use Rattle.lnbd_copy.specs.Statuses.{Hears}
 
@@ -35,6 +41,27 @@ ArePlaced true sides has seens = Unit {0}
 abbrev pub AreHeld : (parting : Bool) → List wire.Call → List (Seen Ticket) → Type 0
 AreHeld false calls seens = AllHeld calls seens
 AreHeld true calls seens = Unit {0}
+
+-- which connection of its side the handle at this place is: the first of each is 0
+abbrev pub connection_of : Sides → (index : ℕ) → ℕ
+connection_of sides index = if is_source sides index then index - 1 else (if index == 1 then 0 else index - sides.source)
+
+-- the connection of a side that a row is bound to
+abbrev pub connection_on : (source : Bool) → Row → ℕ
+connection_on source row = if source then row.source else row.destination
+
+-- whether a row is bound to the connection that the handle at this place is
+abbrev pub is_bound : Sides → (index : ℕ) → Row → Bool
+is_bound sides index row = connection_on (is_source sides index) row == connection_of sides index
+
+-- Where no error was told, each command that a handle was asked for a slice is that of a slice which is bound to the handle's connection, while the slice has a row.
+pub record AreBound (sides : Sides) (now : board.Seen) (seens : List (Seen Ticket)) : Type 0 where
+  pub each : now.error ≡ None → (index : ℕ) (seen : Seen Ticket) → slice_get seens index ≡ Some seen → AllCount (is_bound sides index) now.rows seen.history
+
+-- So it is until a handle is taken out.
+abbrev pub StayBound : (parting : Bool) → Sides → board.Seen → List (Seen Ticket) → Type 0
+StayBound false sides now seens = AreBound sides now seens
+StayBound true sides now seens = Unit {0}
 
 -- Each handle that is held stands for a history.
 pub record Stand (held : List (Held Ticket)) : Type 0 where
@@ -92,6 +119,7 @@ pub record IsUnderWay (parting : Bool) (way : Way) (now : board.Seen) (calls : L
   pub rest : HasRested way.from way.to way.size way.rested calls
   pub all : AreHeld parting calls seens
   pub hears : Hears parting way.extents way.from way.to way.heard now.error calls seens
+  pub bound : StayBound parting way.sides now seens
 
 -- So it is while each connection that was made is held,
 abbrev pub IsOn : Way → board.Seen → List wire.Call → List (Held Ticket) → Type 0
@@ -134,6 +162,9 @@ pub record Filed (old new : board.Seen) : Type 0 where
   pub zeroed : new.zeroed ≡ old.zeroed
   pub flushing : new.flushing ≡ old.flushing
   pub flushed : old.flushed ≡ true → new.flushed ≡ true
+  -- each slice is bound to the connections that it was
+  pub reads : on_source new.rows ≡ on_source old.rows
+  pub writes : on_destination new.rows ≡ on_destination old.rows
 
 -- A step with calls on the wires keeps a copy on its way, if its handles stand for histories: so many stand still, and the board has what their callbacks were told.
 pub record Goes (now : board.Seen) (held : List (Held Ticket)) (told : Option (List wire.Call)) (now' : board.Seen) (held' : List (Held Ticket)) (told' : Option (List wire.Call)) : Type 0 where
@@ -143,3 +174,5 @@ pub record Goes (now : board.Seen) (held : List (Held Ticket)) (told : Option (L
   pub on : (parting : Bool) (way : Way) (start : Option (List wire.Call)) → Stand held →
       Told start told (λ calls. IsUnderWay parting way now calls held) → Told start told' (λ calls. IsUnderWay parting way now' calls held')
   pub lasts : Stand held → Lasts told told'
+  pub know : (source destination : ExportInfo) → KnowBoth source destination held → KnowBoth source destination held'
+  pub gives : Stand held → GivesNone told told'

@@ -66,3 +66,5 @@ pub record AreKept (plan : Planned) (start at size grain : ℕ) : Type 0 where
   pub room : size ≤ 2 ^ 63
   pub some : 0 < grain
   pub fit : AreFit plan.cells.zeros plan.slices
+  -- the window under way is not told whole, if there is one
+  pub left : start < size → at < min (start + window) size

@@ -1,25 +1,40 @@
 //! A copy from its first connection to its last byte.
 
-ghost use Rattle.std.specs.Prelude.{◌≡◌, ◌≢◌, ◌<◌, ◌≤◌, ◌+◌, ◌^◌, [], length, List, Option, None, true, false, IfErr, IfOk, OnErr, OnOk};
-ghost use Rattle.lnbd_link.specs.Call.{Call};
+ghost use Rattle.std.specs.Prelude.{◌≡◌, ◌≢◌, ◌<◌, ◌≤◌, ◌+◌, ◌-◌, ◌^◌, [], ◌∷◌, ◌++◌, length, replicate, List, Option, None, true, false, IfErr, IfOk, OnErr, OnOk};
+ghost use Rattle.lnbd_link.specs.Call.{Call, Pause};
+ghost use Rattle.lnbd_link.specs.Part.{Adds};
+ghost use Rattle.lnbd_poll.specs.Held.{wants_now};
+ghost use Rattle.lnbd_poll.specs.declared.noticed.Turn.TheVariants as turned;
 ghost use Rattle.lnbd_course.specs.Asks.{GrewBy, HasAskedOnce, WereDone};
 ghost use Rattle.lnbd_course.specs.Copied.{Copies};
 ghost use Rattle.lnbd_course.specs.Counts.{Summarizes};
 ghost use Rattle.lnbd_course.specs.Driven.{AreDriven};
 ghost use Rattle.lnbd_course.specs.Flushes.{FlushesLast, IsUnflushed};
+ghost use Rattle.lnbd_course.specs.Parts.{AsksAtMostOnce, FlushesAtMostOnce};
 ghost use Rattle.lnbd_copy.specs.Agreed.{AreQuiet};
 ghost use Rattle.lnbd_copy.specs.Causes.{GoesOn, HasCause};
+ghost use Rattle.lnbd_copy.specs.Connects.{ConnectsAsTold, ConnectsWithin, LinksGoAsTold, LinksGoWithin};
+ghost use Rattle.lnbd_copy.specs.declared.copier.Progress.TheVariants as progress;
 ghost use Rattle.lnbd_copy.specs.Copier.{GoesFurther, HasJob, HasMet, HasNotBegun, HasTurned, IsDone, IsGoing, IsOnItsWay, IsParting, Seen};
+ghost use Rattle.lnbd_copy.specs.Faults.{AreUnissued, AsksNone, AsksNothing, Behaves, GoesIdly, SparesSoFar, StaysFresh, StaysUnasked};
 ghost use Rattle.lnbd_copy.specs.Flushed.{HasFlushed};
-ghost use Rattle.lnbd_copy.specs.Grounds.{FailsOn, IsGrounded, Lasts, needs_no_ground};
+ghost use Rattle.lnbd_copy.specs.Grounds.{AllSame, FailsOn, IsGrounded, Lasts, needs_no_ground};
 ghost use Rattle.lnbd_copy.specs.declared.terms.Terms.{Terms as Settled};
+ghost use Rattle.lnbd_copy.specs.Made.{IsMade};
+ghost use Rattle.lnbd_copy.specs.Links.{HaveSameLinks, LinksAreKept, LinksGo, LinksGoTo};
 ghost use Rattle.lnbd_copy.specs.Opening.{Dials};
+ghost use Rattle.lnbd_copy.specs.Paused.{PausesAreFull};
+ghost use Rattle.lnbd_copy.specs.Pauses.{AtEachPause, LeavesFull, Pauses, Unpaused, WantsOnlyFull};
 ghost use Rattle.lnbd_copy.specs.Settled.{FlushesWanted, SparesFound, SparesTold};
+ghost use Rattle.lnbd_copy.specs.Spread.{AreSpread};
+ghost use Rattle.lnbd_copy.specs.Sharing.{IsShared, PausesAreShared};
 ghost use Rattle.lnbd_copy.specs.Statuses.{ReadsAreAnswered};
 ghost use Rattle.lnbd_copy.specs.Summed.{HasSummed, IsTally};
 ghost use Rattle.lnbd_copy.specs.Unanswered.{HasAllAsked};
 ghost use Rattle.lnbd_copy.specs.UnderWay.{IsBusy};
-ghost use Rattle.lnbd_copy.specs.Way.{Goes, Told};
+ghost use Rattle.lnbd_copy.specs.Unready.{IsEarlyPause, IsOpeningPause, StaysUnready};
+ghost use Rattle.lnbd_copy.specs.Waits.{WaitsWell};
+ghost use Rattle.lnbd_copy.specs.Way.{Goes, Stand, Told};
 
 use crate::agreeing::{agree, check_answers, check_same, check_well, tells_extents};
 use crate::counts::Counts;
@@ -105,7 +120,7 @@ impl Copier {
     /// `Rule` where the two exports don't fit, `Link` where a call on the wires failed, `Broke` where a peer broke the protocol,
     /// ended its connection or told another export on a further connection, `Peer` where it refused the export, `Silent` where
     /// the wires were idle for too long. `NoMemory` may come in place of every other answer. All links are then shut.
-    #[tactic(auto, using(crate::proofs::CauseLemmas::goes_same, crate::proofs::CauseLemmas::goes_then, crate::proofs::CauseLemmas::cause_later, crate::proofs::CauseLemmas::cause_free))]
+    #[tactic(auto, using(crate::proofs::CauseLemmas::goes_same, crate::proofs::CauseLemmas::goes_then, crate::proofs::CauseLemmas::cause_later, crate::proofs::CauseLemmas::cause_free, crate::proofs::ConnectLemmas::within_end))]
     pub fn begin<W: Wires>(&mut self, wires: &mut W) -> Result<(), CopyFault>
         requires { HasNotBegun self.old }
 
@@ -116,6 +131,22 @@ impl Copier {
         // All connections stand, and nothing is copied yet; or none is held any more.
         ensures begins { OnOk result (IsOnItsWay (W.told wires.old) (W.told wires.new) self.new) }
         ensures shut { OnErr result (self.new.held ≡ []) }
+
+        // Nothing is asked in it, whatever it comes to.
+        ensures unasked { Told (W.told wires.old) (W.told wires.new) (AsksNothing self.old.from self.old.to) }
+
+        // Its links are kept, and it connected to its two places alone, as often as its options and what both sides told say, or not
+        // that often where it failed.
+        ensures links { LinksGoWithin self.old.options self.old.from self.old.to self.old.held (W.told wires.old) self.new.held (W.told wires.new) }
+        ensures connects { OnOk result (LinksGoAsTold self.old.options self.old.from self.old.to self.old.held (W.told wires.old) self.new.held (W.told wires.new)) }
+
+        // Whatever came of it, it paused only while a connection was not ready, unless it waited to write.
+        ensures unready { Told (W.told wires.old) (W.told wires.new) (AtEachPause IsOpeningPause) }
+        // At each pause a link was wanted for writing only where the last write on it since the pause before took nothing.
+        ensures writes { Told (W.told wires.old) (W.told wires.new) (AtEachPause WantsOnlyFull) }
+        // It was wanted only where its handle negotiated, had commands in flight, had bytes to write, or had asked for the end of its
+        // connection, and in that handle's direction.
+        ensures waits { Told (W.told wires.old) (W.told wires.new) (AtEachPause WaitsWell) }
 
         // What the calls show of a fault.
         ensures grounds { IfErr result (λ told. IsGrounded (W.told wires.old) (W.told wires.new) self.old.from self.old.to told) }
@@ -140,9 +171,14 @@ impl Copier {
         requires idles { self.old.start.idles ≤ W.idles wires.old }
         ensures kept { self.new ≡ record self.old { held = self.new.held; board = self.new.board; job = self.new.job } }
         ensures begins { OnOk result (IsOnItsWay (W.told wires.old) (W.told wires.new) self.new) }
+        ensures unasked { Told (W.told wires.old) (W.told wires.new) (AsksNothing self.old.from self.old.to) }
+        ensures unready { Told (W.told wires.old) (W.told wires.new) (AtEachPause IsEarlyPause) }
+        ensures writes { Pauses WantsOnlyFull (W.told wires.old) (W.told wires.new) }
         ensures causes { IfErr result (λ told. HasCause self.old.start (W.faults wires.new) (W.idles wires.new) told) }
         ensures grounds { IfErr result (λ told. IsGrounded (W.told wires.old) (W.told wires.new) self.old.from self.old.to told) }
         ensures counts { GoesOn (W.faults wires.old) (W.faults wires.new) (W.idles wires.old) (W.idles wires.new) (W.contents wires.old) (W.contents wires.new) }
+        ensures links { LinksGoWithin self.old.options self.old.from self.old.to self.old.held (W.told wires.old) self.new.held (W.told wires.new) }
+        ensures connects { OnOk result (LinksGoAsTold self.old.options self.old.from self.old.to self.old.held (W.told wires.old) self.new.held (W.told wires.new)) }
     {
         let terms = self.meet(wires)?;
         self.dial_further(wires, terms.sides)?;
@@ -163,9 +199,15 @@ impl Copier {
         ensures many { IfOk result (λ terms. 0 < terms.sides.source) }
         ensures cells { IfOk result (λ terms. (0 < terms.cell) × (0 < terms.zero_cell) × (0 < terms.grain)) }
         ensures size { IfOk result (λ terms. terms.size ≤ 2 ^ 63) }
+        ensures unasked { Told (W.told wires.old) (W.told wires.new) (AsksNothing self.old.from self.old.to) }
+        ensures unissued { OnOk result (Told (W.told wires.old) (W.told wires.new) (λ calls. AreUnissued self.new.held)) }
+        ensures unready { Told (W.told wires.old) (W.told wires.new) (AtEachPause IsEarlyPause) }
+        ensures writes { Pauses WantsOnlyFull (W.told wires.old) (W.told wires.new) }
         ensures causes { IfErr result (λ told. HasCause self.old.start (W.faults wires.new) (W.idles wires.new) told) }
         ensures grounds { IfErr result (λ told. IsGrounded (W.told wires.old) (W.told wires.new) self.old.from self.old.to told) }
         ensures counts { GoesOn (W.faults wires.old) (W.faults wires.new) (W.idles wires.old) (W.idles wires.new) (W.contents wires.old) (W.contents wires.new) }
+        ensures links { LinksGoTo (self.old.from.to ∷ self.old.to.to ∷ []) self.old.held (W.told wires.old) self.new.held (W.told wires.new) }
+        ensures connects { OnOk result (LinksGo (self.old.from.to ∷ self.old.to.to ∷ []) self.old.held (W.told wires.old) self.new.held (W.told wires.new)) }
     {
         let extents = self.options.extents;
         self.dial_source(wires, extents)?;
@@ -176,13 +218,16 @@ impl Copier {
     }
 
     /// Makes ready what is done once all connections stand.
+    #[tactic(auto, using(crate::proofs::LinkLemmas::same_none))]
     fn set_up(&mut self, terms: Terms) -> Result<(), NoMemory>
         requires cells { (0 < terms.cell) × (0 < terms.zero_cell) × (0 < terms.grain) }
         requires size { terms.size ≤ 2 ^ 63 }
         requires well { self.old.board.error ≡ None }
         requires quiet { AreQuiet self.old.held }
+        requires same { AllSame terms.sides (length self.old.held) self.old.held }
         ensures kept { self.new ≡ record self.old { held = self.new.held; board = self.new.board; job = self.new.job } }
         ensures begins { (start told : Option (List Call)) → HasMet self.old start told terms → OnOk result (IsOnItsWay start told self.new) }
+        ensures links { HaveSameLinks self.old.held self.new.held }
     {
         let extents = tells_extents(&self.handles)?;
         mem::replace(&mut self.board, Board::new(self.alloc, terms.how)).end();
@@ -195,10 +240,15 @@ impl Copier {
         requires faults { self.old.start.faults ≤ W.faults wires.old }
         ensures kept { self.new ≡ record self.old { held = self.new.held; board = self.new.board } }
         ensures dials { OnOk result (Dials self.old.from extents self.old.board self.old.held (W.told wires.old) self.new.held (W.told wires.new)) }
+        ensures unpaused { Unpaused (W.told wires.old) (W.told wires.new) }
         ensures board { OnOk result (self.new.board ≡ self.old.board) }
+        ensures unasked { StaysUnasked self.old.from self.old.to (W.told wires.old) (W.told wires.new) }
+        ensures unissued { OnOk result (AreUnissued self.old.held → AreUnissued self.new.held) }
         ensures causes { IfErr result (λ told. HasCause self.old.start (W.faults wires.new) (W.idles wires.new) told) }
         ensures free { IfErr result (λ told. needs_no_ground told ≡ true) }
         ensures counts { GoesOn (W.faults wires.old) (W.faults wires.new) (W.idles wires.old) (W.idles wires.new) (W.contents wires.old) (W.contents wires.new) }
+        ensures links { LinksGoTo (self.old.from.to ∷ []) self.old.held (W.told wires.old) self.new.held (W.told wires.new) }
+        ensures connects { OnOk result (LinksGo (self.old.from.to ∷ []) self.old.held (W.told wires.old) self.new.held (W.told wires.new)) }
     {
         dial(
             self.alloc,
@@ -216,10 +266,15 @@ impl Copier {
         requires faults { self.old.start.faults ≤ W.faults wires.old }
         ensures kept { self.new ≡ record self.old { held = self.new.held; board = self.new.board } }
         ensures dials { OnOk result (Dials self.old.to false self.old.board self.old.held (W.told wires.old) self.new.held (W.told wires.new)) }
+        ensures unpaused { Unpaused (W.told wires.old) (W.told wires.new) }
         ensures board { OnOk result (self.new.board ≡ self.old.board) }
+        ensures unasked { StaysUnasked self.old.from self.old.to (W.told wires.old) (W.told wires.new) }
+        ensures unissued { OnOk result (AreUnissued self.old.held → AreUnissued self.new.held) }
         ensures causes { IfErr result (λ told. HasCause self.old.start (W.faults wires.new) (W.idles wires.new) told) }
         ensures free { IfErr result (λ told. needs_no_ground told ≡ true) }
         ensures counts { GoesOn (W.faults wires.old) (W.faults wires.new) (W.idles wires.old) (W.idles wires.new) (W.contents wires.old) (W.contents wires.new) }
+        ensures links { LinksGoTo (self.old.to.to ∷ []) self.old.held (W.told wires.old) self.new.held (W.told wires.new) }
+        ensures connects { OnOk result (LinksGo (self.old.to.to ∷ []) self.old.held (W.told wires.old) self.new.held (W.told wires.new)) }
     {
         dial(
             self.alloc,
@@ -239,9 +294,14 @@ impl Copier {
         ensures kept { self.new ≡ record self.old { held = self.new.held; board = self.new.board } }
         ensures goes { OnOk result (Goes self.old.board self.old.held (W.told wires.old) self.new.board self.new.held (W.told wires.new)) }
         ensures quiet { OnOk result (AreQuiet self.new.held) }
+        ensures asks { AsksNone self.old.board self.old.held (W.told wires.old) (W.told wires.new) }
+        ensures fresh { OnOk result (StaysFresh self.old.board self.old.held (W.told wires.old) self.new.board self.new.held (W.told wires.new)) }
+        ensures unready { StaysUnready self.old.board self.old.held (W.told wires.old) (W.told wires.new) }
+        ensures writes { Stand self.old.held → Pauses WantsOnlyFull (W.told wires.old) (W.told wires.new) }
         ensures causes { IfErr result (λ told. HasCause self.old.start (W.faults wires.new) (W.idles wires.new) told) }
         ensures fails { IfErr result (λ told. FailsOn false self.old.board self.old.held (W.told wires.old) (W.told wires.new) told) }
         ensures counts { GoesOn (W.faults wires.old) (W.faults wires.new) (W.idles wires.old) (W.idles wires.new) (W.contents wires.old) (W.contents wires.new) }
+        ensures links { Stand self.old.held → LinksGo [] self.old.held (W.told wires.old) self.new.held (W.told wires.new) }
     {
         settle(&mut self.handles, &mut self.board, wires, self.start)
     }
@@ -255,25 +315,35 @@ impl Copier {
         ensures kept { self.new ≡ record self.old { held = self.new.held; board = self.new.board } }
         ensures further { OnOk result (GoesFurther self.old sides 2 self.old.board self.old.held (W.told wires.old) self.new.board self.new.held (W.told wires.new)) }
         ensures quiet { OnOk result (AreQuiet self.new.held) }
+        ensures unasked { (start : Option (List Call)) (terms : Settled) → HasMet self.old start (W.told wires.old) terms → sides ≡ terms.sides → Told start (W.told wires.old) (λ calls. AreUnissued self.old.held) → length self.old.held ≡ 2 → Told start (W.told wires.new) (AsksNothing self.old.from self.old.to) }
+        ensures unready { (start : Option (List Call)) (terms : Settled) → HasMet self.old start (W.told wires.old) terms → sides ≡ terms.sides → length self.old.held ≡ 2 → Told start (W.told wires.old) (AtEachPause IsEarlyPause) → Told start (W.told wires.new) (AtEachPause IsEarlyPause) }
+        ensures writes { Stand self.old.held → Pauses WantsOnlyFull (W.told wires.old) (W.told wires.new) }
         ensures causes { IfErr result (λ told. HasCause self.old.start (W.faults wires.new) (W.idles wires.new) told) }
         ensures grounds { IfErr result (λ told. (start : Option (List Call)) (terms : Settled) → HasMet self.old start (W.told wires.old) terms → sides ≡ terms.sides → length self.old.held ≡ 2 → IsGrounded start (W.told wires.new) self.old.from self.old.to told) }
         ensures counts { GoesOn (W.faults wires.old) (W.faults wires.new) (W.idles wires.old) (W.idles wires.new) (W.contents wires.old) (W.contents wires.new) }
+        ensures links { Stand self.old.held → LinksGoTo (replicate (sides.source - 1) self.old.from.to ++ replicate (sides.destination - 1) self.old.to.to) self.old.held (W.told wires.old) self.new.held (W.told wires.new) }
+        ensures connects { OnOk result (Stand self.old.held → LinksGo (replicate (sides.source - 1) self.old.from.to ++ replicate (sides.destination - 1) self.old.to.to) self.old.held (W.told wires.old) self.new.held (W.told wires.new)) }
     {
         self.dial_sources(wires, sides)?;
         self.dial_destinations(wires, sides)?;
         self.settle(wires)
     }
 
-    #[tactic(auto, using(crate::proofs::CauseLemmas::goes_same, crate::proofs::CauseLemmas::goes_then, crate::proofs::CauseLemmas::cause_later, crate::proofs::CauseLemmas::cause_free))]
+    #[tactic(auto, using(crate::proofs::CauseLemmas::goes_same, crate::proofs::CauseLemmas::goes_then, crate::proofs::CauseLemmas::cause_later, crate::proofs::CauseLemmas::cause_free, crate::proofs::PauseLemmas::unpaused_none, crate::proofs::LinkLemmas::links_none))]
     fn dial_sources<W: Wires>(&mut self, wires: &mut W, sides: Sides) -> Result<(), CopyFault>
         requires faults { self.old.start.faults ≤ W.faults wires.old }
         requires some { 0 < sides.source }
         ensures kept { self.new ≡ record self.old { held = self.new.held; board = self.new.board } }
         ensures further { OnOk result (GoesFurther self.old sides 2 self.old.board self.old.held (W.told wires.old) self.new.board self.new.held (W.told wires.new)) }
         ensures many { OnOk result (length self.old.held ≡ 2 → length self.new.held ≡ sides.source + 1) }
+        ensures unasked { StaysUnasked self.old.from self.old.to (W.told wires.old) (W.told wires.new) }
+        ensures unissued { OnOk result (AreUnissued self.old.held → AreUnissued self.new.held) }
+        ensures unpaused { Unpaused (W.told wires.old) (W.told wires.new) }
         ensures causes { IfErr result (λ told. HasCause self.old.start (W.faults wires.new) (W.idles wires.new) told) }
         ensures free { IfErr result (λ told. needs_no_ground told ≡ true) }
         ensures counts { GoesOn (W.faults wires.old) (W.faults wires.new) (W.idles wires.old) (W.idles wires.new) (W.contents wires.old) (W.contents wires.new) }
+        ensures links { LinksGoTo (replicate (sides.source - 1) self.old.from.to) self.old.held (W.told wires.old) self.new.held (W.told wires.new) }
+        ensures connects { OnOk result (LinksGo (replicate (sides.source - 1) self.old.from.to) self.old.held (W.told wires.old) self.new.held (W.told wires.new)) }
     {
         'further: for connection in 1..sides.source {
             self.dial_source(wires, false)?;
@@ -281,16 +351,21 @@ impl Copier {
         Ok(())
     }
 
-    #[tactic(auto, using(crate::proofs::CauseLemmas::goes_same, crate::proofs::CauseLemmas::goes_then, crate::proofs::CauseLemmas::cause_later, crate::proofs::CauseLemmas::cause_free))]
+    #[tactic(auto, using(crate::proofs::CauseLemmas::goes_same, crate::proofs::CauseLemmas::goes_then, crate::proofs::CauseLemmas::cause_later, crate::proofs::CauseLemmas::cause_free, crate::proofs::PauseLemmas::unpaused_none, crate::proofs::LinkLemmas::links_none))]
     fn dial_destinations<W: Wires>(&mut self, wires: &mut W, sides: Sides) -> Result<(), CopyFault>
         requires faults { self.old.start.faults ≤ W.faults wires.old }
         ensures kept { self.new ≡ record self.old { held = self.new.held; board = self.new.board } }
         ensures further { OnOk result (GoesFurther self.old sides (sides.source + 1) self.old.board self.old.held (W.told wires.old) self.new.board self.new.held (W.told wires.new)) }
+        ensures unasked { StaysUnasked self.old.from self.old.to (W.told wires.old) (W.told wires.new) }
+        ensures unissued { OnOk result (AreUnissued self.old.held → AreUnissued self.new.held) }
+        ensures unpaused { Unpaused (W.told wires.old) (W.told wires.new) }
         ensures causes { IfErr result (λ told. HasCause self.old.start (W.faults wires.new) (W.idles wires.new) told) }
         ensures free { IfErr result (λ told. needs_no_ground told ≡ true) }
         ensures counts { GoesOn (W.faults wires.old) (W.faults wires.new) (W.idles wires.old) (W.idles wires.new) (W.contents wires.old) (W.contents wires.new) }
+        ensures links { LinksGoTo (replicate (sides.destination - 1) self.old.to.to) self.old.held (W.told wires.old) self.new.held (W.told wires.new) }
+        ensures connects { OnOk result (LinksGo (replicate (sides.destination - 1) self.old.to.to) self.old.held (W.told wires.old) self.new.held (W.told wires.new)) }
     {
-        'further: for _ in 1..sides.destination {
+        'further: for connection in 1..sides.destination {
             self.dial_destination(wires)?;
         }
         Ok(())
@@ -302,7 +377,7 @@ impl Copier {
     ///
     /// Those of `begin` but `Rule`; `Broke` also where a peer told faulty content, and `Peer` where it answered a command by an
     /// error. All links are then shut.
-    #[tactic(auto, using(crate::proofs::CauseLemmas::goes_same, crate::proofs::CauseLemmas::goes_then, crate::proofs::CauseLemmas::cause_later, crate::proofs::CauseLemmas::cause_free))]
+    #[tactic(auto, using(crate::proofs::CauseLemmas::goes_same, crate::proofs::CauseLemmas::goes_then, crate::proofs::CauseLemmas::cause_later, crate::proofs::CauseLemmas::cause_free, crate::proofs::LinkLemmas::links_none, crate::proofs::LinkLemmas::links_then))]
     pub fn turn<W: Wires>(&mut self, wires: &mut W) -> Result<Progress, CopyFault>
         requires going { IsGoing (W.told wires.old) self.old }
         requires faults { self.old.start.faults ≤ W.faults wires.old }
@@ -317,10 +392,15 @@ impl Copier {
         ensures sums { IfOk result (λ told. (start : Option (List Call)) → IsOnItsWay start (W.told wires.old) self.old → HasSummed start (W.told wires.new) self.new told) }
         // Then no flush was asked for before all else was done, and one at most.
         ensures flushes { IfOk result (λ told. (start : Option (List Call)) → IsOnItsWay start (W.told wires.old) self.old → HasFlushed start (W.told wires.new) self.new told) }
+
         // While slices are copied, as much is under way as may be.
         ensures busy { OnOk result (IsBusy self.new.job self.new.board) }
+        // On no connection are more slices begun and not over than the limit divided by the number of its side's, rounded up.
+        ensures spread { OnOk result (AreSpread self.new.job self.new.board) }
         // By its calls as much is unanswered then, where a pause for its connections would want no link for writing.
         ensures under_way { OnOk result ((start : Option (List Call)) → IsOnItsWay start (W.told wires.old) self.old → self.new.from ≢ self.new.to → HasAllAsked start (W.told wires.new) self.new) }
+        // On no connection more is unanswered than its share of what may be.
+        ensures shares { OnOk result ((start : Option (List Call)) → IsOnItsWay start (W.told wires.old) self.old → self.new.from ≢ self.new.to → Told start (W.told wires.new) (IsShared self.new.options self.new.from self.new.to)) }
 
         // Nothing was asked twice so far, and nothing past the source's end.
         ensures asks { OnOk result ((start : Option (List Call)) → IsOnItsWay start (W.told wires.old) self.old → self.new.from ≢ self.new.to → Told start (W.told wires.new) (HasAskedOnce self.new.options.allocated self.new.from self.new.to)) }
@@ -328,6 +408,15 @@ impl Copier {
         // Each position that was read so far was read after a block status had been answered for it, or the source's first
         // connection agreed no meta context, though base:allocation had been asked for where extents are wanted.
         ensures answered { OnOk result ((start : Option (List Call)) → IsOnItsWay start (W.told wires.old) self.old → self.new.from ≢ self.new.to → Told start (W.told wires.new) (ReadsAreAnswered self.new.options.extents self.new.from)) }
+
+        // It doesn't pause; and where nothing happened each link that a pause would want for writing was last written in vain.
+        ensures unpaused { Unpaused (W.told wires.old) (W.told wires.new) }
+        ensures full { IfOk result (λ told. told ≡ progress.Still → LeavesFull self.new.held (W.told wires.old) (W.told wires.new)) }
+
+        // Its links are kept, whether it goes on or not.
+        ensures links { LinksGo [] self.old.held (W.told wires.old) self.new.held (W.told wires.new) }
+        // Whatever it comes to, nothing was asked twice in it, and each READ was answered for before.
+        ensures fair { (start : Option (List Call)) → IsOnItsWay start (W.told wires.old) self.old → self.old.from ≢ self.old.to → Told start (W.told wires.old) (Behaves self.old.options self.old.from self.old.to) → Told start (W.told wires.new) (Behaves self.old.options self.old.from self.old.to) }
 
         // What the calls show of a fault.
         ensures grounds { IfErr result (λ told. (start : Option (List Call)) → IsOnItsWay start (W.told wires.old) self.old → IsGrounded start (W.told wires.new) self.old.from self.old.to told) }
@@ -344,7 +433,7 @@ impl Copier {
     }
 
     /// One turn, after which nothing is shut.
-    #[tactic(auto, using(crate::proofs::CauseLemmas::goes_same, crate::proofs::CauseLemmas::goes_then, crate::proofs::CauseLemmas::cause_later, crate::proofs::CauseLemmas::cause_free, crate::proofs::GroundLemmas::none_grounded))]
+    #[tactic(auto, using(crate::proofs::CauseLemmas::goes_same, crate::proofs::CauseLemmas::goes_then, crate::proofs::CauseLemmas::cause_later, crate::proofs::CauseLemmas::cause_free, crate::proofs::GroundLemmas::none_grounded, crate::proofs::LinkLemmas::links_none, crate::proofs::LinkLemmas::links_then))]
     fn go_on<W: Wires>(&mut self, wires: &mut W) -> Result<Progress, CopyFault>
         requires going { IsGoing (W.told wires.old) self.old }
         requires faults { self.old.start.faults ≤ W.faults wires.old }
@@ -353,13 +442,19 @@ impl Copier {
         ensures turns { IfOk result (λ told. (start : Option (List Call)) → IsOnItsWay start (W.told wires.old) self.old → HasTurned start (W.told wires.new) self.new told) }
         ensures sums { IfOk result (λ told. (start : Option (List Call)) → IsOnItsWay start (W.told wires.old) self.old → HasSummed start (W.told wires.new) self.new told) }
         ensures busy { OnOk result (IsBusy self.new.job self.new.board) }
+        ensures spread { OnOk result (AreSpread self.new.job self.new.board) }
         ensures under_way { OnOk result ((start : Option (List Call)) → IsOnItsWay start (W.told wires.old) self.old → self.new.from ≢ self.new.to → HasAllAsked start (W.told wires.new) self.new) }
+        ensures shares { OnOk result ((start : Option (List Call)) → IsOnItsWay start (W.told wires.old) self.old → self.new.from ≢ self.new.to → Told start (W.told wires.new) (IsShared self.new.options self.new.from self.new.to)) }
         ensures flushes { IfOk result (λ told. (start : Option (List Call)) → IsOnItsWay start (W.told wires.old) self.old → HasFlushed start (W.told wires.new) self.new told) }
         ensures asks { OnOk result ((start : Option (List Call)) → IsOnItsWay start (W.told wires.old) self.old → self.new.from ≢ self.new.to → Told start (W.told wires.new) (HasAskedOnce self.new.options.allocated self.new.from self.new.to)) }
         ensures answered { OnOk result ((start : Option (List Call)) → IsOnItsWay start (W.told wires.old) self.old → self.new.from ≢ self.new.to → Told start (W.told wires.new) (ReadsAreAnswered self.new.options.extents self.new.from)) }
+        ensures unpaused { Unpaused (W.told wires.old) (W.told wires.new) }
+        ensures full { IfOk result (λ told. told ≡ progress.Still → LeavesFull self.new.held (W.told wires.old) (W.told wires.new)) }
+        ensures fair { (start : Option (List Call)) → IsOnItsWay start (W.told wires.old) self.old → self.old.from ≢ self.old.to → Told start (W.told wires.old) (Behaves self.old.options self.old.from self.old.to) → Told start (W.told wires.new) (Behaves self.old.options self.old.from self.old.to) }
         ensures causes { IfErr result (λ told. HasCause self.old.start (W.faults wires.new) (W.idles wires.new) told) }
         ensures grounds { IfErr result (λ told. (start : Option (List Call)) → IsOnItsWay start (W.told wires.old) self.old → IsGrounded start (W.told wires.new) self.old.from self.old.to told) }
         ensures counts { GoesOn (W.faults wires.old) (W.faults wires.new) (W.idles wires.old) (W.idles wires.new) (W.contents wires.old) (W.contents wires.new) }
+        ensures links { LinksGo [] self.old.held (W.told wires.old) self.new.held (W.told wires.new) }
     {
         let moved = self.take_turn(wires)?;
         let acted = self.act()?;
@@ -372,14 +467,18 @@ impl Copier {
     }
 
     /// One turn of the connections.
-    #[tactic(auto, using(crate::proofs::CauseLemmas::goes_same, crate::proofs::CauseLemmas::goes_then, crate::proofs::CauseLemmas::cause_later, crate::proofs::CauseLemmas::cause_free, crate::proofs::GroundLemmas::none_grounded))]
+    #[tactic(auto, using(crate::proofs::CauseLemmas::goes_same, crate::proofs::CauseLemmas::goes_then, crate::proofs::CauseLemmas::cause_later, crate::proofs::CauseLemmas::cause_free, crate::proofs::GroundLemmas::none_grounded, crate::proofs::LinkLemmas::links_none, crate::proofs::LinkLemmas::links_then))]
     fn take_turn<W: Wires>(&mut self, wires: &mut W) -> Result<Turn, CopyFault>
         requires faults { self.old.start.faults ≤ W.faults wires.old }
         ensures kept { self.new ≡ record self.old { held = self.new.held; board = self.new.board } }
         ensures on { OnOk result ((start : Option (List Call)) → IsOnItsWay start (W.told wires.old) self.old → IsOnItsWay start (W.told wires.new) self.new) }
+        ensures unpaused { Stand self.old.held → Unpaused (W.told wires.old) (W.told wires.new) }
+        ensures full { IfOk result (λ told. told ≡ turned.Still → Stand self.old.held → LeavesFull self.new.held (W.told wires.old) (W.told wires.new)) }
+        ensures fair { (start : Option (List Call)) → IsOnItsWay start (W.told wires.old) self.old → self.old.from ≢ self.old.to → Told start (W.told wires.old) (Behaves self.old.options self.old.from self.old.to) → Told start (W.told wires.new) (Behaves self.old.options self.old.from self.old.to) }
         ensures causes { IfErr result (λ told. HasCause self.old.start (W.faults wires.new) (W.idles wires.new) told) }
         ensures grounds { IfErr result (λ told. (start : Option (List Call)) → IsOnItsWay start (W.told wires.old) self.old → IsGrounded start (W.told wires.new) self.old.from self.old.to told) }
         ensures counts { GoesOn (W.faults wires.old) (W.faults wires.new) (W.idles wires.old) (W.idles wires.new) (W.contents wires.old) (W.contents wires.new) }
+        ensures links { Stand self.old.held → LinksGo [] self.old.held (W.told wires.old) self.new.held (W.told wires.new) }
     {
         check_well(&self.board)?;
         let moved = self.handles.turn(wires, &mut self.board)?;
@@ -389,11 +488,14 @@ impl Copier {
     }
 
     /// Asks for whatever can be asked for now. Whether anything was, or the copy went on in another way.
+    #[tactic(auto, using(crate::proofs::LinkLemmas::same_none))]
     fn act(&mut self) -> Result<bool, NoMemory>
         requires { HasJob self.old }
         ensures kept { self.new ≡ record self.old { held = self.new.held; board = self.new.board; job = self.new.job } }
         ensures on { OnOk result ((start told : Option (List Call)) → IsOnItsWay start told self.old → IsOnItsWay start told self.new) }
         ensures busy { OnOk result ((start told : Option (List Call)) → IsOnItsWay start told self.old → IsBusy self.new.job self.new.board) }
+        ensures still { IfOk result (λ acted. acted ≡ false → self.new.held ≡ self.old.held) }
+        ensures links { HaveSameLinks self.old.held self.new.held }
     {
         match &mut self.job {
             Some(job) => job.act(self.alloc, &mut self.handles, &mut self.board),
@@ -412,11 +514,16 @@ impl Copier {
     }
 
     /// Hangs up where a connection has parted. How many did.
+    #[tactic(auto, using(crate::proofs::PauseLemmas::unpaused_none, crate::proofs::LinkLemmas::links_none, crate::proofs::LinkLemmas::links_then, crate::proofs::IdleLemmas::idly_none))]
     fn part<W: Wires>(&mut self, wires: &mut W) -> usize
         ensures kept { self.new ≡ record self.old { held = self.new.held; board = self.new.board } }
         ensures on { (start : Option (List Call)) → IsOnItsWay start (W.told wires.old) self.old → IsOnItsWay start (W.told wires.new) self.new }
         ensures busy { IsBusy self.old.job self.old.board → IsBusy self.new.job self.new.board }
+        ensures unpaused { Unpaused (W.told wires.old) (W.told wires.new) }
+        ensures still { result ≡ 0 → (self.new.held ≡ self.old.held) × (wires.new ≡ wires.old) }
+        ensures idly { GoesIdly (W.told wires.old) (W.told wires.new) }
         ensures counts { GoesOn (W.faults wires.old) (W.faults wires.new) (W.idles wires.old) (W.idles wires.new) (W.contents wires.old) (W.contents wires.new) }
+        ensures links { LinksGo [] self.old.held (W.told wires.old) self.new.held (W.told wires.new) }
     {
         if !self.is_parting() {
             return 0;
@@ -457,24 +564,59 @@ impl Copier {
 
         // Nothing was asked twice, and nothing past the source's end; and all of it was done.
         ensures asks { self.from ≢ self.to → OnOk result (GrewBy (HasAskedOnce self.options.allocated self.from self.to) (W.told wires.old) (W.told wires.new)) }
+        // Nor was it where the copy ends with a fault: nothing was asked yet, or the source had told its size and all was asked once.
+        ensures asked { self.from ≢ self.to → GrewBy (AsksAtMostOnce self.options.allocated self.from self.to) (W.told wires.old) (W.told wires.new) }
         ensures done { self.from ≢ self.to → OnOk result (GrewBy (WereDone self.from self.to) (W.told wires.old) (W.told wires.new)) }
 
         // The summary has the bytes that were asked to be read, written and zeroed, and those that nothing was asked for.
         ensures summary { self.from ≢ self.to → IfOk result (λ told. GrewBy (Summarizes self.from self.to told) (W.told wires.old) (W.told wires.new)) }
+
         // For blocks of the size that both sides told: none was read of the source that one answer told as zero whole, and
         // where zeros are looked for, no write had a whole block of them.
         ensures spares { self.from ≢ self.to → OnOk result (GrewBy (SparesTold self.from self.to) (W.told wires.old) (W.told wires.new)) }
         ensures dense { self.from ≢ self.to → OnOk result (GrewBy (SparesFound self.options self.from self.to) (W.told wires.old) (W.told wires.new)) }
-        // Each position that was read was read after a block status had been answered for it, or the source's first connection
-        // agreed no meta context, though base:allocation had been asked for where extents are wanted.
-        ensures answered { self.from ≢ self.to → OnOk result (GrewBy (ReadsAreAnswered self.options.extents self.from) (W.told wires.old) (W.told wires.new)) }
+        // So it is with each WRITE also where the copy ends with a fault, once anything was asked.
+        ensures spared { self.from ≢ self.to → GrewBy (SparesSoFar self.options self.from self.to) (W.told wires.old) (W.told wires.new) }
+        // Whatever it comes to, each position that was read was read after a block status had been answered for it, or the source's
+        // first connection agreed no meta context, though base:allocation had been asked for where extents are wanted.
+        ensures answered { self.from ≢ self.to → GrewBy (ReadsAreAnswered self.options.extents self.from) (W.told wires.old) (W.told wires.new) }
+
         // The destination was asked to flush once at most, and only when all else was asked and done: it was, and that is done,
-        // where it is wanted and the destination told that it can be flushed; and not at all where it is not wanted.
+        // where it is wanted and the destination told that it can be flushed. Whatever it comes to, it was once at most, and not
+        // at all where it is not wanted.
         ensures flushes { self.from ≢ self.to → IfOk result (λ told. GrewBy (FlushesLast self.from self.to told) (W.told wires.old) (W.told wires.new)) }
         ensures flushed { self.from ≢ self.to → OnOk result (GrewBy (FlushesWanted self.options self.from self.to) (W.told wires.old) (W.told wires.new)) }
-        ensures unflushed { self.options.flush ≡ false → self.from ≢ self.to → OnOk result (GrewBy (IsUnflushed self.to) (W.told wires.old) (W.told wires.new)) }
+        ensures at_most_once { self.from ≢ self.to → GrewBy (FlushesAtMostOnce self.to) (W.told wires.old) (W.told wires.new) }
+        ensures unflushed { self.options.flush ≡ false → self.from ≢ self.to → GrewBy (IsUnflushed self.to) (W.told wires.old) (W.told wires.new) }
+
+        // Whatever came of it, at each pause that wants no link for writing a connection is not ready yet, or just as many READ, WRITE
+        // and WRITE_ZEROES are unanswered as planned slices are not finished, up to the limit, and one BLOCK_STATUS where that is
+        // not reached.
+        ensures pauses { self.from ≢ self.to → GrewBy (PausesAreFull self.options self.from self.to) (W.told wires.old) (W.told wires.new) }
+        // On no connection more are unanswered at a pause than that limit divided by the number of its side's connections, rounded up.
+        ensures shares { self.from ≢ self.to → GrewBy (PausesAreShared self.options self.from self.to) (W.told wires.old) (W.told wires.new) }
+
         // One handle drove each link, if any did.
         ensures driven { OnOk result (GrewBy AreDriven (W.told wires.old) (W.told wires.new)) }
+        // All of this together.
+        ensures made { self.from ≢ self.to → IfOk result (λ told. GrewBy (IsMade self.options self.from self.to told) (W.told wires.old) (W.told wires.new)) }
+
+        // Whatever came of it: each link that it read, wrote or shut was one that it had made and not shut, in the end it had shut
+        // each, and it listened for no peer.
+        ensures links { GrewBy LinksAreKept (W.told wires.old) (W.told wires.new) }
+        // It connected to the source and to the destination, and then again to the source and again to the destination, to each as
+        // often as its options and what both sides told say. Where it failed it may not have come to all of these, and to none of the
+        // further ones unless both had told.
+        ensures within { GrewBy (ConnectsWithin self.options self.from self.to) (W.told wires.old) (W.told wires.new) }
+        ensures connects { OnOk result (GrewBy (ConnectsAsTold self.options self.from self.to) (W.told wires.old) (W.told wires.new)) }
+
+        // Whatever came of it, at each pause a link was wanted for writing only where the last write on it since the pause before
+        // took nothing.
+        ensures writes { GrewBy (AtEachPause WantsOnlyFull) (W.told wires.old) (W.told wires.new) }
+        // It was wanted only where its handle negotiated, had commands in flight, had bytes to write, or had asked for the end of its
+        // connection, and in that handle's direction.
+        ensures waits { GrewBy (AtEachPause WaitsWell) (W.told wires.old) (W.told wires.new) }
+
         // What the calls show of a fault.
         ensures grounds { IfErr result (λ told. IsGrounded (W.told wires.old) (W.told wires.new) self.from self.to told) }
         // The counts, and what they show of a fault.
@@ -495,9 +637,16 @@ impl Copier {
         ensures done { OnOk result (IsDone (W.told wires.old) (W.told wires.new) self.new) }
         ensures sums { IfOk result (λ told. self.new.from ≢ self.new.to → Told (W.told wires.old) (W.told wires.new) (Summarizes self.new.from self.new.to told)) }
         ensures flushes { IfOk result (λ told. self.new.from ≢ self.new.to → Told (W.told wires.old) (W.told wires.new) (FlushesLast self.new.from self.new.to told)) }
+        ensures shares { self.new.from ≢ self.new.to → Told (W.told wires.old) (W.told wires.new) (PausesAreShared self.new.options self.new.from self.new.to) }
+        ensures fair { self.old.from ≢ self.old.to → Told (W.told wires.old) (W.told wires.new) (Behaves self.old.options self.old.from self.old.to) }
+        ensures pauses { self.new.from ≢ self.new.to → Told (W.told wires.old) (W.told wires.new) (PausesAreFull self.new.options self.new.from self.new.to) }
+        ensures writes { Told (W.told wires.old) (W.told wires.new) (AtEachPause WantsOnlyFull) }
+        ensures waits { Told (W.told wires.old) (W.told wires.new) (AtEachPause WaitsWell) }
         ensures causes { IfErr result (λ told. HasCause (record { faults = W.faults wires.old; idles = W.idles wires.old }) (W.faults wires.new) (W.idles wires.new) told) }
         ensures grounds { IfErr result (λ told. IsGrounded (W.told wires.old) (W.told wires.new) self.old.from self.old.to told) }
         ensures counts { GoesOn (W.faults wires.old) (W.faults wires.new) (W.idles wires.old) (W.idles wires.new) (W.contents wires.old) (W.contents wires.new) }
+        ensures links { LinksGoWithin self.old.options self.old.from self.old.to self.old.held (W.told wires.old) self.new.held (W.told wires.new) }
+        ensures connects { OnOk result (LinksGoAsTold self.old.options self.old.from self.old.to self.old.held (W.told wires.old) self.new.held (W.told wires.new)) }
     {
         self.begin(wires)?;
         'turns: for _ in 0..MAX_TURNS {
@@ -515,9 +664,13 @@ impl Copier {
         requires idles { self.old.start.idles ≤ W.idles wires.old }
         ensures kept { self.new ≡ record self.old { held = self.new.held } }
         ensures on { OnOk result ((start : Option (List Call)) → IsOnItsWay start (W.told wires.old) self.old → IsOnItsWay start (W.told wires.new) self.new) }
+        ensures pauses { OnOk result (Adds (W.told wires.old) (W.told wires.new) (Pause (wants_now self.old.held))) }
+        ensures idly { GoesIdly (W.told wires.old) (W.told wires.new) }
+        ensures still { OnErr result (W.told wires.new ≡ W.told wires.old) }
         ensures causes { IfErr result (λ told. HasCause self.old.start (W.faults wires.new) (W.idles wires.new) told) }
         ensures free { IfErr result (λ told. needs_no_ground told ≡ true) }
         ensures counts { GoesOn (W.faults wires.old) (W.faults wires.new) (W.idles wires.old) (W.idles wires.new) (W.contents wires.old) (W.contents wires.new) }
+        ensures links { LinksGo [] self.old.held (W.told wires.old) self.new.held (W.told wires.new) }
     {
         wait(&mut self.handles, wires, self.start)
     }
@@ -525,7 +678,10 @@ impl Copier {
     /// Ends a copy, finished or not: frees all callbacks and shuts all links.
     pub fn end<W: Wires>(self, wires: &mut W)
         ensures parted { self.held ≡ [] → wires.new ≡ wires.old }
+        ensures links { LinksGo [] self.held (W.told wires.old) [] (W.told wires.new) }
         ensures lasts { Lasts (W.told wires.old) (W.told wires.new) }
+        ensures idly { GoesIdly (W.told wires.old) (W.told wires.new) }
+        ensures unpaused { Unpaused (W.told wires.old) (W.told wires.new) }
         ensures counts { GoesOn (W.faults wires.old) (W.faults wires.new) (W.idles wires.old) (W.idles wires.new) (W.contents wires.old) (W.contents wires.new) }
     {
         let Copier {
@@ -551,6 +707,8 @@ fn progress_of(moved: Turn, acted: bool) -> Progress
     ensures on { (start told : Option (List Call)) (copy : Seen) → IsOnItsWay start told copy → HasTurned start told copy result }
     ensures sums { (start told : Option (List Call)) (copy : Seen) → HasSummed start told copy result }
     ensures flushes { (start told : Option (List Call)) (copy : Seen) → HasFlushed start told copy result }
+    ensures moved { result ≡ progress.Still → moved ≡ turned.Still }
+    ensures acted { result ≡ progress.Still → acted ≡ false }
 {
     match moved {
         Turn::Moved(count) => Progress::Moved(count),

@@ -1,12 +1,16 @@
 //! The requests of a copy: which connection is asked for what, as the board and the plan say. When a copy turns, and when it
 //! ends, is not known here.
 
-ghost use Rattle.std.specs.Prelude.{◌≡◌, ◌+◌, ◌≤◌, ◌<◌, ◌^◌, true, false, not, [], ◌∷◌, length, IfOk, OnOk};
+ghost use Rattle.std.specs.Prelude.{◌≡◌, ◌+◌, ◌-◌, ◌≤◌, ◌<◌, ◌^◌, ℕ, true, false, not, [], ◌∷◌, length, replicate, slice_index, slice_set, IfOk, OnOk};
 ghost use Rattle.lnbd_handle.specs.Issues.{read_of, write_of, zero_of, flush_of, block_status_of};
+ghost use Rattle.lnbd_board.specs.Board.{risen};
+ghost use Rattle.lnbd_board.specs.Bound.{IsFewest};
 ghost use Rattle.lnbd_board.specs.declared.ticket.Ticket.TheVariants as ticket;
 ghost use Rattle.lnbd_course.specs.Orders.{command_of};
 ghost use Rattle.lnbd_copy.specs.Asked.{IsAsked};
+ghost use Rattle.lnbd_copy.specs.Dealt.{Deals};
 ghost use Rattle.lnbd_copy.specs.Dealing.{Begins, HasBegun, HasGoneOn, IsAskedFirst, IsAskedOf};
+ghost use Rattle.lnbd_copy.specs.Links.{HaveSameLinks};
 ghost use Rattle.lnbd_copy.specs.UnderWay.{Fills, HasBegunOne, HasLooked, HaveLooked};
 ghost use Rattle.lnbd_copy.specs.Way.{Keeps, is_source};
 
@@ -21,7 +25,8 @@ use lnbd_poll::Handles;
 use std::alloc::Global;
 use std::marker::Model;
 
-/// The slices that are bound to the connections of both sides. Contracts see how many connections there are.
+/// The slices that are bound to the connections of both sides. Contracts see how many connections there are, and how many slices
+/// are bound to each.
 #[derive(Drop)]
 pub(crate) struct Bindings {
     sides: Sides,
@@ -31,11 +36,11 @@ pub(crate) struct Bindings {
 
 impl Model for Bindings {
     ghost use Rattle.std.specs.Prelude.{◌≡◌, ◌<◌, length};
-    ghost use Rattle.lnbd_copy.specs.declared.sides.Sides.{Sides as Both};
+    ghost use Rattle.lnbd_copy.specs.Bound.{Seen};
 
-    ghost Value = { Both };
+    ghost Value = { Seen };
 
-    ghost view = { λ b. b.sides };
+    ghost view = { λ b. record { sides = b.sides; bound = record { source = b.source; destination = b.destination } } };
 
     ghost invariant = { λ b. (length b.source ≡ b.sides.source) × (length b.destination ≡ b.sides.destination) × (0 < b.sides.source) × (0 < b.sides.destination) };
 }
@@ -70,6 +75,8 @@ fn ask_change(
 ) -> Result<(), NoMemory>
     ensures asked { OnOk result (IsAsked index (command_of number change) handles.old handles.new) }
     ensures board { OnOk result (board.new ≡ board.old) }
+    ensures few { OnOk result (index < 2 ^ 64 - 1) }
+    ensures links { HaveSameLinks handles.old handles.new }
 {
     match change {
         Change::Write { offset, bytes } => {
@@ -84,6 +91,7 @@ fn ask_change(
 }
 
 /// Asks a connection to write bytes of a slice.
+#[tactic(auto, using(crate::proofs::LinkLemmas::same_none, crate::proofs::LinkLemmas::same_with))]
 fn ask_write(
     handles: &mut Handles<Ticket>,
     board: &mut Board,
@@ -94,6 +102,8 @@ fn ask_write(
 ) -> Result<(), NoMemory>
     ensures asked { OnOk result (IsAsked index (write_of buf.items offset (ticket.Slice number) 0) handles.old handles.new) }
     ensures board { OnOk result (board.new ≡ board.old) }
+    ensures few { OnOk result (index < 2 ^ 64 - 1) }
+    ensures links { HaveSameLinks handles.old handles.new }
 {
     if index >= handles.len() {
         return Err(NoMemory);
@@ -108,6 +118,7 @@ fn ask_write(
 }
 
 /// Asks a connection to zero bytes of a slice.
+#[tactic(auto, using(crate::proofs::LinkLemmas::same_none, crate::proofs::LinkLemmas::same_with))]
 fn ask_zero(
     handles: &mut Handles<Ticket>,
     board: &mut Board,
@@ -119,6 +130,8 @@ fn ask_zero(
 ) -> Result<(), NoMemory>
     ensures asked { OnOk result (IsAsked index (zero_of length offset (ticket.Slice number) flags) handles.old handles.new) }
     ensures board { OnOk result (board.new ≡ board.old) }
+    ensures few { OnOk result (index < 2 ^ 64 - 1) }
+    ensures links { HaveSameLinks handles.old handles.new }
 {
     if index >= handles.len() {
         return Err(NoMemory);
@@ -133,6 +146,7 @@ fn ask_zero(
 }
 
 /// Asks a connection for the bytes of a slice.
+#[tactic(auto, using(crate::proofs::LinkLemmas::same_none, crate::proofs::LinkLemmas::same_with))]
 fn ask_read(
     handles: &mut Handles<Ticket>,
     board: &mut Board,
@@ -143,6 +157,7 @@ fn ask_read(
 ) -> Result<(), NoMemory>
     ensures asked { OnOk result (IsAsked index (read_of buf.items offset (ticket.Slice number) 0) handles.old handles.new) }
     ensures board { OnOk result (board.new ≡ board.old) }
+    ensures links { HaveSameLinks handles.old handles.new }
 {
     if index >= handles.len() {
         return Err(NoMemory);
@@ -157,6 +172,7 @@ fn ask_read(
 }
 
 /// Asks the source's first connection for the extents of a range.
+#[tactic(auto, using(crate::proofs::LinkLemmas::same_none, crate::proofs::LinkLemmas::same_with))]
 pub(crate) fn ask_extents(
     handles: &mut Handles<Ticket>,
     board: &mut Board,
@@ -165,6 +181,7 @@ pub(crate) fn ask_extents(
 ) -> Result<(), NoMemory>
     ensures asked { OnOk result (IsAsked 0 (block_status_of length offset ticket.Extents ticket.Extents 0) handles.old handles.new) }
     ensures board { OnOk result (board.new ≡ record board.old { told = []; mapped = false }) }
+    ensures links { HaveSameLinks handles.old handles.new }
 {
     if FIRST_SOURCE >= handles.len() {
         return Err(NoMemory);
@@ -180,9 +197,11 @@ pub(crate) fn ask_extents(
 }
 
 /// Asks the destination's first connection to flush.
+#[tactic(auto, using(crate::proofs::LinkLemmas::same_none, crate::proofs::LinkLemmas::same_with))]
 pub(crate) fn ask_flush(handles: &mut Handles<Ticket>, board: &mut Board) -> Result<(), NoMemory>
     ensures asked { OnOk result (IsAsked 1 (flush_of ticket.Flush 0) handles.old handles.new) }
     ensures board { OnOk result (board.new ≡ record board.old { flushing = true }) }
+    ensures links { HaveSameLinks handles.old handles.new }
 {
     if FIRST_DESTINATION >= handles.len() {
         return Err(NoMemory);
@@ -206,8 +225,10 @@ fn change_destination(
     number: u64,
     change: Change,
 ) -> Result<(), NoMemory>
-    ensures asked { OnOk result (IsAskedOf sides false (command_of number change) handles.old handles.new) }
+    requires held { 0 < sides.source }
+    ensures asked { OnOk result (IsAskedOf sides false connection (command_of number change) handles.old handles.new) }
     ensures board { OnOk result (board.new ≡ board.old) }
+    ensures links { HaveSameLinks handles.old handles.new }
 {
     let index = sides.destination(connection);
     ask_change(handles, board, index, number, change)
@@ -224,8 +245,9 @@ fn ask_first(
     first: Ask,
 ) -> Result<(), NoMemory>
     requires held { source < sides.source }
-    ensures asked { OnOk result (IsAskedFirst sides number first handles.old handles.new) }
+    ensures asked { OnOk result (IsAskedFirst sides source destination number first handles.old handles.new) }
     ensures board { OnOk result (board.new ≡ board.old) }
+    ensures links { HaveSameLinks handles.old handles.new }
 {
     match first {
         Ask::Read { offset, buf } => {
@@ -241,7 +263,9 @@ fn ask_first(
 impl Bindings {
     /// No slice is bound to any of these connections. A side that has none counts as one for which memory ran out.
     pub(crate) fn new(alloc: Global, terms: Terms) -> Result<Bindings, NoMemory>
-        ensures { IfOk result (λ bindings. bindings ≡ terms.sides) }
+        ensures sides { IfOk result (λ bindings. bindings.sides ≡ terms.sides) }
+        ensures source { IfOk result (λ bindings. bindings.bound.source ≡ replicate terms.sides.source 0) }
+        ensures destination { IfOk result (λ bindings. bindings.bound.destination ≡ replicate terms.sides.destination 0) }
     {
         let sides = terms.sides;
         if sides.source == 0 || sides.destination == 0 {
@@ -256,16 +280,20 @@ impl Bindings {
 
     /// Asks what comes next of all slices that something came for. How many requests were made, and slices came to their end. If that
     /// came to no end it would count as want of memory.
+    #[tactic(auto, using(crate::proofs::LinkLemmas::same_none, crate::proofs::LinkLemmas::same_then))]
     pub(crate) fn go_on(
         &mut self,
         alloc: Global,
         handles: &mut Handles<Ticket>,
         board: &mut Board,
     ) -> Result<usize, NoMemory>
-        ensures sides { self.new ≡ self.old }
+        ensures sides { self.new.sides ≡ self.old.sides }
         ensures others { OnOk result (HasGoneOn board.old board.new) }
-        ensures keeps { OnOk result (Keeps board.old.how self.old [] board.old board.new handles.old handles.new) }
+        ensures keeps { OnOk result (Keeps board.old.how self.old.sides [] board.old board.new handles.old handles.new) }
         ensures looked { OnOk result (HaveLooked board.old board.new) }
+        ensures still { IfOk result (λ done. done ≡ 0 → handles.new ≡ handles.old) }
+        ensures dealt { OnOk result ((limit : ℕ) → Deals limit self.old.sides self.old.bound self.new.bound board.old.rows board.new.rows) }
+        ensures links { HaveSameLinks handles.old handles.new }
     {
         let mut done: usize = 0;
         'slices: for _ in 0..u64::MAX {
@@ -278,16 +306,20 @@ impl Bindings {
     }
 
     /// Asks what comes next of the slice that something came for first. Whether there was one.
+    #[tactic(auto, using(crate::proofs::LinkLemmas::same_none, crate::proofs::LinkLemmas::same_then))]
     fn go_on_once(
         &mut self,
         alloc: Global,
         handles: &mut Handles<Ticket>,
         board: &mut Board,
     ) -> Result<bool, NoMemory>
-        ensures sides { self.new ≡ self.old }
+        ensures sides { self.new.sides ≡ self.old.sides }
         ensures others { OnOk result (HasGoneOn board.old board.new) }
-        ensures keeps { OnOk result (Keeps board.old.how self.old [] board.old board.new handles.old handles.new) }
+        ensures keeps { OnOk result (Keeps board.old.how self.old.sides [] board.old board.new handles.old handles.new) }
         ensures looked { IfOk result (λ went. HasLooked went board.old board.new) }
+        ensures still { IfOk result (λ went. went ≡ false → handles.new ≡ handles.old) }
+        ensures dealt { OnOk result ((limit : ℕ) → Deals limit self.old.sides self.old.bound self.new.bound board.old.rows board.new.rows) }
+        ensures links { HaveSameLinks handles.old handles.new }
     {
         let next = board.next(alloc)?;
         match next {
@@ -313,24 +345,29 @@ impl Bindings {
 
     /// How many connections each side has.
     fn sides(&self) -> Sides
-        ensures { result ≡ self.now }
+        ensures same { result ≡ self.now.sides }
+        ensures some { 0 < result.source }
     {
         self.sides
     }
 
     /// The connection of each side to which the fewest slices are bound.
     fn fewest(&self) -> (usize, usize)
-        ensures source { result.0 < self.now.source }
-        ensures destination { result.1 < self.now.destination }
+        ensures source { result.0 < self.now.sides.source }
+        ensures destination { result.1 < self.now.sides.destination }
+        ensures few_of_source { IsFewest self.now.bound.source result.0 }
+        ensures few_of_destination { IsFewest self.now.bound.destination result.1 }
     {
         (self.source.fewest(), self.destination.fewest())
     }
 
     /// A slice is bound to these connections.
     fn bind(&mut self, source: usize, destination: usize)
-        requires source { source < self.old.source }
-        requires destination { destination < self.old.destination }
-        ensures { self.new ≡ self.old }
+        requires source { source < self.old.sides.source }
+        requires destination { destination < self.old.sides.destination }
+        ensures sides { self.new.sides ≡ self.old.sides }
+        ensures source { self.new.bound.source ≡ slice_set self.old.bound.source source (risen (slice_index self.old.bound.source source) 1) }
+        ensures destination { self.new.bound.destination ≡ slice_set self.old.bound.destination destination (risen (slice_index self.old.bound.destination destination) 1) }
     {
         self.source.bind(source);
         self.destination.bind(destination);
@@ -338,7 +375,9 @@ impl Bindings {
 
     /// A slice is over that was bound to these connections. They are looked at, since a board does not know how many there are.
     fn release(&mut self, source: usize, destination: usize)
-        ensures { self.new ≡ self.old }
+        ensures sides { self.new.sides ≡ self.old.sides }
+        ensures source { source < self.old.sides.source → destination < self.old.sides.destination → self.new.bound.source ≡ slice_set self.old.bound.source source (slice_index self.old.bound.source source - 1) }
+        ensures destination { source < self.old.sides.source → destination < self.old.sides.destination → self.new.bound.destination ≡ slice_set self.old.bound.destination destination (slice_index self.old.bound.destination destination - 1) }
     {
         if source < self.sides.source as usize && destination < self.sides.destination as usize {
             self.source.release(source);
@@ -348,6 +387,7 @@ impl Bindings {
 
     /// Begins planned slices, each on the connections to which the fewest are bound, up to as many as may be under way. How
     /// many were begun.
+    #[tactic(auto, using(crate::proofs::LinkLemmas::same_none, crate::proofs::LinkLemmas::same_then))]
     pub(crate) fn begin(
         &mut self,
         alloc: Global,
@@ -357,10 +397,13 @@ impl Bindings {
         limit: u64,
     ) -> Result<usize, NoMemory>
         requires zeros { windows.old.plan.cells.zeros ≡ not board.old.how.skip }
-        ensures sides { self.new ≡ self.old }
+        ensures sides { self.new.sides ≡ self.old.sides }
         ensures windows { windows.new ≡ record windows.old { plan = record windows.old.plan { slices = windows.new.plan.slices } } }
-        ensures begins { OnOk result (Begins board.old.how self.old windows.old windows.new board.old board.new handles.old handles.new) }
+        ensures begins { OnOk result (Begins board.old.how self.old.sides windows.old windows.new board.old board.new handles.old handles.new) }
         ensures fills { OnOk result (Fills limit windows.old windows.new board.old board.new) }
+        ensures still { IfOk result (λ done. done ≡ 0 → handles.new ≡ handles.old) }
+        ensures dealt { OnOk result (Deals limit self.old.sides self.old.bound self.new.bound board.old.rows board.new.rows) }
+        ensures links { HaveSameLinks handles.old handles.new }
     {
         let mut done: usize = 0;
         'slices: for under_way in board.count() as u64..limit {
@@ -373,6 +416,7 @@ impl Bindings {
     }
 
     /// Begins the next slice that is planned, if there is one. Whether there was.
+    #[tactic(auto, using(crate::proofs::LinkLemmas::same_none, crate::proofs::LinkLemmas::same_then))]
     fn begin_next(
         &mut self,
         alloc: Global,
@@ -381,10 +425,13 @@ impl Bindings {
         windows: &mut Windows,
     ) -> Result<bool, NoMemory>
         requires zeros { windows.old.plan.cells.zeros ≡ not board.old.how.skip }
-        ensures sides { self.new ≡ self.old }
+        ensures sides { self.new.sides ≡ self.old.sides }
         ensures windows { windows.new ≡ record windows.old { plan = record windows.old.plan { slices = windows.new.plan.slices } } }
-        ensures begins { OnOk result (Begins board.old.how self.old windows.old windows.new board.old board.new handles.old handles.new) }
+        ensures begins { OnOk result (Begins board.old.how self.old.sides windows.old windows.new board.old board.new handles.old handles.new) }
         ensures next { IfOk result (λ begun. HasBegunOne begun windows.old windows.new board.old board.new) }
+        ensures still { IfOk result (λ begun. begun ≡ false → handles.new ≡ handles.old) }
+        ensures dealt { OnOk result ((limit : ℕ) → limit < 2 ^ 64 → length board.old.rows < limit → Deals limit self.old.sides self.old.bound self.new.bound board.old.rows board.new.rows) }
+        ensures links { HaveSameLinks handles.old handles.new }
     {
         match windows.next() {
             None => Ok(false),
@@ -396,6 +443,7 @@ impl Bindings {
     }
 
     /// Begins a slice, and asks for what comes first of it.
+    #[tactic(auto, using(crate::proofs::LinkLemmas::same_none))]
     fn begin_one(
         &mut self,
         alloc: Global,
@@ -405,10 +453,12 @@ impl Bindings {
     ) -> Result<(), NoMemory>
         requires room { slice.start + slice.length ≤ 2 ^ 63 }
         requires copied { slice.zero ≡ true → board.old.how.skip ≡ false }
-        ensures sides { self.new ≡ self.old }
+        ensures sides { self.new.sides ≡ self.old.sides }
         ensures others { OnOk result (HasBegun board.old board.new) }
-        ensures keeps { OnOk result (Keeps board.old.how self.old (slice ∷ []) board.old board.new handles.old handles.new) }
+        ensures keeps { OnOk result (Keeps board.old.how self.old.sides (slice ∷ []) board.old board.new handles.old handles.new) }
         ensures more { OnOk result (length board.new.rows ≡ length board.old.rows + 1) }
+        ensures dealt { OnOk result ((limit : ℕ) → limit < 2 ^ 64 → length board.old.rows < limit → Deals limit self.old.sides self.old.bound self.new.bound board.old.rows board.new.rows) }
+        ensures links { HaveSameLinks handles.old handles.new }
     {
         let number = board.begun();
         let (source, destination) = self.fewest();

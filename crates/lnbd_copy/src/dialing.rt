@@ -1,12 +1,21 @@
 //! The connections of a copy: they are made one after another, and negotiate side by side.
 
-ghost use Rattle.std.specs.Prelude.{◌≡◌, ◌≤◌, ◌++◌, ◌∷◌, [], true, false, IfErr, OnOk};
+ghost use Rattle.std.specs.Prelude.{◌≡◌, ◌⊎◌, ◌≤◌, ◌++◌, ◌∷◌, [], true, false, IfErr, List, OnErr, OnOk, Option};
+ghost use Rattle.lnbd_link.specs.Call.{Call, Pause};
+ghost use Rattle.lnbd_link.specs.Part.{Adds};
+ghost use Rattle.lnbd_poll.specs.Held.{wants_now};
+ghost use Rattle.lnbd_model.specs.declared.target.Place.{Place as At};
+ghost use Rattle.lnbd_poll.specs.declared.noticed.Turn.TheVariants as turned;
 ghost use Rattle.lnbd_board.specs.Files.{Seen};
 ghost use Rattle.lnbd_copy.specs.Agreed.{AreQuiet};
 ghost use Rattle.lnbd_copy.specs.Causes.{GoesOn, HasCause, tells_no_count};
+ghost use Rattle.lnbd_copy.specs.Faults.{AreUnissued, AsksNone, GoesIdly, StaysFresh, StaysUnasked};
 ghost use Rattle.lnbd_copy.specs.Grounds.{Blames, FailsOn, FindsDead, needs_no_ground};
+ghost use Rattle.lnbd_copy.specs.Links.{LinksGo, LinksGoTo};
 ghost use Rattle.lnbd_copy.specs.Opening.{Dials};
-ghost use Rattle.lnbd_copy.specs.Way.{Goes};
+ghost use Rattle.lnbd_copy.specs.Pauses.{LeavesFull, Pauses, Unpaused, WantsOnlyFull};
+ghost use Rattle.lnbd_copy.specs.Unready.{StaysUnready};
+ghost use Rattle.lnbd_copy.specs.Way.{Goes, Stand};
 
 use crate::agreeing::are_quiet;
 use crate::counts::{Counts, check_faults, check_idles, of_death};
@@ -26,6 +35,7 @@ const MAX_CONNECTIONS: usize = 64;
 pub(crate) const MAX_TURNS: u64 = u64::MAX;
 
 /// Holds a handle with its link, behind the others.
+#[tactic(auto, using(crate::proofs::IdleLemmas::idly_none, crate::proofs::IdleLemmas::idly_shut, crate::proofs::PauseLemmas::unpaused_none, crate::proofs::PauseLemmas::unpaused_shut))]
 fn hold<W: Wires>(
     handles: &mut Handles<Ticket>,
     board: &mut Board,
@@ -36,7 +46,10 @@ fn hold<W: Wires>(
     ensures held { OnOk result (handles.new ≡ handles.old ++ record { link = link; handle = handle.machine; inbox = [] } ∷ []) }
     ensures board { OnOk result (board.new ≡ board.old) }
     ensures told { OnOk result (W.told wires.new ≡ W.told wires.old) }
+    ensures unpaused { Unpaused (W.told wires.old) (W.told wires.new) }
     ensures counts { GoesOn (W.faults wires.old) (W.faults wires.new) (W.idles wires.old) (W.idles wires.new) (W.contents wires.old) (W.contents wires.new) }
+    ensures links { LinksGo [] (handles.old ++ record { link = link; handle = handle.machine; inbox = [] } ∷ []) (W.told wires.old) handles.new (W.told wires.new) }
+    ensures idly { GoesIdly (W.told wires.old) (W.told wires.new) }
 {
     if handles.len() >= MAX_CONNECTIONS {
         let _ = handle.close(board);
@@ -54,7 +67,7 @@ fn hold<W: Wires>(
 }
 
 /// Connects to this place, and has one handle more ask there.
-#[tactic(auto, using(crate::proofs::DialLemmas::dials))]
+#[tactic(auto, using(crate::proofs::DialLemmas::dials, crate::proofs::PauseLemmas::unpaused_none, crate::proofs::ConnectLemmas::goes_nowhere))]
 pub(crate) fn dial<W: Wires>(
     alloc: Global,
     handles: &mut Handles<Ticket>,
@@ -66,10 +79,15 @@ pub(crate) fn dial<W: Wires>(
 ) -> Result<(), CopyFault>
     requires counted { start.faults ≤ W.faults wires.old }
     ensures dials { OnOk result (Dials place.now extents board.old handles.old (W.told wires.old) handles.new (W.told wires.new)) }
+    ensures unpaused { Unpaused (W.told wires.old) (W.told wires.new) }
     ensures board { OnOk result (board.new ≡ board.old) }
     ensures causes { IfErr result (λ told. HasCause start (W.faults wires.new) (W.idles wires.new) told) }
     ensures free { IfErr result (λ told. needs_no_ground told ≡ true) }
     ensures counts { GoesOn (W.faults wires.old) (W.faults wires.new) (W.idles wires.old) (W.idles wires.new) (W.contents wires.old) (W.contents wires.new) }
+    ensures links { LinksGoTo (place.now.to ∷ []) handles.old (W.told wires.old) handles.new (W.told wires.new) }
+    ensures connects { OnOk result (LinksGo (place.now.to ∷ []) handles.old (W.told wires.old) handles.new (W.told wires.new)) }
+    ensures unasked { (from to : At) → (place.now ≡ from) ⊎ (place.now ≡ to) → StaysUnasked from to (W.told wires.old) (W.told wires.new) }
+    ensures unissued { OnOk result (AreUnissued handles.old → AreUnissued handles.new) }
 {
     let handle = open(alloc, &place.name, extents, board)?;
     match wires.connect(&place.to) {
@@ -113,6 +131,7 @@ pub(crate) fn check<W: Wires>(
 }
 
 /// Waits, unless that was borne for as long as it is.
+#[tactic(auto, using(crate::proofs::LinkLemmas::links_none, crate::proofs::LinkLemmas::links_then, crate::proofs::IdleLemmas::idly_none, crate::proofs::IdleLemmas::idly_paused))]
 pub(crate) fn wait<W: Wires>(
     handles: &mut Handles<Ticket>,
     wires: &mut W,
@@ -120,17 +139,22 @@ pub(crate) fn wait<W: Wires>(
 ) -> Result<(), CopyFault>
     requires counted { start.idles ≤ W.idles wires.old }
     ensures goes { OnOk result ((now : Seen) → Goes now handles.old (W.told wires.old) now handles.new (W.told wires.new)) }
+    ensures pauses { OnOk result (Adds (W.told wires.old) (W.told wires.new) (Pause (wants_now handles.old))) }
+    ensures still { OnErr result (W.told wires.new ≡ W.told wires.old) }
     ensures causes { IfErr result (λ told. HasCause start (W.faults wires.new) (W.idles wires.new) told) }
     ensures free { IfErr result (λ told. needs_no_ground told ≡ true) }
     ensures counts { GoesOn (W.faults wires.old) (W.faults wires.new) (W.idles wires.old) (W.idles wires.new) (W.contents wires.old) (W.contents wires.new) }
+    ensures links { LinksGo [] handles.old (W.told wires.old) handles.new (W.told wires.new) }
+    ensures idly { GoesIdly (W.told wires.old) (W.told wires.new) }
+    ensures same { handles.new ≡ handles.old }
 {
     check_idles(wires, start)?;
     handles.pause(wires);
     Ok(())
 }
 
-/// Waits where nothing happened in a turn.
-#[tactic(auto, using(crate::proofs::CauseLemmas::goes_same, crate::proofs::TurnLemmas::goes_none))]
+/// Waits where nothing happened in a turn and a connection still negotiates.
+#[tactic(auto, using(crate::proofs::CauseLemmas::goes_same, crate::proofs::TurnLemmas::goes_none, crate::proofs::LinkLemmas::links_none, crate::proofs::LinkLemmas::links_then, crate::proofs::IdleLemmas::idly_none))]
 fn rest<W: Wires>(
     handles: &mut Handles<Ticket>,
     wires: &mut W,
@@ -139,18 +163,28 @@ fn rest<W: Wires>(
 ) -> Result<(), CopyFault>
     requires counted { start.idles ≤ W.idles wires.old }
     ensures goes { OnOk result ((now : Seen) → Goes now handles.old (W.told wires.old) now handles.new (W.told wires.new)) }
+    ensures unready { (now : Seen) → StaysUnready now handles.old (W.told wires.old) (W.told wires.new) }
+    ensures writes { (before : Option (List Call)) → Unpaused before (W.told wires.old) → (told ≡ turned.Still → LeavesFull handles.old before (W.told wires.old)) → Pauses WantsOnlyFull before (W.told wires.new) }
     ensures causes { IfErr result (λ told. HasCause start (W.faults wires.new) (W.idles wires.new) told) }
     ensures free { IfErr result (λ told. needs_no_ground told ≡ true) }
     ensures counts { GoesOn (W.faults wires.old) (W.faults wires.new) (W.idles wires.old) (W.idles wires.new) (W.contents wires.old) (W.contents wires.new) }
+    ensures links { LinksGo [] handles.old (W.told wires.old) handles.new (W.told wires.new) }
+    ensures idly { GoesIdly (W.told wires.old) (W.told wires.new) }
+    ensures same { handles.new ≡ handles.old }
 {
     match told {
-        Turn::Still => wait(handles, wires, start),
+        Turn::Still => {
+            if are_quiet(handles) {
+                return Ok(());
+            }
+            wait(handles, wires, start)
+        }
         Turn::Moved(_) => Ok(()),
     }
 }
 
 /// Takes turns until all handles have negotiated and written all that they did, with a pause after each in which nothing happened.
-#[tactic(auto, using(crate::proofs::CauseLemmas::goes_same, crate::proofs::CauseLemmas::goes_then, crate::proofs::CauseLemmas::cause_later, crate::proofs::CauseLemmas::cause_free, crate::proofs::TurnLemmas::goes_none, crate::proofs::GroundLemmas::fails_free))]
+#[tactic(auto, using(crate::proofs::CauseLemmas::goes_same, crate::proofs::CauseLemmas::goes_then, crate::proofs::CauseLemmas::cause_later, crate::proofs::CauseLemmas::cause_free, crate::proofs::TurnLemmas::goes_none, crate::proofs::GroundLemmas::fails_free, crate::proofs::UnaskedLemmas::fresh_none, crate::proofs::UnaskedLemmas::fresh_asks_none, crate::proofs::PauseLemmas::pauses_none, crate::proofs::LinkLemmas::links_none, crate::proofs::LinkLemmas::links_then))]
 pub(crate) fn settle<W: Wires>(
     handles: &mut Handles<Ticket>,
     board: &mut Board,
@@ -161,9 +195,14 @@ pub(crate) fn settle<W: Wires>(
     requires idles { start.idles ≤ W.idles wires.old }
     ensures goes { OnOk result (Goes board.old handles.old (W.told wires.old) board.new handles.new (W.told wires.new)) }
     ensures quiet { OnOk result (AreQuiet handles.new) }
+    ensures unready { StaysUnready board.old handles.old (W.told wires.old) (W.told wires.new) }
+    ensures writes { Stand handles.old → Pauses WantsOnlyFull (W.told wires.old) (W.told wires.new) }
     ensures causes { IfErr result (λ told. HasCause start (W.faults wires.new) (W.idles wires.new) told) }
     ensures fails { IfErr result (λ told. FailsOn false board.old handles.old (W.told wires.old) (W.told wires.new) told) }
     ensures counts { GoesOn (W.faults wires.old) (W.faults wires.new) (W.idles wires.old) (W.idles wires.new) (W.contents wires.old) (W.contents wires.new) }
+    ensures links { Stand handles.old → LinksGo [] handles.old (W.told wires.old) handles.new (W.told wires.new) }
+    ensures asks { AsksNone board.old handles.old (W.told wires.old) (W.told wires.new) }
+    ensures fresh { OnOk result (StaysFresh board.old handles.old (W.told wires.old) board.new handles.new (W.told wires.new)) }
 {
     'turns: for _ in 0..MAX_TURNS {
         if are_quiet(handles) {

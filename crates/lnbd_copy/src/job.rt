@@ -6,8 +6,11 @@ ghost use Rattle.lnbd_poll.specs.Held.{Held};
 ghost use Rattle.lnbd_board.specs.declared.ticket.Ticket.{Ticket as Tag};
 ghost use Rattle.lnbd_board.specs.Files.{Seen as Kept};
 ghost use Rattle.lnbd_board.specs.Rows.{busy};
+ghost use Rattle.lnbd_copy.specs.Dealt.{AreDealt, Spreads};
 ghost use Rattle.lnbd_copy.specs.Heard.{IsHeardTo};
-ghost use Rattle.lnbd_copy.specs.UnderWay.{HasAsked, HasFilled, HaveLooked, IsPast, Refills, unfinished};
+ghost use Rattle.lnbd_copy.specs.Job.{cells_of};
+ghost use Rattle.lnbd_copy.specs.UnderWay.{HasAsked, HasFilled, HaveLooked, IsPast, IsWantedOf, Refills, unfinished};
+ghost use Rattle.lnbd_copy.specs.Links.{HaveSameLinks};
 ghost use Rattle.lnbd_copy.specs.Way.{Keeps, Way};
 ghost use Rattle.lnbd_copy.specs.Windows.{IsPlanned};
 
@@ -48,9 +51,9 @@ impl Model for Job {
 
     ghost Value = { Seen };
 
-    ghost view = { λ j. record { terms = j.terms; windows = j.windows; asked = j.asked; phase = j.phase } };
+    ghost view = { λ j. record { terms = j.terms; windows = j.windows; asked = j.asked; phase = j.phase; bound = j.bindings.bound } };
 
-    ghost invariant = { λ j. IsSettled j.terms j.windows j.bindings };
+    ghost invariant = { λ j. IsSettled j.terms j.windows j.bindings.sides };
 }
 
 impl Job {
@@ -64,6 +67,7 @@ impl Job {
         requires size { terms.size ≤ 2 ^ 63 }
         ensures terms { IfOk result (λ job. job.terms ≡ terms) }
         ensures begins { IfOk result (λ job. job.phase ≡ phase.Copying) }
+        ensures dealt { IfOk result (λ job. AreDealt terms.limit terms.sides job.bound []) }
         ensures job { IfOk result (λ job. (way : Way) (now : Kept) → way.size ≡ Some terms.size → now.how ≡ terms.how → way.how ≡ terms.how → way.sides ≡ terms.sides → way.slices ≡ [] → way.asked ≡ None → ((block p : ℕ) → way.whole block p ≡ false) → now.flushing ≡ false → (extents ≡ false → (p : ℕ) → way.heard p ≡ true) → IsJob job way now) }
     {
         let bindings = Bindings::new(alloc, terms)?;
@@ -95,7 +99,7 @@ impl Job {
     /// Asks for whatever can be asked for now. Whether anything was, or the copy went on in another way.
     ///
     /// On `NoMemory` some requests may have been made, and the copy is to end.
-    #[tactic(auto, using(crate::proofs::JobLemmas::acts_none, crate::proofs::UnderWayLemmas::parting_none, crate::proofs::UnderWayLemmas::past_none))]
+    #[tactic(auto, using(crate::proofs::JobLemmas::acts_none, crate::proofs::UnderWayLemmas::parting_none, crate::proofs::UnderWayLemmas::past_none, crate::proofs::SpreadLemmas::spreads_none, crate::proofs::SpreadLemmas::spreads_same, crate::proofs::LinkLemmas::same_none))]
     pub(crate) fn act(
         &mut self,
         alloc: Global,
@@ -108,6 +112,9 @@ impl Job {
         ensures onward { self.old.phase ≢ phase.Copying → self.new.phase ≢ phase.Copying }
         ensures parting { self.old.phase ≡ phase.Parting → (self.new ≡ self.old) × (board.new ≡ board.old) × (handles.new ≡ handles.old) }
         ensures full { OnOk result (Refills self.old self.new board.old board.new) }
+        ensures still { IfOk result (λ acted. acted ≡ false → handles.new ≡ handles.old) }
+        ensures spread { OnOk result (Spreads self.old self.new board.old board.new) }
+        ensures links { HaveSameLinks handles.old handles.new }
     {
         match self.phase {
             Phase::Copying => self.copy(alloc, handles, board),
@@ -117,6 +124,7 @@ impl Job {
     }
 
     /// Slices go on, extents are heard and asked for, and slices are begun.
+    #[tactic(auto, using(crate::proofs::LinkLemmas::same_then))]
     fn copy(
         &mut self,
         alloc: Global,
@@ -128,6 +136,9 @@ impl Job {
         ensures acts { OnOk result (Acts self.old self.new board.old board.new handles.old handles.new) }
         ensures terms { self.new.terms ≡ self.old.terms }
         ensures full { OnOk result (Refills self.old self.new board.old board.new) }
+        ensures still { IfOk result (λ acted. acted ≡ false → handles.new ≡ handles.old) }
+        ensures spread { OnOk result (Spreads self.old self.new board.old board.new) }
+        ensures links { HaveSameLinks handles.old handles.new }
     {
         let went = self.go_on(alloc, handles, board)?;
         let heard = self.hear(board)?;
@@ -152,7 +163,10 @@ impl Job {
         ensures acts { OnOk result (Acts self.old self.new board.old board.new handles.old handles.new) }
         ensures how { OnOk result (board.new.how ≡ board.old.how) }
         ensures looked { OnOk result (HaveLooked board.old board.new) }
-        ensures job { self.new ≡ self.old }
+        ensures still { IfOk result (λ done. done ≡ 0 → handles.new ≡ handles.old) }
+        ensures job { self.new ≡ record self.old { bound = self.new.bound } }
+        ensures spread { OnOk result (Spreads self.old self.new board.old board.new) }
+        ensures links { HaveSameLinks handles.old handles.new }
     {
         let went = self.bindings.go_on(alloc, handles, board)?;
         Ok(went)
@@ -166,6 +180,7 @@ impl Job {
         ensures terms { self.new.terms ≡ self.old.terms }
         ensures phase { self.new.phase ≡ self.old.phase }
         ensures untold { OnOk result (self.new.asked ≡ true → board.now.mapped ≡ false) }
+        ensures bound { self.new.bound ≡ self.old.bound }
     {
         if !self.has_come(board) {
             return Ok(false);
@@ -188,7 +203,7 @@ impl Job {
     }
 
     /// Asks for extents, if they may be asked for and windows are left.
-    #[tactic(auto, using(crate::proofs::JobLemmas::acts_none))]
+    #[tactic(auto, using(crate::proofs::JobLemmas::acts_none, crate::proofs::LinkLemmas::same_none))]
     fn ask(&mut self, handles: &mut Handles<Ticket>, board: &mut Board) -> Result<bool, NoMemory>
         requires { self.old.phase ≡ phase.Copying }
         ensures acts { OnOk result (Acts self.old self.new board.old board.new handles.old handles.new) }
@@ -196,6 +211,8 @@ impl Job {
         ensures terms { self.new.terms ≡ self.old.terms }
         ensures phase { self.new.phase ≡ self.old.phase }
         ensures asks { OnOk result (HasAsked self.old self.new board.old board.new) }
+        ensures still { IfOk result (λ asked. asked ≡ false → handles.new ≡ handles.old) }
+        ensures links { HaveSameLinks handles.old handles.new }
     {
         if !self.may_ask(board) {
             return Ok(false);
@@ -215,6 +232,7 @@ impl Job {
     fn may_ask(&self, board: &Board) -> bool
         ensures unasked { result ≡ true → self.now.asked ≡ false }
         ensures planned { result ≡ false → self.now.asked ≡ false → self.now.terms.limit ≤ unfinished self.now.windows board.now }
+        ensures wanted { IsWantedOf self.now.windows }
     {
         let planned = self.windows.left().saturating_add(board.count() as u64);
         !self.asked && (self.windows.is_under_way() || planned < self.terms.limit)
@@ -232,7 +250,10 @@ impl Job {
         ensures acts { OnOk result (Acts self.old self.new board.old board.new handles.old handles.new) }
         ensures terms { self.new.terms ≡ self.old.terms }
         ensures fills { OnOk result (HasFilled self.old self.new board.old board.new) }
+        ensures still { IfOk result (λ done. done ≡ 0 → handles.new ≡ handles.old) }
         ensures phase { self.new.phase ≡ self.old.phase }
+        ensures spread { OnOk result (Spreads self.old self.new board.old board.new) }
+        ensures links { HaveSameLinks handles.old handles.new }
     {
         let begun = self
             .bindings
@@ -250,12 +271,15 @@ impl Job {
     }
 
     /// Asks for the flush, where it is wanted, or else for the end.
+    #[tactic(auto, using(crate::proofs::LinkLemmas::same_none))]
     fn conclude(&mut self, handles: &mut Handles<Ticket>, board: &mut Board) -> Result<(), NoMemory>
         requires over { IsOver self.old board.old }
         requires copying { self.old.phase ≡ phase.Copying }
         ensures acts { OnOk result (Acts self.old self.new board.old board.new handles.old handles.new) }
         ensures terms { self.new.terms ≡ self.old.terms }
         ensures past { OnOk result (IsPast self.new board.old board.new) }
+        ensures bound { self.new.bound ≡ self.old.bound }
+        ensures links { HaveSameLinks handles.old handles.new }
     {
         if self.terms.flush {
             ask_flush(handles, board)?;
@@ -267,12 +291,15 @@ impl Job {
     }
 
     /// Asks for the end, where the flush was answered.
-    #[tactic(auto, using(crate::proofs::JobLemmas::acts_none))]
+    #[tactic(auto, using(crate::proofs::JobLemmas::acts_none, crate::proofs::LinkLemmas::same_none))]
     fn flushed(&mut self, handles: &mut Handles<Ticket>, board: &Board) -> bool
         requires { self.old.phase ≡ phase.Flushing }
         ensures acts { Acts self.old self.new board.now board.now handles.old handles.new }
         ensures terms { self.new.terms ≡ self.old.terms }
         ensures phase { self.new.phase ≢ phase.Copying }
+        ensures still { result ≡ false → handles.new ≡ handles.old }
+        ensures bound { self.new.bound ≡ self.old.bound }
+        ensures links { HaveSameLinks handles.old handles.new }
     {
         if board.is_flushed() {
             self.leave(handles);
@@ -285,6 +312,7 @@ impl Job {
     fn leave(&mut self, handles: &mut Handles<Ticket>)
         ensures keeps { (now : Kept) → Keeps self.old.terms.how self.old.terms.sides [] now now handles.old handles.new }
         ensures others { self.new ≡ record self.old { phase = phase.Parting } }
+        ensures links { HaveSameLinks handles.old handles.new }
     {
         part(handles);
         self.phase = Phase::Parting;
@@ -298,7 +326,7 @@ fn first_windows(alloc: Global, terms: Terms, extents: bool) -> Result<Windows, 
     ensures planned { IfOk result (λ windows. (zero : ℕ → Bool) → IsPlanned windows zero []) }
     ensures size { IfOk result (λ windows. windows.size ≡ terms.size) }
     ensures grain { IfOk result (λ windows. windows.grain ≡ terms.grain) }
-    ensures zeros { IfOk result (λ windows. windows.plan.cells.zeros ≡ not terms.how.skip) }
+    ensures cells { IfOk result (λ windows. windows.plan.cells ≡ cells_of terms) }
     ensures heard { IfOk result (λ windows. (heard : ℕ → Bool) → (extents ≡ false → (p : ℕ) → heard p ≡ true) → IsHeardTo windows heard) }
 {
     let mut windows = Windows::new(alloc, terms);

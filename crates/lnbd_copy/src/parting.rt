@@ -5,8 +5,11 @@ ghost use Rattle.lnbd_board.specs.declared.how.How.{How};
 ghost use Rattle.lnbd_board.specs.Files.{Seen};
 ghost use Rattle.lnbd_copy.specs.declared.sides.Sides.{Sides};
 ghost use Rattle.lnbd_copy.specs.Causes.{GoesOn};
+ghost use Rattle.lnbd_copy.specs.Faults.{GoesIdly};
 ghost use Rattle.lnbd_copy.specs.Grounds.{Lasts};
 ghost use Rattle.lnbd_copy.specs.Leaving.{Leaves};
+ghost use Rattle.lnbd_copy.specs.Pauses.{Unpaused};
+ghost use Rattle.lnbd_copy.specs.Links.{HaveSameLinks, LinksGo};
 ghost use Rattle.lnbd_copy.specs.Way.{Keeps};
 
 use lnbd_board::{Board, Ticket};
@@ -15,9 +18,10 @@ use lnbd_model::State;
 use lnbd_poll::Handles;
 
 /// Asks every connection to end.
-#[tactic(auto, using(crate::proofs::PartLemmas::keeps_none))]
+#[tactic(auto, using(crate::proofs::PartLemmas::keeps_none, crate::proofs::LinkLemmas::same_none))]
 pub(crate) fn part(handles: &mut Handles<Ticket>)
     ensures keeps { (how : How) (sides : Sides) (now : Seen) → Keeps how sides [] now now handles.old handles.new }
+    ensures links { HaveSameLinks handles.old handles.new }
 {
     'handles: for index in 0..handles.len() {
         let _ = handles.get_mut(index).aio_disconnect();
@@ -37,13 +41,16 @@ fn has_parted(handles: &Handles<Ticket>, index: usize) -> bool
 }
 
 /// Closes a handle and shuts its link.
-#[tactic(auto, using(crate::proofs::FiledLemmas::calls_filed, crate::proofs::PartLemmas::leaves_one, crate::proofs::LastLemmas::lasts_adds))]
+#[tactic(auto, using(crate::proofs::FiledLemmas::calls_filed, crate::proofs::PartLemmas::leaves_one, crate::proofs::LastLemmas::lasts_adds, crate::proofs::IdleLemmas::idly_shut, crate::proofs::PauseLemmas::unpaused_adds))]
 fn hang_up<W: Wires>(handles: &mut Handles<Ticket>, board: &mut Board, wires: &mut W, index: usize)
     requires { index < length handles.old }
     ensures leaves { Leaves board.old handles.old (W.told wires.old) board.new handles.new (W.told wires.new) }
     ensures counts { GoesOn (W.faults wires.old) (W.faults wires.new) (W.idles wires.old) (W.idles wires.new) (W.contents wires.old) (W.contents wires.new) }
     ensures fewer { length handles.new + 1 ≡ length handles.old }
     ensures lasts { Lasts (W.told wires.old) (W.told wires.new) }
+    ensures unpaused { Unpaused (W.told wires.old) (W.told wires.new) }
+    ensures links { LinksGo [] handles.old (W.told wires.old) handles.new (W.told wires.new) }
+    ensures idly { GoesIdly (W.told wires.old) (W.told wires.new) }
 {
     let (link, handle) = handles.take(index);
     let _ = handle.close(board);
@@ -51,14 +58,18 @@ fn hang_up<W: Wires>(handles: &mut Handles<Ticket>, board: &mut Board, wires: &m
 }
 
 /// Hangs up where a connection has parted. How many did.
-#[tactic(auto, using(crate::proofs::CauseLemmas::goes_same, crate::proofs::CauseLemmas::goes_then, crate::proofs::CauseLemmas::cause_later, crate::proofs::CauseLemmas::cause_free, crate::proofs::PartLemmas::leaves_none, crate::proofs::PartLemmas::leaves_then))]
+#[tactic(auto, using(crate::proofs::CauseLemmas::goes_same, crate::proofs::CauseLemmas::goes_then, crate::proofs::CauseLemmas::cause_later, crate::proofs::CauseLemmas::cause_free, crate::proofs::PartLemmas::leaves_none, crate::proofs::PartLemmas::leaves_then, crate::proofs::IdleLemmas::idly_none, crate::proofs::IdleLemmas::idly_then, crate::proofs::PauseLemmas::unpaused_none, crate::proofs::LinkLemmas::links_none, crate::proofs::LinkLemmas::links_then))]
 pub(crate) fn shut_parted<W: Wires>(
     handles: &mut Handles<Ticket>,
     board: &mut Board,
     wires: &mut W,
 ) -> usize
     ensures leaves { Leaves board.old handles.old (W.told wires.old) board.new handles.new (W.told wires.new) }
+    ensures unpaused { Unpaused (W.told wires.old) (W.told wires.new) }
+    ensures still { result ≡ 0 → (handles.new ≡ handles.old) × (wires.new ≡ wires.old) }
     ensures counts { GoesOn (W.faults wires.old) (W.faults wires.new) (W.idles wires.old) (W.idles wires.new) (W.contents wires.old) (W.contents wires.new) }
+    ensures links { LinksGo [] handles.old (W.told wires.old) handles.new (W.told wires.new) }
+    ensures idly { GoesIdly (W.told wires.old) (W.told wires.new) }
 {
     let count = handles.len();
     let mut shut: usize = 0;
@@ -74,12 +85,15 @@ pub(crate) fn shut_parted<W: Wires>(
 }
 
 /// Hangs up on every connection.
-#[tactic(auto, using(crate::proofs::CauseLemmas::goes_same, crate::proofs::CauseLemmas::goes_then, crate::proofs::CauseLemmas::cause_later, crate::proofs::CauseLemmas::cause_free, crate::proofs::LastLemmas::lasts_none, crate::proofs::LastLemmas::lasts_then))]
+#[tactic(auto, using(crate::proofs::CauseLemmas::goes_same, crate::proofs::CauseLemmas::goes_then, crate::proofs::CauseLemmas::cause_later, crate::proofs::CauseLemmas::cause_free, crate::proofs::LastLemmas::lasts_none, crate::proofs::LastLemmas::lasts_then, crate::proofs::PauseLemmas::unpaused_none, crate::proofs::PauseLemmas::unpaused_then, crate::proofs::IdleLemmas::idly_none, crate::proofs::IdleLemmas::idly_then, crate::proofs::LinkLemmas::links_none, crate::proofs::LinkLemmas::links_then))]
 pub(crate) fn shut_all<W: Wires>(handles: &mut Handles<Ticket>, board: &mut Board, wires: &mut W)
     ensures counts { GoesOn (W.faults wires.old) (W.faults wires.new) (W.idles wires.old) (W.idles wires.new) (W.contents wires.old) (W.contents wires.new) }
     ensures none { handles.new ≡ [] }
     ensures lasts { Lasts (W.told wires.old) (W.told wires.new) }
+    ensures idly { GoesIdly (W.told wires.old) (W.told wires.new) }
+    ensures unpaused { Unpaused (W.told wires.old) (W.told wires.new) }
     ensures parted { handles.old ≡ [] → wires.new ≡ wires.old }
+    ensures links { LinksGo [] handles.old (W.told wires.old) handles.new (W.told wires.new) }
 {
     'handles: while !handles.is_empty() {
         hang_up(handles, board, wires, 0);

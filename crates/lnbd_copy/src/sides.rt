@@ -1,8 +1,8 @@
 //! Which handle of a copy is which connection.
 
-ghost use Rattle.std.specs.Prelude.{◌≡◌, ◌<◌, ◌≤◌, true, false};
+ghost use Rattle.std.specs.Prelude.{◌≡◌, ◌<◌, ◌≤◌, ◌-◌, ◌^◌, true, false};
 ghost use Rattle.lnbd_copy.specs.Grounds.{first_of};
-ghost use Rattle.lnbd_copy.specs.Way.{is_source};
+ghost use Rattle.lnbd_copy.specs.Way.{connection_of, is_source};
 
 /// How many connections each side has. The first handle that is held is the source's first connection and the second the
 /// destination's; behind them stand the others of the source, and then those of the destination.
@@ -21,7 +21,8 @@ impl Sides {
     /// The handle of a connection of the source.
     pub(crate) fn source(self, connection: usize) -> usize
         requires { connection < self.source }
-        ensures { is_source self result ≡ true }
+        ensures side { is_source self result ≡ true }
+        ensures here { connection_of self result ≡ connection }
     {
         if connection == 0 {
             return FIRST_SOURCE;
@@ -29,9 +30,11 @@ impl Sides {
         connection + 1
     }
 
-    /// The handle of a connection of the destination.
+    /// The handle of a connection of the destination. There are fewer handles than the greatest number.
     pub(crate) fn destination(self, connection: usize) -> usize
-        ensures { is_source self result ≡ false }
+        requires { 0 < self.source }
+        ensures side { is_source self result ≡ false }
+        ensures here { result < 2 ^ 64 - 1 → connection_of self result ≡ connection }
     {
         if connection == 0 {
             return FIRST_DESTINATION;

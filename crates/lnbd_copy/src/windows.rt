@@ -1,7 +1,7 @@
 //! The windows of a copy: how far the source's extents were asked for and told, and the slices that are planned of it.
 //! One window after another is asked for; which connection is asked, and when, is not known here.
 
-ghost use Rattle.std.specs.Prelude.{◌≡◌, ◌<◌, ◌≤◌, ◌+◌, ◌-◌, ◌*◌, ◌/◌, ◌^◌, ℕ, Bool, true, not, ◌&&◌, ◌||◌, ◌==◌, ◌↔◌, nat_lt, min, length, List, [], ◌++◌, IfSome, IsSome, IfOk, OnOk, OnErr, None, option_to_list};
+ghost use Rattle.std.specs.Prelude.{◌≡◌, ◌<◌, ◌≤◌, ◌+◌, ◌-◌, ◌*◌, ◌/◌, ◌^◌, ℕ, Bool, true, not, ◌&&◌, ◌||◌, ◌==◌, ◌↔◌, nat_lt, min, length, List, [], ◌++◌, IfSome, IsSome, is_some, IfOk, OnOk, OnErr, None, option_to_list};
 ghost use Rattle.std.specs.Option.{option_map};
 ghost use Rattle.lnbd_extents.specs.Positions.{within, holds};
 ghost use Rattle.lnbd_extents.specs.Lists.{flags_at, AreJoined};
@@ -126,13 +126,14 @@ impl Windows {
         let most = end - self.at;
         let joined = joined(self.alloc, told, most)?;
         let reached = hold_zeroes(&mut self.zero, &joined, self.at, most, self.grain)?;
-        self.at += passed(reached, self.grain, most);
-        if self.at < end {
+        let at = self.at + passed(reached, self.grain, most);
+        if at < end {
+            self.at = at;
             return Ok(());
         }
-        self.plan
-            .window(self.start, self.at - self.start, &self.zero)?;
-        self.start = self.at;
+        self.plan.window(self.start, at - self.start, &self.zero)?;
+        self.start = at;
+        self.at = at;
         self.zero = Ranges::new(self.alloc);
         Ok(())
     }
@@ -164,7 +165,8 @@ impl Windows {
 
     /// How many slices are planned and still to come.
     pub(crate) fn left(&self) -> u64
-        ensures { result ≡ length self.now.plan.slices }
+        ensures left { result ≡ length self.now.plan.slices }
+        ensures wanted { self.now.plan.end < self.now.size → is_some (wanted self.now) ≡ true }
     {
         self.plan.left()
     }

@@ -1,5 +1,5 @@
 -- What stands behind the wires once a rehearsal is over.
-use Rattle.std.proofs.Common.{◌≡◌, ◌≢◌, ℕ, Bool, true, false, if◌then◌else◌, ◌==◌, List, [], ◌∷◌, get_or, length, map, Option, Some, None, refl, sym, ap, subst, ◌∙◌, arith}
+use Rattle.std.proofs.Common.{◌≡◌, ◌≢◌, ℕ, Bool, false, if◌then◌else◌, ◌==◌, List, [], ◌∷◌, get_or, length, map, Option, Some, None, refl, sym, ap, subst, ◌∙◌, arith}
 use Rattle.std.proofs.lemmas.List.{length-replicate}
 use Rattle.lnbd_link.specs.Call.{Call}
 use Rattle.lnbd_link.specs.Contents.{Keeps, Origin, Stored, origin_of}
@@ -11,14 +11,14 @@ use Rattle.lnbd_memnet.specs.declared.hosted.Hosted.{Hosted}
 use Rattle.lnbd_memnet.specs.declared.hosted.Served.{Served as Handed}
 use Rattle.lnbd_memnet.specs.Network.{export_in, hosted_of, stored_of}
 use Rattle.lnbd_memnet.specs.Wires.{Came, Served, contents_of, told_by}
+use Rattle.lnbd_plan.specs.declared.options.CopyOptions.{CopyOptions}
 use Rattle.lnbd_plan.specs.declared.summary.Summary.{Summary}
-use Rattle.lnbd_course.specs.Asks.{EachAsked, GrewBy, HasAskedOnce, is_look}
+use Rattle.lnbd_course.specs.Asks.{GrewBy}
 use Rattle.lnbd_course.specs.Copied.{Copied, Copies}
-use Rattle.lnbd_course.specs.Driven.{AreDriven}
-use Rattle.lnbd_asked.specs.Transcript.{dealt_with}
+use Rattle.lnbd_copy.specs.Made.{IsMade}
 use Rattle.lnbd_served.specs.Served.{IsServable}
 use Rattle.lnbd_served.specs.Served as served
-use Rattle.lnbd_rehearsal.specs.Rehearsed.{HasRehearsed, IsDestination, IsNoise, IsSource, OnlyLooks, destination_name, place_of, source_name}
+use Rattle.lnbd_rehearsal.specs.Rehearsed.{HasRehearsed, IsDestination, IsNoise, IsSource, destination_name, place_of, source_name, usual}
 use Rattle.lnbd_rehearsal.specs.Sums.{sums_of}
 use Rattle.lnbd_rehearsal.proofs.EqualLemmas.{AreEqual, are_equal}
 
@@ -58,9 +58,13 @@ copies_between from to a b blank f t never copies =
     let three : Copies (place_of source_name) (place_of destination_name) blank a b = subst (λ (p : Place). Copies (place_of source_name) p blank a b) t two in
     subst (λ (x : Bool). Copies (place_of source_name) (place_of destination_name) x a b) never three
 
-pub looks_between : (from to : Place) (a b : Option (List Call)) (allocated : Bool) → from ≡ place_of source_name → to ≡ place_of destination_name → (from ≢ to → GrewBy (HasAskedOnce allocated from to) a b) → GrewBy OnlyLooks a b
-looks_between from to a b allocated f t asks all part is grown =
-    subst (λ (p : Place). EachAsked (λ command. is_look command.kind ≡ true) (dealt_with p part)) f (asks (λ e. apart (sym f ∙ e ∙ t)) all part is grown).asked.looks
+pub made_between : (options : CopyOptions) (from to : Place) (summary : Summary) (a b : Option (List Call)) → options ≡ usual → from ≡ place_of source_name → to ≡ place_of destination_name → (from ≢ to → GrewBy (IsMade options from to summary) a b)
+    → GrewBy (IsMade usual (place_of source_name) (place_of destination_name) summary) a b
+made_between options from to summary a b o f t made =
+    let one : GrewBy (IsMade options from to summary) a b = made (λ e. apart (sym f ∙ e ∙ t)) in
+    let two : GrewBy (IsMade options (place_of source_name) to summary) a b = subst (λ (p : Place). GrewBy (IsMade options p to summary) a b) f one in
+    let three : GrewBy (IsMade options (place_of source_name) (place_of destination_name) summary) a b = subst (λ (p : Place). GrewBy (IsMade options (place_of source_name) p summary) a b) t two in
+    subst (λ (x : CopyOptions). GrewBy (IsMade x (place_of source_name) (place_of destination_name) summary) a b) o three
 
 -- From no calls on, all that is told is so.
 grown : {Is : List Call → Type 0} (before after : Option (List Call)) (calls : List Call) → before ≡ Some [] → after ≡ Some calls → GrewBy Is before after → Is calls
@@ -81,21 +85,22 @@ place_at hosted name at called = ap (λ (t : Target). record { to = t; name = ho
 
 module _ (seed n : ℕ) (source destination : Handed) (at : source.at ≡ Unix source_name) (generated : IsGenerated source_name seed n false source.export) (to : destination.at ≡ Unix destination_name) (noise : IsNoise n destination.export) where
   -- What stands behind the wires when the copy is over.
-  pub record Ended (wires : Served) : Type 0 where
+  pub record Ended (wires : Served) (summary : Summary) : Type 0 where
     pub told : contents_of wires ≡ Some (stored_of (export_in wires.network.exports 0) ∷ stored_of (export_in wires.network.exports 1) ∷ [])
     pub first : origin_of (stored_of (export_in wires.network.exports 0)) ≡ origin_of (first_told source)
     pub second : origin_of (stored_of (export_in wires.network.exports 1)) ≡ origin_of (first_told destination)
     pub copied : Copied (place_of source_name) (place_of destination_name) false wires.calls
+    pub made : IsMade usual (place_of source_name) (place_of destination_name) summary wires.calls
     pub equal : AreEqual wires.network
     -- how many bytes the first holds
     pub long : length (export_in wires.network.exports 0).export.bytes ≡ n
 
-  pub ended : (exports : List Handed) (before after : Served) → exports ≡ source ∷ destination ∷ []
+  pub ended : (exports : List Handed) (before after : Served) (summary : Summary) → exports ≡ source ∷ destination ∷ []
       → contents_of before ≡ Some (map stored_of (map hosted_of exports)) → Keeps (contents_of before) (contents_of after)
       → after.shorts ≡ 0 → length after.network.exports ≡ 2 → Came after.calls after.network → IsServable (export_in after.network.exports 0).export → IsServable (export_in after.network.exports 1).export
-      → told_by before ≡ Some [] → Copies (place_of source_name) (place_of destination_name) false (told_by before) (told_by after) → GrewBy OnlyLooks (told_by before) (told_by after) → GrewBy AreDriven (told_by before) (told_by after)
-      → Ended after
-  ended exports before after are held keeps shorts count came fits fits' none copies looks driven =
+      → told_by before ≡ Some [] → Copies (place_of source_name) (place_of destination_name) false (told_by before) (told_by after)
+      → GrewBy (IsMade usual (place_of source_name) (place_of destination_name) summary) (told_by before) (told_by after) → Ended after summary
+  ended exports before after summary are held keeps shorts count came fits fits' none copies makes =
       let both = both_there after.network.exports count in
       let told : contents_of after ≡ Some (map stored_of after.network.exports) = ap (λ (s : ℕ). if s == 0 then Some (map stored_of after.network.exports) else None) shorts in
       let calls : told_by after ≡ Some after.calls = ap (λ (s : ℕ). if s == 0 then Some after.calls else None) shorts in
@@ -108,20 +113,22 @@ module _ (seed n : ℕ) (source destination : Handed) (at : source.at ≡ Unix s
       let from = source_is seed n source (stored_of (export_in after.network.exports 0)) at generated first in
       let into = destination_is n destination (stored_of (export_in after.network.exports 1)) to noise second in
       let copied = grown {Is = Copied (place_of source_name) (place_of destination_name) false} (told_by before) (told_by after) after.calls none calls copies in
+      let made = grown {Is = IsMade usual (place_of source_name) (place_of destination_name) summary} (told_by before) (told_by after) after.calls none calls makes in
       let equal =
-      are_equal (place_of source_name) (place_of destination_name) after.calls after.network came (grown {Is = AreDriven} (told_by before) (told_by after) after.calls none calls driven) count fits fits'
+      are_equal (place_of source_name) (place_of destination_name) after.calls after.network came made.driven count fits fits'
       (place_at (export_in after.network.exports 0) source_name from.at from.name) (place_at (export_in after.network.exports 1) destination_name into.at into.name)
-      (ap (λ (b : List ℕ). length b) into.bytes ∙ length-replicate {A = ℕ} n 255 ∙ sym from.size) copied (grown {Is = OnlyLooks} (told_by before) (told_by after) after.calls none calls looks) in
+      (ap (λ (b : List ℕ). length b) into.bytes ∙ length-replicate {A = ℕ} n 255 ∙ sym from.size) copied made.asks.asked.looks in
       record {
         told = told ∙ ap (λ (es : List Hosted). Some (map stored_of es)) both;
         first = first;
         second = second;
         copied = copied;
+        made = made;
         equal = equal;
         long = ap (λ (b : List ℕ). length b) equal.kept ∙ from.size;
       }
 
-  pub rehearsed : (wires : Served) (summary : Summary) → wires.shorts ≡ 0 → Came wires.calls wires.network → summary ≡ sums_of seed (export_in wires.network.exports 0).export.bytes → Ended wires → HasRehearsed seed n summary wires
+  pub rehearsed : (wires : Served) (summary : Summary) → wires.shorts ≡ 0 → Came wires.calls wires.network → summary ≡ sums_of seed (export_in wires.network.exports 0).export.bytes → Ended wires summary → HasRehearsed seed n summary wires
   rehearsed wires summary shorts came right e = record {
     source = stored_of (export_in wires.network.exports 0);
     destination = stored_of (export_in wires.network.exports 1);
@@ -131,6 +138,7 @@ module _ (seed n : ℕ) (source destination : Handed) (at : source.at ≡ Unix s
     shorts = shorts;
     came = came;
     copied = e.copied;
+    made = e.made;
     kept = e.equal.kept;
     equal = e.equal.equal;
     sums = right ∙ ap (λ (b : List ℕ). sums_of seed b) e.equal.kept;

@@ -2,12 +2,11 @@
 use Rattle.std.specs.Prelude.{◌≡◌, ◌<◌, ◌∷◌, ℕ, List, [], Some, false, true, codes, get_or, length, replicate}
 use Rattle.lnbd_model.specs.declared.target.Place.{Place}
 use Rattle.lnbd_model.specs.declared.target.Target.TheVariants.{Unix}
-use Rattle.lnbd_link.specs.Call.{Call}
 use Rattle.lnbd_link.specs.Contents.{Stored}
-use Rattle.lnbd_asked.specs.Transcript.{dealt_with}
+use Rattle.lnbd_plan.specs.declared.options.CopyOptions.{CopyOptions}
 use Rattle.lnbd_plan.specs.declared.summary.Summary.{Summary}
-use Rattle.lnbd_course.specs.Asks.{EachAsked, is_look}
 use Rattle.lnbd_course.specs.Copied.{Copied}
+use Rattle.lnbd_copy.specs.Made.{IsMade}
 use Rattle.lnbd_export.specs.Export.{Export}
 use Rattle.lnbd_export.specs.Generated.{byte_at}
 use Rattle.lnbd_memnet.specs.Wires.{Came, Served, contents_of}
@@ -36,7 +35,11 @@ pub record IsDestination (n : ℕ) (stored : Stored) : Type 0 where
   pub name : stored.name ≡ destination_name
   pub bytes : stored.start ≡ replicate n 255
 
--- These two stand behind the wires, which tell all that was called, and by that nbdcopy copied from one to the other; the source is as it was, the
+-- what a copy is asked for where its words name no option
+abbrev pub usual : CopyOptions
+usual = record { connections = 4; requests = 64; request_size = 262144; sparse = 4096; extents = true; allocated = false; destination_is_zero = false; flush = false }
+
+-- These two stand behind the wires, which tell all that was called, and by that nbdcopy copied from one to the other as it does where no option is given; the source is as it was, the
 -- destination holds the same, and the sums are those of the source's blocks.
 pub record HasRehearsed (seed n : ℕ) (summary : Summary) (wires : Served) : Type 0 where
   pub source : Stored
@@ -47,6 +50,7 @@ pub record HasRehearsed (seed n : ℕ) (summary : Summary) (wires : Served) : Ty
   pub shorts : wires.shorts ≡ 0
   pub came : Came wires.calls wires.network
   pub copied : Copied (place_of source_name) (place_of destination_name) false wires.calls
+  pub made : IsMade usual (place_of source_name) (place_of destination_name) summary wires.calls
   pub kept : source.now ≡ source.start
   pub equal : destination.now ≡ source.start
   pub sums : summary ≡ sums_of seed source.start
@@ -55,7 +59,3 @@ pub record HasRehearsed (seed n : ℕ) (summary : Summary) (wires : Served) : Ty
 pub record IsNoise (n : ℕ) (export : Export) : Type 0 where
   pub name : export.name ≡ destination_name
   pub bytes : export.bytes ≡ replicate n 255
-
--- Of the source only READ and BLOCK_STATUS were asked.
-abbrev pub OnlyLooks : List Call → Type 0
-OnlyLooks calls = EachAsked (λ command. is_look command.kind ≡ true) (dealt_with (place_of source_name) calls)

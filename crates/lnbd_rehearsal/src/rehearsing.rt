@@ -4,9 +4,9 @@ ghost use Rattle.std.specs.Prelude.{◌≡◌, ◌≤◌, IfOk, OnOk, false, len
 ghost use Rattle.lnbd_link.specs.Contents.{Keeps};
 ghost use Rattle.lnbd_course.specs.Asks.{GrewBy};
 ghost use Rattle.lnbd_course.specs.Copied.{Copies};
-ghost use Rattle.lnbd_course.specs.Driven.{AreDriven};
+ghost use Rattle.lnbd_copy.specs.Made.{IsMade};
 ghost use Rattle.lnbd_memnet.specs.Wires.{contents_of, told_by};
-ghost use Rattle.lnbd_rehearsal.specs.Rehearsed.{HasRehearsed, OnlyLooks, destination_name, place_of, source_name};
+ghost use Rattle.lnbd_rehearsal.specs.Rehearsed.{HasRehearsed, destination_name, place_of, source_name, usual};
 
 use crate::exports::{destination, from, source, to};
 use crate::sums::{is_same, sums_of};
@@ -44,8 +44,7 @@ const USUAL: CopyOptions = CopyOptions {
 fn copy(alloc: Global, wires: &mut ServedWires) -> Result<Summary, NoMemory>
     ensures kept { OnOk result (Keeps (contents_of wires.old) (contents_of wires.new)) }
     ensures copies { OnOk result (Copies (place_of source_name) (place_of destination_name) false (told_by wires.old) (told_by wires.new)) }
-    ensures looks { OnOk result (GrewBy OnlyLooks (told_by wires.old) (told_by wires.new)) }
-    ensures driven { OnOk result (GrewBy AreDriven (told_by wires.old) (told_by wires.new)) }
+    ensures made { IfOk result (λ summary. GrewBy (IsMade usual (place_of source_name) (place_of destination_name) summary) (told_by wires.old) (told_by wires.new)) }
 {
     let from = from(alloc)?;
     let to = to(alloc)?;

@@ -1,4 +1,4 @@
-use Rattle.std.proofs.Common.{Err, Ok, arith, refl, sym, ◌∙◌}
+use Rattle.std.proofs.Common.{Ok, arith, refl}
 use Rattle.lnbd_cli.proofs.HeardLemmas.{heard_err, list_says}
 use Rattle.lnbd_cli.proofs.InfoLemmas.{link_of, rule_of, silence_of}
 use Rattle.lnbd_cli.proofs.hearing.hear_list.Goals as goal

@@ -1,4 +1,4 @@
-use Rattle.std.proofs.Common.{Err, Ok, arith, refl, sym, ◌∙◌}
+use Rattle.std.proofs.Common.{Ok, arith, sym, ◌∙◌}
 use Rattle.lnbd_cli.proofs.HeardLemmas.{heard_err, map_says, unmapped_fails, unmapped_rule, unmapped_status}
 use Rattle.lnbd_cli.proofs.InfoLemmas.{link_of, silence_of}
 use Rattle.lnbd_cli.proofs.hearing.hear_map.Goals as goal

@@ -1,6 +1,49 @@
+use Rattle.std.proofs.Common.{refl, []}
 use Rattle.lnbd_copy.proofs.DialLemmas.{dials}
+use Rattle.lnbd_copy.proofs.PauseLemmas.{unpaused_adds, unpaused_then}
+use Rattle.lnbd_copy.proofs.LinkLemmas.{links_connected, links_end, links_refused}
+use Rattle.lnbd_copy.proofs.ConnectLemmas.{goes_all}
+use Rattle.lnbd_copy.proofs.UnaskedLemmas.{unasked_connects, unasked_idle, unasked_none, unasked_then, unissued_more}
 use Rattle.lnbd_copy.proofs.dialing.dial.Goals as goal
 
 pub returns-in_ok-hold-in-Ok-clause-dials : goal.returns-in_ok-hold-in-Ok-clause-dials
 returns-in_ok-hold-in-Ok-clause-dials g c =
     dials _ _ _ c.args.place.now c.args.board.now _ _ c.in-Ok.link c.args.extents c.in_ok-handle.handle.machine c.in-Ok.ensures.told c.in-Ok.ensures.fresh c.in_ok-hold-in-Ok.ensures.told c.in_ok-handle.ensures.short c.in_ok-handle.ensures.stands c.in_ok-hold-in-Ok.ensures.held
+
+pub returns-in_ok-hold-in-Ok-clause-unpaused : goal.returns-in_ok-hold-in-Ok-clause-unpaused
+returns-in_ok-hold-in-Ok-clause-unpaused g c = unpaused_then _ _ _ (unpaused_adds _ _ _ refl c.in-Ok.ensures.told) c.hold.ensures.unpaused
+
+pub returns-in_ok-hold-in-Ok-clause-links : goal.returns-in_ok-hold-in-Ok-clause-links
+returns-in_ok-hold-in-Ok-clause-links g c =
+    goes_all _ _ _ _ _ (links_end _ _ _ _ _ _ _ (links_connected c.args.handles.now (record { link = c.in-Ok.link; handle = c.in_ok-handle.handle.machine; inbox = [] }) _ _ _ c.in-Ok.ensures.told c.in-Ok.ensures.fresh) c.in_ok-hold-in-Ok.ensures.links)
+
+pub returns-in_ok-hold-in-Ok-clause-connects : goal.returns-in_ok-hold-in-Ok-clause-connects
+returns-in_ok-hold-in-Ok-clause-connects g c =
+    links_end _ _ _ _ _ _ _ (links_connected c.args.handles.now (record { link = c.in-Ok.link; handle = c.in_ok-handle.handle.machine; inbox = [] }) _ _ _ c.in-Ok.ensures.told c.in-Ok.ensures.fresh) c.in_ok-hold-in-Ok.ensures.links
+
+pub returns-in_err-hold-in-Ok-clause-links : goal.returns-in_err-hold-in-Ok-clause-links
+returns-in_err-hold-in-Ok-clause-links g c =
+    goes_all _ _ _ _ _ (links_end _ _ _ _ _ _ _ (links_connected c.args.handles.now (record { link = c.in-Ok.link; handle = c.in_ok-handle.handle.machine; inbox = [] }) _ _ _ c.in-Ok.ensures.told c.in-Ok.ensures.fresh) c.in_err-hold-in-Ok.ensures.links)
+
+pub returns-in-Err-clause-links : goal.returns-in-Err-clause-links
+returns-in-Err-clause-links g c =
+    goes_all _ _ _ _ _ (links_refused _ _ _ _ c.in-Err.ensures.told)
+
+pub returns-in_ok-hold-in-Ok-clause-unissued : goal.returns-in_ok-hold-in-Ok-clause-unissued
+returns-in_ok-hold-in-Ok-clause-unissued g c none =
+    unissued_more _ _ _ c.args.extents c.in-Ok.link c.in_ok-handle.handle.machine c.in_ok-handle.ensures.stands c.in_ok-hold-in-Ok.ensures.held none
+
+pub returns-in_ok-hold-in-Ok-clause-unasked : goal.returns-in_ok-hold-in-Ok-clause-unasked
+returns-in_ok-hold-in-Ok-clause-unasked g c from to there = unasked_then from to _ _ _ (unasked_connects from to c.args.place.now _ _ _ there c.in-Ok.ensures.told) (unasked_idle from to _ _ c.hold.ensures.idly)
+
+pub returns-in_err-hold-in-Ok-clause-unasked : goal.returns-in_err-hold-in-Ok-clause-unasked
+returns-in_err-hold-in-Ok-clause-unasked g c from to there = unasked_then from to _ _ _ (unasked_connects from to c.args.place.now _ _ _ there c.in-Ok.ensures.told) (unasked_idle from to _ _ c.hold.ensures.idly)
+
+pub returns-in-Err-clause-unasked : goal.returns-in-Err-clause-unasked
+returns-in-Err-clause-unasked g c from to there = unasked_connects from to c.args.place.now _ _ _ there c.in-Err.ensures.told
+
+pub returns-in_err-handle-clause-unasked : goal.returns-in_err-handle-clause-unasked
+returns-in_err-handle-clause-unasked g c from to there = unasked_none from to _
+
+pub returns-in_err-hold-in-Ok-clause-unpaused : goal.returns-in_err-hold-in-Ok-clause-unpaused
+returns-in_err-hold-in-Ok-clause-unpaused g c = unpaused_then _ _ _ (unpaused_adds _ _ _ refl c.in-Ok.ensures.told) c.hold.ensures.unpaused

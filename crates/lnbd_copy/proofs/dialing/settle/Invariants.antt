@@ -1,9 +1,18 @@
+use Rattle.std.proofs.Common.{[]}
 use Rattle.lnbd_copy.specs.Causes.{GoesOn}
-use Rattle.lnbd_copy.specs.Way.{Goes}
+use Rattle.lnbd_copy.specs.Pauses.{Pauses, WantsOnlyFull}
+use Rattle.lnbd_copy.specs.Way.{Goes, Stand}
+use Rattle.lnbd_copy.specs.Unready.{StaysUnready}
+use Rattle.lnbd_copy.specs.Links.{LinksGo}
+use Rattle.lnbd_copy.specs.Faults.{StaysFresh}
 use Rattle.lnbd_copy.proofs.dialing.settle.Given as goal
 
 abbrev pub invariant-turns : goal.invariant-turns
 invariant-turns g l = record {
   goes : Goes l.fn.board l.fn.handles (g.W.Wires.told l.fn.wires) l.board l.handles (g.W.Wires.told l.wires);
+  unready : StaysUnready l.fn.board l.fn.handles (g.W.Wires.told l.fn.wires) (g.W.Wires.told l.wires);
+  writes : Stand l.fn.handles → Pauses WantsOnlyFull (g.W.Wires.told l.fn.wires) (g.W.Wires.told l.wires);
+  links : Stand l.fn.handles → LinksGo [] l.fn.handles (g.W.Wires.told l.fn.wires) l.handles (g.W.Wires.told l.wires);
+  fresh : StaysFresh l.fn.board l.fn.handles (g.W.Wires.told l.fn.wires) l.board l.handles (g.W.Wires.told l.wires);
   counts : GoesOn (g.W.Wires.faults l.fn.wires) (g.W.Wires.faults l.wires) (g.W.Wires.idles l.fn.wires) (g.W.Wires.idles l.wires) (g.W.Wires.contents l.fn.wires) (g.W.Wires.contents l.wires);
 }

@@ -1,5 +1,6 @@
 use Rattle.std.proofs.Common.{arith}
 use Rattle.lnbd_copy.proofs.TurnLemmas.{paused_goes}
+use Rattle.lnbd_copy.proofs.LinkLemmas.{links_paused}
 use Rattle.lnbd_copy.proofs.dialing.wait.Goals as goal
 
 pub returns-clause-goes : goal.returns-clause-goes
@@ -7,3 +8,6 @@ returns-clause-goes g c now = paused_goes _ _ _ now _ _ c.pause.ensures.unchange
 
 pub returns-clause-counts : goal.returns-clause-counts
 returns-clause-counts g c = record { faults = c.pause.ensures.faults; idles = omega (arith, c.pause.ensures.idles, c.in_ok-check_idles.ensures.open_); contents = c.pause.ensures.contents }
+
+pub returns-clause-links : goal.returns-clause-links
+returns-clause-links g c = links_paused _ _ _ _ _ c.pause.ensures.unchanged c.pause.ensures.told

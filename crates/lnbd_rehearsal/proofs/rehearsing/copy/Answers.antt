@@ -1,6 +1,6 @@
 use Rattle.std.proofs.Common.{◌∙◌, ap}
 use Rattle.lnbd_plan.specs.declared.options.CopyOptions.{CopyOptions}
-use Rattle.lnbd_rehearsal.proofs.RehearsedLemmas.{copies_between, looks_between}
+use Rattle.lnbd_rehearsal.proofs.RehearsedLemmas.{copies_between, made_between}
 use Rattle.lnbd_rehearsal.proofs.rehearsing.copy.Goals as goal
 
 pub returns-in-Ok-clause-copies : goal.returns-in-Ok-clause-copies
@@ -8,6 +8,6 @@ returns-in-Ok-clause-copies c =
     copies_between c.new.result.from c.new.result.to _ _ c.new.result.options.destination_is_zero (c.new.ensures.what.1 ∙ c.in_ok-from.ensures) (c.new.ensures.what.2 ∙ c.in_ok-to.ensures)
     (ap (λ (o : CopyOptions). o.destination_is_zero) c.new.ensures.what.0) (λ apart. c.in-Ok.ensures.copies apart)
 
-pub returns-in-Ok-clause-looks : goal.returns-in-Ok-clause-looks
-returns-in-Ok-clause-looks c =
-    looks_between c.new.result.from c.new.result.to _ _ c.new.result.options.allocated (c.new.ensures.what.1 ∙ c.in_ok-from.ensures) (c.new.ensures.what.2 ∙ c.in_ok-to.ensures) (λ apart. c.in-Ok.ensures.asks apart)
+pub returns-in-Ok-clause-made : goal.returns-in-Ok-clause-made
+returns-in-Ok-clause-made c =
+    made_between c.new.result.options c.new.result.from c.new.result.to _ _ _ c.new.ensures.what.0 (c.new.ensures.what.1 ∙ c.in_ok-from.ensures) (c.new.ensures.what.2 ∙ c.in_ok-to.ensures) (λ apart. c.in-Ok.ensures.made apart)

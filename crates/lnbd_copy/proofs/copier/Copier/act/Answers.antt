@@ -1,16 +1,17 @@
-use Rattle.std.proofs.Common.{sym, subst}
+use Rattle.std.proofs.Common.{ap, sym, subst, ◌∙◌}
 use Rattle.std.proofs.lemmas.Result.{on_ok_weaker}
 use Rattle.lnbd_copy.specs.Copier.{HasJob, IsOnItsWay, Seen}
-use Rattle.lnbd_copy.proofs.DealingLemmas.{on_ok_both}
+use Rattle.lnbd_copy.proofs.CopierLemmas.{if_ok_leads}
 use Rattle.lnbd_copy.proofs.EndLemmas.{after_acting, job_writes}
+use Rattle.lnbd_copy.proofs.SpreadLemmas.{on_ok_three}
 use Rattle.lnbd_copy.proofs.UnderWayLemmas.{busy_after}
 use Rattle.lnbd_copy.proofs.copier.Copier.act.Goals as goal
 
 pub returns-clause-on : goal.returns-clause-on
 returns-clause-on c =
-    on_ok_both c.act.result
-    (λ acts full start told on. after_acting _ start told c.in-Some.job c.act.new.self c.act.new.board c.act.new.handles c.in-Some.is c.act.ensures.terms full.most acts c.act.ensures.parting (subst (λ (s : Seen). IsOnItsWay start told s) (sym c.self.view_is) on))
-    c.act.ensures.acts c.act.ensures.full
+    on_ok_three c.act.result
+    (λ acts full spreads start told on. after_acting _ start told c.in-Some.job c.act.new.self c.act.new.board c.act.new.handles c.in-Some.is c.act.ensures.terms full.most acts spreads c.act.ensures.parting (subst (λ (s : Seen). IsOnItsWay start told s) (sym c.self.view_is) on))
+    c.act.ensures.acts c.act.ensures.full c.act.ensures.spread
 
 pub returns-clause-busy : goal.returns-clause-busy
 returns-clause-busy c =
@@ -20,3 +21,6 @@ returns-clause-busy c =
 
 pub act-requires : goal.act-requires
 act-requires c = job_writes _ c.in-Some.job (subst HasJob (sym c.self.view_is) c.requires) c.in-Some.is
+
+pub returns-clause-still : goal.returns-clause-still
+returns-clause-still c = if_ok_leads c.act.result (λ acted still none. still none ∙ ap (λ (s : Seen). s.held) c.self.view_is) c.act.ensures.still

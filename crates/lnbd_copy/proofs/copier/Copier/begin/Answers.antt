@@ -1,6 +1,12 @@
-use Rattle.std.proofs.Common.{ap}
+use Rattle.std.proofs.Common.{[], ap, subst}
 use Rattle.lnbd_copy.specs.Copier.{Seen}
 use Rattle.lnbd_copy.proofs.GroundLemmas.{grounded_as, grounded_later, if_err_leads}
+use Rattle.lnbd_copy.proofs.PauseLemmas.{pauses_begin, pauses_then, pauses_unpaused}
+use Rattle.lnbd_copy.specs.Connects.{LinksGoWithin}
+use Rattle.lnbd_copy.specs.Links.{LinksGo}
+use Rattle.lnbd_copy.proofs.ConnectLemmas.{within_end}
+use Rattle.lnbd_copy.proofs.UnaskedLemmas.{told_unasked, unasked_as}
+use Rattle.lnbd_copy.proofs.PausedLemmas.{early_opening, early_waits, told_stays}
 use Rattle.lnbd_copy.proofs.copier.Copier.begin.Goals as goal
 
 pub returns-then-is_err-clause-grounds : goal.returns-then-is_err-clause-grounds
@@ -9,3 +15,30 @@ returns-then-is_err-clause-grounds g c =
     (λ why grounds. grounded_as (g.W.Wires.told c.args.wires.now) (g.W.Wires.told c.shut_all.new.wires) _ _ _ _ why (ap (λ (s : Seen). s.from) c.self.view_is) (ap (λ (s : Seen). s.to) c.self.view_is)
     (grounded_later _ _ _ _ _ why c.shut_all.ensures.lasts grounds))
     c.connect-told.ensures.grounds
+
+pub returns-else-is_err-clause-writes : goal.returns-else-is_err-clause-writes
+returns-else-is_err-clause-writes g c = pauses_begin _ _ c.connect-told.ensures.writes
+
+pub returns-then-is_err-clause-links : goal.returns-then-is_err-clause-links
+returns-then-is_err-clause-links g c =
+    subst (λ (s : Seen). LinksGoWithin s.options s.from s.to s.held (g.W.Wires.told c.args.wires.now) c.shut_all.new.handles (g.W.Wires.told c.shut_all.new.wires)) c.self.view_is
+    (within_end _ _ _ _ _ _ _ _ _ c.connect-told.ensures.links (subst (λ (s : Seen). LinksGo [] s.held (g.W.Wires.told c.connect-told.new.wires) c.shut_all.new.handles (g.W.Wires.told c.shut_all.new.wires)) c.self-2.view_is c.shut_all.ensures.links))
+
+pub returns-then-is_err-clause-unasked : goal.returns-then-is_err-clause-unasked
+returns-then-is_err-clause-unasked g c =
+    told_unasked _ _ _ _ _ c.shut_all.ensures.idly (unasked_as _ _ _ _ _ _ (ap (λ (s : Seen). s.from) c.self.view_is) (ap (λ (s : Seen). s.to) c.self.view_is) c.connect-told.ensures.unasked)
+
+pub returns-then-is_err-clause-writes : goal.returns-then-is_err-clause-writes
+returns-then-is_err-clause-writes g c = pauses_begin _ _ (pauses_then _ _ _ c.connect-told.ensures.writes (pauses_unpaused _ _ c.shut_all.ensures.unpaused))
+
+pub returns-then-is_err-clause-unready : goal.returns-then-is_err-clause-unready
+returns-then-is_err-clause-unready g c = told_stays _ _ _ c.shut_all.ensures.unpaused (early_opening _ _ c.connect-told.ensures.unready)
+
+pub returns-then-is_err-clause-waits : goal.returns-then-is_err-clause-waits
+returns-then-is_err-clause-waits g c = told_stays _ _ _ c.shut_all.ensures.unpaused (early_waits _ _ c.connect-told.ensures.unready)
+
+pub returns-else-is_err-clause-unready : goal.returns-else-is_err-clause-unready
+returns-else-is_err-clause-unready g c = early_opening _ _ c.connect-told.ensures.unready
+
+pub returns-else-is_err-clause-waits : goal.returns-else-is_err-clause-waits
+returns-else-is_err-clause-waits g c = early_waits _ _ c.connect-told.ensures.unready

@@ -1,14 +1,21 @@
 use Rattle.std.proofs.Common.{refl, ap, sym, subst, ◌∙◌}
 use Rattle.lnbd_copy.specs.Agreed.{AreQuiet}
 use Rattle.lnbd_copy.specs.Copier.{Seen}
+use Rattle.lnbd_copy.proofs.CauseLemmas.{goes_then}
 use Rattle.lnbd_copy.proofs.CopierLemmas.{met_further}
 use Rattle.lnbd_copy.proofs.GroundLemmas.{grounded_as, same_fails, handed_on}
+use Rattle.lnbd_copy.proofs.PauseLemmas.{pauses_then}
+use Rattle.lnbd_copy.proofs.LinkLemmas.{links_same}
+use Rattle.lnbd_copy.proofs.ConnectLemmas.{told_end, told_met, within_first, within_met, within_told}
 use Rattle.lnbd_copy.proofs.copier.Copier.connect.Goals as goal
 
 pub returns-clause-begins : goal.returns-clause-begins
 returns-clause-begins g c =
     c.in_ok-set_up.ensures.begins (g.W.Wires.told c.args.wires.now) (g.W.Wires.told c.dial_further.new.wires)
     (met_further c.meet.new.self c.dial_further.new.self _ _ _ c.in_ok-terms.terms c.in_ok-dial_further.ensures.kept c.in_ok-terms.ensures.met c.in_ok-terms.ensures.two c.in_ok-dial_further.ensures.further)
+
+pub returns-clause-unready : goal.returns-clause-unready
+returns-clause-unready g c = c.dial_further.ensures.unready (g.W.Wires.told c.args.wires.now) c.in_ok-terms.terms c.in_ok-terms.ensures.met refl c.in_ok-terms.ensures.two c.in_ok-terms.ensures.unready
 
 pub check_same-requires : goal.check_same-requires
 check_same-requires g c = subst (λ (s : Seen). AreQuiet s.held) (sym c.self.view_is) c.in_ok-dial_further.ensures.quiet
@@ -28,3 +35,64 @@ returns-in_err-check_same-clause-grounds g c =
     (same_fails c.dial_further.new.self c.self.inside.handles (g.W.Wires.told c.args.wires.now) (g.W.Wires.told c.dial_further.new.wires) c.in_ok-terms.terms _ (ap (λ (s : Seen). s.held) c.self.view_is)
     (met_further c.meet.new.self c.dial_further.new.self _ _ _ c.in_ok-terms.terms c.in_ok-dial_further.ensures.kept c.in_ok-terms.ensures.met c.in_ok-terms.ensures.two c.in_ok-dial_further.ensures.further)
     c.in_err-check_same.ensures.found))
+
+pub returns-clause-writes : goal.returns-clause-writes
+returns-clause-writes g c = pauses_then _ _ _ c.in_ok-terms.ensures.writes (c.dial_further.ensures.writes c.in_ok-terms.ensures.met.stand)
+
+pub returns-in_err-dial_further-clause-counts : goal.returns-in_err-dial_further-clause-counts
+returns-in_err-dial_further-clause-counts g c = goes_then _ _ _ _ _ _ _ _ _ c.meet.ensures.counts c.dial_further.ensures.counts
+
+pub returns-in_err-check_same-clause-counts : goal.returns-in_err-check_same-clause-counts
+returns-in_err-check_same-clause-counts g c = goes_then _ _ _ _ _ _ _ _ _ c.meet.ensures.counts c.dial_further.ensures.counts
+
+pub returns-in_err-terms-clause-links : goal.returns-in_err-terms-clause-links
+returns-in_err-terms-clause-links g c =
+    within_first _ _ _ _ _ _ _ c.in_err-terms.ensures.links
+
+pub returns-in_err-dial_further-clause-links : goal.returns-in_err-dial_further-clause-links
+returns-in_err-dial_further-clause-links g c =
+    within_met c.args.self.now c.meet.new.self _ _ _ _ c.in_ok-terms.terms c.in_ok-terms.ensures.kept c.in_ok-terms.ensures.met c.in_ok-terms.ensures.connects c.in_err-dial_further.ensures.links
+
+pub returns-in_err-check_same-clause-links : goal.returns-in_err-check_same-clause-links
+returns-in_err-check_same-clause-links g c =
+    within_told _ _ _ _ _ _ _ (told_met c.args.self.now c.meet.new.self _ _ _ _ c.in_ok-terms.terms c.in_ok-terms.ensures.kept c.in_ok-terms.ensures.met c.in_ok-terms.ensures.connects c.in_ok-dial_further.ensures.connects)
+
+pub returns-in_err-check_well-clause-links : goal.returns-in_err-check_well-clause-links
+returns-in_err-check_well-clause-links g c =
+    within_told _ _ _ _ _ _ _ (told_met c.args.self.now c.meet.new.self _ _ _ _ c.in_ok-terms.terms c.in_ok-terms.ensures.kept c.in_ok-terms.ensures.met c.in_ok-terms.ensures.connects c.in_ok-dial_further.ensures.connects)
+
+pub returns-in_err-set_up-clause-links : goal.returns-in_err-set_up-clause-links
+returns-in_err-set_up-clause-links g c =
+    within_told _ _ _ _ _ _ _ (told_end _ _ _ _ _ _ _ _ _ (told_met c.args.self.now c.meet.new.self _ _ _ _ c.in_ok-terms.terms c.in_ok-terms.ensures.kept c.in_ok-terms.ensures.met c.in_ok-terms.ensures.connects c.in_ok-dial_further.ensures.connects) (links_same _ _ _ c.in_err-set_up.ensures.links))
+
+pub returns-clause-links : goal.returns-clause-links
+returns-clause-links g c =
+    within_told _ _ _ _ _ _ _ (told_end _ _ _ _ _ _ _ _ _ (told_met c.args.self.now c.meet.new.self _ _ _ _ c.in_ok-terms.terms c.in_ok-terms.ensures.kept c.in_ok-terms.ensures.met c.in_ok-terms.ensures.connects c.in_ok-dial_further.ensures.connects) (links_same _ _ _ c.in_ok-set_up.ensures.links))
+
+pub returns-clause-connects : goal.returns-clause-connects
+returns-clause-connects g c =
+    told_end _ _ _ _ _ _ _ _ _ (told_met c.args.self.now c.meet.new.self _ _ _ _ c.in_ok-terms.terms c.in_ok-terms.ensures.kept c.in_ok-terms.ensures.met c.in_ok-terms.ensures.connects c.in_ok-dial_further.ensures.connects) (links_same _ _ _ c.in_ok-set_up.ensures.links)
+
+pub returns-in_err-dial_further-clause-unready : goal.returns-in_err-dial_further-clause-unready
+returns-in_err-dial_further-clause-unready g c = c.dial_further.ensures.unready (g.W.Wires.told c.args.wires.now) c.in_ok-terms.terms c.in_ok-terms.ensures.met refl c.in_ok-terms.ensures.two c.in_ok-terms.ensures.unready
+
+pub returns-in_err-dial_further-clause-writes : goal.returns-in_err-dial_further-clause-writes
+returns-in_err-dial_further-clause-writes g c = pauses_then _ _ _ c.in_ok-terms.ensures.writes (c.dial_further.ensures.writes c.in_ok-terms.ensures.met.stand)
+
+pub returns-in_err-check_same-clause-unready : goal.returns-in_err-check_same-clause-unready
+returns-in_err-check_same-clause-unready g c = c.dial_further.ensures.unready (g.W.Wires.told c.args.wires.now) c.in_ok-terms.terms c.in_ok-terms.ensures.met refl c.in_ok-terms.ensures.two c.in_ok-terms.ensures.unready
+
+pub returns-in_err-check_same-clause-writes : goal.returns-in_err-check_same-clause-writes
+returns-in_err-check_same-clause-writes g c = pauses_then _ _ _ c.in_ok-terms.ensures.writes (c.dial_further.ensures.writes c.in_ok-terms.ensures.met.stand)
+
+pub returns-in_err-check_well-clause-unready : goal.returns-in_err-check_well-clause-unready
+returns-in_err-check_well-clause-unready g c = c.dial_further.ensures.unready (g.W.Wires.told c.args.wires.now) c.in_ok-terms.terms c.in_ok-terms.ensures.met refl c.in_ok-terms.ensures.two c.in_ok-terms.ensures.unready
+
+pub returns-in_err-check_well-clause-writes : goal.returns-in_err-check_well-clause-writes
+returns-in_err-check_well-clause-writes g c = pauses_then _ _ _ c.in_ok-terms.ensures.writes (c.dial_further.ensures.writes c.in_ok-terms.ensures.met.stand)
+
+pub returns-in_err-set_up-clause-unready : goal.returns-in_err-set_up-clause-unready
+returns-in_err-set_up-clause-unready g c = c.dial_further.ensures.unready (g.W.Wires.told c.args.wires.now) c.in_ok-terms.terms c.in_ok-terms.ensures.met refl c.in_ok-terms.ensures.two c.in_ok-terms.ensures.unready
+
+pub returns-in_err-set_up-clause-writes : goal.returns-in_err-set_up-clause-writes
+returns-in_err-set_up-clause-writes g c = pauses_then _ _ _ c.in_ok-terms.ensures.writes (c.dial_further.ensures.writes c.in_ok-terms.ensures.met.stand)

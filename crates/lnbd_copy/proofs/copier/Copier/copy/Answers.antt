@@ -1,13 +1,22 @@
 use Rattle.std.proofs.Common.{List, Option, ap, sym, subst, ◌∙◌}
 use Rattle.lnbd_link.specs.Call.{Call}
 use Rattle.lnbd_copy.specs.Copier.{IsOnItsWay, Seen}
+use Rattle.lnbd_copy.specs.Faults.{Behaves}
+use Rattle.lnbd_copy.specs.Way.{Told}
 use Rattle.lnbd_copy.proofs.CauseLemmas.{goes_as, goes_then}
 use Rattle.lnbd_copy.proofs.EndLemmas.{all_then, finished_on, moved_on, rested, still_on}
+use Rattle.lnbd_copy.proofs.FaultLemmas.{behaves_idly, fair_on}
 use Rattle.lnbd_copy.proofs.FlushLemmas.{flushed_on}
+use Rattle.lnbd_copy.proofs.PauseLemmas.{pauses_full, pauses_unpaused, told_same}
 use Rattle.lnbd_copy.proofs.SummedLemmas.{summed_on}
 use Rattle.lnbd_copy.proofs.GroundLemmas.{grounded_as, handed_on}
-use Rattle.lnbd_copy.proofs.copier.Copier.copy.Goals as goal
+use Rattle.lnbd_copy.proofs.PausedLemmas.{IsFine, fine_open, fine_rest, fine_turn, fine_held, told_stays, waits_rest}
+use Rattle.lnbd_copy.proofs.ShareLemmas.{IsFair, fair_held, fair_open, fair_rest, fair_turn}
+use Rattle.lnbd_copy.proofs.ConnectLemmas.{told_end, within_told}
+use Rattle.lnbd_copy.proofs.LinkLemmas.{links_as, links_then}
+use Rattle.lnbd_copy.proofs.UnaskedLemmas.{told_behaves}
 use Rattle.lnbd_copy.proofs.copier.Copier.copy.Goals.{in-Moved, in-Still+in_ok-rest-in-Still}
+use Rattle.lnbd_copy.proofs.copier.Copier.copy.Goals as goal
 
 pub turns-preserved : goal.turns-preserved
 turns-preserved g c =
@@ -21,6 +30,14 @@ turns-preserved g c =
         on = subst (λ (s : Seen). IsOnItsWay start (g.W.Wires.told c.match-branch-3.wires) s) (sym w.self-is)
             (subst (λ (t : Option (List Call)). IsOnItsWay start t c.turn.new.self) (sym (ap g.W.Wires.told w.wires-is))
             (moved_on start _ c.turn.new.self c.in_ok-turn.field-0 _ w.in-Moved.is (turn.turns start was.on)));
+        shares = subst (λ (s : Seen). IsFair s start (g.W.Wires.told c.match-branch-3.wires)) (sym w.self-is)
+            (subst (λ (t : Option (List Call)). IsFair c.turn.new.self start t) (sym (ap g.W.Wires.told w.wires-is)) (fair_turn c.turns.self c.turn.new.self start _ _ turn.kept turn.unpaused was.shares));
+        pauses = subst (λ (s : Seen). IsFine s start (g.W.Wires.told c.match-branch-3.wires)) (sym w.self-is)
+            (subst (λ (t : Option (List Call)). IsFine c.turn.new.self start t) (sym (ap g.W.Wires.told w.wires-is)) (fine_turn c.turns.self c.turn.new.self start _ _ turn.kept turn.unpaused was.pauses));
+        writes = told_same _ start _ _ (ap g.W.Wires.told w.wires-is) ((pauses_unpaused _ _ turn.unpaused).on start was.writes);
+        connects = told_end _ _ _ _ _ _ _ _ _ was.connects (links_as _ _ _ _ _ _ _ (ap (λ (s : Seen). s.held) w.self-is) (ap g.W.Wires.told w.wires-is) turn.links);
+        fair = λ two. subst (λ (t : Option (List Call)). Told start t (Behaves c.args.self.now.options c.args.self.now.from c.args.self.now.to)) (sym (ap g.W.Wires.told w.wires-is)) (fair_on c.args.self.now c.turns.self (g.W.Wires.told c.args.wires.now) _ _ c.turns.invariant.kept (c.turn.ensures.fair (g.W.Wires.told c.args.wires.now)) c.turns.invariant.on c.turns.invariant.fair two);
+        waits = told_same _ start _ _ (ap g.W.Wires.told w.wires-is) (told_stays start _ _ turn.unpaused was.waits);
         counts = goes_as _ _ _ _ _ _ _ _ _ (ap g.W.Wires.faults w.wires-is) (ap g.W.Wires.idles w.wires-is) (ap g.W.Wires.contents w.wires-is) (goes_then _ _ _ _ _ _ _ _ _ was.counts turn.counts);
       }
       | in-Still+in_ok-rest-in-Still w ↦
@@ -31,16 +48,38 @@ turns-preserved g c =
             on = subst (λ (s : Seen). IsOnItsWay start (g.W.Wires.told c.match-branch-3.wires) s) (sym w.self-is)
                 (subst (λ (t : Option (List Call)). IsOnItsWay start t w.rest.new.self) (sym (ap g.W.Wires.told w.wires-is))
                 (rest.on start (still_on start _ c.turn.new.self c.in_ok-turn.field-0 w.in-Still.is (turn.turns start was.on))));
+            shares = subst (λ (s : Seen). IsFair s start (g.W.Wires.told c.match-branch-3.wires)) (sym w.self-is)
+                (subst (λ (t : Option (List Call)). IsFair w.rest.new.self start t) (sym (ap g.W.Wires.told w.wires-is))
+                (fair_rest c.turn.new.self w.rest.new.self start _ _ _ rest.kept rest.pauses (turn.shares start was.on) (fair_turn c.turns.self c.turn.new.self start _ _ turn.kept turn.unpaused was.shares)));
+            pauses = subst (λ (s : Seen). IsFine s start (g.W.Wires.told c.match-branch-3.wires)) (sym w.self-is)
+                (subst (λ (t : Option (List Call)). IsFine w.rest.new.self start t) (sym (ap g.W.Wires.told w.wires-is))
+                (fine_rest c.turn.new.self w.rest.new.self start _ _ rest.kept rest.pauses (λ two. turn.under_way start was.on two) (fine_turn c.turns.self c.turn.new.self start _ _ turn.kept turn.unpaused was.pauses)));
+            writes = told_same _ start _ _ (ap g.W.Wires.told w.wires-is) ((pauses_full _ _ _ _ (turn.full w.in-Still.is) rest.pauses).on start was.writes);
+            connects = told_end _ _ _ _ _ _ _ _ _ was.connects (links_as _ _ _ _ _ _ _ (ap (λ (s : Seen). s.held) w.self-is) (ap g.W.Wires.told w.wires-is) (links_then _ _ _ _ _ _ turn.links rest.links));
+            fair = λ two. subst (λ (t : Option (List Call)). Told start t (Behaves c.args.self.now.options c.args.self.now.from c.args.self.now.to)) (sym (ap g.W.Wires.told w.wires-is)) (behaves_idly _ _ _ start _ _ w.rest.ensures.idly (fair_on c.args.self.now c.turns.self (g.W.Wires.told c.args.wires.now) _ _ c.turns.invariant.kept (c.turn.ensures.fair (g.W.Wires.told c.args.wires.now)) c.turns.invariant.on c.turns.invariant.fair two));
+            waits = told_same _ start _ _ (ap g.W.Wires.told w.wires-is)
+                (waits_rest c.turn.new.self start _ _ rest.pauses (still_on start _ c.turn.new.self c.in_ok-turn.field-0 w.in-Still.is (turn.turns start was.on)) (told_stays start _ _ turn.unpaused was.waits));
             counts = goes_as _ _ _ _ _ _ _ _ _ (ap g.W.Wires.faults w.wires-is) (ap g.W.Wires.idles w.wires-is) (ap g.W.Wires.contents w.wires-is)
                 (goes_then _ _ _ _ _ _ _ _ _ was.counts (goes_then _ _ _ _ _ _ _ _ _ turn.counts rest.counts));
           }
     ]
+
+pub turns-init : goal.turns-init
+turns-init g c =
+    let begun = c.in_ok-begin.ensures in
+    record { start = begun.began; kept = begun.kept; on = begun.begins; shares = fair_open c.begin.new.self _ _ _ _ c.begin.ensures.unasked; pauses = fine_open c.begin.new.self _ _ begun.unready; writes = begun.writes; connects = begun.connects; fair = λ two. told_behaves _ _ _ _ _ c.begin.ensures.unasked; waits = begun.waits; counts = begun.counts }
 
 pub turn-requires-clause-going : goal.turn-requires-clause-going
 turn-requires-clause-going g c = record { start = g.W.Wires.told c.args.wires.now; on = c.turns.invariant.on }
 
 pub returns-in-Finished-clause-done : goal.returns-in-Finished-clause-done
 returns-in-Finished-clause-done g c = finished_on _ _ _ _ _ c.in-Finished.is (c.in_ok-turn.ensures.turns (g.W.Wires.told c.args.wires.now) c.turns.invariant.on)
+
+pub returns-in-Finished-clause-shares : goal.returns-in-Finished-clause-shares
+returns-in-Finished-clause-shares g c = fair_turn c.turns.self c.turn.new.self (g.W.Wires.told c.args.wires.now) _ _ c.turn.ensures.kept c.turn.ensures.unpaused c.turns.invariant.shares
+
+pub returns-in-Finished-clause-pauses : goal.returns-in-Finished-clause-pauses
+returns-in-Finished-clause-pauses g c = fine_turn c.turns.self c.turn.new.self (g.W.Wires.told c.args.wires.now) _ _ c.turn.ensures.kept c.turn.ensures.unpaused c.turns.invariant.pauses
 
 pub returns-in-Finished-clause-sums : goal.returns-in-Finished-clause-sums
 returns-in-Finished-clause-sums g c = summed_on _ _ c.turn.new.self c.in_ok-turn.field-0 _ c.in-Finished.is (c.in_ok-turn.ensures.sums (g.W.Wires.told c.args.wires.now) c.turns.invariant.on)
@@ -57,5 +96,83 @@ returns-in_err-turn-clause-grounds g c =
 pub returns-in_err-rest-in-Still-clause-counts : goal.returns-in_err-rest-in-Still-clause-counts
 returns-in_err-rest-in-Still-clause-counts g c = goes_then _ _ _ _ _ _ _ _ _ c.turns.invariant.counts (goes_then _ _ _ _ _ _ _ _ _ c.turn.ensures.counts c.rest.ensures.counts)
 
+pub returns-in_err-turn-clause-counts : goal.returns-in_err-turn-clause-counts
+returns-in_err-turn-clause-counts g c = goes_then _ _ _ _ _ _ _ _ _ c.turns.invariant.counts c.turn.ensures.counts
+
 pub returns-in-Finished-clause-counts : goal.returns-in-Finished-clause-counts
 returns-in-Finished-clause-counts g c = goes_then _ _ _ _ _ _ _ _ _ c.turns.invariant.counts c.turn.ensures.counts
+
+pub returns-in-Finished-clause-writes : goal.returns-in-Finished-clause-writes
+returns-in-Finished-clause-writes g c = (pauses_unpaused _ _ c.turn.ensures.unpaused).on (g.W.Wires.told c.args.wires.now) c.turns.invariant.writes
+
+pub returns-in_err-turn-clause-links : goal.returns-in_err-turn-clause-links
+returns-in_err-turn-clause-links g c =
+    within_told _ _ _ _ _ _ _ (told_end _ _ _ _ _ _ _ _ _ c.turns.invariant.connects c.in_err-turn.ensures.links)
+
+pub returns-in_err-rest-in-Still-clause-links : goal.returns-in_err-rest-in-Still-clause-links
+returns-in_err-rest-in-Still-clause-links g c =
+    within_told _ _ _ _ _ _ _ (told_end _ _ _ _ _ _ _ _ _ c.turns.invariant.connects (links_then _ _ _ _ _ _ c.turn.ensures.links c.rest.ensures.links))
+
+pub returns-in-Finished-clause-links : goal.returns-in-Finished-clause-links
+returns-in-Finished-clause-links g c =
+    within_told _ _ _ _ _ _ _ (told_end _ _ _ _ _ _ _ _ _ c.turns.invariant.connects c.turn.ensures.links)
+
+pub returns-in-Finished-clause-connects : goal.returns-in-Finished-clause-connects
+returns-in-Finished-clause-connects g c =
+    told_end _ _ _ _ _ _ _ _ _ c.turns.invariant.connects c.turn.ensures.links
+
+pub returns-clause-links : goal.returns-clause-links
+returns-clause-links g c =
+    within_told _ _ _ _ _ _ _ c.turns.invariant.connects
+
+pub returns-in_err-begin-clause-fair : goal.returns-in_err-begin-clause-fair
+returns-in_err-begin-clause-fair g c two = told_behaves _ _ _ _ _ c.begin.ensures.unasked
+
+pub returns-in_err-turn-clause-fair : goal.returns-in_err-turn-clause-fair
+returns-in_err-turn-clause-fair g c two = fair_on c.args.self.now c.turns.self (g.W.Wires.told c.args.wires.now) _ _ c.turns.invariant.kept (c.turn.ensures.fair (g.W.Wires.told c.args.wires.now)) c.turns.invariant.on c.turns.invariant.fair two
+
+pub returns-in_err-rest-in-Still-clause-fair : goal.returns-in_err-rest-in-Still-clause-fair
+returns-in_err-rest-in-Still-clause-fair g c two = behaves_idly _ _ _ (g.W.Wires.told c.args.wires.now) _ _ c.rest.ensures.idly (fair_on c.args.self.now c.turns.self (g.W.Wires.told c.args.wires.now) _ _ c.turns.invariant.kept (c.turn.ensures.fair (g.W.Wires.told c.args.wires.now)) c.turns.invariant.on c.turns.invariant.fair two)
+
+pub returns-clause-fair : goal.returns-clause-fair
+returns-clause-fair g c two = c.turns.invariant.fair two
+
+pub returns-in-Finished-clause-fair : goal.returns-in-Finished-clause-fair
+returns-in-Finished-clause-fair g c two = fair_on c.args.self.now c.turns.self (g.W.Wires.told c.args.wires.now) _ _ c.turns.invariant.kept (c.turn.ensures.fair (g.W.Wires.told c.args.wires.now)) c.turns.invariant.on c.turns.invariant.fair two
+
+pub returns-in_err-begin-clause-shares : goal.returns-in_err-begin-clause-shares
+returns-in_err-begin-clause-shares g c = fair_open c.begin.new.self _ _ _ _ c.begin.ensures.unasked
+
+pub returns-in_err-turn-clause-shares : goal.returns-in_err-turn-clause-shares
+returns-in_err-turn-clause-shares g c = fair_turn c.turns.self c.turn.new.self (g.W.Wires.told c.args.wires.now) _ _ c.turn.ensures.kept c.turn.ensures.unpaused c.turns.invariant.shares
+
+pub returns-in_err-rest-in-Still-clause-shares : goal.returns-in_err-rest-in-Still-clause-shares
+returns-in_err-rest-in-Still-clause-shares g c =
+    fair_held c.turn.new.self c.rest.new.self (g.W.Wires.told c.args.wires.now) _ _ c.rest.ensures.kept c.in_err-rest-in-Still.ensures.still
+    (fair_turn c.turns.self c.turn.new.self (g.W.Wires.told c.args.wires.now) _ _ c.turn.ensures.kept c.turn.ensures.unpaused c.turns.invariant.shares)
+
+pub returns-in_err-begin-clause-pauses : goal.returns-in_err-begin-clause-pauses
+returns-in_err-begin-clause-pauses g c = fine_open c.begin.new.self _ _ c.begin.ensures.unready
+
+pub returns-in_err-turn-clause-pauses : goal.returns-in_err-turn-clause-pauses
+returns-in_err-turn-clause-pauses g c = fine_turn c.turns.self c.turn.new.self (g.W.Wires.told c.args.wires.now) _ _ c.turn.ensures.kept c.turn.ensures.unpaused c.turns.invariant.pauses
+
+pub returns-in_err-turn-clause-writes : goal.returns-in_err-turn-clause-writes
+returns-in_err-turn-clause-writes g c = (pauses_unpaused _ _ c.turn.ensures.unpaused).on (g.W.Wires.told c.args.wires.now) c.turns.invariant.writes
+
+pub returns-in_err-rest-in-Still-clause-pauses : goal.returns-in_err-rest-in-Still-clause-pauses
+returns-in_err-rest-in-Still-clause-pauses g c =
+    fine_held c.turn.new.self c.rest.new.self (g.W.Wires.told c.args.wires.now) _ _ c.rest.ensures.kept c.in_err-rest-in-Still.ensures.still
+    (fine_turn c.turns.self c.turn.new.self (g.W.Wires.told c.args.wires.now) _ _ c.turn.ensures.kept c.turn.ensures.unpaused c.turns.invariant.pauses)
+
+pub returns-in_err-rest-in-Still-clause-writes : goal.returns-in_err-rest-in-Still-clause-writes
+returns-in_err-rest-in-Still-clause-writes g c = told_same _ (g.W.Wires.told c.args.wires.now) _ _ c.in_err-rest-in-Still.ensures.still ((pauses_unpaused _ _ c.turn.ensures.unpaused).on (g.W.Wires.told c.args.wires.now) c.turns.invariant.writes)
+
+pub returns-in-Finished-clause-waits : goal.returns-in-Finished-clause-waits
+returns-in-Finished-clause-waits g c = told_stays (g.W.Wires.told c.args.wires.now) _ _ c.turn.ensures.unpaused c.turns.invariant.waits
+
+pub returns-in_err-turn-clause-waits : goal.returns-in_err-turn-clause-waits
+returns-in_err-turn-clause-waits g c = told_stays (g.W.Wires.told c.args.wires.now) _ _ c.turn.ensures.unpaused c.turns.invariant.waits
+
+pub returns-in_err-rest-in-Still-clause-waits : goal.returns-in_err-rest-in-Still-clause-waits
+returns-in_err-rest-in-Still-clause-waits g c = told_same _ (g.W.Wires.told c.args.wires.now) _ _ c.in_err-rest-in-Still.ensures.still (told_stays (g.W.Wires.told c.args.wires.now) _ _ c.turn.ensures.unpaused c.turns.invariant.waits)

@@ -1,7 +1,11 @@
-use Rattle.std.proofs.Common.{◌+◌, false, length, arith}
+use Rattle.std.proofs.Common.{◌+◌, ap, false, length, arith}
+use Rattle.lnbd_copy.specs.Copier.{Seen}
 use Rattle.lnbd_copy.proofs.CauseLemmas.{goes_then}
 use Rattle.lnbd_copy.proofs.CopierLemmas.{destination_more, kept_then}
+use Rattle.lnbd_copy.proofs.PauseLemmas.{unpaused_then}
 use Rattle.lnbd_copy.proofs.SideLemmas.{behind_source}
+use Rattle.lnbd_copy.proofs.ConnectLemmas.{all_made, goes_all, one_fails, one_more}
+use Rattle.lnbd_copy.proofs.UnaskedLemmas.{stays_kept, unasked_then}
 use Rattle.lnbd_copy.proofs.copier.Copier.dial_destinations.Goals as goal
 
 pub further-preserved : goal.further-preserved
@@ -11,5 +15,29 @@ further-preserved g c = record {
   further = destination_more c.args.self.now c.further.self c.dial_destination.new.self c.args.sides (c.args.sides.source + 1) _ _ _ c.further.invariant.kept c.in_ok-dial_destination.ensures.board c.further.invariant.further false c.in_ok-dial_destination.ensures.dials
       (λ count none. let more = c.further.invariant.more in absurd (omega (arith, count, more, none)))
       (λ count. behind_source c.args.sides (length c.further.self.held) (let more = c.further.invariant.more in omega (arith, count, more)));
+  some = omega arith;
+  connects = one_more c.args.self.now.to.to c.further.self.to.to c.further.connection _ _ _ _ _ _ (ap (λ (s : Seen). s.to.to) c.further.invariant.kept) c.further.invariant.some c.further.invariant.connects c.in_ok-dial_destination.ensures.connects;
+  most = let less = c.further-test.true in omega (arith, less);
+  unasked = unasked_then _ _ _ _ _ c.further.invariant.unasked (stays_kept c.args.self.now c.further.self _ _ c.further.invariant.kept c.dial_destination.ensures.unasked);
+  unissued = λ none. c.in_ok-dial_destination.ensures.unissued (c.further.invariant.unissued none);
+  unpaused = unpaused_then _ _ _ c.further.invariant.unpaused c.dial_destination.ensures.unpaused;
   counts = goes_then _ _ _ _ _ _ _ _ _ c.further.invariant.counts c.dial_destination.ensures.counts;
 }
+
+pub returns-clause-connects : goal.returns-clause-connects
+returns-clause-connects g c =
+    all_made c.args.self.now.to.to c.further.connection c.args.sides.destination _ _ _ _ (let end = c.further-test.false in omega (arith, end)) c.further.invariant.most c.further.invariant.connects
+
+pub returns-clause-links : goal.returns-clause-links
+returns-clause-links g c =
+    goes_all _ _ _ _ _ (all_made c.args.self.now.to.to c.further.connection c.args.sides.destination _ _ _ _ (let end = c.further-test.false in omega (arith, end)) c.further.invariant.most c.further.invariant.connects)
+
+pub returns-in_err-dial_destination-clause-links : goal.returns-in_err-dial_destination-clause-links
+returns-in_err-dial_destination-clause-links g c =
+    one_fails c.args.self.now.to.to c.further.self.to.to c.further.connection c.args.sides.destination _ _ _ _ _ _ (ap (λ (s : Seen). s.to.to) c.further.invariant.kept) c.further.invariant.some c.further-test.true c.further.invariant.connects c.in_err-dial_destination.ensures.links
+
+pub returns-in_err-dial_destination-clause-unasked : goal.returns-in_err-dial_destination-clause-unasked
+returns-in_err-dial_destination-clause-unasked g c = unasked_then _ _ _ _ _ c.further.invariant.unasked (stays_kept c.args.self.now c.further.self _ _ c.further.invariant.kept c.dial_destination.ensures.unasked)
+
+pub returns-in_err-dial_destination-clause-unpaused : goal.returns-in_err-dial_destination-clause-unpaused
+returns-in_err-dial_destination-clause-unpaused g c = unpaused_then _ _ _ c.further.invariant.unpaused c.dial_destination.ensures.unpaused

@@ -1,9 +1,17 @@
 use Rattle.std.proofs.Common.{refl, ap, sym, ◌∙◌}
+use Rattle.std.proofs.lemmas.Bool.{eqb-true, false≢true, not-false}
 use Rattle.lnbd_copy.specs.Copier.{Seen}
+use Rattle.lnbd_copy.proofs.CauseLemmas.{goes_then}
 use Rattle.lnbd_copy.proofs.EndLemmas.{finished, has_job, way_answers, way_asks}
+use Rattle.lnbd_copy.proofs.FaultLemmas.{behaves_idly}
 use Rattle.lnbd_copy.proofs.FlushLemmas.{flushed}
+use Rattle.lnbd_copy.proofs.PauseLemmas.{leaves_same, unpaused_then}
+use Rattle.lnbd_copy.proofs.ShareLemmas.{way_shares}
+use Rattle.lnbd_copy.proofs.SpreadLemmas.{way_spread}
 use Rattle.lnbd_copy.proofs.SummedLemmas.{summed}
 use Rattle.lnbd_copy.proofs.UnansweredLemmas.{way_all_asked}
+use Rattle.lnbd_copy.proofs.LinkLemmas.{links_same, links_then}
+use Rattle.lnbd_copy.proofs.copier.Copier.go_on.Goals.{else-acted, then-acted}
 use Rattle.lnbd_copy.proofs.copier.Copier.go_on.Goals as goal
 
 pub returns-then-is_finished-clause-turns : goal.returns-then-is_finished-clause-turns
@@ -64,6 +72,16 @@ returns-clause-under_way g c start on two =
     let busy = c.part-parted.ensures.busy (c.in_ok-acted.ensures.busy c.requires.going.start _ (c.in_ok-moved.ensures.on c.requires.going.start c.requires.going.on)) in
     way_all_asked _ start _ (sym (ap (λ (s : Seen). s.board.error) c.self.view_is) ∙ c.in_ok-check_well.ensures) busy left two
 
+pub returns-then-is_finished-clause-shares : goal.returns-then-is_finished-clause-shares
+returns-then-is_finished-clause-shares g c start on two =
+    let left = c.part-parted.ensures.on start (c.in_ok-acted.ensures.on start _ (c.in_ok-moved.ensures.on start on)) in
+    way_shares _ start _ (sym (ap (λ (s : Seen). s.board.error) c.self.view_is) ∙ c.in_ok-check_well.ensures) left two
+
+pub returns-clause-shares : goal.returns-clause-shares
+returns-clause-shares g c start on two =
+    let left = c.part-parted.ensures.on start (c.in_ok-acted.ensures.on start _ (c.in_ok-moved.ensures.on start on)) in
+    way_shares _ start _ (sym (ap (λ (s : Seen). s.board.error) c.self.view_is) ∙ c.in_ok-check_well.ensures) left two
+
 pub returns-then-is_finished-clause-answered : goal.returns-then-is_finished-clause-answered
 returns-then-is_finished-clause-answered g c start on two =
     let left = c.part-parted.ensures.on start (c.in_ok-acted.ensures.on start _ (c.in_ok-moved.ensures.on start on)) in
@@ -73,3 +91,69 @@ pub returns-clause-answered : goal.returns-clause-answered
 returns-clause-answered g c start on two =
     let left = c.part-parted.ensures.on start (c.in_ok-acted.ensures.on start _ (c.in_ok-moved.ensures.on start on)) in
     way_answers _ start _ (sym (ap (λ (s : Seen). s.board.error) c.self.view_is) ∙ c.in_ok-check_well.ensures) left two
+
+pub returns-then-is_finished-clause-unpaused : goal.returns-then-is_finished-clause-unpaused
+returns-then-is_finished-clause-unpaused g c = unpaused_then _ _ _ (c.take_turn.ensures.unpaused c.requires.going.on.stand) c.part-parted.ensures.unpaused
+
+pub returns-clause-unpaused : goal.returns-clause-unpaused
+returns-clause-unpaused g c = unpaused_then _ _ _ (c.take_turn.ensures.unpaused c.requires.going.on.stand) c.part-parted.ensures.unpaused
+
+pub returns-clause-full : goal.returns-clause-full
+returns-clause-full g c still =
+    let none = c.progress_of.ensures.acted still in
+    elim c.if-acted.branch [
+      | then-acted w ↦ absurd (false≢true (sym none ∙ w.progress_of-is ∙ w.if-acted.true))
+      | else-acted w ↦
+          let same = c.part-parted.ensures.still (eqb-true c.part-parted.result 0 (not-false _ (sym w.progress_of-is ∙ none))) in
+          leaves_same _ _ _ _ _ (same.0 ∙ c.in_ok-acted.ensures.still w.if-acted.false) (ap g.W.Wires.told same.1) (c.in_ok-moved.ensures.full (c.progress_of.ensures.moved still) c.requires.going.on.stand)
+    ]
+
+pub returns-in_err-check_well-clause-counts : goal.returns-in_err-check_well-clause-counts
+returns-in_err-check_well-clause-counts g c = goes_then _ _ _ _ _ _ _ _ _ c.take_turn.ensures.counts c.part-parted.ensures.counts
+
+pub returns-clause-counts : goal.returns-clause-counts
+returns-clause-counts g c = goes_then _ _ _ _ _ _ _ _ _ c.take_turn.ensures.counts c.part-parted.ensures.counts
+
+pub returns-then-is_finished-clause-spread : goal.returns-then-is_finished-clause-spread
+returns-then-is_finished-clause-spread g c =
+    let start = c.requires.going.start in
+    way_spread _ start _ (c.part-parted.ensures.on start (c.in_ok-acted.ensures.on start _ (c.in_ok-moved.ensures.on start c.requires.going.on)))
+
+pub returns-clause-spread : goal.returns-clause-spread
+returns-clause-spread g c =
+    let start = c.requires.going.start in
+    way_spread _ start _ (c.part-parted.ensures.on start (c.in_ok-acted.ensures.on start _ (c.in_ok-moved.ensures.on start c.requires.going.on)))
+
+pub returns-in_err-acted-clause-links : goal.returns-in_err-acted-clause-links
+returns-in_err-acted-clause-links g c =
+    links_then _ _ _ _ _ _ (c.in_ok-moved.ensures.links c.requires.going.on.stand) (links_same _ _ _ c.in_err-acted.ensures.links)
+
+pub returns-in_err-check_well-clause-links : goal.returns-in_err-check_well-clause-links
+returns-in_err-check_well-clause-links g c =
+    links_then _ _ _ _ _ _ (c.in_ok-moved.ensures.links c.requires.going.on.stand) (links_then _ _ _ _ _ _ (links_same _ _ _ c.in_ok-acted.ensures.links) c.part-parted.ensures.links)
+
+pub returns-then-is_finished-clause-links : goal.returns-then-is_finished-clause-links
+returns-then-is_finished-clause-links g c =
+    links_then _ _ _ _ _ _ (c.in_ok-moved.ensures.links c.requires.going.on.stand) (links_then _ _ _ _ _ _ (links_same _ _ _ c.in_ok-acted.ensures.links) c.part-parted.ensures.links)
+
+pub returns-clause-links : goal.returns-clause-links
+returns-clause-links g c =
+    links_then _ _ _ _ _ _ (c.in_ok-moved.ensures.links c.requires.going.on.stand) (links_then _ _ _ _ _ _ (links_same _ _ _ c.in_ok-acted.ensures.links) c.part-parted.ensures.links)
+
+pub returns-then-is_finished-clause-fair : goal.returns-then-is_finished-clause-fair
+returns-then-is_finished-clause-fair g c start on two fair = behaves_idly _ _ _ start _ _ c.part-parted.ensures.idly (c.take_turn.ensures.fair start on two fair)
+
+pub returns-clause-fair : goal.returns-clause-fair
+returns-clause-fair g c start on two fair = behaves_idly _ _ _ start _ _ c.part-parted.ensures.idly (c.take_turn.ensures.fair start on two fair)
+
+pub returns-in_err-check_well-clause-fair : goal.returns-in_err-check_well-clause-fair
+returns-in_err-check_well-clause-fair g c start on two fair = behaves_idly _ _ _ start _ _ c.part-parted.ensures.idly (c.take_turn.ensures.fair start on two fair)
+
+pub returns-in_err-moved-clause-unpaused : goal.returns-in_err-moved-clause-unpaused
+returns-in_err-moved-clause-unpaused g c = c.take_turn.ensures.unpaused c.requires.going.on.stand
+
+pub returns-in_err-acted-clause-unpaused : goal.returns-in_err-acted-clause-unpaused
+returns-in_err-acted-clause-unpaused g c = c.take_turn.ensures.unpaused c.requires.going.on.stand
+
+pub returns-in_err-check_well-clause-unpaused : goal.returns-in_err-check_well-clause-unpaused
+returns-in_err-check_well-clause-unpaused g c = unpaused_then _ _ _ (c.take_turn.ensures.unpaused c.requires.going.on.stand) c.part-parted.ensures.unpaused

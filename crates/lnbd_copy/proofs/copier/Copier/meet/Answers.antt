@@ -1,22 +1,42 @@
-use Rattle.std.proofs.Common.{◌∙◌, ap, sym, subst, arith, length}
+use Rattle.std.proofs.Common.{List, ◌∙◌, [], ◌∷◌, ap, sym, subst, arith, length}
 use Rattle.lnbd_copy.specs.Agreed.{AreQuiet}
 use Rattle.lnbd_copy.specs.Copier.{Seen}
+use Rattle.lnbd_copy.proofs.AlikeLemmas.{terms_known}
 use Rattle.lnbd_copy.proofs.CauseLemmas.{goes_then}
-use Rattle.lnbd_copy.proofs.CopierLemmas.{always_on_ok, dials_as, if_ok_both, if_ok_leads, meets, two_meet}
+use Rattle.lnbd_copy.proofs.CopierLemmas.{always_on_ok, dials_as, if_ok_both, if_ok_leads, kept_then, meets, two_meet}
 use Rattle.lnbd_copy.proofs.GroundLemmas.{destination_fails, found_fails, found_terms, if_err_leads, source_fails, handed_on}
+use Rattle.lnbd_poll.specs.Held.{Held}
+use Rattle.lnbd_board.specs.declared.ticket.Ticket.{Ticket}
+use Rattle.lnbd_copy.specs.Way.{Stand}
+use Rattle.lnbd_copy.proofs.PauseLemmas.{pauses_then, pauses_unpaused}
+use Rattle.lnbd_copy.proofs.ConnectLemmas.{both_made, goes_all, goes_wider, second_fails}
+use Rattle.lnbd_copy.proofs.LinkLemmas.{links_end}
+use Rattle.lnbd_copy.proofs.TurnLemmas.{none_stand}
+use Rattle.lnbd_copy.proofs.PausedLemmas.{meet_unready, source_dialled, source_unready, told_stays}
+use Rattle.lnbd_copy.proofs.UnaskedLemmas.{both_unasked, both_unissued, source_unasked, stays_kept}
 use Rattle.lnbd_copy.proofs.copier.Copier.meet.Goals as goal
 
 pub returns-clause-met : goal.returns-clause-met
 returns-clause-met g c =
     if_ok_both c.agree.result
-    (λ terms agreed finds. meets c.args.self.now c.dial_source.new.self c.settle.new.self c.dial_destination.new.self c.settle-2.new.self _ _ _ _ _ c.self-2.inside.options c.self-2.inside.handles terms
+    (λ terms agreed finds.
+    let dials = dials_as c.args.self.now.options _ _ _ _ _ _ _ (ap (λ (s : Seen). s.options.extents) c.self.view_is) c.in_ok-dial_source.ensures.dials in
+    let found = found_terms c.args.self.now c.dial_source.new.self c.settle.new.self c.dial_destination.new.self c.settle-2.new.self _ _ _ _ _ c.self-2.inside.options terms c.self-2.inside.handles
+    c.in_ok-dial_source.ensures.kept c.in_ok-settle.ensures.kept c.in_ok-dial_source.ensures.board c.in_ok-dial_destination.ensures.board (ap (λ (s : Seen). s.held) c.self-2.view_is)
+    dials c.in_ok-settle.ensures.goes c.in_ok-dial_destination.ensures.dials c.in_ok-settle-2.ensures.goes c.requires.begun finds
+    (terms_known c.self-2.inside.options terms c.self-2.inside.handles c.settle-2.new.self.held (ap (λ (s : Seen). s.held) c.self-2.view_is) finds) in
+    meets c.args.self.now c.dial_source.new.self c.settle.new.self c.dial_destination.new.self c.settle-2.new.self _ _ _ _ _ c.self-2.inside.options c.self-2.inside.handles terms
     c.in_ok-dial_source.ensures.kept c.in_ok-settle.ensures.kept c.in_ok-dial_destination.ensures.kept c.in_ok-settle-2.ensures.kept c.in_ok-dial_source.ensures.board c.in_ok-dial_destination.ensures.board
     (ap (λ (s : Seen). s.options) c.self-2.view_is) (ap (λ (s : Seen). s.held) c.self-2.view_is)
-    (dials_as c.args.self.now.options _ _ _ _ _ _ _ (ap (λ (s : Seen). s.options.extents) c.self.view_is) c.in_ok-dial_source.ensures.dials) c.in_ok-settle.ensures.goes c.in_ok-dial_destination.ensures.dials c.in_ok-settle-2.ensures.goes c.requires.begun agreed
-    (found_terms c.args.self.now c.dial_source.new.self c.settle.new.self c.dial_destination.new.self c.settle-2.new.self _ _ _ _ _ c.self-2.inside.options terms c.self-2.inside.handles
-    c.in_ok-dial_source.ensures.kept c.in_ok-settle.ensures.kept c.in_ok-dial_source.ensures.board c.in_ok-dial_destination.ensures.board (ap (λ (s : Seen). s.held) c.self-2.view_is)
-    (dials_as c.args.self.now.options _ _ _ _ _ _ _ (ap (λ (s : Seen). s.options.extents) c.self.view_is) c.in_ok-dial_source.ensures.dials) c.in_ok-settle.ensures.goes c.in_ok-dial_destination.ensures.dials c.in_ok-settle-2.ensures.goes c.requires.begun finds))
+    dials c.in_ok-settle.ensures.goes c.in_ok-dial_destination.ensures.dials c.in_ok-settle-2.ensures.goes c.requires.begun agreed found.first found.know)
     c.agree.ensures.agrees c.agree.ensures.settles
+
+pub returns-clause-unready : goal.returns-clause-unready
+returns-clause-unready g c =
+    meet_unready c.args.self.now c.dial_source.new.self c.settle.new.self c.dial_destination.new.self _ _ _ _ _
+    c.in_ok-dial_source.ensures.kept c.in_ok-settle.ensures.kept c.in_ok-dial_source.ensures.board c.in_ok-dial_destination.ensures.board
+    (dials_as c.args.self.now.options _ _ _ _ _ _ _ (ap (λ (s : Seen). s.options.extents) c.self.view_is) c.in_ok-dial_source.ensures.dials) c.in_ok-settle.ensures.goes c.in_ok-dial_destination.ensures.dials c.requires.begun
+    c.dial_source.ensures.unpaused c.settle.ensures.unready c.dial_destination.ensures.unpaused c.settle-2.ensures.unready
 
 pub returns-clause-many : goal.returns-clause-many
 returns-clause-many g c = if_ok_leads c.agree.result (λ terms agreed. agreed.some) c.agree.ensures.agrees
@@ -61,3 +81,107 @@ returns-clause-grounds g c =
 
 pub returns-clause-counts : goal.returns-clause-counts
 returns-clause-counts g c = goes_then _ _ _ _ _ _ _ _ _ (goes_then _ _ _ _ _ _ _ _ _ c.dial_source.ensures.counts c.settle.ensures.counts) (goes_then _ _ _ _ _ _ _ _ _ c.dial_destination.ensures.counts c.settle-2.ensures.counts)
+
+pub returns-clause-writes : goal.returns-clause-writes
+returns-clause-writes g c =
+    let begun = subst (λ (l : List (Held Ticket)). Stand l) (sym c.requires.begun.held) none_stand in
+    let one = c.in_ok-dial_source.ensures.dials.stand begun in
+    let two = c.in_ok-dial_destination.ensures.dials.stand (c.in_ok-settle.ensures.goes.stand one) in
+    pauses_then _ _ _ (pauses_then _ _ _ (pauses_unpaused _ _ c.dial_source.ensures.unpaused) (c.settle.ensures.writes one))
+    (pauses_then _ _ _ (pauses_unpaused _ _ c.dial_destination.ensures.unpaused) (c.settle-2.ensures.writes two))
+
+pub returns-clause-links : goal.returns-clause-links
+returns-clause-links g c =
+    let first = c.in_ok-dial_source.ensures.dials.stand (subst Stand (sym c.requires.begun.held) none_stand) in
+    let second = c.in_ok-dial_destination.ensures.dials.stand (c.in_ok-settle.ensures.goes.stand first) in
+    goes_all _ _ _ _ _ (links_end _ _ _ _ _ _ _ (both_made (c.args.self.now.from.to ∷ []) (c.args.self.now.to.to ∷ []) (c.settle.new.self.to.to ∷ []) _ _ _ _ _ _ (ap (λ (s : Seen). s.to.to ∷ []) c.in_ok-settle.ensures.kept ∙ ap (λ (s : Seen). s.to.to ∷ []) c.in_ok-dial_source.ensures.kept) (links_end _ _ _ _ _ _ _ c.in_ok-dial_source.ensures.connects (c.in_ok-settle.ensures.links first)) c.in_ok-dial_destination.ensures.connects) (c.in_ok-settle-2.ensures.links second))
+
+pub returns-clause-connects : goal.returns-clause-connects
+returns-clause-connects g c =
+    let first = c.in_ok-dial_source.ensures.dials.stand (subst Stand (sym c.requires.begun.held) none_stand) in
+    let second = c.in_ok-dial_destination.ensures.dials.stand (c.in_ok-settle.ensures.goes.stand first) in
+    always_on_ok c.agree.result (links_end _ _ _ _ _ _ _ (both_made (c.args.self.now.from.to ∷ []) (c.args.self.now.to.to ∷ []) (c.settle.new.self.to.to ∷ []) _ _ _ _ _ _ (ap (λ (s : Seen). s.to.to ∷ []) c.in_ok-settle.ensures.kept ∙ ap (λ (s : Seen). s.to.to ∷ []) c.in_ok-dial_source.ensures.kept) (links_end _ _ _ _ _ _ _ c.in_ok-dial_source.ensures.connects (c.in_ok-settle.ensures.links first)) c.in_ok-dial_destination.ensures.connects) (c.in_ok-settle-2.ensures.links second))
+
+pub returns-in_err-settle-2-clause-links : goal.returns-in_err-settle-2-clause-links
+returns-in_err-settle-2-clause-links g c =
+    let first = c.in_ok-dial_source.ensures.dials.stand (subst Stand (sym c.requires.begun.held) none_stand) in
+    let second = c.in_ok-dial_destination.ensures.dials.stand (c.in_ok-settle.ensures.goes.stand first) in
+    goes_all _ _ _ _ _ (links_end _ _ _ _ _ _ _ (both_made (c.args.self.now.from.to ∷ []) (c.args.self.now.to.to ∷ []) (c.settle.new.self.to.to ∷ []) _ _ _ _ _ _ (ap (λ (s : Seen). s.to.to ∷ []) c.in_ok-settle.ensures.kept ∙ ap (λ (s : Seen). s.to.to ∷ []) c.in_ok-dial_source.ensures.kept) (links_end _ _ _ _ _ _ _ c.in_ok-dial_source.ensures.connects (c.in_ok-settle.ensures.links first)) c.in_ok-dial_destination.ensures.connects) (c.in_err-settle-2.ensures.links second))
+
+pub returns-in_err-dial_destination-clause-links : goal.returns-in_err-dial_destination-clause-links
+returns-in_err-dial_destination-clause-links g c =
+    let first = c.in_ok-dial_source.ensures.dials.stand (subst Stand (sym c.requires.begun.held) none_stand) in
+    second_fails (c.args.self.now.from.to ∷ []) (c.args.self.now.to.to ∷ []) (c.settle.new.self.to.to ∷ []) _ _ _ _ _ _ (ap (λ (s : Seen). s.to.to ∷ []) c.in_ok-settle.ensures.kept ∙ ap (λ (s : Seen). s.to.to ∷ []) c.in_ok-dial_source.ensures.kept) (links_end _ _ _ _ _ _ _ c.in_ok-dial_source.ensures.connects (c.in_ok-settle.ensures.links first)) c.in_err-dial_destination.ensures.links
+
+pub returns-in_err-settle-clause-links : goal.returns-in_err-settle-clause-links
+returns-in_err-settle-clause-links g c =
+    let first = c.in_ok-dial_source.ensures.dials.stand (subst Stand (sym c.requires.begun.held) none_stand) in
+    goes_wider (c.args.self.now.from.to ∷ []) (c.args.self.now.to.to ∷ []) _ _ _ _ (goes_all _ _ _ _ _ (links_end _ _ _ _ _ _ _ c.in_ok-dial_source.ensures.connects (c.in_err-settle.ensures.links first)))
+
+pub returns-in_err-dial_source-clause-links : goal.returns-in_err-dial_source-clause-links
+returns-in_err-dial_source-clause-links g c =
+    goes_wider (c.args.self.now.from.to ∷ []) (c.args.self.now.to.to ∷ []) _ _ _ _ c.in_err-dial_source.ensures.links
+
+pub returns-in_err-settle-clause-unasked : goal.returns-in_err-settle-clause-unasked
+returns-in_err-settle-clause-unasked g c =
+    source_unasked c.args.self.now c.dial_source.new.self _ _ c.in_ok-dial_source.ensures.board (dials_as c.args.self.now.options _ _ _ _ _ _ _ (ap (λ (s : Seen). s.options.extents) c.self.view_is) c.in_ok-dial_source.ensures.dials) c.requires.begun c.in_ok-dial_source.ensures.unissued _ c.settle.ensures.asks
+
+pub returns-in_err-dial_destination-clause-unasked : goal.returns-in_err-dial_destination-clause-unasked
+returns-in_err-dial_destination-clause-unasked g c =
+    (stays_kept c.args.self.now c.settle.new.self _ _ (kept_then c.args.self.now c.dial_source.new.self c.settle.new.self c.in_ok-dial_source.ensures.kept c.in_ok-settle.ensures.kept) c.dial_destination.ensures.unasked).on _
+    (source_unasked c.args.self.now c.dial_source.new.self _ _ c.in_ok-dial_source.ensures.board (dials_as c.args.self.now.options _ _ _ _ _ _ _ (ap (λ (s : Seen). s.options.extents) c.self.view_is) c.in_ok-dial_source.ensures.dials) c.requires.begun c.in_ok-dial_source.ensures.unissued _ c.settle.ensures.asks)
+
+pub returns-in_err-settle-2-clause-unasked : goal.returns-in_err-settle-2-clause-unasked
+returns-in_err-settle-2-clause-unasked g c =
+    both_unasked c.args.self.now c.dial_source.new.self _ _ c.in_ok-dial_source.ensures.board (dials_as c.args.self.now.options _ _ _ _ _ _ _ (ap (λ (s : Seen). s.options.extents) c.self.view_is) c.in_ok-dial_source.ensures.dials) c.requires.begun c.in_ok-dial_source.ensures.unissued
+    c.settle.new.self c.dial_destination.new.self _ _ c.in_ok-dial_source.ensures.kept c.in_ok-settle.ensures.kept c.in_ok-dial_destination.ensures.board c.in_ok-settle.ensures.goes c.in_ok-settle.ensures.fresh c.in_ok-dial_destination.ensures.dials c.in_ok-dial_destination.ensures.unissued _ c.settle-2.ensures.asks
+
+pub returns-clause-unasked : goal.returns-clause-unasked
+returns-clause-unasked g c =
+    both_unasked c.args.self.now c.dial_source.new.self _ _ c.in_ok-dial_source.ensures.board (dials_as c.args.self.now.options _ _ _ _ _ _ _ (ap (λ (s : Seen). s.options.extents) c.self.view_is) c.in_ok-dial_source.ensures.dials) c.requires.begun c.in_ok-dial_source.ensures.unissued
+    c.settle.new.self c.dial_destination.new.self _ _ c.in_ok-dial_source.ensures.kept c.in_ok-settle.ensures.kept c.in_ok-dial_destination.ensures.board c.in_ok-settle.ensures.goes c.in_ok-settle.ensures.fresh c.in_ok-dial_destination.ensures.dials c.in_ok-dial_destination.ensures.unissued _ c.settle-2.ensures.asks
+
+pub returns-clause-unissued : goal.returns-clause-unissued
+returns-clause-unissued g c =
+    always_on_ok c.agree.result
+    (both_unissued c.args.self.now c.dial_source.new.self _ _ c.in_ok-dial_source.ensures.board (dials_as c.args.self.now.options _ _ _ _ _ _ _ (ap (λ (s : Seen). s.options.extents) c.self.view_is) c.in_ok-dial_source.ensures.dials) c.requires.begun c.in_ok-dial_source.ensures.unissued
+    c.settle.new.self c.dial_destination.new.self _ _ c.in_ok-dial_source.ensures.kept c.in_ok-settle.ensures.kept c.in_ok-dial_destination.ensures.board c.in_ok-settle.ensures.goes c.in_ok-settle.ensures.fresh c.in_ok-dial_destination.ensures.dials c.in_ok-dial_destination.ensures.unissued _ _ _ c.in_ok-settle-2.ensures.fresh)
+
+pub returns-in_err-dial_source-clause-unready : goal.returns-in_err-dial_source-clause-unready
+returns-in_err-dial_source-clause-unready g c = source_dialled _ _ c.dial_source.ensures.unpaused
+
+pub returns-in_err-settle-clause-unready : goal.returns-in_err-settle-clause-unready
+returns-in_err-settle-clause-unready g c = source_unready c.args.self.now c.dial_source.new.self _ _ _ c.in_ok-dial_source.ensures.board (dials_as c.args.self.now.options _ _ _ _ _ _ _ (ap (λ (s : Seen). s.options.extents) c.self.view_is) c.in_ok-dial_source.ensures.dials) c.requires.begun c.dial_source.ensures.unpaused c.settle.ensures.unready
+
+pub returns-in_err-dial_destination-clause-unready : goal.returns-in_err-dial_destination-clause-unready
+returns-in_err-dial_destination-clause-unready g c = told_stays _ _ _ c.dial_destination.ensures.unpaused (source_unready c.args.self.now c.dial_source.new.self _ _ _ c.in_ok-dial_source.ensures.board (dials_as c.args.self.now.options _ _ _ _ _ _ _ (ap (λ (s : Seen). s.options.extents) c.self.view_is) c.in_ok-dial_source.ensures.dials) c.requires.begun c.dial_source.ensures.unpaused c.settle.ensures.unready)
+
+pub returns-in_err-settle-2-clause-unready : goal.returns-in_err-settle-2-clause-unready
+returns-in_err-settle-2-clause-unready g c =
+    meet_unready c.args.self.now c.dial_source.new.self c.settle.new.self c.dial_destination.new.self _ _ _ _ _
+    c.in_ok-dial_source.ensures.kept c.in_ok-settle.ensures.kept c.in_ok-dial_source.ensures.board c.in_ok-dial_destination.ensures.board
+    (dials_as c.args.self.now.options _ _ _ _ _ _ _ (ap (λ (s : Seen). s.options.extents) c.self.view_is) c.in_ok-dial_source.ensures.dials) c.in_ok-settle.ensures.goes c.in_ok-dial_destination.ensures.dials c.requires.begun
+    c.dial_source.ensures.unpaused c.settle.ensures.unready c.dial_destination.ensures.unpaused c.settle-2.ensures.unready
+
+pub returns-in_err-dial_source-clause-writes : goal.returns-in_err-dial_source-clause-writes
+returns-in_err-dial_source-clause-writes g c = pauses_unpaused _ _ c.dial_source.ensures.unpaused
+
+pub returns-in_err-settle-clause-writes : goal.returns-in_err-settle-clause-writes
+returns-in_err-settle-clause-writes g c =
+    let begun = subst (λ (l : List (Held Ticket)). Stand l) (sym c.requires.begun.held) none_stand in
+    let one = c.in_ok-dial_source.ensures.dials.stand begun in
+    pauses_then _ _ _ (pauses_unpaused _ _ c.dial_source.ensures.unpaused) (c.settle.ensures.writes one)
+
+pub returns-in_err-dial_destination-clause-writes : goal.returns-in_err-dial_destination-clause-writes
+returns-in_err-dial_destination-clause-writes g c =
+    let begun = subst (λ (l : List (Held Ticket)). Stand l) (sym c.requires.begun.held) none_stand in
+    let one = c.in_ok-dial_source.ensures.dials.stand begun in
+    pauses_then _ _ _ (pauses_then _ _ _ (pauses_unpaused _ _ c.dial_source.ensures.unpaused) (c.settle.ensures.writes one)) (pauses_unpaused _ _ c.dial_destination.ensures.unpaused)
+
+pub returns-in_err-settle-2-clause-writes : goal.returns-in_err-settle-2-clause-writes
+returns-in_err-settle-2-clause-writes g c =
+    let begun = subst (λ (l : List (Held Ticket)). Stand l) (sym c.requires.begun.held) none_stand in
+    let one = c.in_ok-dial_source.ensures.dials.stand begun in
+    let two = c.in_ok-dial_destination.ensures.dials.stand (c.in_ok-settle.ensures.goes.stand one) in
+    pauses_then _ _ _ (pauses_then _ _ _ (pauses_unpaused _ _ c.dial_source.ensures.unpaused) (c.settle.ensures.writes one))
+    (pauses_then _ _ _ (pauses_unpaused _ _ c.dial_destination.ensures.unpaused) (c.settle-2.ensures.writes two))

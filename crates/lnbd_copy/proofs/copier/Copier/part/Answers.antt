@@ -1,4 +1,4 @@
-use Rattle.std.proofs.Common.{refl, sym, subst}
+use Rattle.std.proofs.Common.{refl, ap, sym, subst, ◌∙◌}
 use Rattle.lnbd_copy.specs.Copier.{IsOnItsWay, IsParting, Seen}
 use Rattle.lnbd_copy.proofs.EndLemmas.{after_leaving}
 use Rattle.lnbd_copy.proofs.UnderWayLemmas.{parting_busy}
@@ -12,3 +12,6 @@ returns-clause-on g c start on =
 
 pub returns-clause-busy : goal.returns-clause-busy
 returns-clause-busy g c busy = parting_busy _ c.shut_parted.new.board (subst IsParting (sym c.self.view_is) (c.if-not-is_parting.ensures refl))
+
+pub returns-clause-still : goal.returns-clause-still
+returns-clause-still g c none = let same = c.shut_parted.ensures.still none in (same.0 ∙ ap (λ (s : Seen). s.held) c.self.view_is, same.1)

@@ -1,5 +1,8 @@
 use Rattle.std.proofs.Common.{sym, subst}
 use Rattle.std.proofs.lemmas.Result.{on_ok_weaker}
+use Rattle.lnbd_link.specs.Call.{Pause}
+use Rattle.lnbd_link.specs.Part.{Adds}
+use Rattle.lnbd_poll.specs.Held.{wants_now}
 use Rattle.lnbd_copy.specs.Copier.{IsOnItsWay, Seen}
 use Rattle.lnbd_copy.proofs.EndLemmas.{after_turn}
 use Rattle.lnbd_copy.proofs.copier.Copier.rest.Goals as goal
@@ -9,3 +12,7 @@ returns-clause-on g c =
     on_ok_weaker c.wait.result
     (λ goes start on. after_turn _ start c.self.inside.board c.wait.new.handles (g.W.Wires.told c.args.wires.now) (g.W.Wires.told c.wait.new.wires) (goes c.self.inside.board) (subst (λ (s : Seen). IsOnItsWay start (g.W.Wires.told c.args.wires.now) s) (sym c.self.view_is) on))
     c.wait.ensures.goes
+
+pub returns-clause-pauses : goal.returns-clause-pauses
+returns-clause-pauses g c =
+    on_ok_weaker c.wait.result (λ adds. subst (λ (s : Seen). Adds (g.W.Wires.told c.args.wires.now) (g.W.Wires.told c.wait.new.wires) (Pause (wants_now s.held))) c.self.view_is adds) c.wait.ensures.pauses

@@ -1,9 +1,17 @@
 use Rattle.std.proofs.Common.{ap}
 use Rattle.std.proofs.lemmas.Result.{on_ok_weaker}
-use Rattle.lnbd_copy.proofs.EndLemmas.{done_answers, done_asks, done_copies, done_dense, done_driven, done_flushed, done_spares, done_unflushed, done_whole}
+use Rattle.lnbd_copy.proofs.EndLemmas.{done_asks, done_copies, done_dense, done_driven, done_flushed, done_spares, done_whole, told_part}
+use Rattle.lnbd_copy.proofs.CauseLemmas.{goes_then}
+use Rattle.lnbd_copy.proofs.CopierLemmas.{told_as}
+use Rattle.lnbd_copy.proofs.FaultLemmas.{behaves_idly}
 use Rattle.lnbd_copy.proofs.FlushLemmas.{done_flushes}
 use Rattle.lnbd_copy.proofs.SummedLemmas.{done_sums}
 use Rattle.lnbd_copy.proofs.GroundLemmas.{grounded_later, if_err_leads}
+use Rattle.lnbd_copy.proofs.PausedLemmas.{done_pauses, told_stays}
+use Rattle.lnbd_copy.proofs.MadeLemmas.{is_made}
+use Rattle.lnbd_copy.proofs.ShareLemmas.{done_shares}
+use Rattle.lnbd_copy.proofs.ConnectLemmas.{connects_as_told, connects_within, told_end, within_end}
+use Rattle.lnbd_copy.proofs.LinkLemmas.{links_kept}
 use Rattle.lnbd_copy.proofs.copier.Copier.run.Goals as goal
 
 pub returns-clause-copies : goal.returns-clause-copies
@@ -45,17 +53,11 @@ returns-clause-grounds g c = if_err_leads c.copy-told.result (λ why grounds. gr
 pub returns-clause-flushes : goal.returns-clause-flushes
 returns-clause-flushes g c two = done_flushes c.args.self c.copy-told.new.self _ _ _ c.copy-told.result c.copy-told.ensures.kept (λ parted. ap g.W.Wires.told (c.end.ensures.parted parted)) two c.copy-told.ensures.done c.copy-told.ensures.flushes
 
-pub returns-clause-unflushed : goal.returns-clause-unflushed
-returns-clause-unflushed g c unwanted two =
-    on_ok_weaker c.copy-told.result
-    (λ done. done_unflushed c.args.self c.copy-told.new.self _ _ _ c.copy-told.ensures.kept (ap g.W.Wires.told (c.end.ensures.parted done.parted)) unwanted two done)
-    c.copy-told.ensures.done
+pub returns-clause-shares : goal.returns-clause-shares
+returns-clause-shares g c two = done_shares c.args.self c.copy-told.new.self _ _ _ c.copy-told.ensures.kept c.end.ensures.unpaused two c.copy-told.ensures.shares
 
-pub returns-clause-answered : goal.returns-clause-answered
-returns-clause-answered g c two =
-    on_ok_weaker c.copy-told.result
-    (λ done. done_answers c.args.self c.copy-told.new.self _ _ _ c.copy-told.ensures.kept (ap g.W.Wires.told (c.end.ensures.parted done.parted)) two done)
-    c.copy-told.ensures.done
+pub returns-clause-pauses : goal.returns-clause-pauses
+returns-clause-pauses g c two = done_pauses c.args.self c.copy-told.new.self _ _ _ c.copy-told.ensures.kept c.end.ensures.unpaused two c.copy-told.ensures.pauses
 
 pub returns-clause-driven : goal.returns-clause-driven
 returns-clause-driven g c =
@@ -68,3 +70,44 @@ returns-clause-flushed g c two =
     on_ok_weaker c.copy-told.result
     (λ done. done_flushed c.args.self c.copy-told.new.self _ _ _ c.copy-told.ensures.kept (ap g.W.Wires.told (c.end.ensures.parted done.parted)) two done)
     c.copy-told.ensures.done
+
+pub returns-clause-writes : goal.returns-clause-writes
+returns-clause-writes g c = told_part _ _ (told_stays _ _ _ c.end.ensures.unpaused c.copy-told.ensures.writes)
+
+pub returns-clause-links : goal.returns-clause-links
+returns-clause-links g c =
+    links_kept c.copy-told.ensures.links.go.to c.args.self.held c.copy-told.new.self.held _ _ _ c.requires.held c.copy-told.ensures.links.go.go c.end.ensures.links
+
+pub returns-clause-within : goal.returns-clause-within
+returns-clause-within g c =
+    connects_within _ _ _ _ _ _ _ (within_end _ _ _ _ _ _ _ _ _ c.copy-told.ensures.links c.end.ensures.links)
+
+pub returns-clause-connects : goal.returns-clause-connects
+returns-clause-connects g c =
+    on_ok_weaker c.copy-told.result (λ told. connects_as_told _ _ _ _ _ _ _ (told_end _ _ _ _ _ _ _ _ _ told c.end.ensures.links)) c.copy-told.ensures.connects
+
+pub returns-clause-asked : goal.returns-clause-asked
+returns-clause-asked g c two = told_part _ _ (told_as _ _ (λ calls is. is.asks) (behaves_idly _ _ _ _ _ _ c.end.ensures.idly (c.copy-told.ensures.fair two)))
+
+pub returns-clause-answered : goal.returns-clause-answered
+returns-clause-answered g c two = told_part _ _ (told_as _ _ (λ calls is. is.answered) (behaves_idly _ _ _ _ _ _ c.end.ensures.idly (c.copy-told.ensures.fair two)))
+
+pub returns-clause-spared : goal.returns-clause-spared
+returns-clause-spared g c two = told_part _ _ (told_as _ _ (λ calls is. is.dense) (behaves_idly _ _ _ _ _ _ c.end.ensures.idly (c.copy-told.ensures.fair two)))
+
+pub returns-clause-counts : goal.returns-clause-counts
+returns-clause-counts g c = goes_then _ _ _ _ _ _ _ _ _ c.copy-told.ensures.counts c.end.ensures.counts
+
+pub returns-clause-at_most_once : goal.returns-clause-at_most_once
+returns-clause-at_most_once g c two = told_part _ _ (told_as _ _ (λ calls is. is.flushes) (behaves_idly _ _ _ _ _ _ c.end.ensures.idly (c.copy-told.ensures.fair two)))
+
+pub returns-clause-unflushed : goal.returns-clause-unflushed
+returns-clause-unflushed g c unwanted two = told_part _ _ (told_as _ _ (λ calls is. is.unflushed unwanted) (behaves_idly _ _ _ _ _ _ c.end.ensures.idly (c.copy-told.ensures.fair two)))
+
+pub returns-clause-waits : goal.returns-clause-waits
+returns-clause-waits g c = told_part _ _ (told_stays _ _ _ c.end.ensures.unpaused c.copy-told.ensures.waits)
+
+pub returns-clause-made : goal.returns-clause-made
+returns-clause-made g c two =
+    is_made c.args.self.options c.args.self.from c.args.self.to _ _ c.copy-told.result (returns-clause-asks g c two) (returns-clause-done g c two) (returns-clause-summary g c two) (returns-clause-spares g c two) (returns-clause-dense g c two) (returns-clause-answered g c two)
+    (returns-clause-flushes g c two) (returns-clause-flushed g c two) (λ unwanted. returns-clause-unflushed g c unwanted two) (returns-clause-driven g c) (returns-clause-pauses g c two) (returns-clause-shares g c two) (returns-clause-writes g c) (returns-clause-waits g c) (returns-clause-links g c) (returns-clause-connects g c)

@@ -1,32 +1,38 @@
 use Rattle.std.proofs.Common.{ℕ, ◌+◌, refl, ap, sym, ◌∙◌, arith}
 use Rattle.lnbd_copy.specs.Dealing.{Begins}
 use Rattle.lnbd_copy.proofs.DealingLemmas.{begins_none, begins_on, zeros_stay}
+use Rattle.lnbd_copy.proofs.SpreadLemmas.{deals_none, deals_then}
 use Rattle.lnbd_copy.proofs.UnderWayLemmas.{begun_all, begun_count, fills_end, fills_stop}
+use Rattle.lnbd_copy.proofs.LinkLemmas.{same_none, same_then}
 use Rattle.lnbd_copy.proofs.dealing.Bindings.begin.Goals as goal
 
 pub slices-init : goal.slices-init
-slices-init c = record { sides = refl; zeros = c.requires.zeros; windows = refl; count = sym c.count-under_way.ensures.count; all = refl; most = λ few. few; begins = begins_none c.args.board.now.how c.args.self.now c.args.windows.now c.args.windows.now c.args.board.now c.args.handles.now refl refl }
+slices-init c = record { sides = refl; zeros = c.requires.zeros; windows = refl; count = sym c.count-under_way.ensures.count; all = refl; still = λ none. refl; most = λ few. few; links = same_none c.args.handles.now; begins = begins_none c.args.board.now.how c.args.self.now.sides c.args.windows.now c.args.windows.now c.args.board.now c.args.handles.now refl refl; dealt = deals_none c.args.limit c.args.self.now.sides c.args.self.now.bound c.args.board.now.rows }
 
 pub slices-preserved : goal.slices-preserved
 slices-preserved c =
-    let all : Begins c.args.board.now.how c.args.self.now c.args.windows.now c.begin_next.new.windows c.args.board.now c.begin_next.new.board c.args.handles.now c.begin_next.new.handles =
-    begins_on c.args.self.now c.slices.self c.args.windows.now c.slices.windows c.begin_next.new.windows c.args.board.now c.slices.board c.begin_next.new.board c.args.handles.now c.slices.handles c.begin_next.new.handles
+    let all : Begins c.args.board.now.how c.args.self.now.sides c.args.windows.now c.begin_next.new.windows c.args.board.now c.begin_next.new.board c.args.handles.now c.begin_next.new.handles =
+    begins_on c.args.self.now.sides c.slices.self.sides c.args.windows.now c.slices.windows c.begin_next.new.windows c.args.board.now c.slices.board c.begin_next.new.board c.args.handles.now c.slices.handles c.begin_next.new.handles
     c.slices.invariant.sides c.slices.invariant.begins c.in_ok-begin_next.ensures.begins in
     let went = c.if-not-branch.false in
     let more = begun_count _ c.slices.windows c.begin_next.new.windows c.slices.board c.begin_next.new.board went c.in_ok-begin_next.ensures.next in
     record {
       sides = c.in_ok-begin_next.ensures.sides ∙ c.slices.invariant.sides;
-      zeros = zeros_stay c.args.board.now.how c.args.self.now c.args.windows.now c.begin_next.new.windows c.args.board.now c.begin_next.new.board c.args.handles.now c.begin_next.new.handles c.requires.zeros all;
+      zeros = zeros_stay c.args.board.now.how c.args.self.now.sides c.args.windows.now c.begin_next.new.windows c.args.board.now c.begin_next.new.board c.args.handles.now c.begin_next.new.handles c.requires.zeros all;
       windows = all.others;
       count = more ∙ ap (λ (n : ℕ). n + 1) c.slices.invariant.count;
       all = begun_all _ c.args.windows.now c.slices.windows c.begin_next.new.windows c.args.board.now c.slices.board c.begin_next.new.board went c.slices.invariant.all c.in_ok-begin_next.ensures.next;
+      still = λ none. absurd (omega (arith, none));
       most = λ few. (let count = c.slices.invariant.count in let less = c.slices-test.true in omega (arith, more, count, less));
+      links = same_then _ _ _ c.slices.invariant.links c.begin_next.ensures.links;
       begins = all;
+      dealt = deals_then c.args.limit c.args.self.now.sides c.slices.self.sides c.args.self.now.bound c.slices.self.bound c.begin_next.new.self.bound c.args.board.now.rows c.slices.board.rows c.begin_next.new.board.rows c.slices.invariant.sides c.slices.invariant.dealt
+          (c.in_ok-begin_next.ensures.dealt c.args.limit c.ranges.limit.fits (let count = c.slices.invariant.count in let less = c.slices-test.true in omega (arith, count, less)));
     }
 
 pub returns-then-not-branch-clause-begins : goal.returns-then-not-branch-clause-begins
 returns-then-not-branch-clause-begins c =
-    begins_on c.args.self.now c.slices.self c.args.windows.now c.slices.windows c.begin_next.new.windows c.args.board.now c.slices.board c.begin_next.new.board c.args.handles.now c.slices.handles c.begin_next.new.handles
+    begins_on c.args.self.now.sides c.slices.self.sides c.args.windows.now c.slices.windows c.begin_next.new.windows c.args.board.now c.slices.board c.begin_next.new.board c.args.handles.now c.slices.handles c.begin_next.new.handles
     c.slices.invariant.sides c.slices.invariant.begins c.in_ok-begin_next.ensures.begins
 
 pub returns-then-not-branch-clause-fills : goal.returns-then-not-branch-clause-fills
@@ -35,3 +41,8 @@ returns-then-not-branch-clause-fills c =
 
 pub returns-clause-fills : goal.returns-clause-fills
 returns-clause-fills c = fills_end c.args.limit c.args.windows.now c.slices.windows c.args.board.now c.slices.board c.slices.invariant.all c.slices.invariant.most (let count = c.slices.invariant.count in let end = c.slices-test.false in omega (arith, count, end))
+
+pub returns-then-not-branch-clause-dealt : goal.returns-then-not-branch-clause-dealt
+returns-then-not-branch-clause-dealt c =
+    deals_then c.args.limit c.args.self.now.sides c.slices.self.sides c.args.self.now.bound c.slices.self.bound c.begin_next.new.self.bound c.args.board.now.rows c.slices.board.rows c.begin_next.new.board.rows c.slices.invariant.sides c.slices.invariant.dealt
+    (c.in_ok-begin_next.ensures.dealt c.args.limit c.ranges.limit.fits (let count = c.slices.invariant.count in let less = c.slices-test.true in omega (arith, count, less)))

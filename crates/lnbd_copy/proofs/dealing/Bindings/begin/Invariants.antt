@@ -1,15 +1,20 @@
 use Rattle.std.proofs.Common.{◌≡◌, ◌≤◌, length, not}
+use Rattle.lnbd_copy.specs.Dealt.{Deals}
 use Rattle.lnbd_copy.specs.Dealing.{Begins}
 use Rattle.lnbd_copy.specs.UnderWay.{unfinished}
+use Rattle.lnbd_copy.specs.Links.{HaveSameLinks}
 use Rattle.lnbd_copy.proofs.dealing.Bindings.begin.Given as goal
 
 abbrev pub invariant-slices : goal.invariant-slices
 invariant-slices l = record {
-  sides : l.self ≡ l.fn.self;
+  sides : l.self.sides ≡ l.fn.self.sides;
   zeros : l.windows.plan.cells.zeros ≡ not l.board.how.skip;
   windows : l.windows ≡ record l.fn.windows { plan = record l.fn.windows.plan { slices = l.windows.plan.slices } };
   count : length l.board.rows ≡ l.under_way;
   all : unfinished l.windows l.board ≡ unfinished l.fn.windows l.fn.board;
+  still : l.done ≡ 0 → l.handles ≡ l.fn.handles;
   most : length l.fn.board.rows ≤ l.limit → length l.board.rows ≤ l.limit;
-  begins : Begins l.fn.board.how l.fn.self l.fn.windows l.windows l.fn.board l.board l.fn.handles l.handles;
+  links : HaveSameLinks l.fn.handles l.handles;
+  begins : Begins l.fn.board.how l.fn.self.sides l.fn.windows l.windows l.fn.board l.board l.fn.handles l.handles;
+  dealt : Deals l.limit l.fn.self.sides l.fn.self.bound l.self.bound l.fn.board.rows l.board.rows;
 }

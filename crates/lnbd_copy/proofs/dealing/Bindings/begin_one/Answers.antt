@@ -2,16 +2,24 @@ use Rattle.std.proofs.Common.{◌∙◌}
 use Rattle.std.proofs.lemmas.Result.{on_ok_weaker}
 use Rattle.lnbd_board.specs.Board.{first_row}
 use Rattle.lnbd_copy.proofs.DealingLemmas.{begun_keeps, on_ok_both}
+use Rattle.lnbd_copy.proofs.SpreadLemmas.{deals_begun}
 use Rattle.lnbd_copy.proofs.UnderWayLemmas.{begun_more}
 use Rattle.lnbd_copy.proofs.dealing.Bindings.begin_one.Goals as goal
 
 pub returns-clause-keeps : goal.returns-clause-keeps
 returns-clause-keeps c =
     on_ok_both c.ask_first.result
-    (λ asked same. begun_keeps c.args.board.now.how c.args.self.now c.sides.result c.args.slice c.begun-number.result (first_row c.args.slice c.fewest-source.result.0 c.fewest-source.result.1) c.in_ok-first.first
+    (λ asked same. begun_keeps c.args.board.now.how c.args.self.now.sides c.sides.result c.args.slice c.begun-number.result (first_row c.args.slice c.fewest-source.result.0 c.fewest-source.result.1) c.in_ok-first.first
     c.args.board.now c.begin.new.self c.ask_first.new.board c.args.handles.now c.ask_first.new.handles
-    (c.sides.ensures ∙ c.bind.ensures) c.begun-number.ensures c.in_ok-first.ensures.row c.in_ok-first.ensures.ok same asked)
+    (c.sides.ensures.same ∙ c.bind.ensures.sides) c.begun-number.ensures c.in_ok-first.ensures.row c.in_ok-first.ensures.ok same asked)
     c.ask_first.ensures.asked c.ask_first.ensures.board
 
 pub returns-clause-more : goal.returns-clause-more
 returns-clause-more c = on_ok_weaker c.ask_first.result (λ same. begun_more (first_row c.args.slice c.fewest-source.result.0 c.fewest-source.result.1) c.in_ok-first.first c.args.board.now c.begin.new.self c.ask_first.new.board c.in_ok-first.ensures.row same) c.ask_first.ensures.board
+
+pub returns-clause-dealt : goal.returns-clause-dealt
+returns-clause-dealt c =
+    on_ok_weaker c.ask_first.result
+    (λ same limit fits less. deals_begun limit c.args.self.now.sides (first_row c.args.slice c.fewest-source.result.0 c.fewest-source.result.1) c.in_ok-first.first c.args.board.now c.begin.new.self c.ask_first.new.board c.args.self.now.bound c.bind.new.self.bound c.in_ok-first.ensures.row same
+    c.fewest-source.ensures.few_of_source c.fewest-source.ensures.few_of_destination c.bind.ensures.source c.bind.ensures.destination fits less)
+    c.ask_first.ensures.board

@@ -1,12 +1,17 @@
-use Rattle.std.proofs.Common.{◌≡◌, ◌≤◌, [], length}
+use Rattle.std.proofs.Common.{◌≡◌, ◌≤◌, ℕ, [], length}
+use Rattle.lnbd_copy.specs.Dealt.{Deals}
 use Rattle.lnbd_copy.specs.Dealing.{HasGoneOn}
 use Rattle.lnbd_copy.specs.Way.{Keeps}
+use Rattle.lnbd_copy.specs.Links.{HaveSameLinks}
 use Rattle.lnbd_copy.proofs.dealing.Bindings.go_on.Given as goal
 
 abbrev pub invariant-slices : goal.invariant-slices
 invariant-slices l = record {
-  sides : l.self ≡ l.fn.self;
+  sides : l.self.sides ≡ l.fn.self.sides;
   others : HasGoneOn l.fn.board l.board;
+  still : l.done ≡ 0 → l.handles ≡ l.fn.handles;
   few : length l.board.rows ≤ length l.fn.board.rows;
-  keeps : Keeps l.fn.board.how l.fn.self [] l.fn.board l.board l.fn.handles l.handles;
+  links : HaveSameLinks l.fn.handles l.handles;
+  keeps : Keeps l.fn.board.how l.fn.self.sides [] l.fn.board l.board l.fn.handles l.handles;
+  dealt : (limit : ℕ) → Deals limit l.fn.self.sides l.fn.self.bound l.self.bound l.fn.board.rows l.board.rows;
 }

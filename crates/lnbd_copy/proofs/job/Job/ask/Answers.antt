@@ -1,28 +1,28 @@
 use Rattle.std.proofs.Common.{true, refl, ap, sym, subst, ◌∙◌}
 use Rattle.lnbd_copy.specs.Job.{Acts, Seen}
-use Rattle.lnbd_copy.specs.UnderWay.{HasAsked}
+use Rattle.lnbd_copy.specs.UnderWay.{HasAsked, IsWantedOf}
 use Rattle.lnbd_copy.proofs.JobLemmas.{acts_asked}
 use Rattle.lnbd_copy.proofs.UnderWayLemmas.{has_asked, unasked, unwanted}
 use Rattle.lnbd_copy.proofs.job.Job.ask.Goals as goal
 
 pub returns-in_ok-ask_extents-in-Some-clause-acts : goal.returns-in_ok-ask_extents-in-Some-clause-acts
 returns-in_ok-ask_extents-in-Some-clause-acts c =
-    let was : Seen = record { terms = c.self.inside.terms; windows = c.self.inside.windows; asked = c.self.inside.asked; phase = c.self.inside.phase } in
-    let new : Seen = record { terms = c.self.inside.terms; windows = c.self.inside.windows; asked = true; phase = c.self.inside.phase } in
+    let was : Seen = record { terms = c.self.inside.terms; windows = c.self.inside.windows; asked = c.self.inside.asked; phase = c.self.inside.phase; bound = c.self.inside.bindings.bound } in
+    let new : Seen = record { terms = c.self.inside.terms; windows = c.self.inside.windows; asked = true; phase = c.self.inside.phase; bound = c.self.inside.bindings.bound } in
     subst (λ (j : Seen). Acts j new c.args.board.now c.ask_extents.new.board c.args.handles.now c.ask_extents.new.handles) c.self.view_is
     (acts_asked was new c.args.board.now c.ask_extents.new.board c.args.handles.now c.ask_extents.new.handles c.in-Some.wanted.offset c.in-Some.wanted.length (ap (λ (j : Seen). j.phase) c.self.view_is ∙ c.requires) (ap (λ (j : Seen). j.asked) c.self.view_is ∙ c.may_ask.ensures.unasked c.if-not-may_ask.false) (sym c.in-Some.ensures) refl
     c.in_ok-ask_extents-in-Some.ensures.board c.in_ok-ask_extents-in-Some.ensures.asked)
 
 pub returns-in_ok-ask_extents-in-Some-clause-asks : goal.returns-in_ok-ask_extents-in-Some-clause-asks
 returns-in_ok-ask_extents-in-Some-clause-asks c =
-    let was : Seen = record { terms = c.self.inside.terms; windows = c.self.inside.windows; asked = c.self.inside.asked; phase = c.self.inside.phase } in
-    let new : Seen = record { terms = c.self.inside.terms; windows = c.self.inside.windows; asked = true; phase = c.self.inside.phase } in
-    subst (λ (j : Seen). HasAsked j new c.args.board.now c.ask_extents.new.board) c.self.view_is (has_asked was c.args.board.now c.ask_extents.new.board c.in_ok-ask_extents-in-Some.ensures.board)
+    let was : Seen = record { terms = c.self.inside.terms; windows = c.self.inside.windows; asked = c.self.inside.asked; phase = c.self.inside.phase; bound = c.self.inside.bindings.bound } in
+    let new : Seen = record { terms = c.self.inside.terms; windows = c.self.inside.windows; asked = true; phase = c.self.inside.phase; bound = c.self.inside.bindings.bound } in
+    subst (λ (j : Seen). HasAsked j new c.args.board.now c.ask_extents.new.board) c.self.view_is (has_asked was c.args.board.now c.ask_extents.new.board c.in_ok-ask_extents-in-Some.ensures.board (subst (λ (j : Seen). IsWantedOf j.windows) (sym c.self.view_is) c.may_ask.ensures.wanted))
 
 pub returns-then-not-may_ask-clause-asks : goal.returns-then-not-may_ask-clause-asks
-returns-then-not-may_ask-clause-asks c = unasked c.args.self.now c.args.board.now (c.may_ask.ensures.planned c.if-not-may_ask.true)
+returns-then-not-may_ask-clause-asks c = unasked c.args.self.now c.args.board.now (c.may_ask.ensures.planned c.if-not-may_ask.true) c.may_ask.ensures.wanted
 
 pub returns-in-None-clause-asks : goal.returns-in-None-clause-asks
 returns-in-None-clause-asks c =
-    let was : Seen = record { terms = c.self.inside.terms; windows = c.self.inside.windows; asked = c.self.inside.asked; phase = c.self.inside.phase } in
-    subst (λ (j : Seen). HasAsked j j c.args.board.now c.args.board.now) c.self.view_is (unwanted was c.args.board.now (sym c.in-None.ensures))
+    let was : Seen = record { terms = c.self.inside.terms; windows = c.self.inside.windows; asked = c.self.inside.asked; phase = c.self.inside.phase; bound = c.self.inside.bindings.bound } in
+    subst (λ (j : Seen). HasAsked j j c.args.board.now c.args.board.now) c.self.view_is (unwanted was c.args.board.now (sym c.in-None.ensures) (subst (λ (j : Seen). IsWantedOf j.windows) (sym c.self.view_is) c.may_ask.ensures.wanted))

@@ -1,19 +1,27 @@
 use Rattle.std.proofs.Common.{refl, ap, sym, subst, ◌∙◌}
+use Rattle.lnbd_copy.specs.Dealt.{Spreads}
 use Rattle.lnbd_copy.specs.Job.{Acts, Seen}
 use Rattle.lnbd_copy.specs.UnderWay.{HasFilled}
 use Rattle.lnbd_copy.proofs.JobLemmas.{acts_begun}
+use Rattle.lnbd_copy.proofs.SpreadLemmas.{acts_bound, spreads_deals}
 use Rattle.lnbd_copy.proofs.UnderWayLemmas.{has_filled}
 use Rattle.lnbd_copy.proofs.job.Job.begin.Goals as goal
 
 pub returns-clause-acts : goal.returns-clause-acts
 returns-clause-acts c =
-    let was : Seen = record { terms = c.self.inside.terms; windows = c.self.inside.windows; asked = c.self.inside.asked; phase = c.self.inside.phase } in
-    let new : Seen = record { terms = c.self.inside.terms; windows = c.begin.new.windows; asked = c.self.inside.asked; phase = c.self.inside.phase } in
+    let was : Seen = record { terms = c.self.inside.terms; windows = c.self.inside.windows; asked = c.self.inside.asked; phase = c.self.inside.phase; bound = c.self.inside.bindings.bound } in
+    let new : Seen = record { terms = c.self.inside.terms; windows = c.begin.new.windows; asked = c.self.inside.asked; phase = c.self.inside.phase; bound = c.begin.new.self.bound } in
     subst (λ (j : Seen). Acts j new c.args.board.now c.begin.new.board c.args.handles.now c.begin.new.handles) c.self.view_is
-    (acts_begun was new c.begin.new.windows c.args.board.now.how c.self.inside.bindings c.args.board.now c.begin.new.board c.args.handles.now c.begin.new.handles (ap (λ (j : Seen). j.phase) c.self.view_is ∙ c.requires.copying) (c.requires.how ∙ sym (ap (λ (j : Seen). j.terms.how) c.self.view_is)) c.self.invariant.bound refl c.in_ok-begun.ensures.begins)
+    (acts_bound was (record was { windows = c.begin.new.windows }) c.begin.new.self.bound c.args.board.now c.begin.new.board c.args.handles.now c.begin.new.handles (acts_begun was (record was { windows = c.begin.new.windows }) c.begin.new.windows c.args.board.now.how c.self.inside.bindings.sides c.args.board.now c.begin.new.board c.args.handles.now c.begin.new.handles (ap (λ (j : Seen). j.phase) c.self.view_is ∙ c.requires.copying) (c.requires.how ∙ sym (ap (λ (j : Seen). j.terms.how) c.self.view_is)) c.self.invariant.bound refl c.in_ok-begun.ensures.begins))
 
 pub returns-clause-fills : goal.returns-clause-fills
 returns-clause-fills c =
-    let was : Seen = record { terms = c.self.inside.terms; windows = c.self.inside.windows; asked = c.self.inside.asked; phase = c.self.inside.phase } in
-    let new : Seen = record { terms = c.self.inside.terms; windows = c.begin.new.windows; asked = c.self.inside.asked; phase = c.self.inside.phase } in
-    subst (λ (j : Seen). HasFilled j new c.args.board.now c.begin.new.board) c.self.view_is (has_filled was c.begin.new.windows c.args.board.now c.begin.new.board c.begin.ensures.windows c.in_ok-begun.ensures.begins.begun c.in_ok-begun.ensures.fills)
+    let was : Seen = record { terms = c.self.inside.terms; windows = c.self.inside.windows; asked = c.self.inside.asked; phase = c.self.inside.phase; bound = c.self.inside.bindings.bound } in
+    let new : Seen = record { terms = c.self.inside.terms; windows = c.begin.new.windows; asked = c.self.inside.asked; phase = c.self.inside.phase; bound = c.begin.new.self.bound } in
+    subst (λ (j : Seen). HasFilled j new c.args.board.now c.begin.new.board) c.self.view_is (has_filled was c.begin.new.windows c.begin.new.self.bound c.args.board.now c.begin.new.board c.begin.ensures.windows c.in_ok-begun.ensures.begins.begun c.in_ok-begun.ensures.fills)
+
+pub returns-clause-spread : goal.returns-clause-spread
+returns-clause-spread c =
+    let was : Seen = record { terms = c.self.inside.terms; windows = c.self.inside.windows; asked = c.self.inside.asked; phase = c.self.inside.phase; bound = c.self.inside.bindings.bound } in
+    let new : Seen = record { terms = c.self.inside.terms; windows = c.begin.new.windows; asked = c.self.inside.asked; phase = c.self.inside.phase; bound = c.begin.new.self.bound } in
+    subst (λ (j : Seen). Spreads j new c.args.board.now c.begin.new.board) c.self.view_is (spreads_deals was new c.self.inside.bindings.sides c.args.board.now c.begin.new.board refl c.self.invariant.bound c.in_ok-begun.ensures.dealt)

@@ -7,8 +7,8 @@ use Rattle.lnbd_copy.proofs.job.Job.conclude.Goals as goal
 
 pub returns-then-self-clause-acts : goal.returns-then-self-clause-acts
 returns-then-self-clause-acts c =
-    let was : Seen = record { terms = c.self.inside.terms; windows = c.self.inside.windows; asked = c.self.inside.asked; phase = c.self.inside.phase } in
-    let new : Seen = record { terms = c.self.inside.terms; windows = c.self.inside.windows; asked = c.self.inside.asked; phase = phase.Flushing } in
+    let was : Seen = record { terms = c.self.inside.terms; windows = c.self.inside.windows; asked = c.self.inside.asked; phase = c.self.inside.phase; bound = c.self.inside.bindings.bound } in
+    let new : Seen = record { terms = c.self.inside.terms; windows = c.self.inside.windows; asked = c.self.inside.asked; phase = phase.Flushing; bound = c.self.inside.bindings.bound } in
     subst (λ (j : Seen). Acts j new c.args.board.now c.ask_flush.new.board c.args.handles.now c.ask_flush.new.handles) c.self.view_is
     (acts_flushing was new c.args.board.now c.ask_flush.new.board c.args.handles.now c.ask_flush.new.handles c.if-self.true refl (ap (λ (j : Seen). j.phase) c.self.view_is ∙ c.requires.copying) (subst (λ (j : Seen). IsOver j c.args.board.now) (sym c.self.view_is) c.requires.over) c.in_ok-ask_flush.ensures.board c.in_ok-ask_flush.ensures.asked)
 

@@ -9,8 +9,8 @@ use Rattle.lnbd_copy.proofs.job.Job.hear.Goals as goal
 
 pub returns-clause-acts : goal.returns-clause-acts
 returns-clause-acts c = λ held.
-    let was : Seen = record { terms = c.self.inside.terms; windows = c.self.inside.windows; asked = c.self.inside.asked; phase = c.self.inside.phase } in
-    let new : Seen = record { terms = c.self.inside.terms; windows = c.hear.new.self; asked = false; phase = c.self.inside.phase } in
+    let was : Seen = record { terms = c.self.inside.terms; windows = c.self.inside.windows; asked = c.self.inside.asked; phase = c.self.inside.phase; bound = c.self.inside.bindings.bound } in
+    let new : Seen = record { terms = c.self.inside.terms; windows = c.hear.new.self; asked = false; phase = c.self.inside.phase; bound = c.self.inside.bindings.bound } in
     let hears =
     subst (λ (told : List Extent). (blank : ℕ → Bool) (slices : List Slice) → windows.IsPlanned c.self.inside.windows blank slices → windows.IsPlanned c.hear.new.self (λ p. blank p || windows.zero_heard (windows.wanted c.self.inside.windows) told p) slices)
     c.told.ensures c.in_ok-hear.ensures.planned in

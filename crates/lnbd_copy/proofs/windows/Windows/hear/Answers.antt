@@ -36,8 +36,8 @@ returns-clause-planned c =
     (hear_wholly was c.self.inside.start c.end_of-end.result c.args.told.now c.deref.result.now c.in_ok-joined.joined.items c.hold_zeroes.new.zero c.self.invariant.begins c.end_of-end.ensures.end left c.deref.ensures.value c.in_ok-joined.ensures.told
     c.in_ok-reached.ensures.held now (c.self.inside.at + c.passed.result - c.self.inside.start) c.in_ok-window.ensures.ok fits c.new.ensures)
 
-pub returns-then-self-end-clause-spared : goal.returns-then-self-end-clause-spared
-returns-then-self-end-clause-spared c =
+pub returns-then-at-end-clause-spared : goal.returns-then-at-end-clause-spared
+returns-then-at-end-clause-spared c =
     let was : Seen = record { plan = c.self.inside.plan; size = c.self.inside.size; grain = c.self.inside.grain; at = c.self.inside.at; zero = c.self.inside.zero } in
     let now : Seen = record { plan = c.self.inside.plan; size = c.self.inside.size; grain = c.self.inside.grain; at = c.self.inside.at + c.passed.result; zero = c.hold_zeroes.new.zero } in
     let left : c.self.inside.at < c.end_of-end.result = omega arith in
@@ -60,8 +60,8 @@ returns-clause-spared c =
     (λ p low e. subst (λ (l : List Extent). is_zero (flags_at l p) ≡ true) (sym c.deref.ensures.value) (c.in_ok-joined.ensures.all p low e)) c.in_ok-reached.ensures.kept c.in_ok-reached.ensures.whole now
     (c.self.inside.at + c.passed.result - c.self.inside.start) c.in_ok-window.ensures.ok last fits)
 
-pub returns-then-self-end-clause-heard : goal.returns-then-self-end-clause-heard
-returns-then-self-end-clause-heard c =
+pub returns-then-at-end-clause-heard : goal.returns-then-at-end-clause-heard
+returns-then-at-end-clause-heard c =
     let was : Seen = record { plan = c.self.inside.plan; size = c.self.inside.size; grain = c.self.inside.grain; at = c.self.inside.at; zero = c.self.inside.zero } in
     let now : Seen = record { plan = c.self.inside.plan; size = c.self.inside.size; grain = c.self.inside.grain; at = c.self.inside.at + c.passed.result; zero = c.hold_zeroes.new.zero } in
     let left : c.self.inside.at < c.end_of-end.result = omega arith in

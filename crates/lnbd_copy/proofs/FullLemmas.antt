@@ -1,0 +1,227 @@
+-- The calls of a turn are no pauses, and where nothing happened in it each link that is wanted for writing was written in vain.
+use Rattle.std.proofs.Common.{◌≡◌, ◌≤◌, ◌==◌, ◌||◌, ℕ, Bool, true, false, List, [], ◌∷◌, ◌++◌, length, Option, Some, None, is_some, if◌then◌else◌, refl, ap, sym, subst, ◌∙◌, arith}
+use Rattle.std.proofs.lemmas.Bool.{false≢true}
+use Rattle.std.proofs.lemmas.List.Folds.{list_any-append}
+use Rattle.std.specs.List.{list_any}
+use Rattle.lnbd_callbacks.specs.Calls.{Call}
+use Rattle.lnbd_callbacks.specs.Steps.{OneByOne}
+use Rattle.lnbd_history.specs.Events.{History}
+use Rattle.lnbd_history.specs.Answers.{direction_after, direction_of, in_flight_after, out_after, state_after}
+use Rattle.lnbd_model.specs.declared.state.State.{State}
+use Rattle.lnbd_link.specs.Call as wire
+use Rattle.lnbd_link.specs.Call.{Connect, Listen, Accept, Read, Write, Pause, Shut, ReadTold, WriteTold, Sent, Full, WriteFault}
+use Rattle.lnbd_link.specs.declared.wires.Want.{Want}
+use Rattle.lnbd_poll.specs.declared.noticed.Noticed.{Noticed}
+use Rattle.lnbd_poll.specs.declared.noticed.Noticed.TheVariants as noticed
+use Rattle.lnbd_poll.specs.declared.noticed.Turn.{Turn}
+use Rattle.lnbd_poll.specs.declared.noticed.Turn.TheVariants as turn
+use Rattle.lnbd_poll.specs.Held.{Held, AreAt, is_wanting, want_of, wants_after, with_want}
+use Rattle.lnbd_poll.specs.Notices.{ReadsIf, ReadsOn, Sends, WritesIf, is_reading, is_waiting}
+use Rattle.lnbd_poll.specs.Seen.{Seen}
+use Rattle.lnbd_poll.specs.Seen as poll
+use Rattle.lnbd_poll.specs.Still.{WaitWhereFull, is_full}
+use Rattle.lnbd_poll.specs.Turned.{TurnsShort, TurnsWhole}
+use Rattle.lnbd_poll.specs.Turns.{All_took, Ending, Goes_on, Runs_short, Short, Stops, Takes, Turns, TurnsOne, Whole, WritesAll, is_moved, moved_by, together, turn_of, with_moved}
+use Rattle.lnbd_poll.proofs.HeldLemmas.{wants_same}
+use Rattle.lnbd_board.specs.declared.ticket.Ticket.{Ticket}
+use Rattle.lnbd_board.specs.Files.{Files}
+use Rattle.lnbd_board.specs.Files as board
+use Rattle.lnbd_copy.specs.Pauses.{HasNoPause, LeavesFull, Unpaused, WantsOnlyFull, is_pause, told_after}
+use Rattle.lnbd_copy.specs.Way.{Stand}
+
+-- Writes.
+
+-- a write that took bytes, or of which the link failed
+abbrev is_heeded : wire.Call → Bool
+is_heeded (Connect to given) = false
+is_heeded (Listen at listener) = false
+is_heeded (Accept listener answer) = false
+is_heeded (Read n room answer) = false
+is_heeded (Write n offered (Sent bytes)) = true
+is_heeded (Write n offered Full) = false
+is_heeded (Write n offered WriteFault) = true
+is_heeded (Pause wants) = false
+is_heeded (Shut n) = false
+
+true_is : {A : Type 0} → true ≡ false → A
+true_is e = absurd (false≢true (sym e))
+
+-- Where no write took anything, what was written last took nothing still,
+stays_full : (link : ℕ) (calls : List wire.Call) → list_any is_pause calls ≡ false → list_any is_heeded calls ≡ false → told_after link calls (Some Full) ≡ Some Full
+stays_full link [] unpaused unheeded = refl
+stays_full link (Connect to given ∷ calls) unpaused unheeded = stays_full link calls unpaused unheeded
+stays_full link (Listen at listener ∷ calls) unpaused unheeded = stays_full link calls unpaused unheeded
+stays_full link (Accept listener answer ∷ calls) unpaused unheeded = stays_full link calls unpaused unheeded
+stays_full link (Read n room answer ∷ calls) unpaused unheeded = stays_full link calls unpaused unheeded
+stays_full link (Write n offered (Sent bytes) ∷ calls) unpaused unheeded = true_is unheeded
+stays_full link (Write n offered Full ∷ calls) unpaused unheeded =
+    elim (n == link) as (λ b. told_after link calls (if b then Some Full else Some Full) ≡ Some Full) [ true ↦ stays_full link calls unpaused unheeded | false ↦ stays_full link calls unpaused unheeded ]
+stays_full link (Write n offered WriteFault ∷ calls) unpaused unheeded = true_is unheeded
+stays_full link (Pause wants ∷ calls) unpaused unheeded = true_is unpaused
+stays_full link (Shut n ∷ calls) unpaused unheeded = stays_full link calls unpaused unheeded
+
+-- and where one of the link is among them, that was written last.
+ends_full : (link : ℕ) (calls : List wire.Call) (last : Option WriteTold) → list_any is_pause calls ≡ false → list_any is_heeded calls ≡ false → list_any (is_full link) calls ≡ true → told_after link calls last ≡ Some Full
+ends_full link [] last unpaused unheeded some = absurd (false≢true some)
+ends_full link (Connect to given ∷ calls) last unpaused unheeded some = ends_full link calls last unpaused unheeded some
+ends_full link (Listen at listener ∷ calls) last unpaused unheeded some = ends_full link calls last unpaused unheeded some
+ends_full link (Accept listener answer ∷ calls) last unpaused unheeded some = ends_full link calls last unpaused unheeded some
+ends_full link (Read n room answer ∷ calls) last unpaused unheeded some = ends_full link calls last unpaused unheeded some
+ends_full link (Write n offered (Sent bytes) ∷ calls) last unpaused unheeded some = true_is unheeded
+ends_full link (Write n offered Full ∷ calls) last unpaused unheeded some =
+    elim (n == link) as (λ b. (b || list_any (is_full link) calls) ≡ true → told_after link calls (if b then Some Full else last) ≡ Some Full) [ true ↦ λ e. stays_full link calls unpaused unheeded | false ↦ λ e. ends_full link calls last unpaused unheeded e ] some
+ends_full link (Write n offered WriteFault ∷ calls) last unpaused unheeded some = true_is unheeded
+ends_full link (Pause wants ∷ calls) last unpaused unheeded some = true_is unpaused
+ends_full link (Shut n ∷ calls) last unpaused unheeded some = ends_full link calls last unpaused unheeded some
+
+-- The calls of a turn.
+
+none_then : (p : wire.Call → Bool) (calls own other : List wire.Call) → calls ≡ own ++ other → list_any p own ≡ false → list_any p other ≡ false → list_any p calls ≡ false
+none_then p calls own other are one two = ap (list_any p) are ∙ list_any-append p own other ∙ ap (λ (b : Bool). b || list_any p other) one ∙ two
+
+some_is_none : {A : Type 0} (n : ℕ) → Some n ≡ None → A
+some_is_none n is = absurd (false≢true (sym (ap is_some is)))
+
+both_none : (a b : Option ℕ) → together a b ≡ None → (a ≡ None) × (b ≡ None)
+both_none None b is = (refl, is)
+both_none (Some n) None is = some_is_none n is
+both_none (Some n) (Some m) is = some_is_none _ is
+
+moved_some : {A : Type 0} (notice : Noticed) (rest : Option ℕ) → is_moved notice ≡ true → together (moved_by notice) rest ≡ None → A
+moved_some (noticed.Moved n) rest some is = some_is_none n (both_none (Some n) rest is).0
+moved_some noticed.NotReady rest some is = absurd (false≢true some)
+moved_some noticed.Idle rest some is = absurd (false≢true some)
+moved_some noticed.Ended rest some is = absurd (false≢true some)
+moved_some noticed.LinkFailed rest some is = absurd (false≢true some)
+moved_some noticed.NoMemory rest some is = absurd (false≢true some)
+
+with_none : (moved : Option ℕ) (rest : Ending) → with_moved moved rest ≡ Whole None → (moved ≡ None) × (rest ≡ Whole None)
+with_none moved (Whole rest) is = let quiet = both_none moved rest (cc is) in (quiet.0, ap Whole quiet.1)
+with_none moved Short is = absurd (cc is)
+
+module _ {K World : Type 0} (steps : World → List (Call K) → World → Type 0) where
+  -- They are reads and writes of links.
+
+  write_unpaused : (b : Bool) (link : ℕ) (notice : Noticed) (before after : History K) (calls : List wire.Call) → WritesIf b link notice before calls after → HasNoPause calls
+  write_unpaused false link notice before after calls w = ap (list_any is_pause) w.1
+  write_unpaused true link notice before after calls w = ap (list_any is_pause) w.1
+
+  writes_unpaused : (link : ℕ) (before : History K) (world : World) (calls : List wire.Call) (after : History K) (world' : World) (moved : Option ℕ) → WritesAll steps link before world calls after world' moved → HasNoPause calls
+  writes_unpaused link before world calls after world' moved (Stops _ _ _ _ _ _ notice w stop is) = write_unpaused (is_waiting before) link notice before w.middle calls w.writes
+  writes_unpaused link before world calls after world' moved (Goes_on _ _ _ _ _ _ notice own middle half other rest w some more are is) =
+      none_then is_pause calls own other are (write_unpaused (is_waiting before) link notice before w.middle own w.writes) (writes_unpaused link middle half other after world' rest more)
+
+  reads_on_none : (p : wire.Call → Bool) → ((n room : ℕ) (answer : ReadTold) → p (Read n room answer) ≡ false) → (unread : List ℕ) (notice : Noticed) (before after : Seen K) (world world' : World) (calls : List wire.Call) → ReadsOn steps unread notice before world calls after world' → list_any p calls ≡ false
+  reads_on_none p no_read [] notice before after world world' calls r = ap (list_any p) r.1 ∙ ap (λ (b : Bool). b || false) (no_read _ _ r.0)
+  reads_on_none p no_read (byte ∷ bytes) notice before after world world' calls r = ap (list_any p) r.0
+
+  reads_none : (p : wire.Call → Bool) → ((n room : ℕ) (answer : ReadTold) → p (Read n room answer) ≡ false) → (b : Bool) (notice : Noticed) (before after : Seen K) (world world' : World) (calls : List wire.Call) → ReadsIf steps b notice before world calls after world' → list_any p calls ≡ false
+  reads_none p no_read false notice before after world world' calls r = ap (list_any p) r.1
+  reads_none p no_read true notice before after world world' calls r = reads_on_none p no_read before.unread notice before after world world' calls r
+
+  one_unpaused : (notice : Noticed) (before : Seen K) (world : World) (calls : List wire.Call) (after : Seen K) (world' : World) (moved : Option ℕ) → TurnsOne steps notice before world calls after world' moved → HasNoPause calls
+  one_unpaused notice before world calls after world' moved t =
+      none_then is_pause calls t.written t.read t.calls_are (writes_unpaused before.link before.history world t.written t.middle t.half t.sent t.writes)
+      (reads_none is_pause (λ n room answer. refl) (is_reading t.middle) notice (record { link = before.link; history = t.middle; unread = before.unread }) after t.half world' t.read t.reads)
+
+  pub turns_unpaused : (before : List (Seen K)) (world : World) (calls : List wire.Call) (after : List (Seen K)) (world' : World) (ending : Ending) → Turns steps before world calls after world' ending → HasNoPause calls
+  turns_unpaused before world calls after world' ending (All_took _ _ _ _ _ _ is none after_is world_is end) = ap (list_any is_pause) none
+  turns_unpaused before world calls after world' ending (Takes _ _ _ _ _ _ seen others notice own here half moved other there rest is one enough more calls_are after_is end) =
+      none_then is_pause calls own other calls_are (one_unpaused notice seen world own here half moved one) (turns_unpaused others half other there world' rest more)
+  turns_unpaused before world calls after world' ending (Runs_short _ _ _ _ _ _ seen others here moved is one after_is end) = one_unpaused noticed.NoMemory seen world calls here world' moved one
+
+  -- Where nothing happened no write took anything.
+
+  write_unheeded : (b : Bool) (link : ℕ) (notice : Noticed) (before after : History K) (calls : List wire.Call) → WritesIf b link notice before calls after → moved_by notice ≡ None → list_any is_heeded calls ≡ false
+  write_unheeded false link notice before after calls w none = ap (list_any is_heeded) w.1
+  write_unheeded true link notice before after calls w none = go w.0 w.1 w.2
+    where
+      go : (told : WriteTold) → calls ≡ Write link (length (out_after before)) told ∷ [] → Sends told notice before after → list_any is_heeded calls ≡ false
+      go (Sent bytes) own s = some_is_none _ (sym (ap moved_by s.0) ∙ none)
+      go Full own s = ap (list_any is_heeded) own
+      go WriteFault own s = some_is_none 0 (sym (ap moved_by s.0) ∙ none)
+
+  writes_unheeded : (link : ℕ) (before : History K) (world : World) (calls : List wire.Call) (after : History K) (world' : World) (moved : Option ℕ) → WritesAll steps link before world calls after world' moved → moved ≡ None → list_any is_heeded calls ≡ false
+  writes_unheeded link before world calls after world' moved (Stops _ _ _ _ _ _ notice w stop is) none = write_unheeded (is_waiting before) link notice before w.middle calls w.writes (sym is ∙ none)
+  writes_unheeded link before world calls after world' moved (Goes_on _ _ _ _ _ _ notice own middle half other rest w some more are is) none = moved_some notice rest some (sym is ∙ none)
+
+  one_unheeded : (notice : Noticed) (before : Seen K) (world : World) (calls : List wire.Call) (after : Seen K) (world' : World) (moved : Option ℕ) → TurnsOne steps notice before world calls after world' moved → moved ≡ None → list_any is_heeded calls ≡ false
+  one_unheeded notice before world calls after world' moved t none =
+      none_then is_heeded calls t.written t.read t.calls_are (writes_unheeded before.link before.history world t.written t.middle t.half t.sent t.writes (both_none t.sent (moved_by notice) (sym t.moved_is ∙ none)).0)
+      (reads_none is_heeded (λ n room answer. refl) (is_reading t.middle) notice (record { link = before.link; history = t.middle; unread = before.unread }) after t.half world' t.read t.reads)
+
+  turns_unheeded : (before : List (Seen K)) (world : World) (calls : List wire.Call) (after : List (Seen K)) (world' : World) (ending : Ending) → Turns steps before world calls after world' ending → ending ≡ Whole None → list_any is_heeded calls ≡ false
+  turns_unheeded before world calls after world' ending (All_took _ _ _ _ _ _ is none after_is world_is end) still = ap (list_any is_heeded) none
+  turns_unheeded before world calls after world' ending (Takes _ _ _ _ _ _ seen others notice own here half moved other there rest is one enough more calls_are after_is end) still =
+      let quiet = with_none moved rest (sym end ∙ still) in
+      none_then is_heeded calls own other calls_are (one_unheeded notice seen world own here half moved one quiet.0) (turns_unheeded others half other there world' rest more quiet.1)
+  turns_unheeded before world calls after world' ending (Runs_short _ _ _ _ _ _ seen others here moved is one after_is end) still = absurd (cc (end, still))
+
+-- What is wanted for writing waits.
+
+waits_if : (living : Bool) (out : List ℕ) → 2 ≤ direction_of living out → (direction_of living out == 3) ≡ true
+waits_if false out writes = absurd (omega (arith, writes))
+waits_if true [] writes = absurd (omega (arith, writes))
+waits_if true (byte ∷ bytes) writes = refl
+
+module _ (calls : List wire.Call) (unpaused : list_any is_pause calls ≡ false) (unheeded : list_any is_heeded calls ≡ false) where
+  with_full : (state : State) (link in_flight direction : ℕ) (others : List Want) → (2 ≤ direction → list_any (is_full link) calls ≡ true) → WantsOnlyFull calls others → WantsOnlyFull calls (with_want (want_of link state in_flight direction) others)
+  with_full state link in_flight direction others waits rest =
+      elim (is_wanting state in_flight direction) as (λ b. WantsOnlyFull calls (with_want (if b then Some (record { link = link; direction = direction }) else None) others)) [
+        | true ↦ ((λ writes. ends_full link calls None unpaused unheeded (waits writes)), rest)
+        | false ↦ rest
+      ]
+
+  wants_full : (seens : List (Seen Ticket)) → WaitWhereFull calls seens → WantsOnlyFull calls (wants_after seens)
+  wants_full [] waits = tt
+  wants_full (seen ∷ all) waits =
+      with_full (state_after seen.history) seen.link (in_flight_after seen.history) (direction_after seen.history) (wants_after all)
+      (λ writes. waits.0 (waits_if _ (out_after seen.history) writes)) (wants_full all waits.1)
+
+-- A turn, where it is told.
+
+abbrev steps : board.Seen → List (Call Ticket) → board.Seen → Type 0
+steps = OneByOne Files
+
+still_none : (moved : Option ℕ) (told : Turn) → told ≡ turn_of moved → told ≡ turn.Still → moved ≡ None
+still_none None told is still = refl
+still_none (Some n) told is still = absurd (moved_not_still _ (sym is ∙ still))
+  where
+    moved_not_still : (m : ℕ) → turn.Moved m ≡ turn.Still → ⊥
+    moved_not_still m e = cc
+
+pub turned_unpaused : (a b : Option (List wire.Call)) (f g : ℕ) (told : Turn) (now now' : board.Seen) (held held' : List (Held Ticket))
+    → poll.Goes a b (λ seens. AreAt held seens) (λ seens. AreAt held' seens) (λ before calls after. TurnsWhole steps f g told before now calls after now') → Stand held → Unpaused a b
+turned_unpaused a b f g told now now' held held' goes s = record {
+  on = λ all is.
+      let went = goes s.seens s.at in
+      let grown = went.grown all is in
+      record { before = grown.0; more = went.calls; was = grown.1; now = grown.2; are = turns_unpaused steps s.seens now went.calls went.after now' (Whole went.leads.moved) went.leads.turns };
+}
+
+-- Where memory ran out in it, too.
+pub short_unpaused : (a b : Option (List wire.Call)) (f g : ℕ) (now now' : board.Seen) (held held' : List (Held Ticket))
+    → poll.Goes a b (λ seens. AreAt held seens) (λ seens. AreAt held' seens) (λ before calls after. TurnsShort steps f g before now calls after now') → Stand held → Unpaused a b
+short_unpaused a b f g now now' held held' goes s = record {
+  on = λ all is.
+      let went = goes s.seens s.at in
+      let grown = went.grown all is in
+      record { before = grown.0; more = went.calls; was = grown.1; now = grown.2; are = turns_unpaused steps s.seens now went.calls went.after now' Short went.leads.turns };
+}
+
+pub turned_full : (a b : Option (List wire.Call)) (f g : ℕ) (told : Turn) (now now' : board.Seen) (held held' : List (Held Ticket))
+    → poll.Goes a b (λ seens. AreAt held seens) (λ seens. AreAt held' seens) (λ before calls after. TurnsWhole steps f g told before now calls after now') → told ≡ turn.Still → Stand held → LeavesFull held' a b
+turned_full a b f g told now now' held held' goes still s = record {
+  on = λ all is.
+      let went = goes s.seens s.at in
+      let grown = went.grown all is in
+      let unpaused = turns_unpaused steps s.seens now went.calls went.after now' (Whole went.leads.moved) went.leads.turns in
+      let unheeded = turns_unheeded steps s.seens now went.calls went.after now' (Whole went.leads.moved) went.leads.turns (ap Whole (still_none went.leads.moved told went.leads.tells still)) in
+      record {
+        before = grown.0;
+        more = went.calls;
+        was = grown.1;
+        now = grown.2;
+        are = (unpaused, subst (WantsOnlyFull went.calls) (sym (wants_same held' went.after went.at)) (wants_full went.calls unpaused unheeded went.after (went.leads.still still)));
+      };
+}

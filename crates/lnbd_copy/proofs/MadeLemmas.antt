@@ -1,0 +1,45 @@
+-- What is shown of a copy one by one is so together.
+use Rattle.std.proofs.Common.{◌≡◌, false, List, Option, Result, Ok, Err, IfOk, OnOk}
+use Rattle.lnbd_model.specs.declared.target.Place.{Place}
+use Rattle.lnbd_link.specs.Call as wire
+use Rattle.lnbd_plan.specs.declared.options.CopyOptions.{CopyOptions}
+use Rattle.lnbd_plan.specs.declared.summary.Summary.{Summary}
+use Rattle.lnbd_course.specs.Asks.{GrewBy, HasAskedOnce, WereDone}
+use Rattle.lnbd_course.specs.Counts.{Summarizes}
+use Rattle.lnbd_course.specs.Driven.{AreDriven}
+use Rattle.lnbd_course.specs.Flushes.{FlushesLast, IsUnflushed}
+use Rattle.lnbd_copy.specs.Connects.{ConnectsAsTold}
+use Rattle.lnbd_copy.specs.Links.{LinksAreKept}
+use Rattle.lnbd_copy.specs.Made.{IsMade}
+use Rattle.lnbd_copy.specs.Paused.{PausesAreFull}
+use Rattle.lnbd_copy.specs.Pauses.{AtEachPause, WantsOnlyFull}
+use Rattle.lnbd_copy.specs.Settled.{FlushesWanted, SparesFound, SparesTold}
+use Rattle.lnbd_copy.specs.Sharing.{PausesAreShared}
+use Rattle.lnbd_copy.specs.Statuses.{ReadsAreAnswered}
+use Rattle.lnbd_copy.specs.Waits.{WaitsWell}
+
+pub is_made : {F : Type 0} (options : CopyOptions) (from to : Place) (a b : Option (List wire.Call)) (r : Result Summary F)
+    → OnOk r (GrewBy (HasAskedOnce options.allocated from to) a b) → OnOk r (GrewBy (WereDone from to) a b) → IfOk r (λ summary. GrewBy (Summarizes from to summary) a b)
+    → OnOk r (GrewBy (SparesTold from to) a b) → OnOk r (GrewBy (SparesFound options from to) a b) → GrewBy (ReadsAreAnswered options.extents from) a b
+    → IfOk r (λ summary. GrewBy (FlushesLast from to summary) a b) → OnOk r (GrewBy (FlushesWanted options from to) a b) → (options.flush ≡ false → GrewBy (IsUnflushed to) a b)
+    → OnOk r (GrewBy AreDriven a b) → GrewBy (PausesAreFull options from to) a b → GrewBy (PausesAreShared options from to) a b → GrewBy (AtEachPause WantsOnlyFull) a b → GrewBy (AtEachPause WaitsWell) a b → GrewBy LinksAreKept a b → OnOk r (GrewBy (ConnectsAsTold options from to) a b)
+    → IfOk r (λ summary. GrewBy (IsMade options from to summary) a b)
+is_made options from to a b (Ok summary) asks done sums spares dense answered flushes flushed unflushed driven pauses shares writes waits links connects = λ all part is grown. record {
+  asks = asks all part is grown;
+  done = done all part is grown;
+  sums = sums all part is grown;
+  spares = spares all part is grown;
+  dense = dense all part is grown;
+  answered = answered all part is grown;
+  flushes = flushes all part is grown;
+  flushed = flushed all part is grown;
+  unflushed = λ unwanted. unflushed unwanted all part is grown;
+  driven = driven all part is grown;
+  pauses = pauses all part is grown;
+  shares = shares all part is grown;
+  writes = writes all part is grown;
+  waits = waits all part is grown;
+  links = links all part is grown;
+  connects = connects all part is grown;
+}
+is_made options from to a b (Err fault) asks done sums spares dense answered flushes flushed unflushed driven pauses shares writes waits links connects = tt

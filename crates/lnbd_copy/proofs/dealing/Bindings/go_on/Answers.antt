@@ -1,0 +1,24 @@
+use Rattle.std.proofs.Common.{◌∙◌, arith}
+use Rattle.lnbd_copy.proofs.DealingLemmas.{gone_then, keeps_on}
+use Rattle.lnbd_copy.proofs.LinkLemmas.{same_then}
+use Rattle.lnbd_copy.proofs.SpreadLemmas.{deals_then}
+use Rattle.lnbd_copy.proofs.UnderWayLemmas.{looked_more}
+use Rattle.lnbd_copy.proofs.dealing.Bindings.go_on.Goals as goal
+
+pub slices-preserved : goal.slices-preserved
+slices-preserved c =
+    let was = c.slices.invariant in
+    let went = c.in_ok-go_on_once.ensures in
+    record {
+      sides = went.sides ∙ was.sides;
+      others = gone_then c.args.board.now c.slices.board c.go_on_once.new.board was.others went.others;
+      still = λ none. absurd (omega (arith, none));
+      links = same_then _ _ _ was.links went.links;
+      few = looked_more _ c.args.board.now c.slices.board c.go_on_once.new.board c.if-not-branch.false was.few went.looked;
+      keeps = keeps_on c.args.self.now.sides c.slices.self.sides c.args.board.now c.slices.board c.go_on_once.new.board c.args.handles.now c.slices.handles c.go_on_once.new.handles was.sides was.others was.keeps went.keeps;
+      dealt = λ limit. deals_then limit c.args.self.now.sides c.slices.self.sides c.args.self.now.bound c.slices.self.bound c.go_on_once.new.self.bound c.args.board.now.rows c.slices.board.rows c.go_on_once.new.board.rows was.sides (was.dealt limit) (went.dealt limit);
+    }
+
+pub returns-then-not-branch-clause-dealt : goal.returns-then-not-branch-clause-dealt
+returns-then-not-branch-clause-dealt c limit =
+    deals_then limit c.args.self.now.sides c.slices.self.sides c.args.self.now.bound c.slices.self.bound c.go_on_once.new.self.bound c.args.board.now.rows c.slices.board.rows c.go_on_once.new.board.rows c.slices.invariant.sides (c.slices.invariant.dealt limit) (c.in_ok-go_on_once.ensures.dealt limit)

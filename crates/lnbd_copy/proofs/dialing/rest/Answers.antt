@@ -1,0 +1,26 @@
+use Rattle.std.proofs.Common.{refl}
+use Rattle.lnbd_copy.proofs.PauseLemmas.{either_way, pauses_full, pauses_then, pauses_unpaused, unpaused_same}
+use Rattle.lnbd_copy.proofs.PausedLemmas.{unready_none, unready_rests, unready_unpaused}
+use Rattle.lnbd_copy.proofs.dialing.rest.Goals as goal
+
+pub returns-else-are_quiet-clause-unready : goal.returns-else-are_quiet-clause-unready
+returns-else-are_quiet-clause-unready g c now =
+    either_way c.wait.result c.wait.ensures.pauses c.wait.ensures.still (λ adds. unready_rests now c.args.handles.now _ _ (c.if-are_quiet.ensures.loud refl) adds)
+    (λ same. unready_unpaused now c.args.handles.now _ _ (λ stand. unpaused_same _ _ same))
+
+pub returns-then-are_quiet-clause-unready : goal.returns-then-are_quiet-clause-unready
+returns-then-are_quiet-clause-unready g c now = unready_none now _ _
+
+pub returns-in-Moved-clause-unready : goal.returns-in-Moved-clause-unready
+returns-in-Moved-clause-unready g c now = unready_none now _ _
+
+pub returns-else-are_quiet-clause-writes : goal.returns-else-are_quiet-clause-writes
+returns-else-are_quiet-clause-writes g c before unpaused full =
+    either_way c.wait.result c.wait.ensures.pauses c.wait.ensures.still (λ adds. pauses_full _ _ _ _ (full c.in-Still.is) adds)
+    (λ same. pauses_then _ _ _ (pauses_unpaused _ _ unpaused) (pauses_unpaused _ _ (unpaused_same _ _ same)))
+
+pub returns-then-are_quiet-clause-writes : goal.returns-then-are_quiet-clause-writes
+returns-then-are_quiet-clause-writes g c before unpaused full = pauses_unpaused _ _ unpaused
+
+pub returns-in-Moved-clause-writes : goal.returns-in-Moved-clause-writes
+returns-in-Moved-clause-writes g c before unpaused full = pauses_unpaused _ _ unpaused

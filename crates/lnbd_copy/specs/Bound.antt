@@ -1,0 +1,31 @@
+-- Which connections the slices of a copy are bound to that are begun and not over, and how many of them it counts for each.
+use Rattle.std.specs.Prelude.{ℕ, ◌+◌, ◌==◌, List, [], ◌∷◌, cond}
+use Rattle.lnbd_board.specs.declared.row.Row.{Row}
+use Rattle.lnbd_copy.specs.declared.sides.Sides.{Sides}
+
+-- the connection that each row is bound to, of the side where it is this one
+abbrev pub bound_by : (on : Row → ℕ) → List (ℕ × Row) → List ℕ
+bound_by on [] = []
+bound_by on (row ∷ rows) = on row.1 ∷ bound_by on rows
+
+abbrev pub on_source : List (ℕ × Row) → List ℕ
+on_source rows = bound_by (λ row. row.source) rows
+
+abbrev pub on_destination : List (ℕ × Row) → List ℕ
+on_destination rows = bound_by (λ row. row.destination) rows
+
+-- how many of these are this connection
+abbrev pub bound_to : (connection : ℕ) → List ℕ → ℕ
+bound_to connection [] = 0
+bound_to connection (one ∷ bound) = cond (one == connection) 1 0 + bound_to connection bound
+
+-- How many slices are bound to each connection, by the connections' numbers.
+pub record Bound : Type 0 where
+  pub source : List ℕ
+  pub destination : List ℕ
+
+-- What is seen of the slices that are bound to the connections of both sides.
+pub record Seen : Type 0 where
+  -- how many connections there are
+  pub sides : Sides
+  pub bound : Bound
