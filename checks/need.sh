@@ -13,9 +13,9 @@ need() {
 
 # `awaited SOCKET` waits until somebody listens at this Unix socket, ten seconds at most.
 awaited() {
-  for _ in $(seq 100); do
+  for _ in $(seq 500); do
     [ -S "$1" ] && grep -q " 00010000 .* $1\$" /proc/net/unix && return 0
-    sleep 0.1
+    sleep 0.02
   done
   return 1
 }
