@@ -31,4 +31,9 @@ pub mod Answering
 pub mod Spread
 pub mod Unread
 pub mod Parts
+pub mod Frozen
+pub mod Spared
 pub mod Quiet
+pub mod Cuts
+pub mod Fronts
+pub mod Unasked

@@ -29,7 +29,7 @@ only_if_some false found x e = absurd (cc e)
 pub none_end : {A : Type 0} (x : A) (xs : List A) → x ∷ xs ≡ [] → ⊥
 none_end x xs e = cc
 
-none_reads : (p : ℕ) (r : Request) (xs : List Request) → reads_over p xs ≡ [] → IsIn r xs → reads r.said.command p ≡ false
+pub none_reads : (p : ℕ) (r : Request) (xs : List Request) → reads_over p xs ≡ [] → IsIn r xs → reads r.said.command p ≡ false
 none_reads p r [] none there = absurd there
 none_reads p r (x ∷ xs) none there =
     elim (reads x.said.command p) as (λ b. reads x.said.command p ≡ b → cond b (x.said ∷ reads_over p xs) (reads_over p xs) ≡ [] → reads r.said.command p ≡ false) [
@@ -48,7 +48,7 @@ pub record IsAsked (history : History Ticket) (cookie : ℕ) (command : Command 
   pub is : request history cookie ≡ Some asks
   pub same : bare asks ≡ command
 
-asked_by : (history : History Ticket) (link : Link) (cookie : ℕ) (command : Command Nobody) → DrivenSays history link → asked_on link cookie ≡ Some command → IsAsked history cookie command
+pub asked_by : (history : History Ticket) (link : Link) (cookie : ℕ) (command : Command Nobody) → DrivenSays history link → asked_on link cookie ≡ Some command → IsAsked history cookie command
 asked_by history link cookie command says is = go (nat_le cookie (written history)) refl (request history cookie) refl (sym (says.requests cookie) ∙ is)
   where
     go : (b : Bool) → nat_le cookie (written history) ≡ b → (o : Option (commands.Request Ticket)) → request history cookie ≡ o → (if b then option_map bare o else None) ≡ Some command → IsAsked history cookie command

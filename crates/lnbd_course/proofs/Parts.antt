@@ -66,19 +66,19 @@ either_none false = refl
 
 -- Each handle runs, its link being its own.
 
-abbrev AllRun : List wire.Call → List (Seen Ticket) → Type 0
+abbrev pub AllRun : List wire.Call → List (Seen Ticket) → Type 0
 AllRun calls [] = Unit {0}
 AllRun calls (seen ∷ others) = Runs seen.link calls seen.history seen.unread × AllRun calls others
 
-abbrev NoneUnread : List (Seen Ticket) → Type 0
+abbrev pub NoneUnread : List (Seen Ticket) → Type 0
 NoneUnread [] = Unit {0}
 NoneUnread (seen ∷ others) = (seen.unread ≡ []) × NoneUnread others
 
-all_run : (calls : List wire.Call) (seens : List (Seen Ticket)) → AllDrive calls seens → AllPlain seens → AllRun calls seens
+pub all_run : (calls : List wire.Call) (seens : List (Seen Ticket)) → AllDrive calls seens → AllPlain seens → AllRun calls seens
 all_run calls [] drive plain = tt
 all_run calls (seen ∷ others) drive plain = (record { drives = drive.0; spelled = plain.0.spelled; off = plain.0.mode }, all_run calls others drive.1 plain.1)
 
-none_unread : (seens : List (Seen Ticket)) → AllPlain seens → NoneUnread seens
+pub none_unread : (seens : List (Seen Ticket)) → AllPlain seens → NoneUnread seens
 none_unread [] plain = tt
 none_unread (seen ∷ others) plain = (plain.0.arrived, none_unread others plain.1)
 
@@ -92,7 +92,7 @@ others_pass link own [] off apart = tt
 others_pass link own (seen ∷ others) off apart = (off seen.link (λ is. apart.0 (sym is)), others_pass link own others off apart.1)
 
 -- So it is after a turn, whole or short, though bytes may be unread.
-turn_runs : (calls : List wire.Call) (before : List (Seen Ticket)) (now : board.Seen) (part : List wire.Call) (after : List (Seen Ticket)) (now' : board.Seen) (ending : Ending) → Turns steps before now part after now' ending →
+pub turn_runs : (calls : List wire.Call) (before : List (Seen Ticket)) (now : board.Seen) (part : List wire.Call) (after : List (Seen Ticket)) (now' : board.Seen) (ending : Ending) → Turns steps before now part after now' ending →
     AllRun calls before → NoneUnread before → HaveOwnLinks before → AllRun (calls ++ part) after
 turn_runs calls before now part after now' ending (All_took _ _ _ _ _ _ is none after_is world_is end) run unread own = subst (AllRun (calls ++ part)) (sym after_is) tt
 turn_runs calls before now part after now' ending (Takes _ _ _ _ _ _ seen others notice mine here half moved other there rest is turns enough more calls_are after_is end) run unread own =
@@ -114,7 +114,7 @@ turn_runs calls before now part after now' ending (Runs_short _ _ _ _ _ _ seen o
     let past = all_past calls part others run'.1 (others_pass seen.link part others (λ n d. part_off steps n _ seen now part here now' moved d turns) links.0) in
     subst (AllRun (calls ++ part)) (sym after_is) (subst (λ (n : ℕ). Runs n (calls ++ part) here.history here.unread) (sym ran.same) ran.runs, past)
 
-run_of : (calls : List wire.Call) (seens : List (Seen Ticket)) (index : ℕ) (seen : Seen Ticket) → slice_get seens index ≡ Some seen → AllRun calls seens → Runs seen.link calls seen.history seen.unread
+pub run_of : (calls : List wire.Call) (seens : List (Seen Ticket)) (index : ℕ) (seen : Seen Ticket) → slice_get seens index ≡ Some seen → AllRun calls seens → Runs seen.link calls seen.history seen.unread
 run_of calls [] index seen there run = absurd (none_some seen there)
 run_of calls (first ∷ others) zero seen there run = subst (λ (s : Seen Ticket). Runs s.link calls s.history s.unread) (some_same first seen there) run.0
 run_of calls (first ∷ others) (suc index) seen there run = run_of calls others index seen there run.1
@@ -301,7 +301,7 @@ module _ (from to : Place) (size : Option ℕ) (how : How) (has : ℕ → Bool) 
       let called = (says link).name place.name (name_is place.name (name_asked (on_link link all).wishes) c.1) in
       place_same mine place (some_same mine.to place.to (sym (b.placed.address link given) ∙ was)) (sym (b.placed.name link given) ∙ sym (t.later link).name ∙ sym called)
 
-  source_here : from ≢ to → (link : ℕ) → is_of from all link ≡ true → has link ≡ true
+  pub source_here : from ≢ to → (link : ℕ) → is_of from all link ≡ true → has link ≡ true
   source_here two link e = go (has link) refl
     where
       go : (side : Bool) → has link ≡ side → has link ≡ true
@@ -317,7 +317,7 @@ module _ (from to : Place) (size : Option ℕ) (how : How) (has : ℕ → Bool) 
 
   -- Each request that was asked is in the list of its side.
 
-  source_listed : from ≢ to → AreListed b.course.stood.source (dealt_with from all)
+  pub source_listed : from ≢ to → AreListed b.course.stood.source (dealt_with from all)
   source_listed two link cookie command e =
       let c = only_if_some (is_of from all link) (asked_on (on_link link all) cookie) command e in
       listed_here has old b.course.stood.source link cookie command b.course.stood.reads (source_here two link c.0) (asked_before link cookie command c.1)

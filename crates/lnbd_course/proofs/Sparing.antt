@@ -89,7 +89,7 @@ module _ (how : How) (cells : Cells) (told : ℕ → Bool) (end p : ℕ) (slices
     | s ∷ more ↦ λ e. here s more e
   ] refl
 
-extents_by : (slices : List Slice) (by : Ticket) (command : Command Nobody) → AsksOfSource slices by command → command.kind ≡ BlockStatus → is_extents by ≡ true
+pub extents_by : (slices : List Slice) (by : Ticket) (command : Command Nobody) → AsksOfSource slices by command → command.kind ≡ BlockStatus → is_extents by ≡ true
 extents_by slices (ticket.Slice n) command h is = absurd (differ (sym h.0 ∙ is))
   where
     differ : Read ≡ BlockStatus → ⊥
@@ -97,7 +97,7 @@ extents_by slices (ticket.Slice n) command h is = absurd (differ (sym h.0 ∙ is
 extents_by slices ticket.Extents command h is = refl
 extents_by slices ticket.Flush command h is = absurd h
 
-either_true : (a b : Bool) → b ≡ true → (a || b) ≡ true
+pub either_true : (a b : Bool) → b ≡ true → (a || b) ≡ true
 either_true true b e = refl
 either_true false b e = e
 

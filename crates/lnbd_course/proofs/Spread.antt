@@ -99,14 +99,14 @@ module _ (how : How) (s : Slice) (read changed : List Said) where
 -- The one of a slice that waits.
 
 -- it is of the slice of a number, and waits
-abbrev waits_for : ℕ → sides.Request → Bool
+abbrev pub waits_for : ℕ → sides.Request → Bool
 waits_for n r = is_of_slice n r.ticket && is_waiting r.said
 
-it_waits : (n : ℕ) (r : sides.Request) → r.ticket ≡ ticket.Slice n → r.said.outcome ≡ Unfinished → waits_for n r ≡ true
+pub it_waits : (n : ℕ) (r : sides.Request) → r.ticket ≡ ticket.Slice n → r.said.outcome ≡ Unfinished → waits_for n r ≡ true
 it_waits n r is waits = ap (λ (t : Ticket). is_of_slice n t && is_waiting r.said) is ∙ ap (λ (t : Bool). t && is_waiting r.said) (is_same n) ∙ ap (λ (o : Outcome). not (is_finished o)) waits
 
 -- the cookie of the first such one
-abbrev first_waits : ℕ → List sides.Request → ℕ
+abbrev pub first_waits : ℕ → List sides.Request → ℕ
 first_waits n [] = 0
 first_waits n (r ∷ rs) = cond (waits_for n r) r.cookie (first_waits n rs)
 
@@ -124,7 +124,7 @@ counted_none : (b : Bool) → b ≡ false → one_if b ≡ 0
 counted_none true e = absurd (false≢true (sym e))
 counted_none false e = refl
 
-some_waits : (n : ℕ) (r : sides.Request) (xs : List sides.Request) → IsIn r xs → waits_for n r ≡ true → 0 < said_unanswered (own n xs)
+pub some_waits : (n : ℕ) (r : sides.Request) (xs : List sides.Request) → IsIn r xs → waits_for n r ≡ true → 0 < said_unanswered (own n xs)
 some_waits n r [] there so = absurd there
 some_waits n r (x ∷ xs) (inl same) so =
     let c = own_count n x xs in
@@ -132,7 +132,7 @@ some_waits n r (x ∷ xs) (inl same) so =
     omega (arith, c, one)
 some_waits n r (x ∷ xs) (inr there) so = let c = own_count n x xs in let rest = some_waits n r xs there so in omega (arith, c, rest)
 
-is_first : (n : ℕ) (r : sides.Request) (xs : List sides.Request) → IsIn r xs → waits_for n r ≡ true → said_unanswered (own n xs) ≤ 1 → first_waits n xs ≡ r.cookie
+pub is_first : (n : ℕ) (r : sides.Request) (xs : List sides.Request) → IsIn r xs → waits_for n r ≡ true → said_unanswered (own n xs) ≤ 1 → first_waits n xs ≡ r.cookie
 is_first n r [] there so few = absurd there
 is_first n r (x ∷ xs) (inl same) so few = ap (λ (b : Bool). cond b x.cookie (first_waits n xs)) (ap (waits_for n) same ∙ so) ∙ ap (λ (y : sides.Request). y.cookie) same
 is_first n r (x ∷ xs) (inr there) so few = go (λ less. is_first n r xs there so less) (waits_for n x) refl
@@ -146,16 +146,16 @@ is_first n r (x ∷ xs) (inr there) so few = go (λ less. is_first n r xs there 
         let none = counted_none (waits_for n x) e in
         ap (λ (b : Bool). cond b x.cookie (first_waits n xs)) e ∙ rest (let c = own_count n x xs in omega (arith, c, none, few))
 
-in_found : (r : sides.Request) (xs : List sides.Request) → IsFound r xs → IsIn r xs
+pub in_found : (r : sides.Request) (xs : List sides.Request) → IsFound r xs → IsIn r xs
 in_found r xs f = subst (λ (l : List sides.Request). IsIn r l) (sym f.is) (in_middle r f.front f.back)
 
 -- The cookies of those of the slices whose rows count.
 module _ (counts : Row → Bool) (requests : List sides.Request) where
-  abbrev cookies : List (ℕ × Row) → List ℕ
+  abbrev pub cookies : List (ℕ × Row) → List ℕ
   cookies [] = []
   cookies (x ∷ xs) = cond (counts x.1) (first_waits x.0 requests ∷ cookies xs) (cookies xs)
 
-  many_cookies : (rows : List (ℕ × Row)) → length (cookies rows) ≡ how_many counts rows
+  pub many_cookies : (rows : List (ℕ × Row)) → length (cookies rows) ≡ how_many counts rows
   many_cookies [] = refl
   many_cookies (x ∷ xs) =
       let rest = many_cookies xs in
@@ -165,7 +165,7 @@ module _ (counts : Row → Bool) (requests : List sides.Request) where
   behind true first cookie others there = (suc there.0, let less = there.1 in omega (arith, less), there.2)
   behind false first cookie others there = there
 
-  has_cookie : (n : ℕ) (row : Row) (rows : List (ℕ × Row)) → value_at n rows ≡ Some row → counts row ≡ true → Contains (cookies rows) (first_waits n requests)
+  pub has_cookie : (n : ℕ) (row : Row) (rows : List (ℕ × Row)) → value_at n rows ≡ Some row → counts row ≡ true → Contains (cookies rows) (first_waits n requests)
   has_cookie n row [] is so = absurd (none_some row is)
   has_cookie n row (x ∷ xs) is so = go (λ held. has_cookie n row xs held so) (n == x.0) refl is
     where
@@ -181,36 +181,36 @@ module _ (counts : Row → Bool) (requests : List sides.Request) where
 -- Which requests are of slices: those that move bytes.
 
 -- a ticket is that of a slice that was begun
-record IsOfSlice (slices : List Slice) (by : Ticket) : Type 0 where
-  n : ℕ
-  is : by ≡ ticket.Slice n
-  begun : n < length slices
+pub record IsOfSlice (slices : List Slice) (by : Ticket) : Type 0 where
+  pub n : ℕ
+  pub is : by ≡ ticket.Slice n
+  pub begun : n < length slices
 
-source_slice : (slices : List Slice) (by : Ticket) (command : Command Nobody) → AsksOfSource slices by command → moves_bytes command.kind ≡ true → IsOfSlice slices by
+pub source_slice : (slices : List Slice) (by : Ticket) (command : Command Nobody) → AsksOfSource slices by command → moves_bytes command.kind ≡ true → IsOfSlice slices by
 source_slice slices (ticket.Slice n) command asks moves = record { n = n; is = refl; begun = asks.1.begun }
 source_slice slices ticket.Extents command asks moves = absurd (false≢true (sym (ap moves_bytes asks) ∙ moves))
 source_slice slices ticket.Flush command asks moves = absurd asks
 
-destination_slice : (how : How) (slices : List Slice) (by : Ticket) (command : Command Nobody) → AsksOfDestination how slices by command → moves_bytes command.kind ≡ true → IsOfSlice slices by
+pub destination_slice : (how : How) (slices : List Slice) (by : Ticket) (command : Command Nobody) → AsksOfDestination how slices by command → moves_bytes command.kind ≡ true → IsOfSlice slices by
 destination_slice how slices (ticket.Slice n) command asks moves = record { n = n; is = refl; begun = asks.1.begun }
 destination_slice how slices ticket.Extents command asks moves = absurd asks
 destination_slice how slices ticket.Flush command asks moves = absurd (false≢true (sym (ap moves_bytes asks) ∙ moves))
 
 -- a slice has this row, and one request of it waits
-record WaitsAlone (rows : List (ℕ × Row)) (n : ℕ) (said : List Said) : Type 0 where
-  row : Row
-  held : value_at n rows ≡ Some row
-  alone : said_unanswered said ≤ 1
+pub record WaitsAlone (rows : List (ℕ × Row)) (n : ℕ) (said : List Said) : Type 0 where
+  pub row : Row
+  pub held : value_at n rows ≡ Some row
+  pub alone : said_unanswered said ≤ 1
 
 no_less : (n : ℕ) → n ≡ 0 → 0 < n → ⊥
 no_less n e less = absurd (omega (arith, e, less))
 
 module _ (how : How) (s : Slice) (rows : List (ℕ × Row)) (n : ℕ) (read changed : List Said) where
-  read_alone : (o : Option Row) → value_at n rows ≡ o → StandsAs how s o read changed → 0 < said_unanswered read → WaitsAlone rows n read
+  pub read_alone : (o : Option Row) → value_at n rows ≡ o → StandsAs how s o read changed → 0 < said_unanswered read → WaitsAlone rows n read
   read_alone None is k some = absurd (no_less (said_unanswered read) (none_read how s read changed k) some)
   read_alone (Some row) is k some = record { row = row; held = is; alone = reads_alone how s read changed row.stage k.1 }
 
-  changed_alone : (o : Option Row) → value_at n rows ≡ o → StandsAs how s o read changed → 0 < said_unanswered changed → WaitsAlone rows n changed
+  pub changed_alone : (o : Option Row) → value_at n rows ≡ o → StandsAs how s o read changed → 0 < said_unanswered changed → WaitsAlone rows n changed
   changed_alone None is k some = absurd (no_less (said_unanswered changed) (none_changed how s read changed k) some)
   changed_alone (Some row) is k some = record { row = row; held = is; alone = changes_alone how s read changed row.stage k.1 }
 

@@ -19,3 +19,5 @@ pub mod Answered
 pub mod Driven
 pub mod Spread
 pub mod Parts
+pub mod Spared
+pub mod Fronts

@@ -9,7 +9,9 @@ ghost use Rattle.lnbd_course.specs.Flushes.{EndedFlushed, EndedFlushesOnce, Ende
 ghost use Rattle.lnbd_course.specs.Laws.{NothingIsOnCourse, OpensOnCourse, SettlingKeeps, TurnsKeep, CallsKeep, SourceAsksKeep, DestinationAsksKeep, BoardMovesKeep, OthersKeep, TakingKeeps, FinishedCopies};
 ghost use Rattle.lnbd_course.specs.Betweens.{NothingIsBetween, OpensBetween, SettlingKeepsBetween, AgreeingSettles, TurnsKeepBetween, CallsKeepBetween, SourceAsksKeepBetween, DestinationAsksKeepBetween, BoardMovesKeepBetween, OthersKeepBetween, TakingKeepsBetween, LinksAreOfSides, EndedCopies};
 ghost use Rattle.lnbd_course.specs.Slices.{EndedAreBegun, QuietAreBegun, QuietAsks};
+ghost use Rattle.lnbd_course.specs.Fronts.{FrontsHaveFew, FrontsHaveNone, NothingWasBefore};
 ghost use Rattle.lnbd_course.specs.Parts.{PartsAskOnce};
+ghost use Rattle.lnbd_course.specs.Spared.{PartsSpare};
 ghost use Rattle.lnbd_course.specs.Spares.{EndedAreDense, EndedSpares};
 ghost use Rattle.lnbd_course.specs.Orders.{BeginningAsks, GoingAsks, OverAsksNothing};
 ghost use Rattle.lnbd_course.specs.Taken.{BuffersAreNoMatter, TakenAreSpelled};
@@ -233,4 +235,18 @@ pub fn ended_driven()
 /// asked once, also where the turn fails.
 pub fn parts_ask_once()
     ensures { PartsAskOnce }
+{}
+
+/// In a turn, whole or short, what is read stays what handles had been asked to read, and of block statuses only one more
+/// can be done: that behind all which is planned. So no READ covers a block that one answer told as zero whole.
+pub fn parts_spare()
+    ensures { PartsSpare }
+{}
+
+/// At no moment of a turn is more unanswered on a link than rows of the board counted when it began, since nothing is asked in
+/// it, and what is done stays done. And what was asked stays asked.
+pub fn fronts_have_few()
+    ensures handles { FrontsHaveFew }
+    ensures others { FrontsHaveNone }
+    ensures nothing { NothingWasBefore }
 {}
