@@ -1,6 +1,5 @@
 -- What a copy asked in a turn that fails it asked once, and it asked nothing before its first turn.
-use Rattle.std.proofs.Common.{◌≡◌, ◌≢◌, ◌≤◌, inl, inr, ℕ, Bool, false, List, ◌++◌, Option, None, ap, sym, subst, ◌∙◌, arith}
-use Rattle.std.proofs.lemmas.List.{append_assoc}
+use Rattle.std.proofs.Common.{◌≡◌, ◌≢◌, ◌<◌, ◌≤◌, inl, inr, ℕ, Bool, false, List, ◌++◌, Option, None, ap, sym, subst, ◌∙◌, arith}
 use Rattle.lnbd_model.specs.declared.target.Place.{Place}
 use Rattle.lnbd_callbacks.specs.Calls.{Call}
 use Rattle.lnbd_callbacks.specs.Steps.{OneByOne}
@@ -21,7 +20,7 @@ use Rattle.lnbd_course.specs.Asks.{AreAskedOnce, HasAskedOnce}
 use Rattle.lnbd_course.specs.Between.{Between}
 use Rattle.lnbd_course.specs.Flushes.{IsUnflushed, NoneFlushes, OneFlushes}
 use Rattle.lnbd_course.specs.Parts.{FlushesAtMostOnce, PartAsksOnce}
-use Rattle.lnbd_course.specs.Spares.{WritesNoZeros}
+use Rattle.lnbd_course.specs.Spares.{ReadsNoZeros, WritesNoZeros}
 use Rattle.lnbd_drives.proofs.Exports.{turns_give_none}
 use Rattle.lnbd_course.proofs.Parts.{parts_ask_once}
 use Rattle.lnbd_course.proofs.Quiet.{at_most_stays, dealt_stays, nothing_stays}
@@ -30,12 +29,13 @@ use Rattle.lnbd_copy.specs.Copier as copier
 use Rattle.lnbd_copy.specs.Faults.{Behaves, GoesIdly}
 use Rattle.lnbd_copy.specs.Job as job
 use Rattle.lnbd_copy.specs.Giving.{GivesNone}
-use Rattle.lnbd_copy.specs.Lasting.{AtSome}
-use Rattle.lnbd_copy.specs.Settled.{HasSettled, SparesFound}
+use Rattle.lnbd_copy.specs.Settled.{HasSettled, Settled, SparesFound, SparesTold}
+use Rattle.lnbd_copy.specs.Sharing.{IsAlwaysShared}
 use Rattle.lnbd_copy.specs.Statuses.{ReadsAreAnswered}
 use Rattle.lnbd_copy.specs.Terms as both
 use Rattle.lnbd_copy.specs.Way.{IsUnderWay, Told, Way}
 use Rattle.lnbd_copy.proofs.AlikeLemmas.{alike_later, settled_later}
+use Rattle.lnbd_copy.proofs.AlwaysLemmas.{AreTerms, always_stays, always_turned, some_longer, way_settled}
 use Rattle.lnbd_copy.proofs.CopierLemmas.{told_as}
 use Rattle.lnbd_copy.proofs.EndLemmas.{planned_once, with_all}
 use Rattle.lnbd_copy.proofs.FailLemmas.{all_stand}
@@ -43,14 +43,12 @@ use Rattle.lnbd_copy.proofs.HeardLemmas.{may_stay}
 use Rattle.lnbd_copy.proofs.IdleLemmas.{StaysIdly, told_idly}
 use Rattle.lnbd_copy.proofs.SettledLemmas.{same_since, settled_with}
 use Rattle.lnbd_copy.proofs.TurnLemmas.{since_on, some_same}
+use Rattle.lnbd_copy.proofs.UntouchedLemmas.{grain_some, part_spares, untouched_stays}
 
 abbrev steps : board.Seen → List (Call Ticket) → board.Seen → Type 0
 steps = OneByOne board.Files
 
 -- What holds of a copy's calls.
-
-some_longer : {Is : List wire.Call → Type 0} (calls more : List wire.Call) → AtSome Is calls → AtSome Is (calls ++ more)
-some_longer calls more s = record { before = s.before; after = s.after ++ more; are = ap (λ (l : List wire.Call). l ++ more) s.are ∙ append_assoc s.before s.after more; is = s.is }
 
 answered_stays : (extents : Bool) (from : Place) → StaysIdly (ReadsAreAnswered extents from)
 answered_stays extents from calls more quiet none answered = record {
@@ -80,6 +78,11 @@ behaves_stays options from to calls more quiet none b = record {
   ];
   flushes = subst OneFlushes (sym (dealt_stays calls more quiet none to)) b.flushes;
   unflushed = λ unwanted. subst NoneFlushes (sym (dealt_stays calls more quiet none to)) (b.unflushed unwanted);
+  untouched = elim b.untouched [
+    | inl nothing ↦ inl (nothing_stays calls more quiet nothing)
+    | inr spared ↦ inr (untouched_stays from to calls more quiet none spared)
+  ];
+  shared = always_stays options from to calls more quiet none b.shared;
 }
 
 pub behaves_idly : (options : CopyOptions) (from to : Place) (start a b : Option (List wire.Call)) → GoesIdly a b → Told start a (Behaves options from to) → Told start b (Behaves options from to)
@@ -157,8 +160,11 @@ module _ (copy : copier.Seen) (now : board.Seen) (held : List (Held Ticket)) (st
   apart : on.way.from ≢ on.way.to
   apart e = two (sym on.from ∙ e ∙ on.to)
 
+  some_grain : 0 < on.job.terms.grain
+  some_grain = let settled = on.settled.first in subst (λ (n : ℕ). 0 < n) (sym settled.settled.grain) (grain_some settled.source settled.destination)
+
   abbrev Asked : List wire.Call → Type 0
-  Asked calls = HasAskedOnce on.way.how.allocated on.way.from on.way.to calls × ReadsAreAnswered on.way.extents on.way.from calls × WritesNoZeros on.way.how (dealt_with on.way.to calls) × FlushesAtMostOnce on.way.to calls × (copy.board.flushing ≡ false → IsUnflushed on.way.to calls)
+  Asked calls = HasAskedOnce on.way.how.allocated on.way.from on.way.to calls × ReadsAreAnswered on.way.extents on.way.from calls × WritesNoZeros on.way.how (dealt_with on.way.to calls) × FlushesAtMostOnce on.way.to calls × (copy.board.flushing ≡ false → IsUnflushed on.way.to calls) × ReadsNoZeros on.job.terms.grain (dealt_with on.way.from calls)
 
   turn_asked : Told start b Asked
   turn_asked = record {
@@ -176,6 +182,7 @@ module _ (copy : copier.Seen) (now : board.Seen) (held : List (Held Ticket)) (st
           part_dense on.job on.way copy.board now parting since.calls went.calls copy.held held went.after on.is well since.is went.at turn apart,
           part_flushes on.job on.way copy.board now parting since.calls went.calls copy.held held went.after on.is well since.is went.at turn apart,
           part_unflushed on.job on.way copy.board now parting since.calls went.calls copy.held held went.after on.is well since.is went.at turn apart,
+          part_spares on.job on.way copy.board now parting since.calls went.calls copy.held held went.after on.is well since.is went.at turn.ending turn.turns apart some_grain,
         );
   }
 
@@ -199,8 +206,33 @@ module _ (copy : copier.Seen) (now : board.Seen) (held : List (Held Ticket)) (st
       (λ calls is. subst (λ (how : How). WritesNoZeros how (dealt_with copy.to calls)) (on.is.how ∙ turn_settled.first.settled.how) (subst (λ (t : Place). WritesNoZeros on.way.how (dealt_with t calls)) on.to is.2))
       turn_asked)
 
-  pub turn_behaves : Told start b (Behaves copy.options copy.from copy.to)
-  turn_behaves =
+  turn_spares : Told start b (SparesTold copy.from copy.to)
+  turn_spares =
+      settled_with (λ source destination calls. ReadsNoZeros (both.grain source destination) (dealt_with copy.from calls)) copy.options copy.from copy.to start b on.job.terms
+      turn_settled
+      (told_as start b
+      (λ calls is. subst (λ (block : ℕ). ReadsNoZeros block (dealt_with copy.from calls)) turn_settled.first.settled.grain (subst (λ (f : Place). ReadsNoZeros on.job.terms.grain (dealt_with f calls)) on.from is.5))
+      turn_asked)
+
+  turn_always : Told start a (IsAlwaysShared copy.options copy.from copy.to) → Told start b (IsAlwaysShared copy.options copy.from copy.to)
+  turn_always always = record {
+    since = λ all is.
+        let first = (goes on.stand.seens on.stand.at).grown all is in
+        let since = on.on.since first.0 first.1 in
+        let went = goes since.is.seens since.is.at in
+        let grown = went.grown all is in
+        let same : grown.0 ≡ first.0 = some_same grown.0 first.0 (sym grown.1 ∙ first.1) in
+        let turn = turns since.is.seens went.calls went.after went.leads in
+        let settled = (way_settled copy start a well on two).since first.0 first.1 in
+        let was = always.since first.0 first.1 in
+        since_on start first.0 all went.calls (grown.2 ∙ ap (λ (l : List wire.Call). l ++ went.calls) same) since
+        (always_turned copy start a well on two since.calls went.calls now went.after turn.ending since.is turn.turns
+        (subst (Settled copy.from copy.to (AreTerms copy start a well on two)) (same_since start first.0 settled since) settled.is)
+        (subst (IsAlwaysShared copy.options copy.from copy.to) (same_since start first.0 was since) was.is));
+  }
+
+  pub turn_behaves : Told start a (Behaves copy.options copy.from copy.to) → Told start b (Behaves copy.options copy.from copy.to)
+  turn_behaves was =
       let allocated : on.way.how.allocated ≡ copy.options.allocated = ap (λ (h : How). h.allocated) on.is.how ∙ on.wished.allocated in
       told_as start b
       (λ calls is.
@@ -210,21 +242,23 @@ module _ (copy : copier.Seen) (now : board.Seen) (held : List (Held Ticket)) (st
       record {
         asks = record { links = once.links; asked = inr once };
         answered = subst (λ (x : Bool). ReadsAreAnswered x copy.from calls) on.extents (subst (λ (f : Place). ReadsAreAnswered on.way.extents f calls) on.from is.0.1);
-        dense = inr is.1;
+        dense = inr is.1.0;
+        untouched = inr is.1.1.0;
         flushes = subst (λ (t : Place). FlushesAtMostOnce t calls) on.to is.0.3;
         unflushed = λ unwanted. subst (λ (t : Place). IsUnflushed t calls) on.to (is.0.4 (on.is.unwanted (on.wished.unflushed unwanted)));
+        shared = is.1.1.1;
       })
-      (told_both start b turn_asked turn_dense)
+      (told_both start b turn_asked (told_both start b turn_dense (told_both start b turn_spares (turn_always (told_as start a (λ calls is. is.shared) was)))))
 
 pub whole_behaves : (copy : copier.Seen) (now : board.Seen) (held : List (Held Ticket)) (start a b : Option (List wire.Call)) (f g : ℕ) (turn : Turn) → poll.Goes a b (λ seens. AreAt copy.held seens) (λ seens. AreAt held seens) (λ before calls after. TurnsWhole steps f g turn before copy.board calls after now) →
-    copy.board.error ≡ None → IsOnItsWay start a copy → copy.from ≢ copy.to → Told start b (Behaves copy.options copy.from copy.to)
-whole_behaves copy now held start a b f g turn goes well on two =
-    turn_behaves copy now held start a b (λ before calls after. TurnsWhole steps f g turn before copy.board calls after now) (λ before calls after leads. record { ending = Whole leads.moved; turns = leads.turns }) goes well on two
+    copy.board.error ≡ None → IsOnItsWay start a copy → copy.from ≢ copy.to → Told start a (Behaves copy.options copy.from copy.to) → Told start b (Behaves copy.options copy.from copy.to)
+whole_behaves copy now held start a b f g turn goes well on two was =
+    turn_behaves copy now held start a b (λ before calls after. TurnsWhole steps f g turn before copy.board calls after now) (λ before calls after leads. record { ending = Whole leads.moved; turns = leads.turns }) goes well on two was
 
 pub short_behaves : (copy : copier.Seen) (now : board.Seen) (held : List (Held Ticket)) (start a b : Option (List wire.Call)) (f g : ℕ) → poll.Goes a b (λ seens. AreAt copy.held seens) (λ seens. AreAt held seens) (λ before calls after. TurnsShort steps f g before copy.board calls after now) →
-    copy.board.error ≡ None → IsOnItsWay start a copy → copy.from ≢ copy.to → Told start b (Behaves copy.options copy.from copy.to)
-short_behaves copy now held start a b f g goes well on two =
-    turn_behaves copy now held start a b (λ before calls after. TurnsShort steps f g before copy.board calls after now) (λ before calls after leads. record { ending = Short; turns = leads.turns }) goes well on two
+    copy.board.error ≡ None → IsOnItsWay start a copy → copy.from ≢ copy.to → Told start a (Behaves copy.options copy.from copy.to) → Told start b (Behaves copy.options copy.from copy.to)
+short_behaves copy now held start a b f g goes well on two was =
+    turn_behaves copy now held start a b (λ before calls after. TurnsShort steps f g before copy.board calls after now) (λ before calls after leads. record { ending = Short; turns = leads.turns }) goes well on two was
 
 -- From turn to turn.
 pub fair_on : (first now : copier.Seen) (start a b : Option (List wire.Call)) → now ≡ with_all first now → (IsOnItsWay start a now → now.from ≢ now.to → Told start a (Behaves now.options now.from now.to) → Told start b (Behaves now.options now.from now.to)) →

@@ -1,5 +1,5 @@
 -- The calls of a turn are no pauses, and where nothing happened in it each link that is wanted for writing was written in vain.
-use Rattle.std.proofs.Common.{◌≡◌, ◌≤◌, ◌==◌, ◌||◌, ℕ, Bool, true, false, List, [], ◌∷◌, ◌++◌, length, Option, Some, None, is_some, if◌then◌else◌, refl, ap, sym, subst, ◌∙◌, arith}
+use Rattle.std.proofs.Common.{◌≡◌, ◌≤◌, ◌==◌, ◌||◌, ℕ, Bool, true, false, List, [], ◌∷◌, ◌++◌, length, Option, Some, None, is_some, if◌then◌else◌, refl, ap, sym, ◌∙◌, arith}
 use Rattle.std.proofs.lemmas.Bool.{false≢true}
 use Rattle.std.proofs.lemmas.List.Folds.{list_any-append}
 use Rattle.std.specs.List.{list_any}
@@ -22,11 +22,10 @@ use Rattle.lnbd_poll.specs.Seen as poll
 use Rattle.lnbd_poll.specs.Still.{WaitWhereFull, is_full}
 use Rattle.lnbd_poll.specs.Turned.{TurnsShort, TurnsWhole}
 use Rattle.lnbd_poll.specs.Turns.{All_took, Ending, Goes_on, Runs_short, Short, Stops, Takes, Turns, TurnsOne, Whole, WritesAll, is_moved, moved_by, together, turn_of, with_moved}
-use Rattle.lnbd_poll.proofs.HeldLemmas.{wants_same}
 use Rattle.lnbd_board.specs.declared.ticket.Ticket.{Ticket}
 use Rattle.lnbd_board.specs.Files.{Files}
 use Rattle.lnbd_board.specs.Files as board
-use Rattle.lnbd_copy.specs.Pauses.{HasNoPause, LeavesFull, Unpaused, WantsOnlyFull, is_pause, told_after}
+use Rattle.lnbd_copy.specs.Pauses.{HasNoPause, Unpaused, WantsOnlyFull, is_pause, told_after}
 use Rattle.lnbd_copy.specs.Way.{Stand}
 
 -- Writes.
@@ -43,7 +42,7 @@ is_heeded (Write n offered WriteFault) = true
 is_heeded (Pause wants) = false
 is_heeded (Shut n) = false
 
-true_is : {A : Type 0} → true ≡ false → A
+pub true_is : {A : Type 0} → true ≡ false → A
 true_is e = absurd (false≢true (sym e))
 
 -- Where no write took anything, what was written last took nothing still,
@@ -76,18 +75,18 @@ ends_full link (Shut n ∷ calls) last unpaused unheeded some = ends_full link c
 
 -- The calls of a turn.
 
-none_then : (p : wire.Call → Bool) (calls own other : List wire.Call) → calls ≡ own ++ other → list_any p own ≡ false → list_any p other ≡ false → list_any p calls ≡ false
+pub none_then : (p : wire.Call → Bool) (calls own other : List wire.Call) → calls ≡ own ++ other → list_any p own ≡ false → list_any p other ≡ false → list_any p calls ≡ false
 none_then p calls own other are one two = ap (list_any p) are ∙ list_any-append p own other ∙ ap (λ (b : Bool). b || list_any p other) one ∙ two
 
-some_is_none : {A : Type 0} (n : ℕ) → Some n ≡ None → A
+pub some_is_none : {A : Type 0} (n : ℕ) → Some n ≡ None → A
 some_is_none n is = absurd (false≢true (sym (ap is_some is)))
 
-both_none : (a b : Option ℕ) → together a b ≡ None → (a ≡ None) × (b ≡ None)
+pub both_none : (a b : Option ℕ) → together a b ≡ None → (a ≡ None) × (b ≡ None)
 both_none None b is = (refl, is)
 both_none (Some n) None is = some_is_none n is
 both_none (Some n) (Some m) is = some_is_none _ is
 
-moved_some : {A : Type 0} (notice : Noticed) (rest : Option ℕ) → is_moved notice ≡ true → together (moved_by notice) rest ≡ None → A
+pub moved_some : {A : Type 0} (notice : Noticed) (rest : Option ℕ) → is_moved notice ≡ true → together (moved_by notice) rest ≡ None → A
 moved_some (noticed.Moved n) rest some is = some_is_none n (both_none (Some n) rest is).0
 moved_some noticed.NotReady rest some is = absurd (false≢true some)
 moved_some noticed.Idle rest some is = absurd (false≢true some)
@@ -95,7 +94,7 @@ moved_some noticed.Ended rest some is = absurd (false≢true some)
 moved_some noticed.LinkFailed rest some is = absurd (false≢true some)
 moved_some noticed.NoMemory rest some is = absurd (false≢true some)
 
-with_none : (moved : Option ℕ) (rest : Ending) → with_moved moved rest ≡ Whole None → (moved ≡ None) × (rest ≡ Whole None)
+pub with_none : (moved : Option ℕ) (rest : Ending) → with_moved moved rest ≡ Whole None → (moved ≡ None) × (rest ≡ Whole None)
 with_none moved (Whole rest) is = let quiet = both_none moved rest (cc is) in (quiet.0, ap Whole quiet.1)
 with_none moved Short is = absurd (cc is)
 
@@ -150,7 +149,7 @@ module _ {K World : Type 0} (steps : World → List (Call K) → World → Type 
       none_then is_heeded calls t.written t.read t.calls_are (writes_unheeded before.link before.history world t.written t.middle t.half t.sent t.writes (both_none t.sent (moved_by notice) (sym t.moved_is ∙ none)).0)
       (reads_none is_heeded (λ n room answer. refl) (is_reading t.middle) notice (record { link = before.link; history = t.middle; unread = before.unread }) after t.half world' t.read t.reads)
 
-  turns_unheeded : (before : List (Seen K)) (world : World) (calls : List wire.Call) (after : List (Seen K)) (world' : World) (ending : Ending) → Turns steps before world calls after world' ending → ending ≡ Whole None → list_any is_heeded calls ≡ false
+  pub turns_unheeded : (before : List (Seen K)) (world : World) (calls : List wire.Call) (after : List (Seen K)) (world' : World) (ending : Ending) → Turns steps before world calls after world' ending → ending ≡ Whole None → list_any is_heeded calls ≡ false
   turns_unheeded before world calls after world' ending (All_took _ _ _ _ _ _ is none after_is world_is end) still = ap (list_any is_heeded) none
   turns_unheeded before world calls after world' ending (Takes _ _ _ _ _ _ seen others notice own here half moved other there rest is one enough more calls_are after_is end) still =
       let quiet = with_none moved rest (sym end ∙ still) in
@@ -172,7 +171,7 @@ module _ (calls : List wire.Call) (unpaused : list_any is_pause calls ≡ false)
         | false ↦ rest
       ]
 
-  wants_full : (seens : List (Seen Ticket)) → WaitWhereFull calls seens → WantsOnlyFull calls (wants_after seens)
+  pub wants_full : (seens : List (Seen Ticket)) → WaitWhereFull calls seens → WantsOnlyFull calls (wants_after seens)
   wants_full [] waits = tt
   wants_full (seen ∷ all) waits =
       with_full (state_after seen.history) seen.link (in_flight_after seen.history) (direction_after seen.history) (wants_after all)
@@ -180,10 +179,10 @@ module _ (calls : List wire.Call) (unpaused : list_any is_pause calls ≡ false)
 
 -- A turn, where it is told.
 
-abbrev steps : board.Seen → List (Call Ticket) → board.Seen → Type 0
+abbrev pub steps : board.Seen → List (Call Ticket) → board.Seen → Type 0
 steps = OneByOne Files
 
-still_none : (moved : Option ℕ) (told : Turn) → told ≡ turn_of moved → told ≡ turn.Still → moved ≡ None
+pub still_none : (moved : Option ℕ) (told : Turn) → told ≡ turn_of moved → told ≡ turn.Still → moved ≡ None
 still_none None told is still = refl
 still_none (Some n) told is still = absurd (moved_not_still _ (sym is ∙ still))
   where
@@ -207,21 +206,4 @@ short_unpaused a b f g now now' held held' goes s = record {
       let went = goes s.seens s.at in
       let grown = went.grown all is in
       record { before = grown.0; more = went.calls; was = grown.1; now = grown.2; are = turns_unpaused steps s.seens now went.calls went.after now' Short went.leads.turns };
-}
-
-pub turned_full : (a b : Option (List wire.Call)) (f g : ℕ) (told : Turn) (now now' : board.Seen) (held held' : List (Held Ticket))
-    → poll.Goes a b (λ seens. AreAt held seens) (λ seens. AreAt held' seens) (λ before calls after. TurnsWhole steps f g told before now calls after now') → told ≡ turn.Still → Stand held → LeavesFull held' a b
-turned_full a b f g told now now' held held' goes still s = record {
-  on = λ all is.
-      let went = goes s.seens s.at in
-      let grown = went.grown all is in
-      let unpaused = turns_unpaused steps s.seens now went.calls went.after now' (Whole went.leads.moved) went.leads.turns in
-      let unheeded = turns_unheeded steps s.seens now went.calls went.after now' (Whole went.leads.moved) went.leads.turns (ap Whole (still_none went.leads.moved told went.leads.tells still)) in
-      record {
-        before = grown.0;
-        more = went.calls;
-        was = grown.1;
-        now = grown.2;
-        are = (unpaused, subst (WantsOnlyFull went.calls) (sym (wants_same held' went.after went.at)) (wants_full went.calls unpaused unheeded went.after (went.leads.still still)));
-      };
 }

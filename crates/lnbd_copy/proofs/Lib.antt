@@ -33,6 +33,7 @@ pub mod AgreeLemmas
 pub mod GroundLemmas
 pub mod AlikeLemmas
 pub mod FailLemmas
+pub mod UntouchedLemmas
 pub mod FaultLemmas
 pub mod UnaskedLemmas
 pub mod HeldLemmas
@@ -40,7 +41,9 @@ pub mod UnansweredLemmas
 pub mod SilentLemmas
 pub mod PauseLemmas
 pub mod FullLemmas
+pub mod VainLemmas
 pub mod WaitLemmas
+pub mod WantedLemmas
 pub mod PausedLemmas
 pub mod MadeLemmas
 pub mod BindingLemmas
@@ -48,3 +51,4 @@ pub mod BoundedLemmas
 pub mod ShareLemmas
 pub mod LinkLemmas
 pub mod ConnectLemmas
+pub mod AlwaysLemmas

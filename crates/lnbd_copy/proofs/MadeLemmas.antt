@@ -14,17 +14,21 @@ use Rattle.lnbd_copy.specs.Made.{IsMade}
 use Rattle.lnbd_copy.specs.Paused.{PausesAreFull}
 use Rattle.lnbd_copy.specs.Pauses.{AtEachPause, WantsOnlyFull}
 use Rattle.lnbd_copy.specs.Settled.{FlushesWanted, SparesFound, SparesTold}
-use Rattle.lnbd_copy.specs.Sharing.{PausesAreShared}
+use Rattle.lnbd_copy.specs.Sharing.{IsAlwaysShared}
 use Rattle.lnbd_copy.specs.Statuses.{ReadsAreAnswered}
+use Rattle.lnbd_copy.specs.Vain.{WantsOnlyEmpty}
 use Rattle.lnbd_copy.specs.Waits.{WaitsWell}
+use Rattle.lnbd_copy.specs.Wanted.{WantsSome}
 
 pub is_made : {F : Type 0} (options : CopyOptions) (from to : Place) (a b : Option (List wire.Call)) (r : Result Summary F)
     → OnOk r (GrewBy (HasAskedOnce options.allocated from to) a b) → OnOk r (GrewBy (WereDone from to) a b) → IfOk r (λ summary. GrewBy (Summarizes from to summary) a b)
     → OnOk r (GrewBy (SparesTold from to) a b) → OnOk r (GrewBy (SparesFound options from to) a b) → GrewBy (ReadsAreAnswered options.extents from) a b
     → IfOk r (λ summary. GrewBy (FlushesLast from to summary) a b) → OnOk r (GrewBy (FlushesWanted options from to) a b) → (options.flush ≡ false → GrewBy (IsUnflushed to) a b)
-    → OnOk r (GrewBy AreDriven a b) → GrewBy (PausesAreFull options from to) a b → GrewBy (PausesAreShared options from to) a b → GrewBy (AtEachPause WantsOnlyFull) a b → GrewBy (AtEachPause WaitsWell) a b → GrewBy LinksAreKept a b → OnOk r (GrewBy (ConnectsAsTold options from to) a b)
+    → OnOk r (GrewBy AreDriven a b) → GrewBy (PausesAreFull options from to) a b → GrewBy (IsAlwaysShared options from to) a b → GrewBy (AtEachPause WantsOnlyFull) a b → GrewBy (AtEachPause WaitsWell) a b → GrewBy LinksAreKept a b → OnOk r (GrewBy (ConnectsAsTold options from to) a b)
+    → GrewBy (AtEachPause WantsOnlyEmpty) a b
+    → GrewBy (AtEachPause WantsSome) a b
     → IfOk r (λ summary. GrewBy (IsMade options from to summary) a b)
-is_made options from to a b (Ok summary) asks done sums spares dense answered flushes flushed unflushed driven pauses shares writes waits links connects = λ all part is grown. record {
+is_made options from to a b (Ok summary) asks done sums spares dense answered flushes flushed unflushed driven pauses shares writes waits links connects reads wanted = λ all part is grown. record {
   asks = asks all part is grown;
   done = done all part is grown;
   sums = sums all part is grown;
@@ -41,5 +45,7 @@ is_made options from to a b (Ok summary) asks done sums spares dense answered fl
   waits = waits all part is grown;
   links = links all part is grown;
   connects = connects all part is grown;
+  reads = reads all part is grown;
+  wanted = wanted all part is grown;
 }
-is_made options from to a b (Err fault) asks done sums spares dense answered flushes flushed unflushed driven pauses shares writes waits links connects = tt
+is_made options from to a b (Err fault) asks done sums spares dense answered flushes flushed unflushed driven pauses shares writes waits links connects reads wanted = tt

@@ -10,7 +10,7 @@ use Rattle.lnbd_link.specs.Part.{Adds}
 use Rattle.lnbd_link.specs.declared.wires.Want.{Want}
 use Rattle.lnbd_poll.specs.Held.{Held, wants_now}
 use Rattle.lnbd_board.specs.declared.ticket.Ticket.{Ticket}
-use Rattle.lnbd_copy.specs.Pauses.{AtEachPause, HasNoPause, LeavesFull, Pauses, Unpaused, WantsOnlyFull, is_pause, told_after, told_with}
+use Rattle.lnbd_copy.specs.Pauses.{AtEachPause, HasNoPause, LeavesFull, Pauses, Unpaused, WantsInVain, WantsOnlyFull, is_pause, told_after, told_with}
 use Rattle.lnbd_copy.specs.Way.{Told}
 use Rattle.lnbd_copy.proofs.TurnLemmas.{since_on, told_begins}
 
@@ -173,16 +173,21 @@ pauses_adds Is start a b wants told adds = record {
       since_on start added.0 all (Pause wants ∷ []) added.2 since (one_more Is since.calls wants since.is.1 since.is.0);
 }
 
-pub pauses_full : (held : List (Held Ticket)) (a b c : Option (List wire.Call)) → LeavesFull held a b → Adds b c (Pause (wants_now held)) → Pauses WantsOnlyFull a c
-pauses_full held a b c leaves adds = record {
-  on = λ start told. pauses_adds WantsOnlyFull start b c (wants_now held)
+-- A pause behind calls by which all that it wants was tried in vain, where that is enough.
+pub pauses_left : (Is : (before : List wire.Call) → List Want → Type 0) (held : List (Held Ticket)) (a b c : Option (List wire.Call))
+    → ((calls more : List wire.Call) → WantsInVain more (wants_now held) → Is (calls ++ more) (wants_now held)) → LeavesFull held a b → Adds b c (Pause (wants_now held)) → Pauses Is a c
+pauses_left Is held a b c behind leaves adds = record {
+  on = λ start told. pauses_adds Is start b c (wants_now held)
       (record {
         since = λ all is.
             let made = leaves.on all is in
             let since = told.since made.before made.was in
-            since_on start made.before all made.more made.now since (pauses_stay WantsOnlyFull since.calls made.more made.are.0 since.is, full_behind since.calls made.more (wants_now held) made.are.1);
+            since_on start made.before all made.more made.now since (pauses_stay Is since.calls made.more made.are.0 since.is, behind since.calls made.more made.are.1);
       }) adds;
 }
+
+pub pauses_full : (held : List (Held Ticket)) (a b c : Option (List wire.Call)) → LeavesFull held a b → Adds b c (Pause (wants_now held)) → Pauses WantsOnlyFull a c
+pauses_full held a b c leaves adds = pauses_left WantsOnlyFull held a b c (λ calls more vain. full_behind calls more (wants_now held) vain.0) leaves adds
 
 pub told_same : (Is : List wire.Call → Type 0) (start a b : Option (List wire.Call)) → b ≡ a → Told start a Is → Told start b Is
 told_same Is start a b same told = subst (λ (t : Option (List wire.Call)). Told start t Is) (sym same) told

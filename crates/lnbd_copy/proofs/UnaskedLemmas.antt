@@ -37,6 +37,7 @@ use Rattle.lnbd_copy.specs.Faults.{AreUnissued, AsksNone, AsksNothing, Behaves, 
 use Rattle.lnbd_copy.specs.Lasting.{Lasts}
 use Rattle.lnbd_copy.specs.Opening.{Dials}
 use Rattle.lnbd_copy.specs.Way.{Goes, IsOn, Stand, Told, Way}
+use Rattle.lnbd_copy.proofs.AlwaysLemmas.{always_nothing}
 use Rattle.lnbd_copy.proofs.CopierLemmas.{begins_on, first_on, no_handles, second_on, told_as, with_held}
 use Rattle.lnbd_copy.proofs.EndLemmas.{all_taken}
 use Rattle.lnbd_copy.proofs.FailLemmas.{all_stand}
@@ -228,6 +229,8 @@ nothing_behaves options from to calls unasked = record {
   dense = inl unasked.none;
   flushes = λ link cookie link' cookie' one other is is' here too. absurd (none_dealt to calls link cookie one unasked.none is);
   unflushed = λ unwanted link cookie command is. absurd (none_dealt to calls link cookie command unasked.none is);
+  untouched = inl unasked.none;
+  shared = always_nothing options from to calls unasked.none;
 }
 
 pub told_behaves : (options : CopyOptions) (from to : Place) (start told : Option (List wire.Call)) → Told start told (AsksNothing from to) → Told start told (Behaves options from to)

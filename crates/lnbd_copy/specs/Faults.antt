@@ -11,7 +11,8 @@ use Rattle.lnbd_board.specs.Files as board
 use Rattle.lnbd_course.specs.Asks.{AreOwnLinks}
 use Rattle.lnbd_course.specs.Flushes.{IsUnflushed}
 use Rattle.lnbd_course.specs.Parts.{AsksAtMostOnce, FlushesAtMostOnce, NothingWasAsked}
-use Rattle.lnbd_copy.specs.Settled.{SparesFound}
+use Rattle.lnbd_copy.specs.Settled.{SparesFound, SparesTold}
+use Rattle.lnbd_copy.specs.Sharing.{IsAlwaysShared}
 use Rattle.lnbd_copy.specs.Statuses.{ReadsAreAnswered}
 use Rattle.lnbd_copy.specs.Way.{IsOn, Stand, Told, Way}
 
@@ -19,13 +20,21 @@ use Rattle.lnbd_copy.specs.Way.{IsOn, Stand, Told, Way}
 abbrev pub SparesSoFar : CopyOptions → (from to : Place) → List wire.Call → Type 0
 SparesSoFar options from to calls = NothingWasAsked calls ⊎ SparesFound options from to calls
 
--- Nothing was asked twice, no flush among it, and none where the options want none; and each READ was answered for before.
+-- Nothing was asked yet, or no READ covers a block that one answer told as zero whole.
+abbrev pub UntouchedSoFar : (from to : Place) → List wire.Call → Type 0
+UntouchedSoFar from to calls = NothingWasAsked calls ⊎ SparesTold from to calls
+
+-- Nothing was asked twice, no flush among it, and none where the options want none; each READ was answered for before, and none is of a block that was told as
+-- zero.
+-- Nothing was asked twice, no flush among it, and none where the options want none; each READ was answered for before; and at every moment what was unanswered was shared.
 pub record Behaves (options : CopyOptions) (from to : Place) (calls : List wire.Call) : Type 0 where
   pub asks : AsksAtMostOnce options.allocated from to calls
   pub answered : ReadsAreAnswered options.extents from calls
   pub dense : SparesSoFar options from to calls
   pub flushes : FlushesAtMostOnce to calls
   pub unflushed : options.flush ≡ false → IsUnflushed to calls
+  pub untouched : UntouchedSoFar from to calls
+  pub shared : IsAlwaysShared options from to calls
 
 -- Nothing was asked yet, on links of the copy's own.
 pub record AsksNothing (from to : Place) (calls : List wire.Call) : Type 0 where

@@ -32,8 +32,10 @@ pub mod Summed
 pub mod Flushed
 pub mod Full
 pub mod Unanswered
+pub mod Vain
 pub mod Pauses
 pub mod Waits
+pub mod Wanted
 pub mod Unready
 pub mod Paused
 pub mod Bounded

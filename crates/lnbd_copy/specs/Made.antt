@@ -13,9 +13,11 @@ use Rattle.lnbd_copy.specs.Links.{LinksAreKept}
 use Rattle.lnbd_copy.specs.Paused.{PausesAreFull}
 use Rattle.lnbd_copy.specs.Pauses.{AtEachPause, WantsOnlyFull}
 use Rattle.lnbd_copy.specs.Settled.{FlushesWanted, SparesFound, SparesTold}
-use Rattle.lnbd_copy.specs.Sharing.{PausesAreShared}
+use Rattle.lnbd_copy.specs.Sharing.{IsAlwaysShared}
 use Rattle.lnbd_copy.specs.Statuses.{ReadsAreAnswered}
+use Rattle.lnbd_copy.specs.Vain.{WantsOnlyEmpty}
 use Rattle.lnbd_copy.specs.Waits.{WaitsWell}
+use Rattle.lnbd_copy.specs.Wanted.{WantsSome}
 
 -- By these calls a copy was made from one place to another, as its options say, of which the summary tells.
 pub record IsMade (options : CopyOptions) (from to : Place) (summary : Summary) (calls : List wire.Call) : Type 0 where
@@ -38,8 +40,12 @@ pub record IsMade (options : CopyOptions) (from to : Place) (summary : Summary) 
   pub driven : AreDriven calls
   -- at each pause as much was under way as may be
   pub pauses : PausesAreFull options from to calls
-  -- and on no connection more than its share
-  pub shares : PausesAreShared options from to calls
+  -- and at no moment more on a connection than its share
+  pub shares : IsAlwaysShared options from to calls
   -- it waited only for what handles wait for, and to write only where a write took nothing
   pub waits : AtEachPause WaitsWell calls
   pub writes : AtEachPause WantsOnlyFull calls
+  -- and to read only where a read gave nothing, and nothing happened since
+  pub reads : AtEachPause WantsOnlyEmpty calls
+  -- and no pause waited for nothing
+  pub wanted : AtEachPause WantsSome calls

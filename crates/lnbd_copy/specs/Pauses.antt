@@ -6,6 +6,7 @@ use Rattle.lnbd_link.specs.Call.{Connect, Listen, Accept, Read, Write, Pause, Sh
 use Rattle.lnbd_link.specs.declared.wires.Want.{Want}
 use Rattle.lnbd_poll.specs.Held.{Held, wants_now}
 use Rattle.lnbd_board.specs.declared.ticket.Ticket.{Ticket}
+use Rattle.lnbd_copy.specs.Vain.{WantsOnlyEmpty}
 use Rattle.lnbd_copy.specs.Way.{Told}
 
 -- At each pause among these calls this is so of the calls before it and of what it wants.
@@ -38,6 +39,10 @@ abbrev pub WantsOnlyFull : (before : List wire.Call) → List Want → Type 0
 WantsOnlyFull before [] = Unit {0}
 WantsOnlyFull before (want ∷ others) = (2 ≤ want.direction → last_write want.link before ≡ Some Full) × WantsOnlyFull before others
 
+-- Each link that is wanted was tried in vain: written where it is wanted for writing, and read where it is wanted for reading.
+abbrev pub WantsInVain : (before : List wire.Call) → List Want → Type 0
+WantsInVain before wants = WantsOnlyFull before wants × WantsOnlyEmpty before wants
+
 -- Steps.
 
 abbrev pub is_pause : wire.Call → Bool
@@ -65,9 +70,9 @@ pub record Made (Are : List wire.Call → Type 0) (told : Option (List wire.Call
 pub record Unpaused (told told' : Option (List wire.Call)) : Type 0 where
   pub on : (all : List wire.Call) → told' ≡ Some all → Made HasNoPause told all
 
--- It goes on without a pause, and each link that a pause for these handles would now want for writing was last written in vain by that.
+-- It goes on without a pause, and each link that a pause for these handles would now want was tried in vain by that.
 pub record LeavesFull (held : List (Held Ticket)) (told told' : Option (List wire.Call)) : Type 0 where
-  pub on : (all : List wire.Call) → told' ≡ Some all → Made (λ more. HasNoPause more × WantsOnlyFull more (wants_now held)) told all
+  pub on : (all : List wire.Call) → told' ≡ Some all → Made (λ more. HasNoPause more × WantsInVain more (wants_now held)) told all
 
 -- If this was so at each pause since some start, it is so still.
 pub record Pauses (Is : (before : List wire.Call) → List Want → Type 0) (told told' : Option (List wire.Call)) : Type 0 where

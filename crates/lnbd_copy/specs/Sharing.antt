@@ -1,5 +1,5 @@
 -- How the requests of a copy are shared out among its connections, by its calls.
-use Rattle.std.specs.Prelude.{◌≡◌, List, ◌++◌}
+use Rattle.std.specs.Prelude.{◌≡◌, ◌⊎◌, List, ◌++◌}
 use Rattle.lnbd_model.specs.declared.export.ExportInfo.{ExportInfo}
 use Rattle.lnbd_model.specs.declared.target.Place.{Place}
 use Rattle.lnbd_link.specs.Call as wire
@@ -8,7 +8,6 @@ use Rattle.lnbd_course.specs.Parts.{NothingWasAsked}
 use Rattle.lnbd_copy.specs.declared.terms.Terms.{Terms}
 use Rattle.lnbd_copy.specs.Bounded.{AreFewOnEach}
 use Rattle.lnbd_copy.specs.Limit.{IsLimited}
-use Rattle.lnbd_copy.specs.Pauses.{AtEachPause}
 use Rattle.lnbd_copy.specs.Settled.{AreSettledBy, Settled}
 use Rattle.lnbd_copy.specs.Spread.{rounded_up}
 
@@ -23,10 +22,6 @@ pub record IsSharedBy (options : CopyOptions) (from to : Place) (source destinat
 abbrev pub IsShared : CopyOptions → (from to : Place) → List wire.Call → Type 0
 IsShared options from to calls = Settled from to (λ source destination. IsSharedBy options from to source destination calls) calls
 
--- So it is at each pause behind the first calls, by which nothing was asked.
-pub record PausesAreShared (options : CopyOptions) (from to : Place) (calls : List wire.Call) : Type 0 where
-  pub opening : List wire.Call
-  pub rest : List wire.Call
-  pub are : calls ≡ opening ++ rest
-  pub nothing : NothingWasAsked opening
-  pub shared : AtEachPause (λ before wants. IsShared options from to (opening ++ before)) rest
+-- So it is at every moment, in the middle of a turn too: by each front of these calls nothing was asked yet, or it is shared so.
+pub record IsAlwaysShared (options : CopyOptions) (from to : Place) (calls : List wire.Call) : Type 0 where
+  pub each : (front rest : List wire.Call) → calls ≡ front ++ rest → NothingWasAsked front ⊎ IsShared options from to front

@@ -16,7 +16,7 @@ ghost use Rattle.lnbd_copy.specs.Causes.{GoesOn, HasCause};
 ghost use Rattle.lnbd_copy.specs.Connects.{ConnectsAsTold, ConnectsWithin, LinksGoAsTold, LinksGoWithin};
 ghost use Rattle.lnbd_copy.specs.declared.copier.Progress.TheVariants as progress;
 ghost use Rattle.lnbd_copy.specs.Copier.{GoesFurther, HasJob, HasMet, HasNotBegun, HasTurned, IsDone, IsGoing, IsOnItsWay, IsParting, Seen};
-ghost use Rattle.lnbd_copy.specs.Faults.{AreUnissued, AsksNone, AsksNothing, Behaves, GoesIdly, SparesSoFar, StaysFresh, StaysUnasked};
+ghost use Rattle.lnbd_copy.specs.Faults.{AreUnissued, AsksNone, AsksNothing, Behaves, GoesIdly, SparesSoFar, StaysFresh, StaysUnasked, UntouchedSoFar};
 ghost use Rattle.lnbd_copy.specs.Flushed.{HasFlushed};
 ghost use Rattle.lnbd_copy.specs.Grounds.{AllSame, FailsOn, IsGrounded, Lasts, needs_no_ground};
 ghost use Rattle.lnbd_copy.specs.declared.terms.Terms.{Terms as Settled};
@@ -24,16 +24,18 @@ ghost use Rattle.lnbd_copy.specs.Made.{IsMade};
 ghost use Rattle.lnbd_copy.specs.Links.{HaveSameLinks, LinksAreKept, LinksGo, LinksGoTo};
 ghost use Rattle.lnbd_copy.specs.Opening.{Dials};
 ghost use Rattle.lnbd_copy.specs.Paused.{PausesAreFull};
-ghost use Rattle.lnbd_copy.specs.Pauses.{AtEachPause, LeavesFull, Pauses, Unpaused, WantsOnlyFull};
+ghost use Rattle.lnbd_copy.specs.Pauses.{AtEachPause, LeavesFull, Pauses, Unpaused, WantsInVain, WantsOnlyFull};
 ghost use Rattle.lnbd_copy.specs.Settled.{FlushesWanted, SparesFound, SparesTold};
 ghost use Rattle.lnbd_copy.specs.Spread.{AreSpread};
-ghost use Rattle.lnbd_copy.specs.Sharing.{IsShared, PausesAreShared};
+ghost use Rattle.lnbd_copy.specs.Sharing.{IsAlwaysShared, IsShared};
 ghost use Rattle.lnbd_copy.specs.Statuses.{ReadsAreAnswered};
 ghost use Rattle.lnbd_copy.specs.Summed.{HasSummed, IsTally};
 ghost use Rattle.lnbd_copy.specs.Unanswered.{HasAllAsked};
 ghost use Rattle.lnbd_copy.specs.UnderWay.{IsBusy};
 ghost use Rattle.lnbd_copy.specs.Unready.{IsEarlyPause, IsOpeningPause, StaysUnready};
+ghost use Rattle.lnbd_copy.specs.Vain.{WantsOnlyEmpty};
 ghost use Rattle.lnbd_copy.specs.Waits.{WaitsWell};
+ghost use Rattle.lnbd_copy.specs.Wanted.{WantsSome};
 ghost use Rattle.lnbd_copy.specs.Way.{Goes, Stand, Told};
 
 use crate::agreeing::{agree, check_answers, check_same, check_well, tells_extents};
@@ -144,9 +146,13 @@ impl Copier {
         ensures unready { Told (W.told wires.old) (W.told wires.new) (AtEachPause IsOpeningPause) }
         // At each pause a link was wanted for writing only where the last write on it since the pause before took nothing.
         ensures writes { Told (W.told wires.old) (W.told wires.new) (AtEachPause WantsOnlyFull) }
+        // It was wanted for reading only where a read on it told that nothing is there yet, and nothing happened since on any link.
+        ensures reads { Told (W.told wires.old) (W.told wires.new) (AtEachPause WantsOnlyEmpty) }
         // It was wanted only where its handle negotiated, had commands in flight, had bytes to write, or had asked for the end of its
         // connection, and in that handle's direction.
         ensures waits { Told (W.told wires.old) (W.told wires.new) (AtEachPause WaitsWell) }
+        // At least one link was.
+        ensures wanted { Told (W.told wires.old) (W.told wires.new) (AtEachPause WantsSome) }
 
         // What the calls show of a fault.
         ensures grounds { IfErr result (λ told. IsGrounded (W.told wires.old) (W.told wires.new) self.old.from self.old.to told) }
@@ -173,7 +179,8 @@ impl Copier {
         ensures begins { OnOk result (IsOnItsWay (W.told wires.old) (W.told wires.new) self.new) }
         ensures unasked { Told (W.told wires.old) (W.told wires.new) (AsksNothing self.old.from self.old.to) }
         ensures unready { Told (W.told wires.old) (W.told wires.new) (AtEachPause IsEarlyPause) }
-        ensures writes { Pauses WantsOnlyFull (W.told wires.old) (W.told wires.new) }
+        ensures vain { Pauses WantsInVain (W.told wires.old) (W.told wires.new) }
+        ensures wanted { Pauses WantsSome (W.told wires.old) (W.told wires.new) }
         ensures causes { IfErr result (λ told. HasCause self.old.start (W.faults wires.new) (W.idles wires.new) told) }
         ensures grounds { IfErr result (λ told. IsGrounded (W.told wires.old) (W.told wires.new) self.old.from self.old.to told) }
         ensures counts { GoesOn (W.faults wires.old) (W.faults wires.new) (W.idles wires.old) (W.idles wires.new) (W.contents wires.old) (W.contents wires.new) }
@@ -202,7 +209,8 @@ impl Copier {
         ensures unasked { Told (W.told wires.old) (W.told wires.new) (AsksNothing self.old.from self.old.to) }
         ensures unissued { OnOk result (Told (W.told wires.old) (W.told wires.new) (λ calls. AreUnissued self.new.held)) }
         ensures unready { Told (W.told wires.old) (W.told wires.new) (AtEachPause IsEarlyPause) }
-        ensures writes { Pauses WantsOnlyFull (W.told wires.old) (W.told wires.new) }
+        ensures vain { Pauses WantsInVain (W.told wires.old) (W.told wires.new) }
+        ensures wanted { Pauses WantsSome (W.told wires.old) (W.told wires.new) }
         ensures causes { IfErr result (λ told. HasCause self.old.start (W.faults wires.new) (W.idles wires.new) told) }
         ensures grounds { IfErr result (λ told. IsGrounded (W.told wires.old) (W.told wires.new) self.old.from self.old.to told) }
         ensures counts { GoesOn (W.faults wires.old) (W.faults wires.new) (W.idles wires.old) (W.idles wires.new) (W.contents wires.old) (W.contents wires.new) }
@@ -297,7 +305,8 @@ impl Copier {
         ensures asks { AsksNone self.old.board self.old.held (W.told wires.old) (W.told wires.new) }
         ensures fresh { OnOk result (StaysFresh self.old.board self.old.held (W.told wires.old) self.new.board self.new.held (W.told wires.new)) }
         ensures unready { StaysUnready self.old.board self.old.held (W.told wires.old) (W.told wires.new) }
-        ensures writes { Stand self.old.held → Pauses WantsOnlyFull (W.told wires.old) (W.told wires.new) }
+        ensures vain { Stand self.old.held → Pauses WantsInVain (W.told wires.old) (W.told wires.new) }
+        ensures wanted { Stand self.old.held → Pauses WantsSome (W.told wires.old) (W.told wires.new) }
         ensures causes { IfErr result (λ told. HasCause self.old.start (W.faults wires.new) (W.idles wires.new) told) }
         ensures fails { IfErr result (λ told. FailsOn false self.old.board self.old.held (W.told wires.old) (W.told wires.new) told) }
         ensures counts { GoesOn (W.faults wires.old) (W.faults wires.new) (W.idles wires.old) (W.idles wires.new) (W.contents wires.old) (W.contents wires.new) }
@@ -317,7 +326,8 @@ impl Copier {
         ensures quiet { OnOk result (AreQuiet self.new.held) }
         ensures unasked { (start : Option (List Call)) (terms : Settled) → HasMet self.old start (W.told wires.old) terms → sides ≡ terms.sides → Told start (W.told wires.old) (λ calls. AreUnissued self.old.held) → length self.old.held ≡ 2 → Told start (W.told wires.new) (AsksNothing self.old.from self.old.to) }
         ensures unready { (start : Option (List Call)) (terms : Settled) → HasMet self.old start (W.told wires.old) terms → sides ≡ terms.sides → length self.old.held ≡ 2 → Told start (W.told wires.old) (AtEachPause IsEarlyPause) → Told start (W.told wires.new) (AtEachPause IsEarlyPause) }
-        ensures writes { Stand self.old.held → Pauses WantsOnlyFull (W.told wires.old) (W.told wires.new) }
+        ensures vain { Stand self.old.held → Pauses WantsInVain (W.told wires.old) (W.told wires.new) }
+        ensures wanted { Stand self.old.held → Pauses WantsSome (W.told wires.old) (W.told wires.new) }
         ensures causes { IfErr result (λ told. HasCause self.old.start (W.faults wires.new) (W.idles wires.new) told) }
         ensures grounds { IfErr result (λ told. (start : Option (List Call)) (terms : Settled) → HasMet self.old start (W.told wires.old) terms → sides ≡ terms.sides → length self.old.held ≡ 2 → IsGrounded start (W.told wires.new) self.old.from self.old.to told) }
         ensures counts { GoesOn (W.faults wires.old) (W.faults wires.new) (W.idles wires.old) (W.idles wires.new) (W.contents wires.old) (W.contents wires.new) }
@@ -409,7 +419,7 @@ impl Copier {
         // connection agreed no meta context, though base:allocation had been asked for where extents are wanted.
         ensures answered { OnOk result ((start : Option (List Call)) → IsOnItsWay start (W.told wires.old) self.old → self.new.from ≢ self.new.to → Told start (W.told wires.new) (ReadsAreAnswered self.new.options.extents self.new.from)) }
 
-        // It doesn't pause; and where nothing happened each link that a pause would want for writing was last written in vain.
+        // It doesn't pause; and where nothing happened each link that a pause would want was tried in vain.
         ensures unpaused { Unpaused (W.told wires.old) (W.told wires.new) }
         ensures full { IfOk result (λ told. told ≡ progress.Still → LeavesFull self.new.held (W.told wires.old) (W.told wires.new)) }
 
@@ -577,6 +587,8 @@ impl Copier {
         ensures dense { self.from ≢ self.to → OnOk result (GrewBy (SparesFound self.options self.from self.to) (W.told wires.old) (W.told wires.new)) }
         // So it is with each WRITE also where the copy ends with a fault, once anything was asked.
         ensures spared { self.from ≢ self.to → GrewBy (SparesSoFar self.options self.from self.to) (W.told wires.old) (W.told wires.new) }
+        // And so it is with each READ, also where the copy ends in the middle of a turn.
+        ensures untouched { self.from ≢ self.to → GrewBy (UntouchedSoFar self.from self.to) (W.told wires.old) (W.told wires.new) }
         // Whatever it comes to, each position that was read was read after a block status had been answered for it, or the source's
         // first connection agreed no meta context, though base:allocation had been asked for where extents are wanted.
         ensures answered { self.from ≢ self.to → GrewBy (ReadsAreAnswered self.options.extents self.from) (W.told wires.old) (W.told wires.new) }
@@ -593,13 +605,12 @@ impl Copier {
         // and WRITE_ZEROES are unanswered as planned slices are not finished, up to the limit, and one BLOCK_STATUS where that is
         // not reached.
         ensures pauses { self.from ≢ self.to → GrewBy (PausesAreFull self.options self.from self.to) (W.told wires.old) (W.told wires.new) }
-        // On no connection more are unanswered at a pause than that limit divided by the number of its side's connections, rounded up.
-        ensures shares { self.from ≢ self.to → GrewBy (PausesAreShared self.options self.from self.to) (W.told wires.old) (W.told wires.new) }
+        // At no moment, not even in the middle of a turn, are more unanswered on a connection than that limit divided by the number of
+        // its side's connections, rounded up.
+        ensures shares { self.from ≢ self.to → GrewBy (IsAlwaysShared self.options self.from self.to) (W.told wires.old) (W.told wires.new) }
 
         // One handle drove each link, if any did.
         ensures driven { OnOk result (GrewBy AreDriven (W.told wires.old) (W.told wires.new)) }
-        // All of this together.
-        ensures made { self.from ≢ self.to → IfOk result (λ told. GrewBy (IsMade self.options self.from self.to told) (W.told wires.old) (W.told wires.new)) }
 
         // Whatever came of it: each link that it read, wrote or shut was one that it had made and not shut, in the end it had shut
         // each, and it listened for no peer.
@@ -613,9 +624,16 @@ impl Copier {
         // Whatever came of it, at each pause a link was wanted for writing only where the last write on it since the pause before
         // took nothing.
         ensures writes { GrewBy (AtEachPause WantsOnlyFull) (W.told wires.old) (W.told wires.new) }
+        // It was wanted for reading only where a read on it told that nothing is there yet, and nothing happened since on any link.
+        ensures reads { GrewBy (AtEachPause WantsOnlyEmpty) (W.told wires.old) (W.told wires.new) }
         // It was wanted only where its handle negotiated, had commands in flight, had bytes to write, or had asked for the end of its
         // connection, and in that handle's direction.
         ensures waits { GrewBy (AtEachPause WaitsWell) (W.told wires.old) (W.told wires.new) }
+        // At least one link was, so that no pause waits for nothing.
+        ensures wanted { GrewBy (AtEachPause WantsSome) (W.told wires.old) (W.told wires.new) }
+
+        // All of this together, where the copy is made.
+        ensures made { self.from ≢ self.to → IfOk result (λ told. GrewBy (IsMade self.options self.from self.to told) (W.told wires.old) (W.told wires.new)) }
 
         // What the calls show of a fault.
         ensures grounds { IfErr result (λ told. IsGrounded (W.told wires.old) (W.told wires.new) self.from self.to told) }
@@ -637,11 +655,12 @@ impl Copier {
         ensures done { OnOk result (IsDone (W.told wires.old) (W.told wires.new) self.new) }
         ensures sums { IfOk result (λ told. self.new.from ≢ self.new.to → Told (W.told wires.old) (W.told wires.new) (Summarizes self.new.from self.new.to told)) }
         ensures flushes { IfOk result (λ told. self.new.from ≢ self.new.to → Told (W.told wires.old) (W.told wires.new) (FlushesLast self.new.from self.new.to told)) }
-        ensures shares { self.new.from ≢ self.new.to → Told (W.told wires.old) (W.told wires.new) (PausesAreShared self.new.options self.new.from self.new.to) }
         ensures fair { self.old.from ≢ self.old.to → Told (W.told wires.old) (W.told wires.new) (Behaves self.old.options self.old.from self.old.to) }
         ensures pauses { self.new.from ≢ self.new.to → Told (W.told wires.old) (W.told wires.new) (PausesAreFull self.new.options self.new.from self.new.to) }
         ensures writes { Told (W.told wires.old) (W.told wires.new) (AtEachPause WantsOnlyFull) }
+        ensures reads { Told (W.told wires.old) (W.told wires.new) (AtEachPause WantsOnlyEmpty) }
         ensures waits { Told (W.told wires.old) (W.told wires.new) (AtEachPause WaitsWell) }
+        ensures wanted { Told (W.told wires.old) (W.told wires.new) (AtEachPause WantsSome) }
         ensures causes { IfErr result (λ told. HasCause (record { faults = W.faults wires.old; idles = W.idles wires.old }) (W.faults wires.new) (W.idles wires.new) told) }
         ensures grounds { IfErr result (λ told. IsGrounded (W.told wires.old) (W.told wires.new) self.old.from self.old.to told) }
         ensures counts { GoesOn (W.faults wires.old) (W.faults wires.new) (W.idles wires.old) (W.idles wires.new) (W.contents wires.old) (W.contents wires.new) }
@@ -665,6 +684,7 @@ impl Copier {
         ensures kept { self.new ≡ record self.old { held = self.new.held } }
         ensures on { OnOk result ((start : Option (List Call)) → IsOnItsWay start (W.told wires.old) self.old → IsOnItsWay start (W.told wires.new) self.new) }
         ensures pauses { OnOk result (Adds (W.told wires.old) (W.told wires.new) (Pause (wants_now self.old.held))) }
+        ensures wanted { Pauses WantsSome (W.told wires.old) (W.told wires.new) }
         ensures idly { GoesIdly (W.told wires.old) (W.told wires.new) }
         ensures still { OnErr result (W.told wires.new ≡ W.told wires.old) }
         ensures causes { IfErr result (λ told. HasCause self.old.start (W.faults wires.new) (W.idles wires.new) told) }

@@ -13,13 +13,15 @@ ghost use Rattle.lnbd_copy.specs.Faults.{AreUnissued, AsksNone, GoesIdly, StaysF
 ghost use Rattle.lnbd_copy.specs.Grounds.{Blames, FailsOn, FindsDead, needs_no_ground};
 ghost use Rattle.lnbd_copy.specs.Links.{LinksGo, LinksGoTo};
 ghost use Rattle.lnbd_copy.specs.Opening.{Dials};
-ghost use Rattle.lnbd_copy.specs.Pauses.{LeavesFull, Pauses, Unpaused, WantsOnlyFull};
+ghost use Rattle.lnbd_copy.specs.Pauses.{LeavesFull, Pauses, Unpaused, WantsInVain};
 ghost use Rattle.lnbd_copy.specs.Unready.{StaysUnready};
+ghost use Rattle.lnbd_copy.specs.Wanted.{WantsSome};
 ghost use Rattle.lnbd_copy.specs.Way.{Goes, Stand};
 
 use crate::agreeing::are_quiet;
 use crate::counts::{Counts, check_faults, check_idles, of_death};
 use crate::opening::open;
+use crate::wanting::check_wanted;
 use lnbd_board::{Board, Ticket};
 use lnbd_handle::Handle;
 use lnbd_link::Wires;
@@ -131,7 +133,7 @@ pub(crate) fn check<W: Wires>(
 }
 
 /// Waits, unless that was borne for as long as it is.
-#[tactic(auto, using(crate::proofs::LinkLemmas::links_none, crate::proofs::LinkLemmas::links_then, crate::proofs::IdleLemmas::idly_none, crate::proofs::IdleLemmas::idly_paused))]
+#[tactic(auto, using(crate::proofs::LinkLemmas::links_none, crate::proofs::LinkLemmas::links_then, crate::proofs::IdleLemmas::idly_none, crate::proofs::IdleLemmas::idly_paused, crate::proofs::PauseLemmas::pauses_none))]
 pub(crate) fn wait<W: Wires>(
     handles: &mut Handles<Ticket>,
     wires: &mut W,
@@ -147,14 +149,16 @@ pub(crate) fn wait<W: Wires>(
     ensures links { LinksGo [] handles.old (W.told wires.old) handles.new (W.told wires.new) }
     ensures idly { GoesIdly (W.told wires.old) (W.told wires.new) }
     ensures same { handles.new ≡ handles.old }
+    ensures wanted { Pauses WantsSome (W.told wires.old) (W.told wires.new) }
 {
     check_idles(wires, start)?;
+    check_wanted(handles)?;
     handles.pause(wires);
     Ok(())
 }
 
 /// Waits where nothing happened in a turn and a connection still negotiates.
-#[tactic(auto, using(crate::proofs::CauseLemmas::goes_same, crate::proofs::TurnLemmas::goes_none, crate::proofs::LinkLemmas::links_none, crate::proofs::LinkLemmas::links_then, crate::proofs::IdleLemmas::idly_none))]
+#[tactic(auto, using(crate::proofs::CauseLemmas::goes_same, crate::proofs::TurnLemmas::goes_none, crate::proofs::LinkLemmas::links_none, crate::proofs::LinkLemmas::links_then, crate::proofs::IdleLemmas::idly_none, crate::proofs::PauseLemmas::pauses_none))]
 fn rest<W: Wires>(
     handles: &mut Handles<Ticket>,
     wires: &mut W,
@@ -164,13 +168,14 @@ fn rest<W: Wires>(
     requires counted { start.idles ≤ W.idles wires.old }
     ensures goes { OnOk result ((now : Seen) → Goes now handles.old (W.told wires.old) now handles.new (W.told wires.new)) }
     ensures unready { (now : Seen) → StaysUnready now handles.old (W.told wires.old) (W.told wires.new) }
-    ensures writes { (before : Option (List Call)) → Unpaused before (W.told wires.old) → (told ≡ turned.Still → LeavesFull handles.old before (W.told wires.old)) → Pauses WantsOnlyFull before (W.told wires.new) }
+    ensures vain { (before : Option (List Call)) → Unpaused before (W.told wires.old) → (told ≡ turned.Still → LeavesFull handles.old before (W.told wires.old)) → Pauses WantsInVain before (W.told wires.new) }
     ensures causes { IfErr result (λ told. HasCause start (W.faults wires.new) (W.idles wires.new) told) }
     ensures free { IfErr result (λ told. needs_no_ground told ≡ true) }
     ensures counts { GoesOn (W.faults wires.old) (W.faults wires.new) (W.idles wires.old) (W.idles wires.new) (W.contents wires.old) (W.contents wires.new) }
     ensures links { LinksGo [] handles.old (W.told wires.old) handles.new (W.told wires.new) }
     ensures idly { GoesIdly (W.told wires.old) (W.told wires.new) }
     ensures same { handles.new ≡ handles.old }
+    ensures wanted { Pauses WantsSome (W.told wires.old) (W.told wires.new) }
 {
     match told {
         Turn::Still => {
@@ -196,13 +201,14 @@ pub(crate) fn settle<W: Wires>(
     ensures goes { OnOk result (Goes board.old handles.old (W.told wires.old) board.new handles.new (W.told wires.new)) }
     ensures quiet { OnOk result (AreQuiet handles.new) }
     ensures unready { StaysUnready board.old handles.old (W.told wires.old) (W.told wires.new) }
-    ensures writes { Stand handles.old → Pauses WantsOnlyFull (W.told wires.old) (W.told wires.new) }
+    ensures vain { Stand handles.old → Pauses WantsInVain (W.told wires.old) (W.told wires.new) }
     ensures causes { IfErr result (λ told. HasCause start (W.faults wires.new) (W.idles wires.new) told) }
     ensures fails { IfErr result (λ told. FailsOn false board.old handles.old (W.told wires.old) (W.told wires.new) told) }
     ensures counts { GoesOn (W.faults wires.old) (W.faults wires.new) (W.idles wires.old) (W.idles wires.new) (W.contents wires.old) (W.contents wires.new) }
     ensures links { Stand handles.old → LinksGo [] handles.old (W.told wires.old) handles.new (W.told wires.new) }
     ensures asks { AsksNone board.old handles.old (W.told wires.old) (W.told wires.new) }
     ensures fresh { OnOk result (StaysFresh board.old handles.old (W.told wires.old) board.new handles.new (W.told wires.new)) }
+    ensures wanted { Stand handles.old → Pauses WantsSome (W.told wires.old) (W.told wires.new) }
 {
     'turns: for _ in 0..MAX_TURNS {
         if are_quiet(handles) {

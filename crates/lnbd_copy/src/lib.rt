@@ -13,6 +13,7 @@ mod opening;
 mod parting;
 mod sides;
 mod terms;
+mod wanting;
 mod windows;
 
 pub use copier::{Copier, Progress};

@@ -1,6 +1,7 @@
 use Rattle.std.proofs.Common.{refl}
-use Rattle.lnbd_copy.proofs.PauseLemmas.{either_way, pauses_full, pauses_then, pauses_unpaused, unpaused_same}
+use Rattle.lnbd_copy.proofs.PauseLemmas.{either_way, pauses_then, pauses_unpaused, unpaused_same}
 use Rattle.lnbd_copy.proofs.PausedLemmas.{unready_none, unready_rests, unready_unpaused}
+use Rattle.lnbd_copy.proofs.VainLemmas.{pauses_vain}
 use Rattle.lnbd_copy.proofs.dialing.rest.Goals as goal
 
 pub returns-else-are_quiet-clause-unready : goal.returns-else-are_quiet-clause-unready
@@ -14,13 +15,13 @@ returns-then-are_quiet-clause-unready g c now = unready_none now _ _
 pub returns-in-Moved-clause-unready : goal.returns-in-Moved-clause-unready
 returns-in-Moved-clause-unready g c now = unready_none now _ _
 
-pub returns-else-are_quiet-clause-writes : goal.returns-else-are_quiet-clause-writes
-returns-else-are_quiet-clause-writes g c before unpaused full =
-    either_way c.wait.result c.wait.ensures.pauses c.wait.ensures.still (λ adds. pauses_full _ _ _ _ (full c.in-Still.is) adds)
+pub returns-else-are_quiet-clause-vain : goal.returns-else-are_quiet-clause-vain
+returns-else-are_quiet-clause-vain g c before unpaused full =
+    either_way c.wait.result c.wait.ensures.pauses c.wait.ensures.still (λ adds. pauses_vain _ _ _ _ (full c.in-Still.is) adds)
     (λ same. pauses_then _ _ _ (pauses_unpaused _ _ unpaused) (pauses_unpaused _ _ (unpaused_same _ _ same)))
 
-pub returns-then-are_quiet-clause-writes : goal.returns-then-are_quiet-clause-writes
-returns-then-are_quiet-clause-writes g c before unpaused full = pauses_unpaused _ _ unpaused
+pub returns-then-are_quiet-clause-vain : goal.returns-then-are_quiet-clause-vain
+returns-then-are_quiet-clause-vain g c before unpaused full = pauses_unpaused _ _ unpaused
 
-pub returns-in-Moved-clause-writes : goal.returns-in-Moved-clause-writes
-returns-in-Moved-clause-writes g c before unpaused full = pauses_unpaused _ _ unpaused
+pub returns-in-Moved-clause-vain : goal.returns-in-Moved-clause-vain
+returns-in-Moved-clause-vain g c before unpaused full = pauses_unpaused _ _ unpaused

@@ -1,12 +1,13 @@
 use Rattle.std.proofs.Common.{false, refl}
 use Rattle.lnbd_copy.proofs.CauseLemmas.{goes_then}
-use Rattle.lnbd_copy.proofs.FullLemmas.{short_unpaused, turned_full, turned_unpaused}
+use Rattle.lnbd_copy.proofs.FullLemmas.{short_unpaused, turned_unpaused}
 use Rattle.lnbd_copy.proofs.GroundLemmas.{fails_blamed, fails_then, handed_on}
 use Rattle.lnbd_copy.proofs.PauseLemmas.{pauses_then, pauses_unpaused}
 use Rattle.lnbd_copy.proofs.PausedLemmas.{unready_then, unready_turn, unready_unpaused}
 use Rattle.lnbd_copy.proofs.TurnLemmas.{goes_on, turned_goes}
 use Rattle.lnbd_copy.proofs.LinkLemmas.{links_cut_short, links_then, links_turned}
 use Rattle.lnbd_copy.proofs.UnaskedLemmas.{fresh_asks_none, fresh_on, fresh_rests, none_idly, none_then, short_unasked, whole_fresh}
+use Rattle.lnbd_copy.proofs.VainLemmas.{turned_vain}
 use Rattle.lnbd_copy.proofs.dialing.settle.Goals as goal
 
 pub turns-preserved : goal.turns-preserved
@@ -14,16 +15,19 @@ turns-preserved g c = record {
   goes = goes_on _ _ _ _ _ _ _ _ _ c.turns.invariant.goes (goes_on _ _ _ _ _ _ _ _ _ (turned_goes _ _ _ _ c.in_ok-told.told _ _ _ _ c.in_ok-told.ensures.ok) (c.in_ok-rest.ensures.goes c.turn.new.world));
   unready = unready_then _ _ _ _ _ _ _ c.turns.invariant.goes c.turns.invariant.unready
       (unready_then _ _ _ _ _ _ _ (turned_goes _ _ _ _ c.in_ok-told.told _ _ _ _ c.in_ok-told.ensures.ok) (unready_turn _ _ _ _ c.in_ok-told.told _ _ _ _ c.in_ok-told.ensures.ok) (c.in_ok-rest.ensures.unready c.turn.new.world));
-  writes = λ stand.
+  vain = λ stand.
       let here = c.turns.invariant.goes.stand stand in
-      pauses_then _ _ _ (c.turns.invariant.writes stand)
-      (c.in_ok-rest.ensures.writes _ (turned_unpaused _ _ _ _ c.in_ok-told.told _ _ _ _ c.in_ok-told.ensures.ok here) (λ still. turned_full _ _ _ _ c.in_ok-told.told _ _ _ _ c.in_ok-told.ensures.ok still here));
+      pauses_then _ _ _ (c.turns.invariant.vain stand)
+      (c.in_ok-rest.ensures.vain _ (turned_unpaused _ _ _ _ c.in_ok-told.told _ _ _ _ c.in_ok-told.ensures.ok here) (λ still. turned_vain _ _ _ _ c.in_ok-told.told _ _ _ _ c.in_ok-told.ensures.ok still here));
   links = λ stand. links_then _ _ _ _ _ _ (c.turns.invariant.links stand) (links_then _ _ _ _ _ _ (links_turned _ _ _ _ c.in_ok-told.told _ _ _ _ c.in_ok-told.ensures.ok (c.turns.invariant.goes.stand stand)) c.rest.ensures.links);
   fresh =
       let turned = whole_fresh _ _ _ _ c.in_ok-told.told _ _ _ _ c.in_ok-told.ensures.ok in
       fresh_on _ _ _ _ _ _ _ _ _ c.turns.invariant.goes.stand c.turns.invariant.fresh
       (fresh_on _ _ _ _ _ _ _ _ _ (turned_goes _ _ _ _ c.in_ok-told.told _ _ _ _ c.in_ok-told.ensures.ok).stand turned (fresh_rests c.turn.new.world _ _ _ _ c.rest.ensures.same (c.in_ok-rest.ensures.goes c.turn.new.world)));
   counts = goes_then _ _ _ _ _ _ _ _ _ c.turns.invariant.counts (goes_then _ _ _ _ _ _ _ _ _ (record { faults = c.turn.ensures.faults; idles = c.turn.ensures.idles; contents = c.turn.ensures.contents }) c.rest.ensures.counts);
+  wanted = λ stand.
+      pauses_then _ _ _ (c.turns.invariant.wanted stand)
+      (pauses_then _ _ _ (pauses_unpaused _ _ (turned_unpaused _ _ _ _ c.in_ok-told.told _ _ _ _ c.in_ok-told.ensures.ok (c.turns.invariant.goes.stand stand))) c.rest.ensures.wanted);
 }
 
 pub returns-in_err-check-clause-fails : goal.returns-in_err-check-clause-fails
@@ -61,17 +65,17 @@ pub returns-in_err-told-clause-unready : goal.returns-in_err-told-clause-unready
 returns-in_err-told-clause-unready g c =
     unready_then _ _ _ _ _ _ _ c.turns.invariant.goes c.turns.invariant.unready (unready_unpaused _ _ _ _ (short_unpaused _ _ _ _ _ _ _ _ c.in_err-told.ensures.short))
 
-pub returns-in_err-told-clause-writes : goal.returns-in_err-told-clause-writes
-returns-in_err-told-clause-writes g c stand =
-    pauses_then _ _ _ (c.turns.invariant.writes stand) (pauses_unpaused _ _ (short_unpaused _ _ _ _ _ _ _ _ c.in_err-told.ensures.short (c.turns.invariant.goes.stand stand)))
+pub returns-in_err-told-clause-vain : goal.returns-in_err-told-clause-vain
+returns-in_err-told-clause-vain g c stand =
+    pauses_then _ _ _ (c.turns.invariant.vain stand) (pauses_unpaused _ _ (short_unpaused _ _ _ _ _ _ _ _ c.in_err-told.ensures.short (c.turns.invariant.goes.stand stand)))
 
 pub returns-in_err-check-clause-unready : goal.returns-in_err-check-clause-unready
 returns-in_err-check-clause-unready g c =
     unready_then _ _ _ _ _ _ _ c.turns.invariant.goes c.turns.invariant.unready (unready_turn _ _ _ _ c.in_ok-told.told _ _ _ _ c.in_ok-told.ensures.ok)
 
-pub returns-in_err-check-clause-writes : goal.returns-in_err-check-clause-writes
-returns-in_err-check-clause-writes g c stand =
-    pauses_then _ _ _ (c.turns.invariant.writes stand) (pauses_unpaused _ _ (turned_unpaused _ _ _ _ c.in_ok-told.told _ _ _ _ c.in_ok-told.ensures.ok (c.turns.invariant.goes.stand stand)))
+pub returns-in_err-check-clause-vain : goal.returns-in_err-check-clause-vain
+returns-in_err-check-clause-vain g c stand =
+    pauses_then _ _ _ (c.turns.invariant.vain stand) (pauses_unpaused _ _ (turned_unpaused _ _ _ _ c.in_ok-told.told _ _ _ _ c.in_ok-told.ensures.ok (c.turns.invariant.goes.stand stand)))
 
 pub returns-in_err-rest-clause-unready : goal.returns-in_err-rest-clause-unready
 returns-in_err-rest-clause-unready g c =
@@ -79,8 +83,21 @@ returns-in_err-rest-clause-unready g c =
     unready_then _ _ _ _ _ _ _ c.turns.invariant.goes c.turns.invariant.unready
     (unready_then _ _ _ _ _ _ _ goes (unready_turn _ _ _ _ c.in_ok-told.told _ _ _ _ c.in_ok-told.ensures.ok) (c.in_err-rest.ensures.unready c.turn.new.world))
 
-pub returns-in_err-rest-clause-writes : goal.returns-in_err-rest-clause-writes
-returns-in_err-rest-clause-writes g c stand =
+pub returns-in_err-rest-clause-vain : goal.returns-in_err-rest-clause-vain
+returns-in_err-rest-clause-vain g c stand =
     let here = c.turns.invariant.goes.stand stand in
-    pauses_then _ _ _ (c.turns.invariant.writes stand)
-    (c.in_err-rest.ensures.writes _ (turned_unpaused _ _ _ _ c.in_ok-told.told _ _ _ _ c.in_ok-told.ensures.ok here) (λ still. turned_full _ _ _ _ c.in_ok-told.told _ _ _ _ c.in_ok-told.ensures.ok still here))
+    pauses_then _ _ _ (c.turns.invariant.vain stand)
+    (c.in_err-rest.ensures.vain _ (turned_unpaused _ _ _ _ c.in_ok-told.told _ _ _ _ c.in_ok-told.ensures.ok here) (λ still. turned_vain _ _ _ _ c.in_ok-told.told _ _ _ _ c.in_ok-told.ensures.ok still here))
+
+pub returns-in_err-told-clause-wanted : goal.returns-in_err-told-clause-wanted
+returns-in_err-told-clause-wanted g c stand =
+    pauses_then _ _ _ (c.turns.invariant.wanted stand) (pauses_unpaused _ _ (short_unpaused _ _ _ _ _ _ _ _ c.in_err-told.ensures.short (c.turns.invariant.goes.stand stand)))
+
+pub returns-in_err-check-clause-wanted : goal.returns-in_err-check-clause-wanted
+returns-in_err-check-clause-wanted g c stand =
+    pauses_then _ _ _ (c.turns.invariant.wanted stand) (pauses_unpaused _ _ (turned_unpaused _ _ _ _ c.in_ok-told.told _ _ _ _ c.in_ok-told.ensures.ok (c.turns.invariant.goes.stand stand)))
+
+pub returns-in_err-rest-clause-wanted : goal.returns-in_err-rest-clause-wanted
+returns-in_err-rest-clause-wanted g c stand =
+    pauses_then _ _ _ (c.turns.invariant.wanted stand)
+    (pauses_then _ _ _ (pauses_unpaused _ _ (turned_unpaused _ _ _ _ c.in_ok-told.told _ _ _ _ c.in_ok-told.ensures.ok (c.turns.invariant.goes.stand stand))) c.rest.ensures.wanted)

@@ -1,6 +1,7 @@
 use Rattle.std.proofs.Common.{arith}
 use Rattle.lnbd_copy.proofs.TurnLemmas.{paused_goes}
 use Rattle.lnbd_copy.proofs.LinkLemmas.{links_paused}
+use Rattle.lnbd_copy.proofs.WantedLemmas.{pauses_wanted}
 use Rattle.lnbd_copy.proofs.dialing.wait.Goals as goal
 
 pub returns-clause-goes : goal.returns-clause-goes
@@ -11,3 +12,6 @@ returns-clause-counts g c = record { faults = c.pause.ensures.faults; idles = om
 
 pub returns-clause-links : goal.returns-clause-links
 returns-clause-links g c = links_paused _ _ _ _ _ c.pause.ensures.unchanged c.pause.ensures.told
+
+pub returns-clause-wanted : goal.returns-clause-wanted
+returns-clause-wanted g c = pauses_wanted _ _ _ c.pause.ensures.told c.in_ok-check_wanted.ensures

@@ -7,6 +7,7 @@ use Rattle.lnbd_copy.specs.Links.{LinksGo}
 use Rattle.lnbd_copy.proofs.ConnectLemmas.{within_end}
 use Rattle.lnbd_copy.proofs.UnaskedLemmas.{told_unasked, unasked_as}
 use Rattle.lnbd_copy.proofs.PausedLemmas.{early_opening, early_waits, told_stays}
+use Rattle.lnbd_copy.proofs.VainLemmas.{vain_empty, vain_full}
 use Rattle.lnbd_copy.proofs.copier.Copier.begin.Goals as goal
 
 pub returns-then-is_err-clause-grounds : goal.returns-then-is_err-clause-grounds
@@ -17,7 +18,7 @@ returns-then-is_err-clause-grounds g c =
     c.connect-told.ensures.grounds
 
 pub returns-else-is_err-clause-writes : goal.returns-else-is_err-clause-writes
-returns-else-is_err-clause-writes g c = pauses_begin _ _ c.connect-told.ensures.writes
+returns-else-is_err-clause-writes g c = vain_full _ _ c.connect-told.ensures.vain
 
 pub returns-then-is_err-clause-links : goal.returns-then-is_err-clause-links
 returns-then-is_err-clause-links g c =
@@ -29,7 +30,7 @@ returns-then-is_err-clause-unasked g c =
     told_unasked _ _ _ _ _ c.shut_all.ensures.idly (unasked_as _ _ _ _ _ _ (ap (λ (s : Seen). s.from) c.self.view_is) (ap (λ (s : Seen). s.to) c.self.view_is) c.connect-told.ensures.unasked)
 
 pub returns-then-is_err-clause-writes : goal.returns-then-is_err-clause-writes
-returns-then-is_err-clause-writes g c = pauses_begin _ _ (pauses_then _ _ _ c.connect-told.ensures.writes (pauses_unpaused _ _ c.shut_all.ensures.unpaused))
+returns-then-is_err-clause-writes g c = vain_full _ _ (pauses_then _ _ _ c.connect-told.ensures.vain (pauses_unpaused _ _ c.shut_all.ensures.unpaused))
 
 pub returns-then-is_err-clause-unready : goal.returns-then-is_err-clause-unready
 returns-then-is_err-clause-unready g c = told_stays _ _ _ c.shut_all.ensures.unpaused (early_opening _ _ c.connect-told.ensures.unready)
@@ -42,3 +43,15 @@ returns-else-is_err-clause-unready g c = early_opening _ _ c.connect-told.ensure
 
 pub returns-else-is_err-clause-waits : goal.returns-else-is_err-clause-waits
 returns-else-is_err-clause-waits g c = early_waits _ _ c.connect-told.ensures.unready
+
+pub returns-else-is_err-clause-reads : goal.returns-else-is_err-clause-reads
+returns-else-is_err-clause-reads g c = vain_empty _ _ c.connect-told.ensures.vain
+
+pub returns-then-is_err-clause-reads : goal.returns-then-is_err-clause-reads
+returns-then-is_err-clause-reads g c = vain_empty _ _ (pauses_then _ _ _ c.connect-told.ensures.vain (pauses_unpaused _ _ c.shut_all.ensures.unpaused))
+
+pub returns-else-is_err-clause-wanted : goal.returns-else-is_err-clause-wanted
+returns-else-is_err-clause-wanted g c = pauses_begin _ _ c.connect-told.ensures.wanted
+
+pub returns-then-is_err-clause-wanted : goal.returns-then-is_err-clause-wanted
+returns-then-is_err-clause-wanted g c = pauses_begin _ _ (pauses_then _ _ _ c.connect-told.ensures.wanted (pauses_unpaused _ _ c.shut_all.ensures.unpaused))

@@ -36,8 +36,8 @@ returns-in_err-check_same-clause-grounds g c =
     (met_further c.meet.new.self c.dial_further.new.self _ _ _ c.in_ok-terms.terms c.in_ok-dial_further.ensures.kept c.in_ok-terms.ensures.met c.in_ok-terms.ensures.two c.in_ok-dial_further.ensures.further)
     c.in_err-check_same.ensures.found))
 
-pub returns-clause-writes : goal.returns-clause-writes
-returns-clause-writes g c = pauses_then _ _ _ c.in_ok-terms.ensures.writes (c.dial_further.ensures.writes c.in_ok-terms.ensures.met.stand)
+pub returns-clause-vain : goal.returns-clause-vain
+returns-clause-vain g c = pauses_then _ _ _ c.in_ok-terms.ensures.vain (c.dial_further.ensures.vain c.in_ok-terms.ensures.met.stand)
 
 pub returns-in_err-dial_further-clause-counts : goal.returns-in_err-dial_further-clause-counts
 returns-in_err-dial_further-clause-counts g c = goes_then _ _ _ _ _ _ _ _ _ c.meet.ensures.counts c.dial_further.ensures.counts
@@ -76,23 +76,38 @@ returns-clause-connects g c =
 pub returns-in_err-dial_further-clause-unready : goal.returns-in_err-dial_further-clause-unready
 returns-in_err-dial_further-clause-unready g c = c.dial_further.ensures.unready (g.W.Wires.told c.args.wires.now) c.in_ok-terms.terms c.in_ok-terms.ensures.met refl c.in_ok-terms.ensures.two c.in_ok-terms.ensures.unready
 
-pub returns-in_err-dial_further-clause-writes : goal.returns-in_err-dial_further-clause-writes
-returns-in_err-dial_further-clause-writes g c = pauses_then _ _ _ c.in_ok-terms.ensures.writes (c.dial_further.ensures.writes c.in_ok-terms.ensures.met.stand)
+pub returns-in_err-dial_further-clause-vain : goal.returns-in_err-dial_further-clause-vain
+returns-in_err-dial_further-clause-vain g c = pauses_then _ _ _ c.in_ok-terms.ensures.vain (c.dial_further.ensures.vain c.in_ok-terms.ensures.met.stand)
 
 pub returns-in_err-check_same-clause-unready : goal.returns-in_err-check_same-clause-unready
 returns-in_err-check_same-clause-unready g c = c.dial_further.ensures.unready (g.W.Wires.told c.args.wires.now) c.in_ok-terms.terms c.in_ok-terms.ensures.met refl c.in_ok-terms.ensures.two c.in_ok-terms.ensures.unready
 
-pub returns-in_err-check_same-clause-writes : goal.returns-in_err-check_same-clause-writes
-returns-in_err-check_same-clause-writes g c = pauses_then _ _ _ c.in_ok-terms.ensures.writes (c.dial_further.ensures.writes c.in_ok-terms.ensures.met.stand)
+pub returns-in_err-check_same-clause-vain : goal.returns-in_err-check_same-clause-vain
+returns-in_err-check_same-clause-vain g c = pauses_then _ _ _ c.in_ok-terms.ensures.vain (c.dial_further.ensures.vain c.in_ok-terms.ensures.met.stand)
 
 pub returns-in_err-check_well-clause-unready : goal.returns-in_err-check_well-clause-unready
 returns-in_err-check_well-clause-unready g c = c.dial_further.ensures.unready (g.W.Wires.told c.args.wires.now) c.in_ok-terms.terms c.in_ok-terms.ensures.met refl c.in_ok-terms.ensures.two c.in_ok-terms.ensures.unready
 
-pub returns-in_err-check_well-clause-writes : goal.returns-in_err-check_well-clause-writes
-returns-in_err-check_well-clause-writes g c = pauses_then _ _ _ c.in_ok-terms.ensures.writes (c.dial_further.ensures.writes c.in_ok-terms.ensures.met.stand)
+pub returns-in_err-check_well-clause-vain : goal.returns-in_err-check_well-clause-vain
+returns-in_err-check_well-clause-vain g c = pauses_then _ _ _ c.in_ok-terms.ensures.vain (c.dial_further.ensures.vain c.in_ok-terms.ensures.met.stand)
 
 pub returns-in_err-set_up-clause-unready : goal.returns-in_err-set_up-clause-unready
 returns-in_err-set_up-clause-unready g c = c.dial_further.ensures.unready (g.W.Wires.told c.args.wires.now) c.in_ok-terms.terms c.in_ok-terms.ensures.met refl c.in_ok-terms.ensures.two c.in_ok-terms.ensures.unready
 
-pub returns-in_err-set_up-clause-writes : goal.returns-in_err-set_up-clause-writes
-returns-in_err-set_up-clause-writes g c = pauses_then _ _ _ c.in_ok-terms.ensures.writes (c.dial_further.ensures.writes c.in_ok-terms.ensures.met.stand)
+pub returns-in_err-set_up-clause-vain : goal.returns-in_err-set_up-clause-vain
+returns-in_err-set_up-clause-vain g c = pauses_then _ _ _ c.in_ok-terms.ensures.vain (c.dial_further.ensures.vain c.in_ok-terms.ensures.met.stand)
+
+pub returns-clause-wanted : goal.returns-clause-wanted
+returns-clause-wanted g c = pauses_then _ _ _ c.in_ok-terms.ensures.wanted (c.dial_further.ensures.wanted c.in_ok-terms.ensures.met.stand)
+
+pub returns-in_err-dial_further-clause-wanted : goal.returns-in_err-dial_further-clause-wanted
+returns-in_err-dial_further-clause-wanted g c = pauses_then _ _ _ c.in_ok-terms.ensures.wanted (c.dial_further.ensures.wanted c.in_ok-terms.ensures.met.stand)
+
+pub returns-in_err-check_same-clause-wanted : goal.returns-in_err-check_same-clause-wanted
+returns-in_err-check_same-clause-wanted g c = pauses_then _ _ _ c.in_ok-terms.ensures.wanted (c.dial_further.ensures.wanted c.in_ok-terms.ensures.met.stand)
+
+pub returns-in_err-check_well-clause-wanted : goal.returns-in_err-check_well-clause-wanted
+returns-in_err-check_well-clause-wanted g c = pauses_then _ _ _ c.in_ok-terms.ensures.wanted (c.dial_further.ensures.wanted c.in_ok-terms.ensures.met.stand)
+
+pub returns-in_err-set_up-clause-wanted : goal.returns-in_err-set_up-clause-wanted
+returns-in_err-set_up-clause-wanted g c = pauses_then _ _ _ c.in_ok-terms.ensures.wanted (c.dial_further.ensures.wanted c.in_ok-terms.ensures.met.stand)

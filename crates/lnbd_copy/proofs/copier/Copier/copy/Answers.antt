@@ -11,10 +11,10 @@ use Rattle.lnbd_copy.proofs.PauseLemmas.{pauses_full, pauses_unpaused, told_same
 use Rattle.lnbd_copy.proofs.SummedLemmas.{summed_on}
 use Rattle.lnbd_copy.proofs.GroundLemmas.{grounded_as, handed_on}
 use Rattle.lnbd_copy.proofs.PausedLemmas.{IsFine, fine_open, fine_rest, fine_turn, fine_held, told_stays, waits_rest}
-use Rattle.lnbd_copy.proofs.ShareLemmas.{IsFair, fair_held, fair_open, fair_rest, fair_turn}
 use Rattle.lnbd_copy.proofs.ConnectLemmas.{told_end, within_told}
 use Rattle.lnbd_copy.proofs.LinkLemmas.{links_as, links_then}
 use Rattle.lnbd_copy.proofs.UnaskedLemmas.{told_behaves}
+use Rattle.lnbd_copy.proofs.VainLemmas.{pauses_empty}
 use Rattle.lnbd_copy.proofs.copier.Copier.copy.Goals.{in-Moved, in-Still+in_ok-rest-in-Still}
 use Rattle.lnbd_copy.proofs.copier.Copier.copy.Goals as goal
 
@@ -30,8 +30,6 @@ turns-preserved g c =
         on = subst (λ (s : Seen). IsOnItsWay start (g.W.Wires.told c.match-branch-3.wires) s) (sym w.self-is)
             (subst (λ (t : Option (List Call)). IsOnItsWay start t c.turn.new.self) (sym (ap g.W.Wires.told w.wires-is))
             (moved_on start _ c.turn.new.self c.in_ok-turn.field-0 _ w.in-Moved.is (turn.turns start was.on)));
-        shares = subst (λ (s : Seen). IsFair s start (g.W.Wires.told c.match-branch-3.wires)) (sym w.self-is)
-            (subst (λ (t : Option (List Call)). IsFair c.turn.new.self start t) (sym (ap g.W.Wires.told w.wires-is)) (fair_turn c.turns.self c.turn.new.self start _ _ turn.kept turn.unpaused was.shares));
         pauses = subst (λ (s : Seen). IsFine s start (g.W.Wires.told c.match-branch-3.wires)) (sym w.self-is)
             (subst (λ (t : Option (List Call)). IsFine c.turn.new.self start t) (sym (ap g.W.Wires.told w.wires-is)) (fine_turn c.turns.self c.turn.new.self start _ _ turn.kept turn.unpaused was.pauses));
         writes = told_same _ start _ _ (ap g.W.Wires.told w.wires-is) ((pauses_unpaused _ _ turn.unpaused).on start was.writes);
@@ -39,6 +37,8 @@ turns-preserved g c =
         fair = λ two. subst (λ (t : Option (List Call)). Told start t (Behaves c.args.self.now.options c.args.self.now.from c.args.self.now.to)) (sym (ap g.W.Wires.told w.wires-is)) (fair_on c.args.self.now c.turns.self (g.W.Wires.told c.args.wires.now) _ _ c.turns.invariant.kept (c.turn.ensures.fair (g.W.Wires.told c.args.wires.now)) c.turns.invariant.on c.turns.invariant.fair two);
         waits = told_same _ start _ _ (ap g.W.Wires.told w.wires-is) (told_stays start _ _ turn.unpaused was.waits);
         counts = goes_as _ _ _ _ _ _ _ _ _ (ap g.W.Wires.faults w.wires-is) (ap g.W.Wires.idles w.wires-is) (ap g.W.Wires.contents w.wires-is) (goes_then _ _ _ _ _ _ _ _ _ was.counts turn.counts);
+        reads = told_same _ start _ _ (ap g.W.Wires.told w.wires-is) (told_stays start _ _ turn.unpaused was.reads);
+        wanted = told_same _ start _ _ (ap g.W.Wires.told w.wires-is) (told_stays start _ _ turn.unpaused was.wanted);
       }
       | in-Still+in_ok-rest-in-Still w ↦
           let rest = w.in_ok-rest-in-Still.ensures in
@@ -48,9 +48,6 @@ turns-preserved g c =
             on = subst (λ (s : Seen). IsOnItsWay start (g.W.Wires.told c.match-branch-3.wires) s) (sym w.self-is)
                 (subst (λ (t : Option (List Call)). IsOnItsWay start t w.rest.new.self) (sym (ap g.W.Wires.told w.wires-is))
                 (rest.on start (still_on start _ c.turn.new.self c.in_ok-turn.field-0 w.in-Still.is (turn.turns start was.on))));
-            shares = subst (λ (s : Seen). IsFair s start (g.W.Wires.told c.match-branch-3.wires)) (sym w.self-is)
-                (subst (λ (t : Option (List Call)). IsFair w.rest.new.self start t) (sym (ap g.W.Wires.told w.wires-is))
-                (fair_rest c.turn.new.self w.rest.new.self start _ _ _ rest.kept rest.pauses (turn.shares start was.on) (fair_turn c.turns.self c.turn.new.self start _ _ turn.kept turn.unpaused was.shares)));
             pauses = subst (λ (s : Seen). IsFine s start (g.W.Wires.told c.match-branch-3.wires)) (sym w.self-is)
                 (subst (λ (t : Option (List Call)). IsFine w.rest.new.self start t) (sym (ap g.W.Wires.told w.wires-is))
                 (fine_rest c.turn.new.self w.rest.new.self start _ _ rest.kept rest.pauses (λ two. turn.under_way start was.on two) (fine_turn c.turns.self c.turn.new.self start _ _ turn.kept turn.unpaused was.pauses)));
@@ -61,22 +58,21 @@ turns-preserved g c =
                 (waits_rest c.turn.new.self start _ _ rest.pauses (still_on start _ c.turn.new.self c.in_ok-turn.field-0 w.in-Still.is (turn.turns start was.on)) (told_stays start _ _ turn.unpaused was.waits));
             counts = goes_as _ _ _ _ _ _ _ _ _ (ap g.W.Wires.faults w.wires-is) (ap g.W.Wires.idles w.wires-is) (ap g.W.Wires.contents w.wires-is)
                 (goes_then _ _ _ _ _ _ _ _ _ was.counts (goes_then _ _ _ _ _ _ _ _ _ turn.counts rest.counts));
+            reads = told_same _ start _ _ (ap g.W.Wires.told w.wires-is) ((pauses_empty _ _ _ _ (turn.full w.in-Still.is) rest.pauses).on start was.reads);
+            wanted = told_same _ start _ _ (ap g.W.Wires.told w.wires-is) (rest.wanted.on start (told_stays start _ _ turn.unpaused was.wanted));
           }
     ]
 
 pub turns-init : goal.turns-init
 turns-init g c =
     let begun = c.in_ok-begin.ensures in
-    record { start = begun.began; kept = begun.kept; on = begun.begins; shares = fair_open c.begin.new.self _ _ _ _ c.begin.ensures.unasked; pauses = fine_open c.begin.new.self _ _ begun.unready; writes = begun.writes; connects = begun.connects; fair = λ two. told_behaves _ _ _ _ _ c.begin.ensures.unasked; waits = begun.waits; counts = begun.counts }
+    record { start = begun.began; kept = begun.kept; on = begun.begins; pauses = fine_open c.begin.new.self _ _ begun.unready; writes = begun.writes; connects = begun.connects; fair = λ two. told_behaves _ _ _ _ _ c.begin.ensures.unasked; waits = begun.waits; counts = begun.counts; reads = begun.reads; wanted = begun.wanted }
 
 pub turn-requires-clause-going : goal.turn-requires-clause-going
 turn-requires-clause-going g c = record { start = g.W.Wires.told c.args.wires.now; on = c.turns.invariant.on }
 
 pub returns-in-Finished-clause-done : goal.returns-in-Finished-clause-done
 returns-in-Finished-clause-done g c = finished_on _ _ _ _ _ c.in-Finished.is (c.in_ok-turn.ensures.turns (g.W.Wires.told c.args.wires.now) c.turns.invariant.on)
-
-pub returns-in-Finished-clause-shares : goal.returns-in-Finished-clause-shares
-returns-in-Finished-clause-shares g c = fair_turn c.turns.self c.turn.new.self (g.W.Wires.told c.args.wires.now) _ _ c.turn.ensures.kept c.turn.ensures.unpaused c.turns.invariant.shares
 
 pub returns-in-Finished-clause-pauses : goal.returns-in-Finished-clause-pauses
 returns-in-Finished-clause-pauses g c = fine_turn c.turns.self c.turn.new.self (g.W.Wires.told c.args.wires.now) _ _ c.turn.ensures.kept c.turn.ensures.unpaused c.turns.invariant.pauses
@@ -140,17 +136,6 @@ returns-clause-fair g c two = c.turns.invariant.fair two
 pub returns-in-Finished-clause-fair : goal.returns-in-Finished-clause-fair
 returns-in-Finished-clause-fair g c two = fair_on c.args.self.now c.turns.self (g.W.Wires.told c.args.wires.now) _ _ c.turns.invariant.kept (c.turn.ensures.fair (g.W.Wires.told c.args.wires.now)) c.turns.invariant.on c.turns.invariant.fair two
 
-pub returns-in_err-begin-clause-shares : goal.returns-in_err-begin-clause-shares
-returns-in_err-begin-clause-shares g c = fair_open c.begin.new.self _ _ _ _ c.begin.ensures.unasked
-
-pub returns-in_err-turn-clause-shares : goal.returns-in_err-turn-clause-shares
-returns-in_err-turn-clause-shares g c = fair_turn c.turns.self c.turn.new.self (g.W.Wires.told c.args.wires.now) _ _ c.turn.ensures.kept c.turn.ensures.unpaused c.turns.invariant.shares
-
-pub returns-in_err-rest-in-Still-clause-shares : goal.returns-in_err-rest-in-Still-clause-shares
-returns-in_err-rest-in-Still-clause-shares g c =
-    fair_held c.turn.new.self c.rest.new.self (g.W.Wires.told c.args.wires.now) _ _ c.rest.ensures.kept c.in_err-rest-in-Still.ensures.still
-    (fair_turn c.turns.self c.turn.new.self (g.W.Wires.told c.args.wires.now) _ _ c.turn.ensures.kept c.turn.ensures.unpaused c.turns.invariant.shares)
-
 pub returns-in_err-begin-clause-pauses : goal.returns-in_err-begin-clause-pauses
 returns-in_err-begin-clause-pauses g c = fine_open c.begin.new.self _ _ c.begin.ensures.unready
 
@@ -176,3 +161,21 @@ returns-in_err-turn-clause-waits g c = told_stays (g.W.Wires.told c.args.wires.n
 
 pub returns-in_err-rest-in-Still-clause-waits : goal.returns-in_err-rest-in-Still-clause-waits
 returns-in_err-rest-in-Still-clause-waits g c = told_same _ (g.W.Wires.told c.args.wires.now) _ _ c.in_err-rest-in-Still.ensures.still (told_stays (g.W.Wires.told c.args.wires.now) _ _ c.turn.ensures.unpaused c.turns.invariant.waits)
+
+pub returns-in-Finished-clause-reads : goal.returns-in-Finished-clause-reads
+returns-in-Finished-clause-reads g c = told_stays (g.W.Wires.told c.args.wires.now) _ _ c.turn.ensures.unpaused c.turns.invariant.reads
+
+pub returns-in_err-turn-clause-reads : goal.returns-in_err-turn-clause-reads
+returns-in_err-turn-clause-reads g c = told_stays (g.W.Wires.told c.args.wires.now) _ _ c.turn.ensures.unpaused c.turns.invariant.reads
+
+pub returns-in_err-rest-in-Still-clause-reads : goal.returns-in_err-rest-in-Still-clause-reads
+returns-in_err-rest-in-Still-clause-reads g c = told_same _ (g.W.Wires.told c.args.wires.now) _ _ c.in_err-rest-in-Still.ensures.still (told_stays (g.W.Wires.told c.args.wires.now) _ _ c.turn.ensures.unpaused c.turns.invariant.reads)
+
+pub returns-in-Finished-clause-wanted : goal.returns-in-Finished-clause-wanted
+returns-in-Finished-clause-wanted g c = told_stays (g.W.Wires.told c.args.wires.now) _ _ c.turn.ensures.unpaused c.turns.invariant.wanted
+
+pub returns-in_err-turn-clause-wanted : goal.returns-in_err-turn-clause-wanted
+returns-in_err-turn-clause-wanted g c = told_stays (g.W.Wires.told c.args.wires.now) _ _ c.turn.ensures.unpaused c.turns.invariant.wanted
+
+pub returns-in_err-rest-in-Still-clause-wanted : goal.returns-in_err-rest-in-Still-clause-wanted
+returns-in_err-rest-in-Still-clause-wanted g c = c.rest.ensures.wanted.on (g.W.Wires.told c.args.wires.now) (told_stays (g.W.Wires.told c.args.wires.now) _ _ c.turn.ensures.unpaused c.turns.invariant.wanted)

@@ -3,9 +3,10 @@ use Rattle.lnbd_copy.specs.Causes.{GoesOn}
 use Rattle.lnbd_copy.specs.Copier.{IsOnItsWay}
 use Rattle.lnbd_copy.specs.Paused.{PausesAreFull}
 use Rattle.lnbd_copy.specs.Pauses.{AtEachPause, WantsOnlyFull}
+use Rattle.lnbd_copy.specs.Vain.{WantsOnlyEmpty}
 use Rattle.lnbd_copy.specs.Waits.{WaitsWell}
+use Rattle.lnbd_copy.specs.Wanted.{WantsSome}
 use Rattle.lnbd_copy.specs.Way.{Told}
-use Rattle.lnbd_copy.proofs.ShareLemmas.{IsFair}
 use Rattle.lnbd_copy.specs.Connects.{LinksGoAsTold}
 use Rattle.lnbd_copy.specs.Faults.{Behaves}
 use Rattle.lnbd_copy.proofs.copier.Copier.copy.Given as goal
@@ -15,11 +16,12 @@ invariant-turns g l = record {
   start : l.self.start ≡ record { faults = g.W.Wires.faults l.fn.wires; idles = g.W.Wires.idles l.fn.wires };
   kept : l.self ≡ record l.fn.self { start = l.self.start; held = l.self.held; board = l.self.board; job = l.self.job };
   on : IsOnItsWay (g.W.Wires.told l.fn.wires) (g.W.Wires.told l.wires) l.self;
-  shares : IsFair l.self (g.W.Wires.told l.fn.wires) (g.W.Wires.told l.wires);
   pauses : l.self.from ≢ l.self.to → Told (g.W.Wires.told l.fn.wires) (g.W.Wires.told l.wires) (PausesAreFull l.self.options l.self.from l.self.to);
   writes : Told (g.W.Wires.told l.fn.wires) (g.W.Wires.told l.wires) (AtEachPause WantsOnlyFull);
   connects : LinksGoAsTold l.fn.self.options l.fn.self.from l.fn.self.to l.fn.self.held (g.W.Wires.told l.fn.wires) l.self.held (g.W.Wires.told l.wires);
   fair : l.fn.self.from ≢ l.fn.self.to → Told (g.W.Wires.told l.fn.wires) (g.W.Wires.told l.wires) (Behaves l.fn.self.options l.fn.self.from l.fn.self.to);
   waits : Told (g.W.Wires.told l.fn.wires) (g.W.Wires.told l.wires) (AtEachPause WaitsWell);
   counts : GoesOn (g.W.Wires.faults l.fn.wires) (g.W.Wires.faults l.wires) (g.W.Wires.idles l.fn.wires) (g.W.Wires.idles l.wires) (g.W.Wires.contents l.fn.wires) (g.W.Wires.contents l.wires);
+  reads : Told (g.W.Wires.told l.fn.wires) (g.W.Wires.told l.wires) (AtEachPause WantsOnlyEmpty);
+  wanted : Told (g.W.Wires.told l.fn.wires) (g.W.Wires.told l.wires) (AtEachPause WantsSome);
 }

@@ -31,10 +31,10 @@ returns-clause-grounds g c =
     let both = further_then c.args.self.now c.args.sides 2 (c.args.sides.source + 1) _ _ _ _ _ _ _ _ _ one two c.in_ok-dial_sources.ensures.many in
     if_err_leads c.settle.result (λ why fails start terms met same two. further_fails c.args.self.now c.dial_destinations.new.self c.args.sides start _ _ _ why both fails terms met same two) c.settle.ensures.fails
 
-pub returns-clause-writes : goal.returns-clause-writes
-returns-clause-writes g c stand =
+pub returns-clause-vain : goal.returns-clause-vain
+returns-clause-vain g c stand =
     pauses_then _ _ _ (pauses_unpaused _ _ (unpaused_then _ _ _ c.dial_sources.ensures.unpaused c.dial_destinations.ensures.unpaused))
-    (c.settle.ensures.writes (c.in_ok-dial_destinations.ensures.further.stand (c.in_ok-dial_sources.ensures.further.stand stand)))
+    (c.settle.ensures.vain (c.in_ok-dial_destinations.ensures.further.stand (c.in_ok-dial_sources.ensures.further.stand stand)))
 
 pub returns-clause-connects : goal.returns-clause-connects
 returns-clause-connects g c =
@@ -72,8 +72,19 @@ returns-in_err-dial_sources-clause-unready g c start terms met same two pauses =
 pub returns-in_err-dial_destinations-clause-unready : goal.returns-in_err-dial_destinations-clause-unready
 returns-in_err-dial_destinations-clause-unready g c start terms met same two pauses = told_stays start _ _ (unpaused_then _ _ _ c.dial_sources.ensures.unpaused c.dial_destinations.ensures.unpaused) pauses
 
-pub returns-in_err-dial_sources-clause-writes : goal.returns-in_err-dial_sources-clause-writes
-returns-in_err-dial_sources-clause-writes g c stand = pauses_unpaused _ _ c.dial_sources.ensures.unpaused
+pub returns-in_err-dial_sources-clause-vain : goal.returns-in_err-dial_sources-clause-vain
+returns-in_err-dial_sources-clause-vain g c stand = pauses_unpaused _ _ c.dial_sources.ensures.unpaused
 
-pub returns-in_err-dial_destinations-clause-writes : goal.returns-in_err-dial_destinations-clause-writes
-returns-in_err-dial_destinations-clause-writes g c stand = pauses_unpaused _ _ (unpaused_then _ _ _ c.dial_sources.ensures.unpaused c.dial_destinations.ensures.unpaused)
+pub returns-in_err-dial_destinations-clause-vain : goal.returns-in_err-dial_destinations-clause-vain
+returns-in_err-dial_destinations-clause-vain g c stand = pauses_unpaused _ _ (unpaused_then _ _ _ c.dial_sources.ensures.unpaused c.dial_destinations.ensures.unpaused)
+
+pub returns-clause-wanted : goal.returns-clause-wanted
+returns-clause-wanted g c stand =
+    pauses_then _ _ _ (pauses_unpaused _ _ (unpaused_then _ _ _ c.dial_sources.ensures.unpaused c.dial_destinations.ensures.unpaused))
+    (c.settle.ensures.wanted (c.in_ok-dial_destinations.ensures.further.stand (c.in_ok-dial_sources.ensures.further.stand stand)))
+
+pub returns-in_err-dial_sources-clause-wanted : goal.returns-in_err-dial_sources-clause-wanted
+returns-in_err-dial_sources-clause-wanted g c stand = pauses_unpaused _ _ c.dial_sources.ensures.unpaused
+
+pub returns-in_err-dial_destinations-clause-wanted : goal.returns-in_err-dial_destinations-clause-wanted
+returns-in_err-dial_destinations-clause-wanted g c stand = pauses_unpaused _ _ (unpaused_then _ _ _ c.dial_sources.ensures.unpaused c.dial_destinations.ensures.unpaused)

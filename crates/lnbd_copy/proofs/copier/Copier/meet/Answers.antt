@@ -82,13 +82,13 @@ returns-clause-grounds g c =
 pub returns-clause-counts : goal.returns-clause-counts
 returns-clause-counts g c = goes_then _ _ _ _ _ _ _ _ _ (goes_then _ _ _ _ _ _ _ _ _ c.dial_source.ensures.counts c.settle.ensures.counts) (goes_then _ _ _ _ _ _ _ _ _ c.dial_destination.ensures.counts c.settle-2.ensures.counts)
 
-pub returns-clause-writes : goal.returns-clause-writes
-returns-clause-writes g c =
+pub returns-clause-vain : goal.returns-clause-vain
+returns-clause-vain g c =
     let begun = subst (λ (l : List (Held Ticket)). Stand l) (sym c.requires.begun.held) none_stand in
     let one = c.in_ok-dial_source.ensures.dials.stand begun in
     let two = c.in_ok-dial_destination.ensures.dials.stand (c.in_ok-settle.ensures.goes.stand one) in
-    pauses_then _ _ _ (pauses_then _ _ _ (pauses_unpaused _ _ c.dial_source.ensures.unpaused) (c.settle.ensures.writes one))
-    (pauses_then _ _ _ (pauses_unpaused _ _ c.dial_destination.ensures.unpaused) (c.settle-2.ensures.writes two))
+    pauses_then _ _ _ (pauses_then _ _ _ (pauses_unpaused _ _ c.dial_source.ensures.unpaused) (c.settle.ensures.vain one))
+    (pauses_then _ _ _ (pauses_unpaused _ _ c.dial_destination.ensures.unpaused) (c.settle-2.ensures.vain two))
 
 pub returns-clause-links : goal.returns-clause-links
 returns-clause-links g c =
@@ -163,25 +163,56 @@ returns-in_err-settle-2-clause-unready g c =
     (dials_as c.args.self.now.options _ _ _ _ _ _ _ (ap (λ (s : Seen). s.options.extents) c.self.view_is) c.in_ok-dial_source.ensures.dials) c.in_ok-settle.ensures.goes c.in_ok-dial_destination.ensures.dials c.requires.begun
     c.dial_source.ensures.unpaused c.settle.ensures.unready c.dial_destination.ensures.unpaused c.settle-2.ensures.unready
 
-pub returns-in_err-dial_source-clause-writes : goal.returns-in_err-dial_source-clause-writes
-returns-in_err-dial_source-clause-writes g c = pauses_unpaused _ _ c.dial_source.ensures.unpaused
+pub returns-in_err-dial_source-clause-vain : goal.returns-in_err-dial_source-clause-vain
+returns-in_err-dial_source-clause-vain g c = pauses_unpaused _ _ c.dial_source.ensures.unpaused
 
-pub returns-in_err-settle-clause-writes : goal.returns-in_err-settle-clause-writes
-returns-in_err-settle-clause-writes g c =
+pub returns-in_err-settle-clause-vain : goal.returns-in_err-settle-clause-vain
+returns-in_err-settle-clause-vain g c =
     let begun = subst (λ (l : List (Held Ticket)). Stand l) (sym c.requires.begun.held) none_stand in
     let one = c.in_ok-dial_source.ensures.dials.stand begun in
-    pauses_then _ _ _ (pauses_unpaused _ _ c.dial_source.ensures.unpaused) (c.settle.ensures.writes one)
+    pauses_then _ _ _ (pauses_unpaused _ _ c.dial_source.ensures.unpaused) (c.settle.ensures.vain one)
 
-pub returns-in_err-dial_destination-clause-writes : goal.returns-in_err-dial_destination-clause-writes
-returns-in_err-dial_destination-clause-writes g c =
+pub returns-in_err-dial_destination-clause-vain : goal.returns-in_err-dial_destination-clause-vain
+returns-in_err-dial_destination-clause-vain g c =
     let begun = subst (λ (l : List (Held Ticket)). Stand l) (sym c.requires.begun.held) none_stand in
     let one = c.in_ok-dial_source.ensures.dials.stand begun in
-    pauses_then _ _ _ (pauses_then _ _ _ (pauses_unpaused _ _ c.dial_source.ensures.unpaused) (c.settle.ensures.writes one)) (pauses_unpaused _ _ c.dial_destination.ensures.unpaused)
+    pauses_then _ _ _ (pauses_then _ _ _ (pauses_unpaused _ _ c.dial_source.ensures.unpaused) (c.settle.ensures.vain one)) (pauses_unpaused _ _ c.dial_destination.ensures.unpaused)
 
-pub returns-in_err-settle-2-clause-writes : goal.returns-in_err-settle-2-clause-writes
-returns-in_err-settle-2-clause-writes g c =
+pub returns-in_err-settle-2-clause-vain : goal.returns-in_err-settle-2-clause-vain
+returns-in_err-settle-2-clause-vain g c =
     let begun = subst (λ (l : List (Held Ticket)). Stand l) (sym c.requires.begun.held) none_stand in
     let one = c.in_ok-dial_source.ensures.dials.stand begun in
     let two = c.in_ok-dial_destination.ensures.dials.stand (c.in_ok-settle.ensures.goes.stand one) in
-    pauses_then _ _ _ (pauses_then _ _ _ (pauses_unpaused _ _ c.dial_source.ensures.unpaused) (c.settle.ensures.writes one))
-    (pauses_then _ _ _ (pauses_unpaused _ _ c.dial_destination.ensures.unpaused) (c.settle-2.ensures.writes two))
+    pauses_then _ _ _ (pauses_then _ _ _ (pauses_unpaused _ _ c.dial_source.ensures.unpaused) (c.settle.ensures.vain one))
+    (pauses_then _ _ _ (pauses_unpaused _ _ c.dial_destination.ensures.unpaused) (c.settle-2.ensures.vain two))
+
+pub returns-clause-wanted : goal.returns-clause-wanted
+returns-clause-wanted g c =
+    let begun = subst (λ (l : List (Held Ticket)). Stand l) (sym c.requires.begun.held) none_stand in
+    let one = c.in_ok-dial_source.ensures.dials.stand begun in
+    let two = c.in_ok-dial_destination.ensures.dials.stand (c.in_ok-settle.ensures.goes.stand one) in
+    pauses_then _ _ _ (pauses_then _ _ _ (pauses_unpaused _ _ c.dial_source.ensures.unpaused) (c.settle.ensures.wanted one))
+    (pauses_then _ _ _ (pauses_unpaused _ _ c.dial_destination.ensures.unpaused) (c.settle-2.ensures.wanted two))
+
+pub returns-in_err-dial_source-clause-wanted : goal.returns-in_err-dial_source-clause-wanted
+returns-in_err-dial_source-clause-wanted g c = pauses_unpaused _ _ c.dial_source.ensures.unpaused
+
+pub returns-in_err-settle-clause-wanted : goal.returns-in_err-settle-clause-wanted
+returns-in_err-settle-clause-wanted g c =
+    let begun = subst (λ (l : List (Held Ticket)). Stand l) (sym c.requires.begun.held) none_stand in
+    let one = c.in_ok-dial_source.ensures.dials.stand begun in
+    pauses_then _ _ _ (pauses_unpaused _ _ c.dial_source.ensures.unpaused) (c.settle.ensures.wanted one)
+
+pub returns-in_err-dial_destination-clause-wanted : goal.returns-in_err-dial_destination-clause-wanted
+returns-in_err-dial_destination-clause-wanted g c =
+    let begun = subst (λ (l : List (Held Ticket)). Stand l) (sym c.requires.begun.held) none_stand in
+    let one = c.in_ok-dial_source.ensures.dials.stand begun in
+    pauses_then _ _ _ (pauses_then _ _ _ (pauses_unpaused _ _ c.dial_source.ensures.unpaused) (c.settle.ensures.wanted one)) (pauses_unpaused _ _ c.dial_destination.ensures.unpaused)
+
+pub returns-in_err-settle-2-clause-wanted : goal.returns-in_err-settle-2-clause-wanted
+returns-in_err-settle-2-clause-wanted g c =
+    let begun = subst (λ (l : List (Held Ticket)). Stand l) (sym c.requires.begun.held) none_stand in
+    let one = c.in_ok-dial_source.ensures.dials.stand begun in
+    let two = c.in_ok-dial_destination.ensures.dials.stand (c.in_ok-settle.ensures.goes.stand one) in
+    pauses_then _ _ _ (pauses_then _ _ _ (pauses_unpaused _ _ c.dial_source.ensures.unpaused) (c.settle.ensures.wanted one))
+    (pauses_then _ _ _ (pauses_unpaused _ _ c.dial_destination.ensures.unpaused) (c.settle-2.ensures.wanted two))

@@ -9,7 +9,6 @@ use Rattle.lnbd_copy.proofs.SummedLemmas.{done_sums}
 use Rattle.lnbd_copy.proofs.GroundLemmas.{grounded_later, if_err_leads}
 use Rattle.lnbd_copy.proofs.PausedLemmas.{done_pauses, told_stays}
 use Rattle.lnbd_copy.proofs.MadeLemmas.{is_made}
-use Rattle.lnbd_copy.proofs.ShareLemmas.{done_shares}
 use Rattle.lnbd_copy.proofs.ConnectLemmas.{connects_as_told, connects_within, told_end, within_end}
 use Rattle.lnbd_copy.proofs.LinkLemmas.{links_kept}
 use Rattle.lnbd_copy.proofs.copier.Copier.run.Goals as goal
@@ -53,9 +52,6 @@ returns-clause-grounds g c = if_err_leads c.copy-told.result (λ why grounds. gr
 pub returns-clause-flushes : goal.returns-clause-flushes
 returns-clause-flushes g c two = done_flushes c.args.self c.copy-told.new.self _ _ _ c.copy-told.result c.copy-told.ensures.kept (λ parted. ap g.W.Wires.told (c.end.ensures.parted parted)) two c.copy-told.ensures.done c.copy-told.ensures.flushes
 
-pub returns-clause-shares : goal.returns-clause-shares
-returns-clause-shares g c two = done_shares c.args.self c.copy-told.new.self _ _ _ c.copy-told.ensures.kept c.end.ensures.unpaused two c.copy-told.ensures.shares
-
 pub returns-clause-pauses : goal.returns-clause-pauses
 returns-clause-pauses g c two = done_pauses c.args.self c.copy-told.new.self _ _ _ c.copy-told.ensures.kept c.end.ensures.unpaused two c.copy-told.ensures.pauses
 
@@ -73,6 +69,9 @@ returns-clause-flushed g c two =
 
 pub returns-clause-writes : goal.returns-clause-writes
 returns-clause-writes g c = told_part _ _ (told_stays _ _ _ c.end.ensures.unpaused c.copy-told.ensures.writes)
+
+pub returns-clause-reads : goal.returns-clause-reads
+returns-clause-reads g c = told_part _ _ (told_stays _ _ _ c.end.ensures.unpaused c.copy-told.ensures.reads)
 
 pub returns-clause-links : goal.returns-clause-links
 returns-clause-links g c =
@@ -95,6 +94,9 @@ returns-clause-answered g c two = told_part _ _ (told_as _ _ (λ calls is. is.an
 pub returns-clause-spared : goal.returns-clause-spared
 returns-clause-spared g c two = told_part _ _ (told_as _ _ (λ calls is. is.dense) (behaves_idly _ _ _ _ _ _ c.end.ensures.idly (c.copy-told.ensures.fair two)))
 
+pub returns-clause-untouched : goal.returns-clause-untouched
+returns-clause-untouched g c two = told_part _ _ (told_as _ _ (λ calls is. is.untouched) (behaves_idly _ _ _ _ _ _ c.end.ensures.idly (c.copy-told.ensures.fair two)))
+
 pub returns-clause-counts : goal.returns-clause-counts
 returns-clause-counts g c = goes_then _ _ _ _ _ _ _ _ _ c.copy-told.ensures.counts c.end.ensures.counts
 
@@ -104,10 +106,17 @@ returns-clause-at_most_once g c two = told_part _ _ (told_as _ _ (λ calls is. i
 pub returns-clause-unflushed : goal.returns-clause-unflushed
 returns-clause-unflushed g c unwanted two = told_part _ _ (told_as _ _ (λ calls is. is.unflushed unwanted) (behaves_idly _ _ _ _ _ _ c.end.ensures.idly (c.copy-told.ensures.fair two)))
 
+pub returns-clause-shares : goal.returns-clause-shares
+returns-clause-shares g c two = told_part _ _ (told_as _ _ (λ calls is. is.shared) (behaves_idly _ _ _ _ _ _ c.end.ensures.idly (c.copy-told.ensures.fair two)))
+
 pub returns-clause-waits : goal.returns-clause-waits
 returns-clause-waits g c = told_part _ _ (told_stays _ _ _ c.end.ensures.unpaused c.copy-told.ensures.waits)
+
+pub returns-clause-wanted : goal.returns-clause-wanted
+returns-clause-wanted g c = told_part _ _ (told_stays _ _ _ c.end.ensures.unpaused c.copy-told.ensures.wanted)
 
 pub returns-clause-made : goal.returns-clause-made
 returns-clause-made g c two =
     is_made c.args.self.options c.args.self.from c.args.self.to _ _ c.copy-told.result (returns-clause-asks g c two) (returns-clause-done g c two) (returns-clause-summary g c two) (returns-clause-spares g c two) (returns-clause-dense g c two) (returns-clause-answered g c two)
-    (returns-clause-flushes g c two) (returns-clause-flushed g c two) (λ unwanted. returns-clause-unflushed g c unwanted two) (returns-clause-driven g c) (returns-clause-pauses g c two) (returns-clause-shares g c two) (returns-clause-writes g c) (returns-clause-waits g c) (returns-clause-links g c) (returns-clause-connects g c)
+    (returns-clause-flushes g c two) (returns-clause-flushed g c two) (λ unwanted. returns-clause-unflushed g c unwanted two) (returns-clause-driven g c) (returns-clause-pauses g c two) (returns-clause-shares g c two) (returns-clause-writes g c) (returns-clause-waits g c) (returns-clause-links g c) (returns-clause-connects g c) (returns-clause-reads g c)
+    (returns-clause-wanted g c)

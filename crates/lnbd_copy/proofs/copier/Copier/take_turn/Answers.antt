@@ -4,13 +4,14 @@ use Rattle.lnbd_copy.proofs.EndLemmas.{after_turn}
 use Rattle.lnbd_copy.specs.Grounds.{IsGrounded}
 use Rattle.lnbd_copy.specs.Way.{Stand, Told}
 use Rattle.lnbd_copy.proofs.FailLemmas.{way_answered}
-use Rattle.lnbd_copy.proofs.FullLemmas.{turned_full, turned_unpaused, short_unpaused}
+use Rattle.lnbd_copy.proofs.FullLemmas.{turned_unpaused, short_unpaused}
 use Rattle.lnbd_copy.specs.Faults.{Behaves}
 use Rattle.lnbd_copy.proofs.FaultLemmas.{short_behaves, whole_behaves}
 use Rattle.lnbd_copy.proofs.GroundLemmas.{way_grounded, handed_on}
 use Rattle.lnbd_copy.proofs.TurnLemmas.{turned_goes}
 use Rattle.lnbd_copy.specs.Links.{LinksGo}
 use Rattle.lnbd_copy.proofs.LinkLemmas.{links_cut_short, links_turned}
+use Rattle.lnbd_copy.proofs.VainLemmas.{turned_vain}
 use Rattle.lnbd_copy.proofs.copier.Copier.take_turn.Goals as goal
 
 pub returns-clause-on : goal.returns-clause-on
@@ -37,7 +38,7 @@ pub returns-clause-unpaused : goal.returns-clause-unpaused
 returns-clause-unpaused g c stand = turned_unpaused _ _ _ _ c.in_ok-moved.moved _ _ _ _ c.in_ok-moved.ensures.ok (subst (λ (s : Seen). Stand s.held) (sym c.self.view_is) stand)
 
 pub returns-clause-full : goal.returns-clause-full
-returns-clause-full g c still stand = turned_full _ _ _ _ c.in_ok-moved.moved _ _ _ _ c.in_ok-moved.ensures.ok still (subst (λ (s : Seen). Stand s.held) (sym c.self.view_is) stand)
+returns-clause-full g c still stand = turned_vain _ _ _ _ c.in_ok-moved.moved _ _ _ _ c.in_ok-moved.ensures.ok still (subst (λ (s : Seen). Stand s.held) (sym c.self.view_is) stand)
 
 pub returns-in_err-moved-clause-links : goal.returns-in_err-moved-clause-links
 returns-in_err-moved-clause-links g c =
@@ -59,25 +60,29 @@ pub returns-clause-fair : goal.returns-clause-fair
 returns-clause-fair g c start on two fair =
     subst (λ (s : Seen). Told start (g.W.Wires.told c.turn.new.wires) (Behaves s.options s.from s.to)) c.self.view_is
     (whole_behaves _ c.turn.new.world c.turn.new.self start (g.W.Wires.told c.args.wires.now) (g.W.Wires.told c.turn.new.wires) _ _ c.in_ok-moved.moved c.in_ok-moved.ensures.ok c.in_ok-check_well.ensures
-    (subst (λ (s : Seen). IsOnItsWay start (g.W.Wires.told c.args.wires.now) s) (sym c.self.view_is) on) (subst (λ (s : Seen). s.from ≢ s.to) (sym c.self.view_is) two))
+    (subst (λ (s : Seen). IsOnItsWay start (g.W.Wires.told c.args.wires.now) s) (sym c.self.view_is) on) (subst (λ (s : Seen). s.from ≢ s.to) (sym c.self.view_is) two)
+    (subst (λ (s : Seen). Told start (g.W.Wires.told c.args.wires.now) (Behaves s.options s.from s.to)) (sym c.self.view_is) fair))
 
 pub returns-in_err-check-clause-fair : goal.returns-in_err-check-clause-fair
 returns-in_err-check-clause-fair g c start on two fair =
     subst (λ (s : Seen). Told start (g.W.Wires.told c.turn.new.wires) (Behaves s.options s.from s.to)) c.self.view_is
     (whole_behaves _ c.turn.new.world c.turn.new.self start (g.W.Wires.told c.args.wires.now) (g.W.Wires.told c.turn.new.wires) _ _ c.in_ok-moved.moved c.in_ok-moved.ensures.ok c.in_ok-check_well.ensures
-    (subst (λ (s : Seen). IsOnItsWay start (g.W.Wires.told c.args.wires.now) s) (sym c.self.view_is) on) (subst (λ (s : Seen). s.from ≢ s.to) (sym c.self.view_is) two))
+    (subst (λ (s : Seen). IsOnItsWay start (g.W.Wires.told c.args.wires.now) s) (sym c.self.view_is) on) (subst (λ (s : Seen). s.from ≢ s.to) (sym c.self.view_is) two)
+    (subst (λ (s : Seen). Told start (g.W.Wires.told c.args.wires.now) (Behaves s.options s.from s.to)) (sym c.self.view_is) fair))
 
 pub returns-in_err-check_answers-clause-fair : goal.returns-in_err-check_answers-clause-fair
 returns-in_err-check_answers-clause-fair g c start on two fair =
     subst (λ (s : Seen). Told start (g.W.Wires.told c.turn.new.wires) (Behaves s.options s.from s.to)) c.self.view_is
     (whole_behaves _ c.turn.new.world c.turn.new.self start (g.W.Wires.told c.args.wires.now) (g.W.Wires.told c.turn.new.wires) _ _ c.in_ok-moved.moved c.in_ok-moved.ensures.ok c.in_ok-check_well.ensures
-    (subst (λ (s : Seen). IsOnItsWay start (g.W.Wires.told c.args.wires.now) s) (sym c.self.view_is) on) (subst (λ (s : Seen). s.from ≢ s.to) (sym c.self.view_is) two))
+    (subst (λ (s : Seen). IsOnItsWay start (g.W.Wires.told c.args.wires.now) s) (sym c.self.view_is) on) (subst (λ (s : Seen). s.from ≢ s.to) (sym c.self.view_is) two)
+    (subst (λ (s : Seen). Told start (g.W.Wires.told c.args.wires.now) (Behaves s.options s.from s.to)) (sym c.self.view_is) fair))
 
 pub returns-in_err-moved-clause-fair : goal.returns-in_err-moved-clause-fair
 returns-in_err-moved-clause-fair g c start on two fair =
     subst (λ (s : Seen). Told start (g.W.Wires.told c.turn.new.wires) (Behaves s.options s.from s.to)) c.self.view_is
     (short_behaves _ c.turn.new.world c.turn.new.self start (g.W.Wires.told c.args.wires.now) (g.W.Wires.told c.turn.new.wires) _ _ c.in_err-moved.ensures.short c.in_ok-check_well.ensures
-    (subst (λ (s : Seen). IsOnItsWay start (g.W.Wires.told c.args.wires.now) s) (sym c.self.view_is) on) (subst (λ (s : Seen). s.from ≢ s.to) (sym c.self.view_is) two))
+    (subst (λ (s : Seen). IsOnItsWay start (g.W.Wires.told c.args.wires.now) s) (sym c.self.view_is) on) (subst (λ (s : Seen). s.from ≢ s.to) (sym c.self.view_is) two)
+    (subst (λ (s : Seen). Told start (g.W.Wires.told c.args.wires.now) (Behaves s.options s.from s.to)) (sym c.self.view_is) fair))
 
 pub returns-in_err-moved-clause-unpaused : goal.returns-in_err-moved-clause-unpaused
 returns-in_err-moved-clause-unpaused g c stand = short_unpaused _ _ _ _ _ _ _ _ c.in_err-moved.ensures.short (subst (λ (s : Seen). Stand s.held) (sym c.self.view_is) stand)

@@ -1,0 +1,37 @@
+//! Whether a pause would wait for anything. That it pauses, and when, is not known here.
+
+ghost use Rattle.std.specs.Prelude.{◌≡◌, ◌≢◌, [], true, OnOk};
+ghost use Rattle.lnbd_poll.specs.Held.{is_on_its_way, wants_now};
+ghost use Rattle.lnbd_copy.specs.Wanted.{IsWanting};
+
+use lnbd_board::Ticket;
+use lnbd_handle::Handle;
+use lnbd_model::{NoMemory, State};
+use lnbd_poll::Handles;
+
+/// Whether a handle negotiates, or asked for the end of its connection.
+fn is_on_its_way(state: State) -> bool
+    ensures { result ≡ is_on_its_way state }
+{
+    matches!(state, State::Negotiating | State::Closing)
+}
+
+/// Whether a handle waits for its link.
+fn is_wanting(handle: &Handle<Ticket>) -> bool
+    ensures { result ≡ true → IsWanting handle.now.machine }
+{
+    is_on_its_way(handle.state()) || handle.in_flight() != 0 || handle.is_waiting()
+}
+
+/// Some handle waits for its link. A pause for handles of which none does would never end, and so would count as want of memory: none
+/// is made.
+pub(crate) fn check_wanted(handles: &Handles<Ticket>) -> Result<(), NoMemory>
+    ensures { OnOk result (wants_now handles.now ≢ []) }
+{
+    'handles: for index in 0..handles.len() {
+        if is_wanting(handles.get(index)) {
+            return Ok(());
+        }
+    }
+    Err(NoMemory)
+}
