@@ -21,4 +21,6 @@ mod served;
 #[cfg(test)]
 mod size_tests;
 #[cfg(test)]
+mod turn_tests;
+#[cfg(test)]
 mod window_tests;
