@@ -1,5 +1,5 @@
--- At each pause of a copy that wants no link for writing a connection is not ready, or as much is under way as may be.
-use Rattle.std.proofs.Common.{◌≡◌, ◌≢◌, inl, inr, ℕ, zero, suc, false, List, [], ◌∷◌, length, Option, Some, None, slice_get, ap, sym, subst}
+-- At each pause of a copy that wants no link for writing a connection negotiates still, or as much is under way as may be.
+use Rattle.std.proofs.Common.{◌≡◌, ◌≢◌, ◌⊎◌, inl, inr, ℕ, zero, suc, false, List, [], ◌∷◌, length, Option, Some, None, slice_get, ap, sym, subst}
 use Rattle.lnbd_callbacks.specs.Calls.{Call}
 use Rattle.lnbd_callbacks.specs.Steps.{OneByOne}
 use Rattle.lnbd_model.specs.declared.state.State.TheVariants as state
@@ -32,7 +32,7 @@ use Rattle.lnbd_copy.specs.Opening.{Dials}
 use Rattle.lnbd_copy.specs.Paused.{IsFullPause, PausesAreFull}
 use Rattle.lnbd_copy.specs.Pauses.{AtEachPause, Unpaused}
 use Rattle.lnbd_copy.specs.Unanswered.{HasAllAsked, NoneForWriting}
-use Rattle.lnbd_copy.specs.Unready.{IsEarlyPause, IsLoud, IsOpeningPause, IsUnready, StaysUnready}
+use Rattle.lnbd_copy.specs.Unready.{IsEarlyPause, IsLoud, IsOpeningPause, IsNegotiating, StaysUnready}
 use Rattle.lnbd_copy.specs.Waits.{WaitsWell}
 use Rattle.lnbd_copy.specs.Way.{Goes, IsOn, Stand, Told, Way}
 use Rattle.lnbd_copy.proofs.CopierLemmas.{first_on, kept_then, no_handles, second_on, told_as, with_held}
@@ -48,10 +48,10 @@ use Rattle.lnbd_copy.proofs.WaitLemmas.{waits_well, way_waits}
 abbrev steps : board.Seen → List (Call Ticket) → board.Seen → Type 0
 steps = OneByOne board.Files
 
--- A connection that is not ready.
+-- A connection that negotiates still.
 
-pub is_loud : (handle : Machine Ticket) (index : ℕ) (held : List (Held Ticket)) → ForEach handle (λ history. state_after history ≡ state.Ready → direction_after history ≡ 3) → option_map (λ (one : Held Ticket). one.handle) (slice_get held index) ≡ Some handle → IsLoud held
-is_loud handle index held loud is = record { index = index; loud = happens handle (λ history. state_after history ≡ state.Ready → direction_after history ≡ 3) loud index held is }
+pub is_loud : (handle : Machine Ticket) (index : ℕ) (held : List (Held Ticket)) → ForEach handle (λ history. (state_after history ≡ state.Negotiating) ⊎ (direction_after history ≡ 3)) → option_map (λ (one : Held Ticket). one.handle) (slice_get held index) ≡ Some handle → IsLoud held
+is_loud handle index held loud is = record { index = index; loud = happens handle (λ history. (state_after history ≡ state.Negotiating) ⊎ (direction_after history ≡ 3)) loud index held is }
 
 no_seen : (seen : Seen Ticket) → None ≡ Some seen → ⊥
 no_seen seen e = cc
@@ -64,14 +64,17 @@ writes_none [] index seen none is = absurd (no_seen seen is)
 writes_none (first ∷ others) zero seen none is = subst (λ (s : Seen Ticket). direction_after s.history ≢ 3) (seen_same first seen is) none.0
 writes_none (first ∷ others) (suc index) seen none is = writes_none others index seen none.1 is
 
-unready_at : (way : Way) (now : board.Seen) (calls : List wire.Call) (held : List (Held Ticket)) → IsLoud held → NoneForWriting (wants_now held) → IsOn way now calls held → IsUnready calls
+unready_at : (way : Way) (now : board.Seen) (calls : List wire.Call) (held : List (Held Ticket)) → IsLoud held → NoneForWriting (wants_now held) → IsOn way now calls held → IsNegotiating calls
 unready_at way now calls held loud none on =
     let h = loud.loud.on on.seens on.at in
     record {
       link = h.seen.link;
       history = h.seen.history;
       drives = driven_at calls loud.index h.seen held on.seens h.there on.at on.stands.between.course.drive.drive on.stands.between.course.drive.plain;
-      unready = λ ready. writes_none on.seens loud.index h.seen (none_writes held on.seens on.at none) h.there (h.is ready);
+      still = elim h.is [
+        | inl negotiates ↦ negotiates
+        | inr writes ↦ absurd (writes_none on.seens loud.index h.seen (none_writes held on.seens on.at none) h.there writes)
+      ];
     }
 
 -- Steps while connections negotiate.

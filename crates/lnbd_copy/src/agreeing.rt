@@ -9,7 +9,6 @@ ghost use Rattle.lnbd_copy.specs.Causes.{tells_no_count};
 ghost use Rattle.lnbd_copy.specs.Grounds.{AllSame, Answers, AreSame, Happens, IsFound, IsShown};
 ghost use Rattle.lnbd_copy.specs.Settled.{FindsTerms};
 ghost use Rattle.lnbd_copy.specs.Statuses.{HasNoContext};
-ghost use Rattle.lnbd_copy.specs.Unready.{IsLoud};
 ghost use Rattle.lnbd_copy.specs.declared.sides.Sides.{Sides as Both};
 
 use crate::counts::of_failure;
@@ -48,7 +47,6 @@ fn info_of(handles: &Handles<Ticket>, index: usize) -> Result<&ExportInfo, NoMem
 fn is_quiet(handle: &Handle<Ticket>) -> bool
     ensures ready { result ≡ true → ForEach handle.now.machine (λ history. state_after history ≡ state.Ready) }
     ensures quiet { result ≡ true → ForEach handle.now.machine (λ history. direction_after history ≡ 1) }
-    ensures loud { result ≡ false → ForEach handle.now.machine (λ history. state_after history ≡ state.Ready → direction_after history ≡ 3) }
 {
     matches!(handle.state(), State::Ready) && handle.is_reading() && !handle.is_waiting()
 }
@@ -56,8 +54,7 @@ fn is_quiet(handle: &Handle<Ticket>) -> bool
 /// Whether all connections may make requests, and have nothing to write.
 #[tactic(auto, using(crate::proofs::AgreeLemmas::all_quiet, crate::proofs::AgreeLemmas::none_quiet))]
 pub(crate) fn are_quiet(handles: &Handles<Ticket>) -> bool
-    ensures quiet { result ≡ true → AreQuiet handles.now }
-    ensures loud { result ≡ false → IsLoud handles.now }
+    ensures { result ≡ true → AreQuiet handles.now }
 {
     'handles: for index in 0..handles.len() {
         if !is_quiet(handles.get(index)) {

@@ -142,7 +142,7 @@ impl Copier {
         ensures links { LinksGoWithin self.old.options self.old.from self.old.to self.old.held (W.told wires.old) self.new.held (W.told wires.new) }
         ensures connects { OnOk result (LinksGoAsTold self.old.options self.old.from self.old.to self.old.held (W.told wires.old) self.new.held (W.told wires.new)) }
 
-        // Whatever came of it, it paused only while a connection was not ready, unless it waited to write.
+        // Whatever came of it, it paused only while a connection negotiated, unless it waited to write.
         ensures unready { Told (W.told wires.old) (W.told wires.new) (AtEachPause IsOpeningPause) }
         // At each pause a link was wanted for writing only where the last write on it since the pause before took nothing.
         ensures writes { Told (W.told wires.old) (W.told wires.new) (AtEachPause WantsOnlyFull) }
@@ -601,7 +601,7 @@ impl Copier {
         ensures at_most_once { self.from ≢ self.to → GrewBy (FlushesAtMostOnce self.to) (W.told wires.old) (W.told wires.new) }
         ensures unflushed { self.options.flush ≡ false → self.from ≢ self.to → GrewBy (IsUnflushed self.to) (W.told wires.old) (W.told wires.new) }
 
-        // Whatever came of it, at each pause that wants no link for writing a connection is not ready yet, or just as many READ, WRITE
+        // Whatever came of it, at each pause that wants no link for writing a connection negotiates still, or just as many READ, WRITE
         // and WRITE_ZEROES are unanswered as planned slices are not finished, up to the limit, and one BLOCK_STATUS where that is
         // not reached.
         ensures pauses { self.from ≢ self.to → GrewBy (PausesAreFull self.options self.from self.to) (W.told wires.old) (W.told wires.new) }

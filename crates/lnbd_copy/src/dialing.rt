@@ -21,7 +21,7 @@ ghost use Rattle.lnbd_copy.specs.Way.{Goes, Stand};
 use crate::agreeing::are_quiet;
 use crate::counts::{Counts, check_faults, check_idles, of_death};
 use crate::opening::open;
-use crate::wanting::check_wanted;
+use crate::wanting::{check_loud, check_wanted};
 use lnbd_board::{Board, Ticket};
 use lnbd_handle::Handle;
 use lnbd_link::Wires;
@@ -182,6 +182,7 @@ fn rest<W: Wires>(
             if are_quiet(handles) {
                 return Ok(());
             }
+            check_loud(handles)?;
             wait(handles, wires, start)
         }
         Turn::Moved(_) => Ok(()),

@@ -1,7 +1,11 @@
-//! Whether a pause would wait for anything. That it pauses, and when, is not known here.
+//! What a pause would wait for. That it pauses, and when, is not known here.
 
-ghost use Rattle.std.specs.Prelude.{◌≡◌, ◌≢◌, [], true, OnOk};
+ghost use Rattle.std.specs.Prelude.{◌≡◌, ◌≢◌, ◌⊎◌, [], true, OnOk};
+ghost use Rattle.lnbd_handle.specs.Histories.{ForEach};
+ghost use Rattle.lnbd_history.specs.Answers.{direction_after, state_after};
+ghost use Rattle.lnbd_model.specs.declared.state.State.TheVariants as state;
 ghost use Rattle.lnbd_poll.specs.Held.{is_on_its_way, wants_now};
+ghost use Rattle.lnbd_copy.specs.Unready.{IsLoud};
 ghost use Rattle.lnbd_copy.specs.Wanted.{IsWanting};
 
 use lnbd_board::Ticket;
@@ -30,6 +34,26 @@ pub(crate) fn check_wanted(handles: &Handles<Ticket>) -> Result<(), NoMemory>
 {
     'handles: for index in 0..handles.len() {
         if is_wanting(handles.get(index)) {
+            return Ok(());
+        }
+    }
+    Err(NoMemory)
+}
+
+/// Whether a connection negotiates still, or has something to write.
+fn is_loud(handle: &Handle<Ticket>) -> bool
+    ensures { result ≡ true → ForEach handle.now.machine (λ history. (state_after history ≡ state.Negotiating) ⊎ (direction_after history ≡ 3)) }
+{
+    matches!(handle.state(), State::Negotiating) || handle.is_waiting()
+}
+
+/// Some connection negotiates still, or has something to write: that is waited for before a copy begins. That none does, where not all
+/// are ready and none is dead, would count as want of memory.
+pub(crate) fn check_loud(handles: &Handles<Ticket>) -> Result<(), NoMemory>
+    ensures { OnOk result (IsLoud handles.now) }
+{
+    'handles: for index in 0..handles.len() {
+        if is_loud(handles.get(index)) {
             return Ok(());
         }
     }

@@ -1,12 +1,11 @@
-use Rattle.std.proofs.Common.{refl}
 use Rattle.lnbd_copy.proofs.PauseLemmas.{either_way, pauses_then, pauses_unpaused, unpaused_same}
 use Rattle.lnbd_copy.proofs.PausedLemmas.{unready_none, unready_rests, unready_unpaused}
 use Rattle.lnbd_copy.proofs.VainLemmas.{pauses_vain}
 use Rattle.lnbd_copy.proofs.dialing.rest.Goals as goal
 
-pub returns-else-are_quiet-clause-unready : goal.returns-else-are_quiet-clause-unready
-returns-else-are_quiet-clause-unready g c now =
-    either_way c.wait.result c.wait.ensures.pauses c.wait.ensures.still (λ adds. unready_rests now c.args.handles.now _ _ (c.if-are_quiet.ensures.loud refl) adds)
+pub returns-in_ok-check_loud-in-Still-clause-unready : goal.returns-in_ok-check_loud-in-Still-clause-unready
+returns-in_ok-check_loud-in-Still-clause-unready g c now =
+    either_way c.wait.result c.wait.ensures.pauses c.wait.ensures.still (λ adds. unready_rests now c.args.handles.now _ _ c.in_ok-check_loud-in-Still.ensures adds)
     (λ same. unready_unpaused now c.args.handles.now _ _ (λ stand. unpaused_same _ _ same))
 
 pub returns-then-are_quiet-clause-unready : goal.returns-then-are_quiet-clause-unready
@@ -15,8 +14,8 @@ returns-then-are_quiet-clause-unready g c now = unready_none now _ _
 pub returns-in-Moved-clause-unready : goal.returns-in-Moved-clause-unready
 returns-in-Moved-clause-unready g c now = unready_none now _ _
 
-pub returns-else-are_quiet-clause-vain : goal.returns-else-are_quiet-clause-vain
-returns-else-are_quiet-clause-vain g c before unpaused full =
+pub returns-in_ok-check_loud-in-Still-clause-vain : goal.returns-in_ok-check_loud-in-Still-clause-vain
+returns-in_ok-check_loud-in-Still-clause-vain g c before unpaused full =
     either_way c.wait.result c.wait.ensures.pauses c.wait.ensures.still (λ adds. pauses_vain _ _ _ _ (full c.in-Still.is) adds)
     (λ same. pauses_then _ _ _ (pauses_unpaused _ _ unpaused) (pauses_unpaused _ _ (unpaused_same _ _ same)))
 
@@ -25,3 +24,6 @@ returns-then-are_quiet-clause-vain g c before unpaused full = pauses_unpaused _ 
 
 pub returns-in-Moved-clause-vain : goal.returns-in-Moved-clause-vain
 returns-in-Moved-clause-vain g c before unpaused full = pauses_unpaused _ _ unpaused
+
+pub returns-in_err-check_loud-in-Still-clause-vain : goal.returns-in_err-check_loud-in-Still-clause-vain
+returns-in_err-check_loud-in-Still-clause-vain g c before unpaused full = pauses_unpaused _ _ unpaused

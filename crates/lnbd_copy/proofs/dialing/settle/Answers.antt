@@ -36,7 +36,7 @@ returns-in_err-check-clause-fails g c =
     fails_then false _ _ _ _ _ _ _ _ (goes_on _ _ _ _ _ _ _ _ _ c.turns.invariant.goes (turned_goes _ _ _ _ c.in_ok-told.told _ _ _ _ c.in_ok-told.ensures.ok)) (fails_blamed false _ _ _ _ c.in_err-check.ensures.blames))
 
 pub returns-then-are_quiet-clause-quiet : goal.returns-then-are_quiet-clause-quiet
-returns-then-are_quiet-clause-quiet g c = c.if-are_quiet.ensures.quiet refl
+returns-then-are_quiet-clause-quiet g c = c.if-are_quiet.ensures refl
 
 pub returns-in_err-told-clause-links : goal.returns-in_err-told-clause-links
 returns-in_err-told-clause-links g c stand =
