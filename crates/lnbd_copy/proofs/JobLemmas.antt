@@ -252,6 +252,7 @@ handed_planned plan plan' blank slices more handed others planned = subst (λ (w
   within = planned.within;
   told = planned.told;
   under_way = planned.under_way;
+  whole = planned.whole;
 })
 
 handed_spared : (plan plan' : windows.Seen) (whole : (block p : ℕ) → Bool) (slices more : List Slice) → plan.plan.slices ≡ more ++ plan'.plan.slices → plan' ≡ with_left plan plan'.plan.slices → IsSpared plan (whole plan.grain) slices →

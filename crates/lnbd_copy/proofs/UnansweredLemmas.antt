@@ -91,6 +91,7 @@ module _ (j : work.Seen) (way : Way) (now : board.Seen) (calls : List wire.Call)
         are = subst (λ (c : Cells). way.slices ++ j.windows.plan.slices ≡ windows_slices c 0 is.planned.parts) is.cells is.planned.are;
         ends = is.planned.end;
         within = omega (arith, within, ends);
+        whole = subst (λ (s : ℕ). windows.AreFullWindows s 0 is.planned.parts) is.ends is.planned.whole;
         told = λ p zero. known_was_told way.from way.how on.has way.slices now calls way.asked (known_of way) alone.told source p (is.planned.told p zero);
       }
 

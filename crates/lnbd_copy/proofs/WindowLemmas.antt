@@ -1,7 +1,7 @@
 -- Windows are planned one behind the other, and what they hold as zero was told so.
 use Rattle.std.proofs.Common.{◌≡◌, ◌<◌, ◌≤◌, ℕ, suc, eqb-true, ltb-true, leb-true, ◌+◌, ◌-◌, ◌^◌, ◌⊎◌, ◌&&◌, ◌||◌, not, Bool, true, false, List, [], ◌∷◌, ◌++◌, Option, Some, None, refl, ap, sym, subst, ◌∙◌, inl, inr, arith, cond, nat_lt, nat_le, if◌then◌else◌, min, drop, nat_eq, bit_and, length, get_or}
 use Rattle.std.proofs.Math.Seq.{drop-cons}
-use Rattle.std.proofs.lemmas.Bool.{false≢true}
+use Rattle.std.proofs.lemmas.Bool.{cases_lt, false≢true}
 use Rattle.std.proofs.lemmas.Grind.{common_steps}
 use Rattle.std.proofs.lemmas.List.{append_assoc, append-nil}
 use Rattle.lnbd_model.specs.declared.export.Extent.{Extent}
@@ -17,7 +17,7 @@ use Rattle.lnbd_plan.specs.Laws.{Window, windows_slices, windows_end, told_by, L
 use Rattle.lnbd_plan.proofs.LongestLaws.{longest}
 use Rattle.lnbd_plan.proofs.OnceLaws.{ends_up}
 use Rattle.lnbd_asked.specs.Transcript.{is_zero, zero_in}
-use Rattle.lnbd_copy.specs.Windows.{Seen, IsPlanned, AreFit, AreKept, zero_within, zero_heard, wanted, window, window_end}
+use Rattle.lnbd_copy.specs.Windows.{Seen, IsPlanned, AreFit, AreKept, AreFullWindows, zero_within, zero_heard, wanted, window, window_end}
 
 -- Windows one behind the other.
 
@@ -37,11 +37,22 @@ told_behind start (v ∷ parts) w p =
     as (λ b. (if b then v.told p else told_by (start + v.count) (parts ++ w ∷ []) p) ≡ true → ((if b then v.told p else told_by (start + v.count) parts p) ≡ true) ⊎ (w.told p ≡ true))
     [ true ↦ λ e. inl e | false ↦ λ e. told_behind (start + v.count) parts w p e ]
 
+whole_behind : (size start : ℕ) (parts : List Window) (w : Window) → AreFullWindows size start parts → (w.count ≡ window) ⊎ (windows_end start parts + w.count ≡ size) → AreFullWindows size start (parts ++ w ∷ [])
+whole_behind size start [] w whole last = (last, tt)
+whole_behind size start (v ∷ parts) w whole last = (whole.0, whole_behind size (start + v.count) parts w whole.1 last)
+
+-- What ends where a window does is one.
+is_whole_window : (start n size : ℕ) → start + n ≡ min (start + window) size → (n ≡ window) ⊎ (start + n ≡ size)
+is_whole_window start n size ends = elim (cases_lt (start + window) size) [
+  | inl below ↦ inl (omega arith)
+  | inr above ↦ inr (omega arith)
+]
+
 -- A window more is planned: so many positions, of which those that are held are zero.
 pub window_planned : (windows new : Seen) (blank : ℕ → Bool) (slices : List Slice) (start n : ℕ) (held : List (ℕ × ℕ)) → IsPlanned windows blank slices → windows.plan.end ≡ start →
     new.plan ≡ record windows.plan { end = start + n; slices = windows.plan.slices ++ window_slices windows.plan.cells (holds held) start n } →
-    start + n ≤ new.size → ((p : ℕ) → holds held p ≡ true → blank p ≡ true) → ((p : ℕ) → holds new.zero p ≡ true → blank p ≡ true) → IsPlanned new blank slices
-window_planned windows new blank slices start n held planned begins is fits told under =
+    start + n ≤ new.size → ((p : ℕ) → holds held p ≡ true → blank p ≡ true) → ((p : ℕ) → holds new.zero p ≡ true → blank p ≡ true) → new.size ≡ windows.size → (n ≡ window) ⊎ (start + n ≡ windows.size) → IsPlanned new blank slices
+window_planned windows new blank slices start n held planned begins is fits told under size last =
     let w : Window = record { count = n; told = holds held } in
     let at_end = planned.end ∙ begins in
     record {
@@ -55,6 +66,8 @@ window_planned windows new blank slices start n held planned begins is fits told
       within = subst (λ (p : Planned). p.end ≤ new.size) (sym is) fits;
       told = λ p e. elim (told_behind 0 planned.parts w p e) [ inl k ↦ planned.told p k | inr k ↦ told p k ];
       under_way = under;
+      whole = subst (λ (s : ℕ). AreFullWindows s 0 (planned.parts ++ w ∷ [])) (sym size)
+          (whole_behind windows.size 0 planned.parts w planned.whole (subst (λ (e : ℕ). (n ≡ window) ⊎ (e + n ≡ windows.size)) (sym at_end) last));
     }
 
 -- More is known to be zero.
@@ -67,6 +80,7 @@ planned_more windows new blank more slices planned is size known under = record 
   within = let within = planned.within in let ends = ap (λ (p : Planned). p.end) is in omega (arith, within, ends, size);
   told = λ p e. known p (planned.told p e);
   under_way = under;
+  whole = subst (λ (s : ℕ). AreFullWindows s 0 planned.parts) (sym size) planned.whole;
 }
 
 -- Slices of a window may be begun.
@@ -281,10 +295,11 @@ module _ (windows : Seen) (start end : ℕ) (told list joined : List Extent) (no
       (λ p e. heard_known blank planned.under_way p (subst (λ (r : List (ℕ × ℕ)). holds r p ≡ true) held e))
 
   -- all of it was, and it is planned
-  pub hear_wholly : (new : Seen) (n : ℕ) → new.plan ≡ record windows.plan { end = start + n; slices = windows.plan.slices ++ window_slices windows.plan.cells (holds now) start n } → start + n ≤ new.size → new.zero ≡ [] →
+  pub hear_wholly : (new : Seen) (n : ℕ) → new.plan ≡ record windows.plan { end = start + n; slices = windows.plan.slices ++ window_slices windows.plan.cells (holds now) start n } → start + n ≤ new.size → new.zero ≡ [] → new.size ≡ windows.size → start + n ≡ end →
       (blank : ℕ → Bool) (slices : List Slice) → IsPlanned windows blank slices → IsPlanned new (λ p. blank p || zero_heard (wanted windows) told p) slices
-  hear_wholly new n is fits none blank slices planned =
+  hear_wholly new n is fits none size last blank slices planned =
       let held : Seen = record windows { zero = now } in
       let wider = hear_partly held refl refl refl blank slices planned in
       window_planned held new (λ p. blank p || zero_heard (wanted windows) told p) slices start n now wider begins is fits wider.under_way
       (λ p e. let no : false ≡ true = subst (λ (r : List (ℕ × ℕ)). holds r p ≡ true) none e in absurd (false≢true no))
+      size (is_whole_window start n windows.size (last ∙ ends))

@@ -15,14 +15,15 @@ use Rattle.lnbd_copy.specs.declared.terms.Terms.{Terms}
 use Rattle.lnbd_copy.specs.Job.{cells_of}
 use Rattle.lnbd_copy.specs.Limit.{IsLimited}
 use Rattle.lnbd_copy.specs.Settled.{AreSettledBy, Settled}
-use Rattle.lnbd_copy.specs.Windows.{window}
+use Rattle.lnbd_copy.specs.Windows.{AreFullWindows, window}
 
--- These slices are planned of the source: those of windows from its beginning to this place. What is planned as zero was told so by these calls.
+-- These slices are planned of the source: those of whole windows from its beginning to this place. What is planned as zero was told so by these calls.
 pub record ArePlannedTo (end : ℕ) (from : Place) (size : ℕ) (cells : Cells) (slices : List Slice) (calls : List wire.Call) : Type 0 where
   pub parts : List Window
   pub are : slices ≡ windows_slices cells 0 parts
   pub ends : windows_end 0 parts ≡ end
   pub within : end ≤ size
+  pub whole : AreFullWindows size 0 parts
   pub told : (p : ℕ) → told_by 0 parts p ≡ true → WasToldZero (dealt_with from calls) p
 
 -- One BLOCK_STATUS of the source is unanswered: it asks for what is left of the window that begins at this place.

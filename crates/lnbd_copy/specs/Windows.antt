@@ -1,5 +1,5 @@
 -- What is planned of a copy's source, and how far its extents were told.
-use Rattle.std.specs.Prelude.{◌≡◌, ◌<◌, ◌≤◌, ℕ, ◌+◌, ◌-◌, ◌^◌, Bool, true, false, ◌&&◌, nat_lt, min, List, [], ◌∷◌, ◌++◌, Option, Some, None, if◌then◌else◌}
+use Rattle.std.specs.Prelude.{◌≡◌, ◌<◌, ◌≤◌, ◌⊎◌, ℕ, ◌+◌, ◌-◌, ◌^◌, Bool, true, false, ◌&&◌, nat_lt, min, List, [], ◌∷◌, ◌++◌, Option, Some, None, if◌then◌else◌}
 use Rattle.lnbd_model.specs.declared.export.Extent.{Extent}
 use Rattle.lnbd_extents.specs.Positions.{within, holds}
 use Rattle.lnbd_asked.specs.Transcript.{zero_in}
@@ -39,7 +39,12 @@ abbrev pub zero_heard : (range : Option (ℕ × ℕ)) → List Extent → ℕ �
 zero_heard None told p = false
 zero_heard (Some range) told p = zero_within range told p
 
--- The slices that were handed out, and behind them those still to come, are those of windows from the source's beginning on. Nothing is planned as zero, or
+-- Windows from this place on are as long as a window may be, or end where the source does.
+abbrev pub AreFullWindows : (size start : ℕ) → List Window → Type 0
+AreFullWindows size start [] = Unit {0}
+AreFullWindows size start (part ∷ parts) = ((part.count ≡ window) ⊎ (start + part.count ≡ size)) × AreFullWindows size (start + part.count) parts
+
+-- The slices that were handed out, and behind them those still to come, are those of whole windows from the source's beginning on. Nothing is planned as zero, or
 -- to be planned so, but what is among these positions.
 pub record IsPlanned (windows : Seen) (zero : ℕ → Bool) (slices : List Slice) : Type 0 where
   pub parts : List Window
@@ -48,6 +53,7 @@ pub record IsPlanned (windows : Seen) (zero : ℕ → Bool) (slices : List Slice
   pub within : windows.plan.end ≤ windows.size
   pub told : (p : ℕ) → told_by 0 parts p ≡ true → zero p ≡ true
   pub under_way : (p : ℕ) → holds windows.zero p ≡ true → zero p ≡ true
+  pub whole : AreFullWindows windows.size 0 parts
 
 -- A slice that may be begun: it lies where an export's bytes can be, and it is zero only where zeros are copied.
 pub record IsFit (zeros : Bool) (slice : Slice) : Type 0 where

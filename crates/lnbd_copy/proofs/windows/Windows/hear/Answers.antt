@@ -32,9 +32,10 @@ returns-clause-planned c =
     let order = c.end_of-end.ensures.order in
     let most = c.passed.ensures in
     let fits : c.self.inside.start + (c.self.inside.at + c.passed.result - c.self.inside.start) ≤ c.self.inside.size = omega arith in
+    let last : c.self.inside.start + (c.self.inside.at + c.passed.result - c.self.inside.start) ≡ c.end_of-end.result = omega arith in
     subst (λ (w : Seen). (blank : ℕ → Bool) (slices : List Slice) → IsPlanned w blank slices → IsPlanned now (λ p. blank p || zero_heard (wanted w) c.args.told.now p) slices) c.self.view_is
     (hear_wholly was c.self.inside.start c.end_of-end.result c.args.told.now c.deref.result.now c.in_ok-joined.joined.items c.hold_zeroes.new.zero c.self.invariant.begins c.end_of-end.ensures.end left c.deref.ensures.value c.in_ok-joined.ensures.told
-    c.in_ok-reached.ensures.held now (c.self.inside.at + c.passed.result - c.self.inside.start) c.in_ok-window.ensures.ok fits c.new.ensures)
+    c.in_ok-reached.ensures.held now (c.self.inside.at + c.passed.result - c.self.inside.start) c.in_ok-window.ensures.ok fits c.new.ensures refl last)
 
 pub returns-then-at-end-clause-spared : goal.returns-then-at-end-clause-spared
 returns-then-at-end-clause-spared c =

@@ -1,4 +1,4 @@
-use Rattle.std.proofs.Common.{◌≤◌, ◌+◌, ◌-◌, ◌≡◌, ap, sym, subst, arith}
+use Rattle.std.proofs.Common.{◌≤◌, ◌+◌, ◌-◌, ◌≡◌, refl, inr, ap, sym, subst, arith}
 use Rattle.lnbd_copy.specs.Windows.{Seen, IsPlanned}
 use Rattle.lnbd_plan.specs.Plans.{Planned}
 use Rattle.lnbd_copy.proofs.ReachLemmas.{heard_all}
@@ -18,7 +18,7 @@ returns-clause-planned c = λ blank slices planned.
     let inside = c.self.invariant.inside in
     let fits : c.self.inside.start + (c.self.inside.size - c.self.inside.start) ≤ c.self.inside.size = omega arith in
     let was = subst (λ (w : Seen). IsPlanned w blank slices) (sym c.self.view_is) planned in
-    window_planned _ _ blank slices c.self.inside.start (c.self.inside.size - c.self.inside.start) c.self.inside.zero was c.self.invariant.begins c.in_ok-window.ensures.ok fits was.under_way was.under_way
+    window_planned _ _ blank slices c.self.inside.start (c.self.inside.size - c.self.inside.start) c.self.inside.zero was c.self.invariant.begins c.in_ok-window.ensures.ok fits was.under_way was.under_way refl (inr (omega (arith, ahead, inside)))
 
 pub returns-clause-heard : goal.returns-clause-heard
 returns-clause-heard c = λ heard all.
