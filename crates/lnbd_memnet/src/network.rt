@@ -1,12 +1,13 @@
 //! The exports and the links, and where the schedule stands. Which calls are told is not known here.
 
-ghost use Rattle.std.specs.Prelude.{◌≡◌, ◌^◌, ◌<◌, ◌≤◌, [], ℕ, false, map, length, vec_len, IfOk, IfSome, None};
+ghost use Rattle.std.specs.Prelude.{◌≡◌, ◌^◌, ◌<◌, ◌≤◌, [], ℕ, false, true, map, length, vec_len, IfOk, IfSome, None};
 ghost use Rattle.lnbd_link.specs.Answers.{IfMoved, IfSent, ReadFailed, WriteFailed};
 ghost use Rattle.lnbd_link.specs.Call.{read_told, write_told};
 ghost use Rattle.lnbd_export.specs.Export.{TellsTruly, size};
 ghost use Rattle.lnbd_memnet.specs.Network.{link_in, export_in, hosted_of, AreHosted};
 ghost use Rattle.lnbd_memnet.specs.Plays.{IsUnknown, Connects, ReadsIf, Reads, WritesIf, Writes, due_at, all_due, shut_at};
 ghost use Rattle.lnbd_memnet.specs.Schedule.{Moves};
+ghost use Rattle.lnbd_memnet.specs.declared.schedule.Schedule.TheVariants.{Seeded};
 
 use crate::hosted::{Hosted, Served, is_same};
 use crate::link::Link;
@@ -61,6 +62,13 @@ impl Network {
         ensures { result ≡ length self.now.exports }
     {
         self.exports.len()
+    }
+
+    /// Whether this number draws the steps of the schedule.
+    pub fn is_seeded(&self, seed: u64) -> bool
+        ensures { result ≡ true → self.now.schedule ≡ Seeded seed }
+    {
+        self.schedule.is_seeded(seed)
     }
 
     /// The bytes of the export at this place.

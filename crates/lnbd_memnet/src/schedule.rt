@@ -1,7 +1,7 @@
 //! Schedules: what is said of each read and write of served wires. Which links they are on is not
 //! known here.
 
-ghost use Rattle.std.specs.Prelude.{◌≡◌, ◌≤◌, ◌<◌};
+ghost use Rattle.std.specs.Prelude.{◌≡◌, ◌≤◌, ◌<◌, true};
 ghost use Rattle.lnbd_memnet.specs.Schedule.{drawn, step_of, step_at, Moves};
 
 /// What a number's next multiple is taken of.
@@ -49,6 +49,16 @@ impl Schedule {
         match self {
             Schedule::Seeded(seed) => step_of(drawn(*seed, turn)),
             Schedule::List(steps) => nth(steps, turn as usize),
+        }
+    }
+
+    /// Whether this number draws the steps.
+    pub(crate) fn is_seeded(&self, seed: u64) -> bool
+        ensures { result ≡ true → self.now ≡ Schedule.Seeded seed }
+    {
+        match self {
+            Schedule::Seeded(own) => *own == seed,
+            Schedule::List(_) => false,
         }
     }
 }

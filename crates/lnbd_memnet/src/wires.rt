@@ -14,6 +14,7 @@ ghost use Rattle.lnbd_memnet.specs.Network.{AreApart, export_in, hosted_of, link
 ghost use Rattle.lnbd_memnet.specs.Plays.{Connects, IsUnknown, Reads, Writes, all_due, shut_at};
 ghost use Rattle.lnbd_memnet.specs.Schedule.{Moves};
 ghost use Rattle.lnbd_memnet.specs.Wires.{Came, Counts, Steps, contents_of, told_by};
+ghost use Rattle.lnbd_memnet.specs.declared.schedule.Schedule.TheVariants.{Seeded};
 
 use crate::hosted::Served;
 use crate::log::Log;
@@ -99,6 +100,13 @@ impl ServedWires {
         ensures { result ≡ self.now.shorts }
     {
         self.shorts
+    }
+
+    /// Whether this number draws what is said of each read and write.
+    pub fn is_seeded(&self, seed: u64) -> bool
+        ensures { result ≡ true → self.now.network.schedule ≡ Seeded seed }
+    {
+        self.network.is_seeded(seed)
     }
 
     /// The calls were played one after another from the start, while memory lasted.

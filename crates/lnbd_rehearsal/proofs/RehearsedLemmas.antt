@@ -11,6 +11,7 @@ use Rattle.lnbd_memnet.specs.declared.hosted.Hosted.{Hosted}
 use Rattle.lnbd_memnet.specs.declared.hosted.Served.{Served as Handed}
 use Rattle.lnbd_memnet.specs.Network.{export_in, hosted_of, stored_of}
 use Rattle.lnbd_memnet.specs.Wires.{Came, Served, contents_of, told_by}
+use Rattle.lnbd_memnet.specs.declared.schedule.Schedule.TheVariants.{Seeded}
 use Rattle.lnbd_plan.specs.declared.options.CopyOptions.{CopyOptions}
 use Rattle.lnbd_plan.specs.declared.summary.Summary.{Summary}
 use Rattle.lnbd_course.specs.Asks.{GrewBy}
@@ -128,14 +129,15 @@ module _ (seed n : ℕ) (source destination : Handed) (at : source.at ≡ Unix s
         long = ap (λ (b : List ℕ). length b) equal.kept ∙ from.size;
       }
 
-  pub rehearsed : (wires : Served) (summary : Summary) → wires.shorts ≡ 0 → Came wires.calls wires.network → summary ≡ sums_of seed (export_in wires.network.exports 0).export.bytes → Ended wires summary → HasRehearsed seed n summary wires
-  rehearsed wires summary shorts came right e = record {
+  pub rehearsed : (wires : Served) (summary : Summary) → wires.shorts ≡ 0 → wires.network.schedule ≡ Seeded seed → Came wires.calls wires.network → summary ≡ sums_of seed (export_in wires.network.exports 0).export.bytes → Ended wires summary → HasRehearsed seed n summary wires
+  rehearsed wires summary shorts seeded came right e = record {
     source = stored_of (export_in wires.network.exports 0);
     destination = stored_of (export_in wires.network.exports 1);
     contents = e.told;
     from = source_is seed n source (stored_of (export_in wires.network.exports 0)) at generated e.first;
     to = destination_is n destination (stored_of (export_in wires.network.exports 1)) to noise e.second;
     shorts = shorts;
+    seeded = seeded;
     came = came;
     copied = e.copied;
     made = e.made;

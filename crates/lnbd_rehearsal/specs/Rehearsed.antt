@@ -10,6 +10,7 @@ use Rattle.lnbd_copy.specs.Made.{IsMade}
 use Rattle.lnbd_export.specs.Export.{Export}
 use Rattle.lnbd_export.specs.Generated.{byte_at}
 use Rattle.lnbd_memnet.specs.Wires.{Came, Served, contents_of}
+use Rattle.lnbd_memnet.specs.declared.schedule.Schedule.TheVariants.{Seeded}
 use Rattle.lnbd_rehearsal.specs.Sums.{sums_of}
 
 abbrev pub source_name : List ℕ
@@ -48,6 +49,8 @@ pub record HasRehearsed (seed n : ℕ) (summary : Summary) (wires : Served) : Ty
   pub from : IsSource seed n source
   pub to : IsDestination n destination
   pub shorts : wires.shorts ≡ 0
+  -- the seed says of each read and write what it moves, and which reply is made first
+  pub seeded : wires.network.schedule ≡ Seeded seed
   pub came : Came wires.calls wires.network
   pub copied : Copied (place_of source_name) (place_of destination_name) false wires.calls
   pub made : IsMade usual (place_of source_name) (place_of destination_name) summary wires.calls

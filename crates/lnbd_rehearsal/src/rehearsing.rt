@@ -6,6 +6,7 @@ ghost use Rattle.lnbd_course.specs.Asks.{GrewBy};
 ghost use Rattle.lnbd_course.specs.Copied.{Copies};
 ghost use Rattle.lnbd_copy.specs.Made.{IsMade};
 ghost use Rattle.lnbd_memnet.specs.Wires.{contents_of, told_by};
+ghost use Rattle.lnbd_memnet.specs.declared.schedule.Schedule.TheVariants.{Seeded};
 ghost use Rattle.lnbd_rehearsal.specs.Rehearsed.{HasRehearsed, destination_name, place_of, source_name, usual};
 
 use crate::exports::{destination, from, source, to};
@@ -54,12 +55,13 @@ fn copy(alloc: Global, wires: &mut ServedWires) -> Result<Summary, NoMemory>
     }
 }
 
-/// Whether all that was called is told, between two exports.
-fn is_told(wires: &ServedWires) -> bool
+/// Whether all that was called is told, between two exports, and the seed cut what moved.
+fn is_told(wires: &ServedWires, seed: u64) -> bool
     ensures shorts { result ≡ true → wires.now.shorts ≡ 0 }
     ensures two { result ≡ true → length wires.now.network.exports ≡ 2 }
+    ensures seeded { result ≡ true → wires.now.network.schedule ≡ Seeded seed }
 {
-    wires.shorts() == 0 && wires.exports() == 2
+    wires.shorts() == 0 && wires.exports() == 2 && wires.is_seeded(seed)
 }
 
 /// Copies an export with the contents that the seed gives to one of as many bytes 0xff, as nbdcopy does where no option is
@@ -78,7 +80,7 @@ pub fn rehearse(alloc: Global, seed: u64, size: u64) -> Result<Rehearsed, NoMemo
     let exports = vec![in alloc; source, destination(alloc, size)?]?;
     let mut wires = ServedWires::new(alloc, exports, Schedule::Seeded(seed))?;
     let summary = copy(alloc, &mut wires)?;
-    if !is_told(&wires) {
+    if !is_told(&wires, seed) {
         return Err(NoMemory);
     }
     wires.came();

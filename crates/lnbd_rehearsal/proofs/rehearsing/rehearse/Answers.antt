@@ -28,5 +28,5 @@ returns c =
     (record { size = c.fits.ensures.size; name = c.fits.ensures.name; description = c.fits.ensures.description }) (record { size = c.fits-2.ensures.size; name = c.fits-2.ensures.name; description = c.fits-2.ensures.description })
     c.in_ok-wires.ensures.told c.in_ok-summary.ensures.copies c.in_ok-summary.ensures.made in
     rehearsed c.args.seed c.args.size c.in_ok-source.source c.in_ok-destination.field-0 c.in_ok-source.ensures.at c.in_ok-source.ensures.generated c.in_ok-destination.ensures.at c.in_ok-destination.ensures.noise
-    c.copy.new.wires c.in_ok-summary.summary shorts (c.came.ensures shorts)
+    c.copy.new.wires c.in_ok-summary.summary shorts (c.is_told.ensures.seeded yes) (c.came.ensures shorts)
     (c.is_same.ensures c.if-not-is_same.false ∙ c.sums_of.ensures ∙ ap (λ (b : List ℕ). sums_of c.args.seed b) c.bytes.ensures) over
