@@ -36,14 +36,17 @@ use Rattle.lnbd_copy.specs.declared.terms.Terms.{Terms}
 use Rattle.lnbd_copy.specs.Copier.{GoesFurther, HasMet, HasNotBegun, IsOnItsWay, beginning}
 use Rattle.lnbd_copy.specs.Job as work
 use Rattle.lnbd_copy.specs.Copier as copier
-use Rattle.lnbd_copy.specs.Grounds.{AllSame, Answers, AreSame, AtSome, Blames, Differ, Drove, FailsOn, Finds, FindsBeside, FindsDead, FindsOther, Happened, Happens, HasDied, IsDead, IsFound, IsGrounded, IsShown, Lasts, Settle, fault_by, fault_of, first_of, needs_no_ground}
+use Rattle.lnbd_copy.specs.Grounds.{AllSame, Answers, AreSame, AtSome, Blames, Differ, Drove, FailsOn, Finds, FindsBeside, FindsDead, FindsOther, Happened, Happens, HasDied, IsDead, IsFound, IsGrounded, IsRefused, IsShown, Lasts, Settle, fault_by, fault_of, first_of, needs_no_ground}
 use Rattle.lnbd_copy.specs.DrivenBy.{DrivenBy}
 use Rattle.lnbd_copy.specs.Firsts.{KnowBoth}
+use Rattle.lnbd_copy.specs.Links.{ConnectTo, LinksGo}
 use Rattle.lnbd_copy.specs.Opening.{Dials}
 use Rattle.lnbd_copy.specs.Settled.{FindsTerms, HasTerms}
 use Rattle.lnbd_copy.specs.Way.{Goes, IsOn, IsUnderWay, Stand, Told, Way, is_source}
 use Rattle.lnbd_copy.proofs.CopierLemmas.{first_on, kept_then, no_handles, second_on, told_as, two_meet_stand, two_on, with_held}
 use Rattle.lnbd_copy.proofs.LastLemmas.{at_once, told_later}
+use Rattle.lnbd_copy.proofs.SettledLemmas.{told_both}
+use Rattle.lnbd_copy.proofs.TurnLemmas.{told_begins}
 
 -- By the handles.
 
@@ -141,19 +144,26 @@ first_side sides index = elim (is_source sides index) as (λ b. is_source sides 
 
 -- What happened on a handle happened by the calls on a link to one of the places: to that of its side while all are held.
 module _ (parting : Bool) (way : Way) (now : board.Seen) (calls : List wire.Call) (held : List (Held Ticket)) (on : IsUnderWay parting way now calls held) (Is : History Ticket → Type 0) where
-  drove_has : (index : ℕ) → (h : Happened Is index on.seens) → Drove (place_of way.from way.to (on.has h.seen.link)) Is calls
-  drove_has index h =
+  -- and what is so of its link is so of that one
+  pub drove_on : (index : ℕ) → (h : Happened Is index on.seens) → (P : ℕ → Type 0) → P h.seen.link → (drove : Drove (place_of way.from way.to (on.has h.seen.link)) Is calls) × P drove.link
+  drove_on index h P so =
       let between = on.stands.between in
       let course = between.course in
       let given : is_given h.seen.link calls ≡ true = given_at calls h.seen.link (is_given h.seen.link calls) refl (λ none. not_one h.seen.link index h.seen on.seens h.there (course.unused h.seen.link none).apart refl) in
-      record {
-        link = h.seen.link;
-        history = h.seen.history;
-        drives = driven_at calls index h.seen held on.seens h.there on.at course.drive.drive course.drive.plain;
-        address = between.placed.address h.seen.link given;
-        name = ap (λ (history : History Ticket). name_set history) (sym (one_has index h.seen course.histories on.seens h.there course.held)) ∙ between.placed.name h.seen.link given;
-        is = h.is;
-      }
+      (
+        record {
+          link = h.seen.link;
+          history = h.seen.history;
+          drives = driven_at calls index h.seen held on.seens h.there on.at course.drive.drive course.drive.plain;
+          address = between.placed.address h.seen.link given;
+          name = ap (λ (history : History Ticket). name_set history) (sym (one_has index h.seen course.histories on.seens h.there course.held)) ∙ between.placed.name h.seen.link given;
+          is = h.is;
+        },
+        so,
+      )
+
+  drove_has : (index : ℕ) → (h : Happened Is index on.seens) → Drove (place_of way.from way.to (on.has h.seen.link)) Is calls
+  drove_has index h = (drove_on index h (λ link. Unit {0}) tt).0
 
 died : (parting : Bool) (way : Way) (now : board.Seen) (calls : List wire.Call) (held : List (Held Ticket)) (index : ℕ) (death : Cause) → IsUnderWay parting way now calls held → Happens (IsDead death) index held → HasDied way.from way.to death calls
 died parting way now calls held index death on dead =
@@ -165,13 +175,14 @@ drove way now calls held Is index on happens =
     let h = happens.on on.seens on.at in
     subst (λ (b : Bool). Drove (place_of way.from way.to b) Is calls) (on.sided index h.seen h.there) (drove_has false way now calls held on Is index h)
 
-settles : (way : Way) (now : board.Seen) (calls : List wire.Call) (held : List (Held Ticket)) (rule : Option Rule) → Finds rule held → IsOn way now calls held → Settle way.from way.to rule calls
-settles way now calls held rule finds on = record {
+settles : (way : Way) (now : board.Seen) (calls : List wire.Call) (held : List (Held Ticket)) (rule : Option Rule) → Finds rule held → IsOn way now calls held → ConnectTo (way.from.to ∷ way.to.to ∷ []) calls → Settle way.from way.to rule calls
+settles way now calls held rule finds on only = record {
   source = finds.source;
   destination = finds.destination;
   shown = drove way now calls held (IsShown finds.source) 0 on finds.shown;
   shown' = drove way now calls held (IsShown finds.destination) 1 on finds.shown';
   first = finds.first;
+  only = only;
 }
 
 differs : (way : Way) (now : board.Seen) (calls : List wire.Call) (held : List (Held Ticket)) → FindsOther way.sides held → IsOn way now calls held → Differ way.from way.to calls
@@ -220,8 +231,16 @@ found_grounded way now held start told (fault.Broke broken.Content) is on = absu
 found_grounded way now held start told (fault.Broke broken.Ended) is on = absurd is.found
 found_grounded way now held start told (fault.Broke broken.Differs) is on = record { shown = told_as start told (λ calls at. at_once calls (differs way now calls held is.found at)) on }
 found_grounded way now held start told (fault.Peer option code) is on = absurd is.found
-found_grounded way now held start told (fault.Rule rule) is on = record { shown = told_as start told (λ calls at. at_once calls (settles way now calls held (Some rule) is.found at)) on }
+found_grounded way now held start told (fault.Rule rule) is on = absurd is.found
 found_grounded way now held start told (fault.Silent idles) is on = absurd is.found
+
+refused_grounded : (way : Way) (now : board.Seen) (held : List (Held Ticket)) (start told : Option (List wire.Call)) (why : CopyFault) → IsRefused held why → Told start told (λ calls. IsOn way now calls held) → Told start told (ConnectTo (way.from.to ∷ way.to.to ∷ [])) → IsGrounded start told way.from way.to why
+refused_grounded way now held start told fault.NoMemory is on only = record { shown = tt }
+refused_grounded way now held start told (fault.Link before after) is on only = absurd is.found
+refused_grounded way now held start told (fault.Broke one) is on only = absurd is.found
+refused_grounded way now held start told (fault.Peer option code) is on only = absurd is.found
+refused_grounded way now held start told (fault.Rule rule) is on only = record { shown = told_as start told (λ calls at. at_once calls (settles way now calls held (Some rule) is.found at.0 at.1)) (told_both start told on only) }
+refused_grounded way now held start told (fault.Silent idles) is on only = absurd is.found
 
 -- The transcript goes on.
 
@@ -283,13 +302,14 @@ destination_fails s0 s1 s2 s3 t u v w c why k1 k2 b1 b3 first one second none fa
 
 -- or what both were told is refused.
 pub found_fails : (s0 s1 s2 s3 s4 : copier.Seen) (t u v w x : Option (List wire.Call)) (held : List (Held Ticket)) (why : CopyFault) → s1 ≡ with_held s0 s1 → s2 ≡ with_held s1 s2 → s1.board ≡ s0.board → s3.board ≡ s2.board → held ≡ s4.held →
-    Dials s0.from s0.options.extents s0.board s0.held t s1.held u → Goes s1.board s1.held u s2.board s2.held v → Dials s2.to false s2.board s2.held v s3.held w → Goes s3.board s3.held w s4.board s4.held x → HasNotBegun s0 → ((sides : Sides) → IsFound sides held why) →
+    Dials s0.from s0.options.extents s0.board s0.held t s1.held u → Goes s1.board s1.held u s2.board s2.held v → Dials s2.to false s2.board s2.held v s3.held w → Goes s3.board s3.held w s4.board s4.held x → HasNotBegun s0 → LinksGo (s0.from.to ∷ s0.to.to ∷ []) s0.held t s4.held x → IsRefused held why →
     IsGrounded t x s0.from s0.to why
-found_fails s0 s1 s2 s3 s4 t u v w x held why k1 k2 b1 b3 same first one second two none found =
+found_fails s0 s1 s2 s3 s4 t u v w x held why k1 k2 b1 b3 same first one second two none connects found =
     let how = s0.board.how in
     let two' : Goes s2.board s3.held w s4.board s4.held x = subst (λ (b : board.Seen). Goes b s3.held w s4.board s4.held x) b3 two in
-    found_grounded (beginning s0 None how one_side) s4.board s4.held t x why (subst (λ (l : List (Held Ticket)). IsFound one_side l why) same (found one_side))
+    refused_grounded (beginning s0 None how one_side) s4.board s4.held t x why (subst (λ (l : List (Held Ticket)). IsRefused l why) same found)
     (two_on s0 s2.board s4.board s1.held s2.held s3.held s4.held t u v w x how one_side none first (goes_first s0 s1 s2 u v b1 one) (dials_second s0 s1 s2 s3 v w k1 k2 second) two')
+    (connects.connects t [] (told_begins t refl))
 
 -- what both were told, and the handles know it
 pub record AreFound (options : CopyOptions) (from to : Place) (start told : Option (List wire.Call)) (terms : Terms) (held : List (Held Ticket)) : Type 0 where

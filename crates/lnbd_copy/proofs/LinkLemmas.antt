@@ -457,20 +457,34 @@ links_cut_short a b f g now now' held held' goes s =
     let went = goes s.seens s.at in
     turned a b now now' held held' s.seens went.after went.calls Short s.at went.at went.leads.turns went.grown
 
+-- The link of a handle that is held is open.
+
+has_times : (index : ℕ) (seens : List (Seen Ticket)) (seen : Seen Ticket) → slice_get seens index ≡ Some seen → 0 < times seen.link (links_in seens)
+has_times index [] seen there = absurd (none_some seen there)
+has_times zero (first ∷ others) seen there = subst (λ (s : Seen Ticket). 0 < times seen.link (s.link ∷ links_in others)) (sym (some_same first seen there)) (first_times seen.link (links_in others))
+has_times (suc index) (first ∷ others) seen there = let rest = has_times index others seen there in omega (arith, rest)
+
+pub held_open : (held : List (Held Ticket)) (seens : List (Seen Ticket)) (calls : List Call) (index : ℕ) (seen : Seen Ticket) → AreAt held seens → slice_get seens index ≡ Some seen → LinksStand held calls → is_open seen.link calls ≡ true
+held_open held seens calls index seen at there links =
+    some_opened (is_open seen.link calls) (times seen.link (links_of held)) (links.opened seen.link) (subst (λ (l : List ℕ). 0 < times seen.link l) (sym (at_links held seens at)) (has_times index seens seen there))
+
 -- From no handle to none, all links are kept.
+
+no_calls : (call : Call) (calls : List Call) → [] ≡ call ∷ calls → ⊥
+no_calls call calls e = cc
+
+unused : UseOpenLinks []
+unused link [] after call is uses = absurd (no_calls call after is)
+unused link (first ∷ before) after call is uses = absurd (no_calls first (before ++ call ∷ after) is)
+
+pub links_begin : (held : List (Held Ticket)) (told : Option (List Call)) → held ≡ [] → Told told told (LinksStand held)
+links_begin held told none = subst (λ (l : List (Held Ticket)). Told told told (LinksStand l)) (sym none) (told_begins told (record { used = unused; opened = λ link. refl; none = refl }))
 
 pub links_kept : (to : List Target) (held held2 : List (Held Ticket)) (a b c : Option (List Call)) → held ≡ [] → LinksGo to held a held2 b → LinksGo [] held2 b [] c → GrewBy LinksAreKept a c
 links_kept to held held2 a b c none one two =
     told_part a c (told_map a c (λ calls stand. record { used = stand.used; shut = λ link. shut (is_open link calls) (stand.opened link); none = stand.none })
-    (two.on a (one.on a (subst (λ (l : List (Held Ticket)). Told a a (LinksStand l)) (sym none) (told_begins a (record { used = unused; opened = λ link. refl; none = refl }))))))
+    (two.on a (one.on a (links_begin held a none))))
   where
     shut : (b : Bool) → 0 ≡ once_if b → b ≡ false
     shut true e = absurd (omega (arith, e))
     shut false e = refl
-
-    no_calls : (call : Call) (calls : List Call) → [] ≡ call ∷ calls → ⊥
-    no_calls call calls e = cc
-
-    unused : UseOpenLinks []
-    unused link [] after call is uses = absurd (no_calls call after is)
-    unused link (first ∷ before) after call is uses = absurd (no_calls first (before ++ call ∷ after) is)

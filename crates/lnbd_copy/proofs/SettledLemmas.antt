@@ -24,6 +24,15 @@ same_since start all one other =
     let same : one.before ≡ other.before = same_calls one.before other.before (sym one.was ∙ other.was) in
     same_rest one.before one.calls other.calls (sym one.now ∙ other.now ∙ ap (λ (l : List wire.Call). l ++ other.calls) (sym same))
 
+-- Both are so of the calls since the start.
+pub told_both : {Is Is' : List wire.Call → Type 0} (start told : Option (List wire.Call)) → Told start told Is → Told start told Is' → Told start told (λ calls. Is calls × Is' calls)
+told_both {Is} {Is'} start told one other = record {
+  since = λ all is.
+      let here = one.since all is in
+      let there = other.since all is in
+      record { before = here.before; calls = here.calls; was = here.was; now = here.now; is = (here.is, subst Is' (sym (same_since start all here there)) there.is) };
+}
+
 pub settled_with : (Is : (source destination : ExportInfo) → List wire.Call → Type 0) (options : CopyOptions) (from to : Place) (start told : Option (List wire.Call)) (terms : Terms) → (s : HasSettled options from to start told terms) → Told start told (Is s.first.source s.first.destination) →
     Told start told (λ calls. Settled from to (λ source destination. Is source destination calls) calls)
 settled_with Is options from to start told terms s so = record {

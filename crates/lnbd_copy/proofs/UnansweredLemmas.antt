@@ -1,5 +1,5 @@
 -- While slices are copied, and no handle has anything to write, as much is unanswered by the calls of a copy as may be.
-use Rattle.std.proofs.Common.{◌≡◌, ◌≢◌, ◌⊎◌, inl, inr, ◌+◌, ◌-◌, ℕ, Bool, true, false, not, ◌||◌, ◌==◌, nat_lt, List, [], ◌∷◌, ◌++◌, length, min, Option, Some, None, is_some, if◌then◌else◌, refl, ap, sym, subst, ◌∙◌, arith}
+use Rattle.std.proofs.Common.{◌≡◌, ◌≢◌, ◌<◌, ◌⊎◌, inl, inr, ltb-true, ◌+◌, ◌-◌, ℕ, Bool, true, false, not, ◌||◌, ◌==◌, nat_lt, List, [], ◌∷◌, ◌++◌, length, min, Option, Some, None, is_some, if◌then◌else◌, refl, ap, sym, subst, ◌∙◌, arith}
 use Rattle.std.proofs.lemmas.Bool.{eq-eqb, false≢true}
 use Rattle.lnbd_model.specs.declared.target.Place.{Place}
 use Rattle.lnbd_link.specs.Call as wire
@@ -71,6 +71,13 @@ wanted_is planned = elim (nat_lt planned.at (windows.window_end planned)) as (λ
   | false ↦ λ none. absurd (false≢true none)
 ]
 
+wanted_below : (planned : windows.Seen) → is_some (windows.wanted planned) ≡ true → planned.at < windows.window_end planned
+wanted_below planned some = ltb-true planned.at (windows.window_end planned) (is_less (nat_lt planned.at (windows.window_end planned)) some)
+  where
+    is_less : (b : Bool) → is_some {T = ℕ × ℕ} (if b then Some (planned.at, windows.window_end planned - planned.at) else None) ≡ true → b ≡ true
+    is_less true some = refl
+    is_less false some = absurd (false≢true some)
+
 -- Of a copy that is under way, whatever it is at.
 module _ (j : work.Seen) (way : Way) (now : board.Seen) (calls : List wire.Call) (held : List (Held Ticket)) (parting : Bool) (is : work.IsJob j way now) (on : IsUnderWay parting way now calls held) (two : way.from ≢ way.to) where
   -- what stands with all handles taken out
@@ -108,6 +115,7 @@ module _ (j : work.Seen) (way : Way) (now : board.Seen) (calls : List wire.Call)
         planned = planned_to;
         unfinished = 0;
         are = subst (λ (how : How). AreBegun how (dealt_with way.from calls) (dealt_with way.to calls) way.slices 0) is.how ended.0;
+        begins = omega (arith, none);
         requests = subst (λ (n : ℕ). AreUnderWay way.from way.to n calls) (omega (arith, none)) ended.1;
         extents = λ less left. absurd (omega (arith, left, all));
       }
@@ -129,6 +137,7 @@ module _ (j : work.Seen) (way : Way) (now : board.Seen) (calls : List wire.Call)
     unfinished = length now.rows;
     are = subst (λ (how : How). AreBegun how (dealt_with way.from calls) (dealt_with way.to calls) way.slices (length now.rows)) is.how
         (quiet_are_begun way.from way.to way.size way.how on.has way.slices now calls on.seens on.stands.between well (all_stand held on.seens on.at) (none_writes held on.seens on.at written) on.all two full.requests);
+    begins = full.slices;
     requests = subst (λ (n : ℕ). AreUnderWay way.from way.to n calls) (full.requests ∙ full.slices)
         (quiet_counts way.from way.to way.size way.how on.has way.slices now calls on.seens on.stands.between well (all_stand held on.seens on.at) (none_writes held on.seens on.at written) on.all two);
     extents = λ less left.
@@ -139,6 +148,7 @@ module _ (j : work.Seen) (way : Way) (now : board.Seen) (calls : List wire.Call)
         record {
           at = j.windows.at;
           ahead = is.heard.planned;
+          inside = subst (λ (size : ℕ). j.windows.at < min (j.windows.plan.end + windows.window) size) ends (wanted_below j.windows some);
           asks = subst (λ (size : ℕ). AsksExtentsOf (j.windows.at, min (j.windows.plan.end + windows.window) size - j.windows.at) way.from calls) ends
               (awaits (j.windows.at, windows.window_end j.windows - j.windows.at) (is.asked ∙ ap (λ (b : Bool). if b then windows.wanted j.windows else None) awaited.awaited ∙ wanted) awaited);
         };

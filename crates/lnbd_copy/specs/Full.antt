@@ -30,9 +30,10 @@ pub record ArePlannedTo (end : ℕ) (from : Place) (size : ℕ) (cells : Cells) 
 pub record AsksForWindow (start : ℕ) (from : Place) (size : ℕ) (calls : List wire.Call) : Type 0 where
   pub at : ℕ
   pub ahead : start ≤ at
+  pub inside : at < min (start + window) size
   pub asks : AsksExtentsOf (at, min (start + window) size - at) from calls
 
--- As much is under way as may be, in a copy on these terms: of READ, WRITE and WRITE_ZEROES as many are unanswered as planned slices are not finished, but no more than the limit; and
+-- As much is under way as may be, in a copy on these terms: as many slices are begun and not finished as are planned and not finished, but no more than the limit; of READ, WRITE and WRITE_ZEROES as many are unanswered; and
 -- where those slices are fewer than the limit, and windows are left, so is one BLOCK_STATUS.
 pub record IsFull (terms : Terms) (from to : Place) (calls : List wire.Call) : Type 0 where
   -- the planned slices that were begun, and those still to come
@@ -44,6 +45,7 @@ pub record IsFull (terms : Terms) (from to : Place) (calls : List wire.Call) : T
   -- of those begun so many are not finished
   pub unfinished : ℕ
   pub are : AreBegun terms.how (dealt_with from calls) (dealt_with to calls) begun unfinished
+  pub begins : unfinished ≡ min terms.limit (unfinished + length left)
   pub requests : AreUnderWay from to (min terms.limit (unfinished + length left)) calls
   pub extents : unfinished + length left < terms.limit → end < terms.size → AsksForWindow end from terms.size calls
 

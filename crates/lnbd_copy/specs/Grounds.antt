@@ -1,5 +1,5 @@
 -- What the connections of a copy were told for which it does not end well: by the handles that are held, and by the calls on the wires.
-use Rattle.std.specs.Prelude.{◌≡◌, ◌==◌, ◌<◌, ℕ, Bool, true, false, ◌⊎◌, List, Option, Some, None, slice_get, if◌then◌else◌}
+use Rattle.std.specs.Prelude.{◌≡◌, ◌==◌, ◌<◌, ℕ, Bool, true, false, ◌⊎◌, List, [], ◌∷◌, Option, Some, None, slice_get, if◌then◌else◌}
 use Rattle.lnbd_model.specs.declared.breach.Broken.{Broken}
 use Rattle.lnbd_model.specs.declared.breach.Broken.TheVariants as broken
 use Rattle.lnbd_model.specs.declared.errors.TheConstants.{ENOTCONN, EPROTO}
@@ -26,6 +26,7 @@ use Rattle.lnbd_course.specs.Failed.{SideFails}
 use Rattle.lnbd_copy.specs.declared.sides.Sides.{Sides}
 use Rattle.lnbd_copy.specs.DrivenBy.{DrivenBy}
 pub use Rattle.lnbd_copy.specs.Lasting.{AtSome, Lasts}
+use Rattle.lnbd_copy.specs.Links.{ConnectTo}
 use Rattle.lnbd_copy.specs.Terms.{broken_rule}
 use Rattle.lnbd_copy.specs.Way.{IsUnderWay, Stand, Told, Way, is_source}
 
@@ -112,13 +113,14 @@ pub record Drove (place : Place) (Is : History Ticket → Type 0) (calls : List 
   pub name : name_set history ≡ place.name
   pub is : Is history
 
--- Between what was told of both places, this is the first rule that does not hold; or all hold.
+-- Between what was told of both places, when one connection to each had been made and no other, this is the first rule that does not hold; or all hold.
 pub record Settle (from to : Place) (rule : Option Rule) (calls : List wire.Call) : Type 0 where
   pub source : ExportInfo
   pub destination : ExportInfo
   pub shown : Drove from (IsShown source) calls
   pub shown' : Drove to (IsShown destination) calls
   pub first : broken_rule source destination ≡ rule
+  pub only : ConnectTo (from.to ∷ to.to ∷ []) calls
 
 -- Two connections to the same side were told of different exports.
 pub record Differ (from to : Place) (calls : List wire.Call) : Type 0 where
@@ -134,7 +136,7 @@ pub record HasDied (from to : Place) (why : Cause) (calls : List wire.Call) : Ty
   pub source : Bool
   pub dead : Drove (place_of from to source) (IsDead why) calls
 
--- What the calls of the transcript show of a fault: for a rule, that it is the first that does not hold between what both sides were told; that connections
+-- What the calls of the transcript show of a fault: for a rule, that it is the first that does not hold between what the first connections of both sides were told; that connections
 -- differ, by two of one side that were told different exports; of a breach, an end and a refused option, a connection that died of it; and of faulty content and
 -- an error that was told, a command of one of the places that came to it.
 abbrev pub BreakOf : (start told : Option (List wire.Call)) → (from to : Place) → Broken → Type 0
@@ -167,7 +169,7 @@ needs_no_ground (fault.Peer option code) = false
 needs_no_ground (fault.Rule rule) = false
 needs_no_ground (fault.Silent idles) = true
 
--- A rule that is told is the first that does not hold by the handles that are held, and a difference is found; but for want of memory nothing else is told.
+-- A difference is found among the handles that are held; but for want of memory nothing else is told.
 abbrev pub FindsBreak : Sides → List (Held Ticket) → Broken → Type 0
 FindsBreak sides held (broken.Breach breach) = ⊥
 FindsBreak sides held broken.Content = ⊥
@@ -179,11 +181,23 @@ FindsFault sides held fault.NoMemory = Unit {0}
 FindsFault sides held (fault.Link before after) = ⊥
 FindsFault sides held (fault.Broke one) = FindsBreak sides held one
 FindsFault sides held (fault.Peer option code) = ⊥
-FindsFault sides held (fault.Rule rule) = Finds (Some rule) held
+FindsFault sides held (fault.Rule rule) = ⊥
 FindsFault sides held (fault.Silent idles) = ⊥
 
 pub record IsFound (sides : Sides) (held : List (Held Ticket)) (why : CopyFault) : Type 0 where
   pub found : FindsFault sides held why
+
+-- A rule that is told is the first that does not hold by the first two handles that are held; but for want of memory nothing else is told.
+abbrev pub RefusesFault : List (Held Ticket) → CopyFault → Type 0
+RefusesFault held fault.NoMemory = Unit {0}
+RefusesFault held (fault.Link before after) = ⊥
+RefusesFault held (fault.Broke one) = ⊥
+RefusesFault held (fault.Peer option code) = ⊥
+RefusesFault held (fault.Rule rule) = Finds (Some rule) held
+RefusesFault held (fault.Silent idles) = ⊥
+
+pub record IsRefused (held : List (Held Ticket)) (why : CopyFault) : Type 0 where
+  pub found : RefusesFault held why
 
 -- It is of a dead connection, or nothing is to be shown of it.
 pub record Blames (held : List (Held Ticket)) (why : CopyFault) : Type 0 where

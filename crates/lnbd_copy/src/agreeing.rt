@@ -6,10 +6,9 @@ ghost use Rattle.lnbd_history.specs.Answers.{direction_after, state_after};
 ghost use Rattle.lnbd_model.specs.declared.state.State.TheVariants as state;
 ghost use Rattle.lnbd_copy.specs.Agreed.{AreAgreed, AreQuiet, Tells};
 ghost use Rattle.lnbd_copy.specs.Causes.{tells_no_count};
-ghost use Rattle.lnbd_copy.specs.Grounds.{AllSame, Answers, AreSame, Happens, IsFound, IsShown};
+ghost use Rattle.lnbd_copy.specs.Grounds.{AllSame, Answers, AreSame, Happens, IsFound, IsRefused, IsShown};
 ghost use Rattle.lnbd_copy.specs.Settled.{FindsTerms};
 ghost use Rattle.lnbd_copy.specs.Statuses.{HasNoContext};
-ghost use Rattle.lnbd_copy.specs.declared.sides.Sides.{Sides as Both};
 
 use crate::counts::of_failure;
 use crate::sides::{FIRST_DESTINATION, FIRST_SOURCE};
@@ -73,7 +72,7 @@ pub(crate) fn agree(handles: &Handles<Ticket>, options: CopyOptions) -> Result<T
     ensures agrees { IfOk result (λ terms. AreAgreed options terms handles.now) }
     ensures free { IfErr result (λ told. tells_no_count told ≡ true) }
     ensures settles { IfOk result (λ terms. FindsTerms options terms handles.now) }
-    ensures found { IfErr result (λ told. (sides : Both) → IsFound sides handles.now told) }
+    ensures found { IfErr result (λ told. IsRefused handles.now told) }
 {
     let source = info_of(handles, FIRST_SOURCE)?;
     let destination = info_of(handles, FIRST_DESTINATION)?;

@@ -21,7 +21,7 @@ ghost use Rattle.lnbd_copy.specs.Flushed.{HasFlushed};
 ghost use Rattle.lnbd_copy.specs.Grounds.{AllSame, FailsOn, IsGrounded, Lasts, needs_no_ground};
 ghost use Rattle.lnbd_copy.specs.declared.terms.Terms.{Terms as Settled};
 ghost use Rattle.lnbd_copy.specs.Made.{IsMade};
-ghost use Rattle.lnbd_copy.specs.Links.{HaveSameLinks, LinksAreKept, LinksGo, LinksGoTo};
+ghost use Rattle.lnbd_copy.specs.Links.{HaveSameLinks, LinksAreKept, LinksGo, LinksGoTo, LinksStand};
 ghost use Rattle.lnbd_copy.specs.Opening.{Dials};
 ghost use Rattle.lnbd_copy.specs.Paused.{PausesAreFull};
 ghost use Rattle.lnbd_copy.specs.Pauses.{AtEachPause, LeavesFull, Pauses, Unpaused, WantsInVain, WantsOnlyFull};
@@ -143,7 +143,7 @@ impl Copier {
         ensures connects { OnOk result (LinksGoAsTold self.old.options self.old.from self.old.to self.old.held (W.told wires.old) self.new.held (W.told wires.new)) }
 
         // Whatever came of it, it paused only while a connection negotiated, unless it waited to write.
-        ensures unready { Told (W.told wires.old) (W.told wires.new) (AtEachPause IsOpeningPause) }
+        ensures unready { Told (W.told wires.old) (W.told wires.new) (AtEachPause (IsOpeningPause self.old.from self.old.to)) }
         // At each pause a link was wanted for writing only where the last write on it since the pause before took nothing.
         ensures writes { Told (W.told wires.old) (W.told wires.new) (AtEachPause WantsOnlyFull) }
         // It was wanted for reading only where a read on it told that nothing is there yet, and nothing happened since on any link.
@@ -178,7 +178,7 @@ impl Copier {
         ensures kept { self.new ≡ record self.old { held = self.new.held; board = self.new.board; job = self.new.job } }
         ensures begins { OnOk result (IsOnItsWay (W.told wires.old) (W.told wires.new) self.new) }
         ensures unasked { Told (W.told wires.old) (W.told wires.new) (AsksNothing self.old.from self.old.to) }
-        ensures unready { Told (W.told wires.old) (W.told wires.new) (AtEachPause IsEarlyPause) }
+        ensures unready { Told (W.told wires.old) (W.told wires.new) (AtEachPause (IsEarlyPause self.old.from self.old.to)) }
         ensures vain { Pauses WantsInVain (W.told wires.old) (W.told wires.new) }
         ensures wanted { Pauses WantsSome (W.told wires.old) (W.told wires.new) }
         ensures causes { IfErr result (λ told. HasCause self.old.start (W.faults wires.new) (W.idles wires.new) told) }
@@ -208,7 +208,7 @@ impl Copier {
         ensures size { IfOk result (λ terms. terms.size ≤ 2 ^ 63) }
         ensures unasked { Told (W.told wires.old) (W.told wires.new) (AsksNothing self.old.from self.old.to) }
         ensures unissued { OnOk result (Told (W.told wires.old) (W.told wires.new) (λ calls. AreUnissued self.new.held)) }
-        ensures unready { Told (W.told wires.old) (W.told wires.new) (AtEachPause IsEarlyPause) }
+        ensures unready { Told (W.told wires.old) (W.told wires.new) (AtEachPause (IsEarlyPause self.old.from self.old.to)) }
         ensures vain { Pauses WantsInVain (W.told wires.old) (W.told wires.new) }
         ensures wanted { Pauses WantsSome (W.told wires.old) (W.told wires.new) }
         ensures causes { IfErr result (λ told. HasCause self.old.start (W.faults wires.new) (W.idles wires.new) told) }
@@ -325,7 +325,7 @@ impl Copier {
         ensures further { OnOk result (GoesFurther self.old sides 2 self.old.board self.old.held (W.told wires.old) self.new.board self.new.held (W.told wires.new)) }
         ensures quiet { OnOk result (AreQuiet self.new.held) }
         ensures unasked { (start : Option (List Call)) (terms : Settled) → HasMet self.old start (W.told wires.old) terms → sides ≡ terms.sides → Told start (W.told wires.old) (λ calls. AreUnissued self.old.held) → length self.old.held ≡ 2 → Told start (W.told wires.new) (AsksNothing self.old.from self.old.to) }
-        ensures unready { (start : Option (List Call)) (terms : Settled) → HasMet self.old start (W.told wires.old) terms → sides ≡ terms.sides → length self.old.held ≡ 2 → Told start (W.told wires.old) (AtEachPause IsEarlyPause) → Told start (W.told wires.new) (AtEachPause IsEarlyPause) }
+        ensures unready { (start : Option (List Call)) (terms : Settled) → HasMet self.old start (W.told wires.old) terms → sides ≡ terms.sides → length self.old.held ≡ 2 → Told start (W.told wires.old) (LinksStand self.old.held) → Told start (W.told wires.old) (AtEachPause (IsEarlyPause self.old.from self.old.to)) → Told start (W.told wires.new) (AtEachPause (IsEarlyPause self.old.from self.old.to)) }
         ensures vain { Stand self.old.held → Pauses WantsInVain (W.told wires.old) (W.told wires.new) }
         ensures wanted { Stand self.old.held → Pauses WantsSome (W.told wires.old) (W.told wires.new) }
         ensures causes { IfErr result (λ told. HasCause self.old.start (W.faults wires.new) (W.idles wires.new) told) }

@@ -13,8 +13,8 @@ use Rattle.lnbd_copy.proofs.dialing.settle.Goals as goal
 pub turns-preserved : goal.turns-preserved
 turns-preserved g c = record {
   goes = goes_on _ _ _ _ _ _ _ _ _ c.turns.invariant.goes (goes_on _ _ _ _ _ _ _ _ _ (turned_goes _ _ _ _ c.in_ok-told.told _ _ _ _ c.in_ok-told.ensures.ok) (c.in_ok-rest.ensures.goes c.turn.new.world));
-  unready = unready_then _ _ _ _ _ _ _ c.turns.invariant.goes c.turns.invariant.unready
-      (unready_then _ _ _ _ _ _ _ (turned_goes _ _ _ _ c.in_ok-told.told _ _ _ _ c.in_ok-told.ensures.ok) (unready_turn _ _ _ _ c.in_ok-told.told _ _ _ _ c.in_ok-told.ensures.ok) (c.in_ok-rest.ensures.unready c.turn.new.world));
+  unready = unready_then _ _ _ _ _ _ _ c.turns.invariant.goes c.turns.invariant.links c.turns.invariant.unready
+      (unready_then _ _ _ _ _ _ _ (turned_goes _ _ _ _ c.in_ok-told.told _ _ _ _ c.in_ok-told.ensures.ok) (links_turned _ _ _ _ c.in_ok-told.told _ _ _ _ c.in_ok-told.ensures.ok) (unready_turn _ _ _ _ c.in_ok-told.told _ _ _ _ c.in_ok-told.ensures.ok) (c.in_ok-rest.ensures.unready c.turn.new.world));
   vain = λ stand.
       let here = c.turns.invariant.goes.stand stand in
       pauses_then _ _ _ (c.turns.invariant.vain stand)
@@ -63,7 +63,7 @@ returns-in_err-rest-clause-asks g c =
 
 pub returns-in_err-told-clause-unready : goal.returns-in_err-told-clause-unready
 returns-in_err-told-clause-unready g c =
-    unready_then _ _ _ _ _ _ _ c.turns.invariant.goes c.turns.invariant.unready (unready_unpaused _ _ _ _ (short_unpaused _ _ _ _ _ _ _ _ c.in_err-told.ensures.short))
+    unready_then _ _ _ _ _ _ _ c.turns.invariant.goes c.turns.invariant.links c.turns.invariant.unready (unready_unpaused _ _ _ _ (short_unpaused _ _ _ _ _ _ _ _ c.in_err-told.ensures.short))
 
 pub returns-in_err-told-clause-vain : goal.returns-in_err-told-clause-vain
 returns-in_err-told-clause-vain g c stand =
@@ -71,7 +71,7 @@ returns-in_err-told-clause-vain g c stand =
 
 pub returns-in_err-check-clause-unready : goal.returns-in_err-check-clause-unready
 returns-in_err-check-clause-unready g c =
-    unready_then _ _ _ _ _ _ _ c.turns.invariant.goes c.turns.invariant.unready (unready_turn _ _ _ _ c.in_ok-told.told _ _ _ _ c.in_ok-told.ensures.ok)
+    unready_then _ _ _ _ _ _ _ c.turns.invariant.goes c.turns.invariant.links c.turns.invariant.unready (unready_turn _ _ _ _ c.in_ok-told.told _ _ _ _ c.in_ok-told.ensures.ok)
 
 pub returns-in_err-check-clause-vain : goal.returns-in_err-check-clause-vain
 returns-in_err-check-clause-vain g c stand =
@@ -80,8 +80,8 @@ returns-in_err-check-clause-vain g c stand =
 pub returns-in_err-rest-clause-unready : goal.returns-in_err-rest-clause-unready
 returns-in_err-rest-clause-unready g c =
     let goes = turned_goes _ _ _ _ c.in_ok-told.told _ _ _ _ c.in_ok-told.ensures.ok in
-    unready_then _ _ _ _ _ _ _ c.turns.invariant.goes c.turns.invariant.unready
-    (unready_then _ _ _ _ _ _ _ goes (unready_turn _ _ _ _ c.in_ok-told.told _ _ _ _ c.in_ok-told.ensures.ok) (c.in_err-rest.ensures.unready c.turn.new.world))
+    unready_then _ _ _ _ _ _ _ c.turns.invariant.goes c.turns.invariant.links c.turns.invariant.unready
+    (unready_then _ _ _ _ _ _ _ goes (links_turned _ _ _ _ c.in_ok-told.told _ _ _ _ c.in_ok-told.ensures.ok) (unready_turn _ _ _ _ c.in_ok-told.told _ _ _ _ c.in_ok-told.ensures.ok) (c.in_err-rest.ensures.unready c.turn.new.world))
 
 pub returns-in_err-rest-clause-vain : goal.returns-in_err-rest-clause-vain
 returns-in_err-rest-clause-vain g c stand =

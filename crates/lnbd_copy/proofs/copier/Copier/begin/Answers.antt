@@ -6,7 +6,7 @@ use Rattle.lnbd_copy.specs.Connects.{LinksGoWithin}
 use Rattle.lnbd_copy.specs.Links.{LinksGo}
 use Rattle.lnbd_copy.proofs.ConnectLemmas.{within_end}
 use Rattle.lnbd_copy.proofs.UnaskedLemmas.{told_unasked, unasked_as}
-use Rattle.lnbd_copy.proofs.PausedLemmas.{early_opening, early_waits, told_stays}
+use Rattle.lnbd_copy.proofs.PausedLemmas.{early_opening, early_waits, opening_as, told_stays}
 use Rattle.lnbd_copy.proofs.VainLemmas.{vain_empty, vain_full}
 use Rattle.lnbd_copy.proofs.copier.Copier.begin.Goals as goal
 
@@ -33,16 +33,16 @@ pub returns-then-is_err-clause-writes : goal.returns-then-is_err-clause-writes
 returns-then-is_err-clause-writes g c = vain_full _ _ (pauses_then _ _ _ c.connect-told.ensures.vain (pauses_unpaused _ _ c.shut_all.ensures.unpaused))
 
 pub returns-then-is_err-clause-unready : goal.returns-then-is_err-clause-unready
-returns-then-is_err-clause-unready g c = told_stays _ _ _ c.shut_all.ensures.unpaused (early_opening _ _ c.connect-told.ensures.unready)
+returns-then-is_err-clause-unready g c = opening_as _ _ _ _ c.self.view_is (told_stays _ _ _ c.shut_all.ensures.unpaused (early_opening _ _ _ _ c.connect-told.ensures.unready))
 
 pub returns-then-is_err-clause-waits : goal.returns-then-is_err-clause-waits
-returns-then-is_err-clause-waits g c = told_stays _ _ _ c.shut_all.ensures.unpaused (early_waits _ _ c.connect-told.ensures.unready)
+returns-then-is_err-clause-waits g c = told_stays _ _ _ c.shut_all.ensures.unpaused (early_waits _ _ _ _ c.connect-told.ensures.unready)
 
 pub returns-else-is_err-clause-unready : goal.returns-else-is_err-clause-unready
-returns-else-is_err-clause-unready g c = early_opening _ _ c.connect-told.ensures.unready
+returns-else-is_err-clause-unready g c = opening_as _ _ _ _ c.self.view_is (early_opening _ _ _ _ c.connect-told.ensures.unready)
 
 pub returns-else-is_err-clause-waits : goal.returns-else-is_err-clause-waits
-returns-else-is_err-clause-waits g c = early_waits _ _ c.connect-told.ensures.unready
+returns-else-is_err-clause-waits g c = early_waits _ _ _ _ c.connect-told.ensures.unready
 
 pub returns-else-is_err-clause-reads : goal.returns-else-is_err-clause-reads
 returns-else-is_err-clause-reads g c = vain_empty _ _ c.connect-told.ensures.vain

@@ -5,8 +5,10 @@ use Rattle.lnbd_copy.proofs.CauseLemmas.{goes_then}
 use Rattle.lnbd_copy.proofs.CopierLemmas.{met_further}
 use Rattle.lnbd_copy.proofs.GroundLemmas.{grounded_as, same_fails, handed_on}
 use Rattle.lnbd_copy.proofs.PauseLemmas.{pauses_then}
-use Rattle.lnbd_copy.proofs.LinkLemmas.{links_same}
+use Rattle.lnbd_copy.proofs.LinkLemmas.{links_begin, links_same}
+use Rattle.lnbd_copy.proofs.PausedLemmas.{early_back, early_kept}
 use Rattle.lnbd_copy.proofs.ConnectLemmas.{told_end, told_met, within_first, within_met, within_told}
+use Rattle.lnbd_copy.proofs.UnaskedLemmas.{unasked_as}
 use Rattle.lnbd_copy.proofs.copier.Copier.connect.Goals as goal
 
 pub returns-clause-begins : goal.returns-clause-begins
@@ -15,7 +17,10 @@ returns-clause-begins g c =
     (met_further c.meet.new.self c.dial_further.new.self _ _ _ c.in_ok-terms.terms c.in_ok-dial_further.ensures.kept c.in_ok-terms.ensures.met c.in_ok-terms.ensures.two c.in_ok-dial_further.ensures.further)
 
 pub returns-clause-unready : goal.returns-clause-unready
-returns-clause-unready g c = c.dial_further.ensures.unready (g.W.Wires.told c.args.wires.now) c.in_ok-terms.terms c.in_ok-terms.ensures.met refl c.in_ok-terms.ensures.two c.in_ok-terms.ensures.unready
+returns-clause-unready g c =
+    early_back c.args.self.now c.meet.new.self _ _ c.in_ok-terms.ensures.kept
+    (c.dial_further.ensures.unready (g.W.Wires.told c.args.wires.now) c.in_ok-terms.terms c.in_ok-terms.ensures.met refl c.in_ok-terms.ensures.two
+    (c.in_ok-terms.ensures.connects.on _ (links_begin _ _ c.requires.begun.held)) (early_kept c.args.self.now c.meet.new.self _ _ c.in_ok-terms.ensures.kept c.in_ok-terms.ensures.unready))
 
 pub check_same-requires : goal.check_same-requires
 check_same-requires g c = subst (λ (s : Seen). AreQuiet s.held) (sym c.self.view_is) c.in_ok-dial_further.ensures.quiet
@@ -74,25 +79,37 @@ returns-clause-connects g c =
     told_end _ _ _ _ _ _ _ _ _ (told_met c.args.self.now c.meet.new.self _ _ _ _ c.in_ok-terms.terms c.in_ok-terms.ensures.kept c.in_ok-terms.ensures.met c.in_ok-terms.ensures.connects c.in_ok-dial_further.ensures.connects) (links_same _ _ _ c.in_ok-set_up.ensures.links)
 
 pub returns-in_err-dial_further-clause-unready : goal.returns-in_err-dial_further-clause-unready
-returns-in_err-dial_further-clause-unready g c = c.dial_further.ensures.unready (g.W.Wires.told c.args.wires.now) c.in_ok-terms.terms c.in_ok-terms.ensures.met refl c.in_ok-terms.ensures.two c.in_ok-terms.ensures.unready
+returns-in_err-dial_further-clause-unready g c =
+    early_back c.args.self.now c.meet.new.self _ _ c.in_ok-terms.ensures.kept
+    (c.dial_further.ensures.unready (g.W.Wires.told c.args.wires.now) c.in_ok-terms.terms c.in_ok-terms.ensures.met refl c.in_ok-terms.ensures.two
+    (c.in_ok-terms.ensures.connects.on _ (links_begin _ _ c.requires.begun.held)) (early_kept c.args.self.now c.meet.new.self _ _ c.in_ok-terms.ensures.kept c.in_ok-terms.ensures.unready))
 
 pub returns-in_err-dial_further-clause-vain : goal.returns-in_err-dial_further-clause-vain
 returns-in_err-dial_further-clause-vain g c = pauses_then _ _ _ c.in_ok-terms.ensures.vain (c.dial_further.ensures.vain c.in_ok-terms.ensures.met.stand)
 
 pub returns-in_err-check_same-clause-unready : goal.returns-in_err-check_same-clause-unready
-returns-in_err-check_same-clause-unready g c = c.dial_further.ensures.unready (g.W.Wires.told c.args.wires.now) c.in_ok-terms.terms c.in_ok-terms.ensures.met refl c.in_ok-terms.ensures.two c.in_ok-terms.ensures.unready
+returns-in_err-check_same-clause-unready g c =
+    early_back c.args.self.now c.meet.new.self _ _ c.in_ok-terms.ensures.kept
+    (c.dial_further.ensures.unready (g.W.Wires.told c.args.wires.now) c.in_ok-terms.terms c.in_ok-terms.ensures.met refl c.in_ok-terms.ensures.two
+    (c.in_ok-terms.ensures.connects.on _ (links_begin _ _ c.requires.begun.held)) (early_kept c.args.self.now c.meet.new.self _ _ c.in_ok-terms.ensures.kept c.in_ok-terms.ensures.unready))
 
 pub returns-in_err-check_same-clause-vain : goal.returns-in_err-check_same-clause-vain
 returns-in_err-check_same-clause-vain g c = pauses_then _ _ _ c.in_ok-terms.ensures.vain (c.dial_further.ensures.vain c.in_ok-terms.ensures.met.stand)
 
 pub returns-in_err-check_well-clause-unready : goal.returns-in_err-check_well-clause-unready
-returns-in_err-check_well-clause-unready g c = c.dial_further.ensures.unready (g.W.Wires.told c.args.wires.now) c.in_ok-terms.terms c.in_ok-terms.ensures.met refl c.in_ok-terms.ensures.two c.in_ok-terms.ensures.unready
+returns-in_err-check_well-clause-unready g c =
+    early_back c.args.self.now c.meet.new.self _ _ c.in_ok-terms.ensures.kept
+    (c.dial_further.ensures.unready (g.W.Wires.told c.args.wires.now) c.in_ok-terms.terms c.in_ok-terms.ensures.met refl c.in_ok-terms.ensures.two
+    (c.in_ok-terms.ensures.connects.on _ (links_begin _ _ c.requires.begun.held)) (early_kept c.args.self.now c.meet.new.self _ _ c.in_ok-terms.ensures.kept c.in_ok-terms.ensures.unready))
 
 pub returns-in_err-check_well-clause-vain : goal.returns-in_err-check_well-clause-vain
 returns-in_err-check_well-clause-vain g c = pauses_then _ _ _ c.in_ok-terms.ensures.vain (c.dial_further.ensures.vain c.in_ok-terms.ensures.met.stand)
 
 pub returns-in_err-set_up-clause-unready : goal.returns-in_err-set_up-clause-unready
-returns-in_err-set_up-clause-unready g c = c.dial_further.ensures.unready (g.W.Wires.told c.args.wires.now) c.in_ok-terms.terms c.in_ok-terms.ensures.met refl c.in_ok-terms.ensures.two c.in_ok-terms.ensures.unready
+returns-in_err-set_up-clause-unready g c =
+    early_back c.args.self.now c.meet.new.self _ _ c.in_ok-terms.ensures.kept
+    (c.dial_further.ensures.unready (g.W.Wires.told c.args.wires.now) c.in_ok-terms.terms c.in_ok-terms.ensures.met refl c.in_ok-terms.ensures.two
+    (c.in_ok-terms.ensures.connects.on _ (links_begin _ _ c.requires.begun.held)) (early_kept c.args.self.now c.meet.new.self _ _ c.in_ok-terms.ensures.kept c.in_ok-terms.ensures.unready))
 
 pub returns-in_err-set_up-clause-vain : goal.returns-in_err-set_up-clause-vain
 returns-in_err-set_up-clause-vain g c = pauses_then _ _ _ c.in_ok-terms.ensures.vain (c.dial_further.ensures.vain c.in_ok-terms.ensures.met.stand)
@@ -111,3 +128,18 @@ returns-in_err-check_well-clause-wanted g c = pauses_then _ _ _ c.in_ok-terms.en
 
 pub returns-in_err-set_up-clause-wanted : goal.returns-in_err-set_up-clause-wanted
 returns-in_err-set_up-clause-wanted g c = pauses_then _ _ _ c.in_ok-terms.ensures.wanted (c.dial_further.ensures.wanted c.in_ok-terms.ensures.met.stand)
+
+pub returns-in_err-check_well-clause-unasked : goal.returns-in_err-check_well-clause-unasked
+returns-in_err-check_well-clause-unasked g c =
+    unasked_as _ _ _ _ _ _ (ap (λ (s : Seen). s.from) c.in_ok-terms.ensures.kept) (ap (λ (s : Seen). s.to) c.in_ok-terms.ensures.kept)
+    (c.dial_further.ensures.unasked _ c.in_ok-terms.terms c.in_ok-terms.ensures.met refl c.in_ok-terms.ensures.unissued c.in_ok-terms.ensures.two)
+
+pub returns-in_err-set_up-clause-unasked : goal.returns-in_err-set_up-clause-unasked
+returns-in_err-set_up-clause-unasked g c =
+    unasked_as _ _ _ _ _ _ (ap (λ (s : Seen). s.from) c.in_ok-terms.ensures.kept) (ap (λ (s : Seen). s.to) c.in_ok-terms.ensures.kept)
+    (c.dial_further.ensures.unasked _ c.in_ok-terms.terms c.in_ok-terms.ensures.met refl c.in_ok-terms.ensures.unissued c.in_ok-terms.ensures.two)
+
+pub returns-clause-unasked : goal.returns-clause-unasked
+returns-clause-unasked g c =
+    unasked_as _ _ _ _ _ _ (ap (λ (s : Seen). s.from) c.in_ok-terms.ensures.kept) (ap (λ (s : Seen). s.to) c.in_ok-terms.ensures.kept)
+    (c.dial_further.ensures.unasked _ c.in_ok-terms.terms c.in_ok-terms.ensures.met refl c.in_ok-terms.ensures.unissued c.in_ok-terms.ensures.two)

@@ -66,7 +66,7 @@ turns-preserved g c =
 pub turns-init : goal.turns-init
 turns-init g c =
     let begun = c.in_ok-begin.ensures in
-    record { start = begun.began; kept = begun.kept; on = begun.begins; pauses = fine_open c.begin.new.self _ _ begun.unready; writes = begun.writes; connects = begun.connects; fair = λ two. told_behaves _ _ _ _ _ c.begin.ensures.unasked; waits = begun.waits; counts = begun.counts; reads = begun.reads; wanted = begun.wanted }
+    record { start = begun.began; kept = begun.kept; on = begun.begins; pauses = fine_open c.args.self.now c.begin.new.self _ _ begun.kept begun.unready; writes = begun.writes; connects = begun.connects; fair = λ two. told_behaves _ _ _ _ _ c.begin.ensures.unasked; waits = begun.waits; counts = begun.counts; reads = begun.reads; wanted = begun.wanted }
 
 pub turn-requires-clause-going : goal.turn-requires-clause-going
 turn-requires-clause-going g c = record { start = g.W.Wires.told c.args.wires.now; on = c.turns.invariant.on }
@@ -137,7 +137,7 @@ pub returns-in-Finished-clause-fair : goal.returns-in-Finished-clause-fair
 returns-in-Finished-clause-fair g c two = fair_on c.args.self.now c.turns.self (g.W.Wires.told c.args.wires.now) _ _ c.turns.invariant.kept (c.turn.ensures.fair (g.W.Wires.told c.args.wires.now)) c.turns.invariant.on c.turns.invariant.fair two
 
 pub returns-in_err-begin-clause-pauses : goal.returns-in_err-begin-clause-pauses
-returns-in_err-begin-clause-pauses g c = fine_open c.begin.new.self _ _ c.begin.ensures.unready
+returns-in_err-begin-clause-pauses g c = fine_open c.args.self.now c.begin.new.self _ _ c.begin.ensures.kept c.begin.ensures.unready
 
 pub returns-in_err-turn-clause-pauses : goal.returns-in_err-turn-clause-pauses
 returns-in_err-turn-clause-pauses g c = fine_turn c.turns.self c.turn.new.self (g.W.Wires.told c.args.wires.now) _ _ c.turn.ensures.kept c.turn.ensures.unpaused c.turns.invariant.pauses

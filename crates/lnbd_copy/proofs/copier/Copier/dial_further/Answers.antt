@@ -18,11 +18,12 @@ returns-clause-further g c =
     on_ok_weaker c.settle.result (λ goes. further_goes c.args.self.now c.args.sides 2 _ _ _ _ _ _ _ _ _ both goes) c.settle.ensures.goes
 
 pub returns-clause-unready : goal.returns-clause-unready
-returns-clause-unready g c start terms met same count pauses =
+returns-clause-unready g c start terms met same count links pauses =
     let one = c.in_ok-dial_sources.ensures.further in
     let two = further_kept c.args.self.now c.dial_sources.new.self c.args.sides (c.args.sides.source + 1) _ _ _ _ _ _ c.in_ok-dial_sources.ensures.kept c.in_ok-dial_destinations.ensures.further in
     let both = further_then c.args.self.now c.args.sides 2 (c.args.sides.source + 1) _ _ _ _ _ _ _ _ _ one two c.in_ok-dial_sources.ensures.many in
-    further_unready c.args.self.now c.args.sides _ _ start _ _ _ _ terms both c.dial_sources.ensures.unpaused c.dial_destinations.ensures.unpaused c.settle.ensures.unready met same count pauses
+    let connects = (both_made (replicate (c.args.sides.source - 1) c.args.self.now.from.to) (replicate (c.args.sides.destination - 1) c.args.self.now.to.to) (replicate (c.args.sides.destination - 1) c.dial_sources.new.self.to.to) _ _ _ _ _ _ (ap (λ (s : Seen). replicate (c.args.sides.destination - 1) s.to.to) c.in_ok-dial_sources.ensures.kept) c.in_ok-dial_sources.ensures.connects c.in_ok-dial_destinations.ensures.connects) in
+    further_unready c.args.self.now c.args.sides _ _ _ start _ _ _ _ terms both connects c.dial_sources.ensures.unpaused c.dial_destinations.ensures.unpaused c.settle.ensures.unready met same count links pauses
 
 pub returns-clause-grounds : goal.returns-clause-grounds
 returns-clause-grounds g c =
@@ -67,10 +68,10 @@ returns-clause-unasked g c start terms met same none two =
     further_unasked c.args.self.now c.dial_destinations.new.self c.args.sides start _ _ _ both c.settle.ensures.asks (λ n. c.in_ok-dial_destinations.ensures.unissued (c.in_ok-dial_sources.ensures.unissued n)) terms met same none two
 
 pub returns-in_err-dial_sources-clause-unready : goal.returns-in_err-dial_sources-clause-unready
-returns-in_err-dial_sources-clause-unready g c start terms met same two pauses = told_stays start _ _ c.dial_sources.ensures.unpaused pauses
+returns-in_err-dial_sources-clause-unready g c start terms met same two links pauses = told_stays start _ _ c.dial_sources.ensures.unpaused pauses
 
 pub returns-in_err-dial_destinations-clause-unready : goal.returns-in_err-dial_destinations-clause-unready
-returns-in_err-dial_destinations-clause-unready g c start terms met same two pauses = told_stays start _ _ (unpaused_then _ _ _ c.dial_sources.ensures.unpaused c.dial_destinations.ensures.unpaused) pauses
+returns-in_err-dial_destinations-clause-unready g c start terms met same two links pauses = told_stays start _ _ (unpaused_then _ _ _ c.dial_sources.ensures.unpaused c.dial_destinations.ensures.unpaused) pauses
 
 pub returns-in_err-dial_sources-clause-vain : goal.returns-in_err-dial_sources-clause-vain
 returns-in_err-dial_sources-clause-vain g c stand = pauses_unpaused _ _ c.dial_sources.ensures.unpaused

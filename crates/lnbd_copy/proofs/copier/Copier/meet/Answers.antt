@@ -36,6 +36,7 @@ returns-clause-unready g c =
     meet_unready c.args.self.now c.dial_source.new.self c.settle.new.self c.dial_destination.new.self _ _ _ _ _
     c.in_ok-dial_source.ensures.kept c.in_ok-settle.ensures.kept c.in_ok-dial_source.ensures.board c.in_ok-dial_destination.ensures.board
     (dials_as c.args.self.now.options _ _ _ _ _ _ _ (ap (λ (s : Seen). s.options.extents) c.self.view_is) c.in_ok-dial_source.ensures.dials) c.in_ok-settle.ensures.goes c.in_ok-dial_destination.ensures.dials c.requires.begun
+    c.in_ok-dial_source.ensures.connects c.settle.ensures.links c.in_ok-dial_destination.ensures.connects
     c.dial_source.ensures.unpaused c.settle.ensures.unready c.dial_destination.ensures.unpaused c.settle-2.ensures.unready
 
 pub returns-clause-many : goal.returns-clause-many
@@ -73,10 +74,13 @@ returns-in_err-settle-2-clause-grounds g c =
 
 pub returns-clause-grounds : goal.returns-clause-grounds
 returns-clause-grounds g c =
+    let one = c.in_ok-dial_source.ensures.dials.stand (subst Stand (sym c.requires.begun.held) none_stand) in
+    let both = c.in_ok-dial_destination.ensures.dials.stand (c.in_ok-settle.ensures.goes.stand one) in
+    let connects = links_end _ _ _ _ _ _ _ (both_made (c.args.self.now.from.to ∷ []) (c.args.self.now.to.to ∷ []) (c.settle.new.self.to.to ∷ []) _ _ _ _ _ _ (ap (λ (s : Seen). s.to.to ∷ []) c.in_ok-settle.ensures.kept ∙ ap (λ (s : Seen). s.to.to ∷ []) c.in_ok-dial_source.ensures.kept) (links_end _ _ _ _ _ _ _ c.in_ok-dial_source.ensures.connects (c.in_ok-settle.ensures.links one)) c.in_ok-dial_destination.ensures.connects) (c.in_ok-settle-2.ensures.links both) in
     if_err_leads c.agree.result
     (λ why found. found_fails c.args.self.now c.dial_source.new.self c.settle.new.self c.dial_destination.new.self c.settle-2.new.self _ _ _ _ _ c.self-2.inside.handles why
     c.in_ok-dial_source.ensures.kept c.in_ok-settle.ensures.kept c.in_ok-dial_source.ensures.board c.in_ok-dial_destination.ensures.board (ap (λ (s : Seen). s.held) c.self-2.view_is)
-    (dials_as c.args.self.now.options _ _ _ _ _ _ _ (ap (λ (s : Seen). s.options.extents) c.self.view_is) c.in_ok-dial_source.ensures.dials) c.in_ok-settle.ensures.goes c.in_ok-dial_destination.ensures.dials c.in_ok-settle-2.ensures.goes c.requires.begun found)
+    (dials_as c.args.self.now.options _ _ _ _ _ _ _ (ap (λ (s : Seen). s.options.extents) c.self.view_is) c.in_ok-dial_source.ensures.dials) c.in_ok-settle.ensures.goes c.in_ok-dial_destination.ensures.dials c.in_ok-settle-2.ensures.goes c.requires.begun connects found)
     c.agree.ensures.found
 
 pub returns-clause-counts : goal.returns-clause-counts
@@ -148,19 +152,20 @@ returns-clause-unissued g c =
     c.settle.new.self c.dial_destination.new.self _ _ c.in_ok-dial_source.ensures.kept c.in_ok-settle.ensures.kept c.in_ok-dial_destination.ensures.board c.in_ok-settle.ensures.goes c.in_ok-settle.ensures.fresh c.in_ok-dial_destination.ensures.dials c.in_ok-dial_destination.ensures.unissued _ _ _ c.in_ok-settle-2.ensures.fresh)
 
 pub returns-in_err-dial_source-clause-unready : goal.returns-in_err-dial_source-clause-unready
-returns-in_err-dial_source-clause-unready g c = source_dialled _ _ c.dial_source.ensures.unpaused
+returns-in_err-dial_source-clause-unready g c = source_dialled c.args.self.now.from c.args.self.now.to _ _ c.dial_source.ensures.unpaused
 
 pub returns-in_err-settle-clause-unready : goal.returns-in_err-settle-clause-unready
-returns-in_err-settle-clause-unready g c = source_unready c.args.self.now c.dial_source.new.self _ _ _ c.in_ok-dial_source.ensures.board (dials_as c.args.self.now.options _ _ _ _ _ _ _ (ap (λ (s : Seen). s.options.extents) c.self.view_is) c.in_ok-dial_source.ensures.dials) c.requires.begun c.dial_source.ensures.unpaused c.settle.ensures.unready
+returns-in_err-settle-clause-unready g c = source_unready c.args.self.now c.dial_source.new.self _ _ _ c.in_ok-dial_source.ensures.board (dials_as c.args.self.now.options _ _ _ _ _ _ _ (ap (λ (s : Seen). s.options.extents) c.self.view_is) c.in_ok-dial_source.ensures.dials) c.requires.begun c.in_ok-dial_source.ensures.connects c.dial_source.ensures.unpaused c.settle.ensures.unready
 
 pub returns-in_err-dial_destination-clause-unready : goal.returns-in_err-dial_destination-clause-unready
-returns-in_err-dial_destination-clause-unready g c = told_stays _ _ _ c.dial_destination.ensures.unpaused (source_unready c.args.self.now c.dial_source.new.self _ _ _ c.in_ok-dial_source.ensures.board (dials_as c.args.self.now.options _ _ _ _ _ _ _ (ap (λ (s : Seen). s.options.extents) c.self.view_is) c.in_ok-dial_source.ensures.dials) c.requires.begun c.dial_source.ensures.unpaused c.settle.ensures.unready)
+returns-in_err-dial_destination-clause-unready g c = told_stays _ _ _ c.dial_destination.ensures.unpaused (source_unready c.args.self.now c.dial_source.new.self _ _ _ c.in_ok-dial_source.ensures.board (dials_as c.args.self.now.options _ _ _ _ _ _ _ (ap (λ (s : Seen). s.options.extents) c.self.view_is) c.in_ok-dial_source.ensures.dials) c.requires.begun c.in_ok-dial_source.ensures.connects c.dial_source.ensures.unpaused c.settle.ensures.unready)
 
 pub returns-in_err-settle-2-clause-unready : goal.returns-in_err-settle-2-clause-unready
 returns-in_err-settle-2-clause-unready g c =
     meet_unready c.args.self.now c.dial_source.new.self c.settle.new.self c.dial_destination.new.self _ _ _ _ _
     c.in_ok-dial_source.ensures.kept c.in_ok-settle.ensures.kept c.in_ok-dial_source.ensures.board c.in_ok-dial_destination.ensures.board
     (dials_as c.args.self.now.options _ _ _ _ _ _ _ (ap (λ (s : Seen). s.options.extents) c.self.view_is) c.in_ok-dial_source.ensures.dials) c.in_ok-settle.ensures.goes c.in_ok-dial_destination.ensures.dials c.requires.begun
+    c.in_ok-dial_source.ensures.connects c.settle.ensures.links c.in_ok-dial_destination.ensures.connects
     c.dial_source.ensures.unpaused c.settle.ensures.unready c.dial_destination.ensures.unpaused c.settle-2.ensures.unready
 
 pub returns-in_err-dial_source-clause-vain : goal.returns-in_err-dial_source-clause-vain
