@@ -1,77 +1,31 @@
--- The calls of a turn are no pauses, and where nothing happened in it each link that is wanted for writing was written in vain.
-use Rattle.std.proofs.Common.{◌≡◌, ◌≤◌, ◌==◌, ◌||◌, ℕ, Bool, true, false, List, [], ◌∷◌, ◌++◌, length, Option, Some, None, is_some, if◌then◌else◌, refl, ap, sym, ◌∙◌, arith}
+-- The calls of a turn are no pauses.
+use Rattle.std.proofs.Common.{◌≡◌, ◌||◌, ℕ, Bool, true, false, List, [], ◌∷◌, ◌++◌, Option, Some, None, is_some, refl, ap, sym, ◌∙◌}
 use Rattle.std.proofs.lemmas.Bool.{false≢true}
 use Rattle.std.proofs.lemmas.List.Folds.{list_any-append}
 use Rattle.std.specs.List.{list_any}
 use Rattle.lnbd_callbacks.specs.Calls.{Call}
 use Rattle.lnbd_callbacks.specs.Steps.{OneByOne}
 use Rattle.lnbd_history.specs.Events.{History}
-use Rattle.lnbd_history.specs.Answers.{direction_after, direction_of, in_flight_after, out_after, state_after}
-use Rattle.lnbd_model.specs.declared.state.State.{State}
 use Rattle.lnbd_link.specs.Call as wire
-use Rattle.lnbd_link.specs.Call.{Connect, Listen, Accept, Read, Write, Pause, Shut, ReadTold, WriteTold, Sent, Full, WriteFault}
-use Rattle.lnbd_link.specs.declared.wires.Want.{Want}
+use Rattle.lnbd_link.specs.Call.{Read, ReadTold}
 use Rattle.lnbd_poll.specs.declared.noticed.Noticed.{Noticed}
 use Rattle.lnbd_poll.specs.declared.noticed.Noticed.TheVariants as noticed
 use Rattle.lnbd_poll.specs.declared.noticed.Turn.{Turn}
 use Rattle.lnbd_poll.specs.declared.noticed.Turn.TheVariants as turn
-use Rattle.lnbd_poll.specs.Held.{Held, AreAt, is_wanting, want_of, wants_after, with_want}
-use Rattle.lnbd_poll.specs.Notices.{ReadsIf, ReadsOn, Sends, WritesIf, is_reading, is_waiting}
+use Rattle.lnbd_poll.specs.Held.{Held, AreAt}
+use Rattle.lnbd_poll.specs.Notices.{ReadsIf, ReadsOn, WritesIf, is_reading, is_waiting}
 use Rattle.lnbd_poll.specs.Seen.{Seen}
 use Rattle.lnbd_poll.specs.Seen as poll
-use Rattle.lnbd_poll.specs.Still.{WaitWhereFull, is_full}
 use Rattle.lnbd_poll.specs.Turned.{TurnsShort, TurnsWhole}
 use Rattle.lnbd_poll.specs.Turns.{All_took, Ending, Goes_on, Runs_short, Short, Stops, Takes, Turns, TurnsOne, Whole, WritesAll, is_moved, moved_by, together, turn_of, with_moved}
 use Rattle.lnbd_board.specs.declared.ticket.Ticket.{Ticket}
 use Rattle.lnbd_board.specs.Files.{Files}
 use Rattle.lnbd_board.specs.Files as board
-use Rattle.lnbd_copy.specs.Pauses.{HasNoPause, Unpaused, WantsOnlyFull, is_pause, told_after}
+use Rattle.lnbd_copy.specs.Pauses.{HasNoPause, Unpaused, is_pause}
 use Rattle.lnbd_copy.specs.Way.{Stand}
-
--- Writes.
-
--- a write that took bytes, or of which the link failed
-abbrev is_heeded : wire.Call → Bool
-is_heeded (Connect to given) = false
-is_heeded (Listen at listener) = false
-is_heeded (Accept listener answer) = false
-is_heeded (Read n room answer) = false
-is_heeded (Write n offered (Sent bytes)) = true
-is_heeded (Write n offered Full) = false
-is_heeded (Write n offered WriteFault) = true
-is_heeded (Pause wants) = false
-is_heeded (Shut n) = false
 
 pub true_is : {A : Type 0} → true ≡ false → A
 true_is e = absurd (false≢true (sym e))
-
--- Where no write took anything, what was written last took nothing still,
-stays_full : (link : ℕ) (calls : List wire.Call) → list_any is_pause calls ≡ false → list_any is_heeded calls ≡ false → told_after link calls (Some Full) ≡ Some Full
-stays_full link [] unpaused unheeded = refl
-stays_full link (Connect to given ∷ calls) unpaused unheeded = stays_full link calls unpaused unheeded
-stays_full link (Listen at listener ∷ calls) unpaused unheeded = stays_full link calls unpaused unheeded
-stays_full link (Accept listener answer ∷ calls) unpaused unheeded = stays_full link calls unpaused unheeded
-stays_full link (Read n room answer ∷ calls) unpaused unheeded = stays_full link calls unpaused unheeded
-stays_full link (Write n offered (Sent bytes) ∷ calls) unpaused unheeded = true_is unheeded
-stays_full link (Write n offered Full ∷ calls) unpaused unheeded =
-    elim (n == link) as (λ b. told_after link calls (if b then Some Full else Some Full) ≡ Some Full) [ true ↦ stays_full link calls unpaused unheeded | false ↦ stays_full link calls unpaused unheeded ]
-stays_full link (Write n offered WriteFault ∷ calls) unpaused unheeded = true_is unheeded
-stays_full link (Pause wants ∷ calls) unpaused unheeded = true_is unpaused
-stays_full link (Shut n ∷ calls) unpaused unheeded = stays_full link calls unpaused unheeded
-
--- and where one of the link is among them, that was written last.
-ends_full : (link : ℕ) (calls : List wire.Call) (last : Option WriteTold) → list_any is_pause calls ≡ false → list_any is_heeded calls ≡ false → list_any (is_full link) calls ≡ true → told_after link calls last ≡ Some Full
-ends_full link [] last unpaused unheeded some = absurd (false≢true some)
-ends_full link (Connect to given ∷ calls) last unpaused unheeded some = ends_full link calls last unpaused unheeded some
-ends_full link (Listen at listener ∷ calls) last unpaused unheeded some = ends_full link calls last unpaused unheeded some
-ends_full link (Accept listener answer ∷ calls) last unpaused unheeded some = ends_full link calls last unpaused unheeded some
-ends_full link (Read n room answer ∷ calls) last unpaused unheeded some = ends_full link calls last unpaused unheeded some
-ends_full link (Write n offered (Sent bytes) ∷ calls) last unpaused unheeded some = true_is unheeded
-ends_full link (Write n offered Full ∷ calls) last unpaused unheeded some =
-    elim (n == link) as (λ b. (b || list_any (is_full link) calls) ≡ true → told_after link calls (if b then Some Full else last) ≡ Some Full) [ true ↦ λ e. stays_full link calls unpaused unheeded | false ↦ λ e. ends_full link calls last unpaused unheeded e ] some
-ends_full link (Write n offered WriteFault ∷ calls) last unpaused unheeded some = true_is unheeded
-ends_full link (Pause wants ∷ calls) last unpaused unheeded some = true_is unpaused
-ends_full link (Shut n ∷ calls) last unpaused unheeded some = ends_full link calls last unpaused unheeded some
 
 -- The calls of a turn.
 
@@ -128,54 +82,6 @@ module _ {K World : Type 0} (steps : World → List (Call K) → World → Type 
   turns_unpaused before world calls after world' ending (Takes _ _ _ _ _ _ seen others notice own here half moved other there rest is one enough more calls_are after_is end) =
       none_then is_pause calls own other calls_are (one_unpaused notice seen world own here half moved one) (turns_unpaused others half other there world' rest more)
   turns_unpaused before world calls after world' ending (Runs_short _ _ _ _ _ _ seen others here moved is one after_is end) = one_unpaused noticed.NoMemory seen world calls here world' moved one
-
-  -- Where nothing happened no write took anything.
-
-  write_unheeded : (b : Bool) (link : ℕ) (notice : Noticed) (before after : History K) (calls : List wire.Call) → WritesIf b link notice before calls after → moved_by notice ≡ None → list_any is_heeded calls ≡ false
-  write_unheeded false link notice before after calls w none = ap (list_any is_heeded) w.1
-  write_unheeded true link notice before after calls w none = go w.0 w.1 w.2
-    where
-      go : (told : WriteTold) → calls ≡ Write link (length (out_after before)) told ∷ [] → Sends told notice before after → list_any is_heeded calls ≡ false
-      go (Sent bytes) own s = some_is_none _ (sym (ap moved_by s.0) ∙ none)
-      go Full own s = ap (list_any is_heeded) own
-      go WriteFault own s = some_is_none 0 (sym (ap moved_by s.0) ∙ none)
-
-  writes_unheeded : (link : ℕ) (before : History K) (world : World) (calls : List wire.Call) (after : History K) (world' : World) (moved : Option ℕ) → WritesAll steps link before world calls after world' moved → moved ≡ None → list_any is_heeded calls ≡ false
-  writes_unheeded link before world calls after world' moved (Stops _ _ _ _ _ _ notice w stop is) none = write_unheeded (is_waiting before) link notice before w.middle calls w.writes (sym is ∙ none)
-  writes_unheeded link before world calls after world' moved (Goes_on _ _ _ _ _ _ notice own middle half other rest w some more are is) none = moved_some notice rest some (sym is ∙ none)
-
-  one_unheeded : (notice : Noticed) (before : Seen K) (world : World) (calls : List wire.Call) (after : Seen K) (world' : World) (moved : Option ℕ) → TurnsOne steps notice before world calls after world' moved → moved ≡ None → list_any is_heeded calls ≡ false
-  one_unheeded notice before world calls after world' moved t none =
-      none_then is_heeded calls t.written t.read t.calls_are (writes_unheeded before.link before.history world t.written t.middle t.half t.sent t.writes (both_none t.sent (moved_by notice) (sym t.moved_is ∙ none)).0)
-      (reads_none is_heeded (λ n room answer. refl) (is_reading t.middle) notice (record { link = before.link; history = t.middle; unread = before.unread }) after t.half world' t.read t.reads)
-
-  pub turns_unheeded : (before : List (Seen K)) (world : World) (calls : List wire.Call) (after : List (Seen K)) (world' : World) (ending : Ending) → Turns steps before world calls after world' ending → ending ≡ Whole None → list_any is_heeded calls ≡ false
-  turns_unheeded before world calls after world' ending (All_took _ _ _ _ _ _ is none after_is world_is end) still = ap (list_any is_heeded) none
-  turns_unheeded before world calls after world' ending (Takes _ _ _ _ _ _ seen others notice own here half moved other there rest is one enough more calls_are after_is end) still =
-      let quiet = with_none moved rest (sym end ∙ still) in
-      none_then is_heeded calls own other calls_are (one_unheeded notice seen world own here half moved one quiet.0) (turns_unheeded others half other there world' rest more quiet.1)
-  turns_unheeded before world calls after world' ending (Runs_short _ _ _ _ _ _ seen others here moved is one after_is end) still = absurd (cc (end, still))
-
--- What is wanted for writing waits.
-
-waits_if : (living : Bool) (out : List ℕ) → 2 ≤ direction_of living out → (direction_of living out == 3) ≡ true
-waits_if false out writes = absurd (omega (arith, writes))
-waits_if true [] writes = absurd (omega (arith, writes))
-waits_if true (byte ∷ bytes) writes = refl
-
-module _ (calls : List wire.Call) (unpaused : list_any is_pause calls ≡ false) (unheeded : list_any is_heeded calls ≡ false) where
-  with_full : (state : State) (link in_flight direction : ℕ) (others : List Want) → (2 ≤ direction → list_any (is_full link) calls ≡ true) → WantsOnlyFull calls others → WantsOnlyFull calls (with_want (want_of link state in_flight direction) others)
-  with_full state link in_flight direction others waits rest =
-      elim (is_wanting state in_flight direction) as (λ b. WantsOnlyFull calls (with_want (if b then Some (record { link = link; direction = direction }) else None) others)) [
-        | true ↦ ((λ writes. ends_full link calls None unpaused unheeded (waits writes)), rest)
-        | false ↦ rest
-      ]
-
-  pub wants_full : (seens : List (Seen Ticket)) → WaitWhereFull calls seens → WantsOnlyFull calls (wants_after seens)
-  wants_full [] waits = tt
-  wants_full (seen ∷ all) waits =
-      with_full (state_after seen.history) seen.link (in_flight_after seen.history) (direction_after seen.history) (wants_after all)
-      (λ writes. waits.0 (waits_if _ (out_after seen.history) writes)) (wants_full all waits.1)
 
 -- A turn, where it is told.
 

@@ -52,3 +52,5 @@ pub mod ShareLemmas
 pub mod LinkLemmas
 pub mod ConnectLemmas
 pub mod AlwaysLemmas
+pub mod WrittenLemmas
+pub mod MovingLemmas

@@ -1,16 +1,14 @@
 -- What is so at each pause stays so while calls are added.
-use Rattle.std.proofs.Common.{◌≡◌, ◌⊎◌, inl, inr, ◌==◌, ◌||◌, ℕ, Bool, true, false, List, [], ◌∷◌, ◌++◌, Option, Some, None, Result, Ok, Err, OnErr, OnOk, if◌then◌else◌, refl, ap, sym, subst, ◌∙◌, append_assoc}
+use Rattle.std.proofs.Common.{◌≡◌, ◌⊎◌, inl, inr, ◌||◌, ℕ, Bool, true, false, List, [], ◌∷◌, ◌++◌, Option, Result, Ok, Err, OnErr, OnOk, refl, ap, sym, subst, ◌∙◌, append_assoc}
 use Rattle.std.proofs.lemmas.Bool.{false≢true}
 use Rattle.std.proofs.lemmas.List.{append-nil}
 use Rattle.std.proofs.lemmas.List.Folds.{list_any-append}
 use Rattle.std.specs.List.{list_any}
 use Rattle.lnbd_link.specs.Call as wire
-use Rattle.lnbd_link.specs.Call.{Connect, Listen, Accept, Read, Write, Pause, Shut, WriteTold, Full}
+use Rattle.lnbd_link.specs.Call.{Pause, Shut}
 use Rattle.lnbd_link.specs.Part.{Adds}
 use Rattle.lnbd_link.specs.declared.wires.Want.{Want}
-use Rattle.lnbd_poll.specs.Held.{Held, wants_now}
-use Rattle.lnbd_board.specs.declared.ticket.Ticket.{Ticket}
-use Rattle.lnbd_copy.specs.Pauses.{AtEachPause, HasNoPause, LeavesFull, Pauses, Unpaused, WantsInVain, WantsOnlyFull, is_pause, told_after, told_with}
+use Rattle.lnbd_copy.specs.Pauses.{AtEachPause, HasNoPause, Pauses, Unpaused, is_pause}
 use Rattle.lnbd_copy.specs.Way.{Told}
 use Rattle.lnbd_copy.proofs.TurnLemmas.{since_on, told_begins}
 
@@ -75,31 +73,6 @@ module _ (Is : (before : List wire.Call) → List Want → Type 0) where
       go (inl is) = each before is.after wants is.are
       go (inr is) = subst (λ (l : List wire.Call). Is l wants) (sym is.0) (subst (Is calls) (sym is.1) so)
 
--- What was written last, behind other calls.
-
-told_stays : (link : ℕ) (calls : List wire.Call) (last : Option WriteTold) (one : WriteTold) → told_after link calls None ≡ Some one → told_after link calls last ≡ Some one
-told_stays link [] last one e = absurd (none_told one e)
-  where
-    none_told : (one : WriteTold) → None ≡ Some one → ⊥
-    none_told one e = cc
-told_stays link (Connect to given ∷ calls) last one e = told_stays link calls last one e
-told_stays link (Listen at listener ∷ calls) last one e = told_stays link calls last one e
-told_stays link (Accept listener answer ∷ calls) last one e = told_stays link calls last one e
-told_stays link (Read n room answer ∷ calls) last one e = told_stays link calls last one e
-told_stays link (Write n offered answer ∷ calls) last one e =
-    elim (n == link) as (λ b. told_after link calls (if b then Some answer else None) ≡ Some one → told_after link calls (if b then Some answer else last) ≡ Some one) [ true ↦ λ f. f | false ↦ λ f. told_stays link calls last one f ] e
-told_stays link (Pause wants ∷ calls) last one e = e
-told_stays link (Shut n ∷ calls) last one e = told_stays link calls last one e
-
-told_append : (link : ℕ) (calls more : List wire.Call) (last : Option WriteTold) → told_after link (calls ++ more) last ≡ told_after link more (told_after link calls last)
-told_append link [] more last = refl
-told_append link (call ∷ calls) more last = told_append link calls more (told_with link call last)
-
-pub full_behind : (calls more : List wire.Call) (wants : List Want) → WantsOnlyFull more wants → WantsOnlyFull (calls ++ more) wants
-full_behind calls more [] full = tt
-full_behind calls more (want ∷ others) full =
-    ((λ writes. told_append want.link calls more None ∙ told_stays want.link more (told_after want.link calls None) Full (full.0 writes)), full_behind calls more others full.1)
-
 -- Steps.
 
 no_pause_then : (calls more : List wire.Call) → HasNoPause calls → HasNoPause more → HasNoPause (calls ++ more)
@@ -131,9 +104,6 @@ unpaused_then a b c one two = record {
         are = no_pause_then early.more late.more early.are late.are;
       };
 }
-
-pub leaves_same : (held held' : List (Held Ticket)) (a b c : Option (List wire.Call)) → held' ≡ held → c ≡ b → LeavesFull held a b → LeavesFull held' a c
-leaves_same held held' a b c same still leaves = subst (λ (h : List (Held Ticket)). LeavesFull h a c) (sym same) (subst (λ (t : Option (List wire.Call)). LeavesFull held a t) (sym still) leaves)
 
 pub unpaused_as : (a b c : Option (List wire.Call)) → c ≡ b → Unpaused a b → Unpaused a c
 unpaused_as a b c same unpaused = subst (λ (t : Option (List wire.Call)). Unpaused a t) (sym same) unpaused
@@ -172,22 +142,6 @@ pauses_adds Is start a b wants told adds = record {
       let since = told.since added.0 added.1 in
       since_on start added.0 all (Pause wants ∷ []) added.2 since (one_more Is since.calls wants since.is.1 since.is.0);
 }
-
--- A pause behind calls by which all that it wants was tried in vain, where that is enough.
-pub pauses_left : (Is : (before : List wire.Call) → List Want → Type 0) (held : List (Held Ticket)) (a b c : Option (List wire.Call))
-    → ((calls more : List wire.Call) → WantsInVain more (wants_now held) → Is (calls ++ more) (wants_now held)) → LeavesFull held a b → Adds b c (Pause (wants_now held)) → Pauses Is a c
-pauses_left Is held a b c behind leaves adds = record {
-  on = λ start told. pauses_adds Is start b c (wants_now held)
-      (record {
-        since = λ all is.
-            let made = leaves.on all is in
-            let since = told.since made.before made.was in
-            since_on start made.before all made.more made.now since (pauses_stay Is since.calls made.more made.are.0 since.is, behind since.calls made.more made.are.1);
-      }) adds;
-}
-
-pub pauses_full : (held : List (Held Ticket)) (a b c : Option (List wire.Call)) → LeavesFull held a b → Adds b c (Pause (wants_now held)) → Pauses WantsOnlyFull a c
-pauses_full held a b c leaves adds = pauses_left WantsOnlyFull held a b c (λ calls more vain. full_behind calls more (wants_now held) vain.0) leaves adds
 
 pub told_same : (Is : List wire.Call → Type 0) (start a b : Option (List wire.Call)) → b ≡ a → Told start a Is → Told start b Is
 told_same Is start a b same told = subst (λ (t : Option (List wire.Call)). Told start t Is) (sym same) told

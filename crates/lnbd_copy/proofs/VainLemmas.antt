@@ -1,34 +1,38 @@
--- Where nothing happened in a turn each link that is wanted for reading was read in vain, and all that a pause wants was tried in vain.
-use Rattle.std.proofs.Common.{◌≡◌, ◌==◌, ℕ, Bool, true, false, not, List, [], ◌∷◌, ◌++◌, length, Option, Some, None, if◌then◌else◌, refl, ap, sym, subst, ◌∙◌, append_assoc}
-use Rattle.std.proofs.lemmas.Bool.{false≢true}
+-- Where nothing happened in a turn all that a pause wants was tried in vain.
+use Rattle.std.proofs.Common.{◌≡◌, ◌≢◌, ◌≤◌, ◌==◌, ◌||◌, ℕ, Bool, true, false, not, List, [], ◌∷◌, ◌++◌, length, Option, Some, None, if◌then◌else◌, refl, ap, sym, subst, ◌∙◌, append_assoc, arith}
+use Rattle.std.proofs.lemmas.Bool.{eqb-true, false≢true, ne_eqb}
 use Rattle.std.specs.List.{list_any}
 use Rattle.lnbd_callbacks.specs.Calls.{Call}
 use Rattle.lnbd_history.specs.Events.{History}
-use Rattle.lnbd_history.specs.Answers.{direction_after, direction_of, in_flight_after, out_after, state_after}
+use Rattle.lnbd_history.specs.Answers.{direction_after, direction_of, out_after}
 use Rattle.lnbd_model.specs.declared.state.State.{State}
+use Rattle.lnbd_machine.specs.Now.{direction_now, in_flight_now, state_now}
+use Rattle.lnbd_standing.proofs.Standing.{stands_right}
 use Rattle.lnbd_link.specs.Call as wire
-use Rattle.lnbd_link.specs.Call.{Read, Write, Pause, ReadTold, Moved, Unready, Ended, ReadFault, WriteTold, Sent, Full, WriteFault}
+use Rattle.lnbd_link.specs.Call.{Connect, Listen, Accept, Read, Write, Pause, Shut, ReadTold, Moved, Unready, Ended, ReadFault, WriteTold, Sent, Full, WriteFault}
 use Rattle.lnbd_link.specs.Part.{Adds}
 use Rattle.lnbd_link.specs.declared.wires.Want.{Want}
 use Rattle.lnbd_poll.specs.declared.noticed.Noticed.{Noticed}
 use Rattle.lnbd_poll.specs.declared.noticed.Noticed.TheVariants as noticed
 use Rattle.lnbd_poll.specs.declared.noticed.Turn.{Turn}
 use Rattle.lnbd_poll.specs.declared.noticed.Turn.TheVariants as turn
-use Rattle.lnbd_poll.specs.Held.{Held, AreAt, is_wanting, want_of, wants_after, wants_now, with_want}
+use Rattle.lnbd_poll.specs.Held.{Held, AreAt, is_wanting, want_of, wants_now, with_want}
 use Rattle.lnbd_poll.specs.Notices.{Arrives, Hears, ReadsIf, ReadsOn, Sends, WritesIf, is_reading, is_waiting, room_after}
-use Rattle.lnbd_poll.specs.Seen.{Seen}
+use Rattle.lnbd_poll.specs.Seen.{Seen, IsAt}
 use Rattle.lnbd_poll.specs.Seen as poll
+use Rattle.lnbd_poll.specs.Still.{WaitWhereFull, is_full}
 use Rattle.lnbd_poll.specs.Turned.{TurnsWhole}
 use Rattle.lnbd_poll.specs.Turns.{All_took, Ending, Goes_on, Runs_short, Stops, Takes, Turns, TurnsOne, Whole, WritesAll, is_short, moved_by}
-use Rattle.lnbd_poll.proofs.HeldLemmas.{wants_same}
 use Rattle.lnbd_board.specs.declared.ticket.Ticket.{Ticket}
 use Rattle.lnbd_board.specs.Files as board
-use Rattle.lnbd_copy.specs.Pauses.{AtEachPause, LeavesFull, Pauses, WantsInVain, WantsOnlyFull}
-use Rattle.lnbd_copy.specs.Vain.{WantsOnlyEmpty, WasReadInVain, has_happened, is_for_reading}
+use Rattle.lnbd_copy.specs.Moving.{AreTriedInVain, IsTriedInVain, TurnsInVain}
+use Rattle.lnbd_copy.specs.Pauses.{AtEachPause, HasNoPause, Pauses, WantsInVain, WantsOnlyFull}
+use Rattle.lnbd_copy.specs.Vain.{WantsOnlyEmpty, WasReadInVain, WasWrittenInVain, has_happened, is_for_reading}
 use Rattle.lnbd_copy.specs.Way.{Stand, Told}
 use Rattle.lnbd_copy.proofs.CopierLemmas.{told_as}
-use Rattle.lnbd_copy.proofs.FullLemmas.{both_none, moved_some, none_then, some_is_none, steps, still_none, true_is, turns_unheeded, turns_unpaused, wants_full, with_none}
-use Rattle.lnbd_copy.proofs.PauseLemmas.{full_behind, pauses_begin, pauses_left}
+use Rattle.lnbd_copy.proofs.FullLemmas.{both_none, moved_some, none_then, some_is_none, steps, still_none, true_is, with_none}
+use Rattle.lnbd_copy.proofs.PauseLemmas.{pauses_adds, pauses_begin, pauses_stay}
+use Rattle.lnbd_copy.proofs.TurnLemmas.{since_on}
 
 -- Reads in vain.
 
@@ -53,6 +57,41 @@ vain_then link calls more nothing vain = record {
 empty_behind : (calls more : List wire.Call) (wants : List Want) → WantsOnlyEmpty more wants → WantsOnlyEmpty (calls ++ more) wants
 empty_behind calls more [] empty = tt
 empty_behind calls more (want ∷ others) empty = ((λ reads. vain_behind want.link calls more (empty.0 reads)), empty_behind calls more others empty.1)
+
+-- Writes in vain.
+
+written_behind : (link : ℕ) (calls more : List wire.Call) → WasWrittenInVain link more → WasWrittenInVain link (calls ++ more)
+written_behind link calls more vain = record {
+  earlier = calls ++ vain.earlier;
+  offered = vain.offered;
+  later = vain.later;
+  are = ap (λ (l : List wire.Call). calls ++ l) vain.are ∙ sym (append_assoc calls vain.earlier (Write link vain.offered Full ∷ vain.later));
+  nothing = vain.nothing;
+}
+
+full_behind : (calls more : List wire.Call) (wants : List Want) → WantsOnlyFull more wants → WantsOnlyFull (calls ++ more) wants
+full_behind calls more [] full = tt
+full_behind calls more (want ∷ others) full = ((λ writes. written_behind want.link calls more (full.0 writes)), full_behind calls more others full.1)
+
+-- Where nothing happened a write that took nothing is one in vain.
+written_in_vain : (link : ℕ) (calls : List wire.Call) → list_any (is_full link) calls ≡ true → list_any has_happened calls ≡ false → WasWrittenInVain link calls
+written_in_vain link [] some nothing = absurd (false≢true some)
+written_in_vain link (Connect to given ∷ calls) some nothing = true_is nothing
+written_in_vain link (Listen at listener ∷ calls) some nothing = true_is nothing
+written_in_vain link (Accept listener answer ∷ calls) some nothing = true_is nothing
+written_in_vain link (Read n room (Moved bytes) ∷ calls) some nothing = true_is nothing
+written_in_vain link (Read n room Unready ∷ calls) some nothing = written_behind link (Read n room Unready ∷ []) calls (written_in_vain link calls some nothing)
+written_in_vain link (Read n room Ended ∷ calls) some nothing = true_is nothing
+written_in_vain link (Read n room ReadFault ∷ calls) some nothing = true_is nothing
+written_in_vain link (Write n offered (Sent bytes) ∷ calls) some nothing = true_is nothing
+written_in_vain link (Write n offered Full ∷ calls) some nothing = go (n == link) refl (λ behind. written_in_vain link calls behind nothing)
+  where
+    go : (same : Bool) → (n == link) ≡ same → (list_any (is_full link) calls ≡ true → WasWrittenInVain link calls) → WasWrittenInVain link (Write n offered Full ∷ calls)
+    go true e behind = record { earlier = []; offered = offered; later = calls; are = ap (λ (m : ℕ). Write m offered Full ∷ calls) (eqb-true n link e); nothing = nothing }
+    go false e behind = written_behind link (Write n offered Full ∷ []) calls (behind (sym (ap (λ (b : Bool). b || list_any (is_full link) calls) e) ∙ some))
+written_in_vain link (Write n offered WriteFault ∷ calls) some nothing = true_is nothing
+written_in_vain link (Pause wants ∷ calls) some nothing = true_is nothing
+written_in_vain link (Shut n ∷ calls) some nothing = true_is nothing
 
 -- Each handle that reads read its link in vain.
 abbrev AreReadInVain : {K : Type 0} → List wire.Call → List (Seen K) → Type 0
@@ -90,7 +129,7 @@ module _ {K World : Type 0} (steps : World → List (Call K) → World → Type 
   writes_in_vain link before world calls after world' moved (Stops _ _ _ _ _ _ notice w stop is) none = write_in_vain (is_waiting before) link notice before w.middle calls w.writes (sym is ∙ none)
   writes_in_vain link before world calls after world' moved (Goes_on _ _ _ _ _ _ notice own middle half other rest w some more are is) none = moved_some notice rest some (sym is ∙ none)
 
-  arrives_none : {A : Type 0} (bytes : List ℕ) (notice : Noticed) (before after : Seen K) (world world' : World) → Arrives steps bytes notice before after world world' → moved_by notice ≡ None → is_short notice ≡ false → A
+  pub arrives_none : {A : Type 0} (bytes : List ℕ) (notice : Noticed) (before after : Seen K) (world world' : World) → Arrives steps bytes notice before after world world' → moved_by notice ≡ None → is_short notice ≡ false → A
   arrives_none bytes (noticed.Moved n) before after world world' a none enough = some_is_none n none
   arrives_none bytes noticed.NoMemory before after world world' a none enough = true_is enough
   arrives_none bytes noticed.NotReady before after world world' a none enough = absurd a
@@ -146,53 +185,104 @@ module _ {K World : Type 0} (steps : World → List (Call K) → World → Type 
       subst (AreReadInVain calls) (sym after_is) (subst (λ (l : List wire.Call). AreReadInVain l (here ∷ there)) (sym calls_are) each)
   all_read_in_vain before world calls after world' ending (Runs_short _ _ _ _ _ _ seen others here moved is one after_is end) still = absurd (cc (end, still))
 
--- What is wanted for reading reads.
+-- What is read in vain and written in vain, by each handle's direction.
 
-reads_if : (living : Bool) (out : List ℕ) → is_for_reading (direction_of living out) ≡ true → not (direction_of living out == 0) ≡ true
-reads_if false out reads = absurd (false≢true reads)
-reads_if true [] reads = refl
-reads_if true (byte ∷ bytes) reads = refl
+not_none : (direction : ℕ) → direction ≢ 0 → not (direction == 0) ≡ true
+not_none direction some = ap not (ne_eqb direction 0 some)
 
-module _ (calls : List wire.Call) where
-  with_empty : (state : State) (link in_flight direction : ℕ) (others : List Want) → (is_for_reading direction ≡ true → WasReadInVain link calls) → WantsOnlyEmpty calls others → WantsOnlyEmpty calls (with_want (want_of link state in_flight direction) others)
-  with_empty state link in_flight direction others vain rest =
-      elim (is_wanting state in_flight direction) as (λ b. WantsOnlyEmpty calls (with_want (if b then Some (record { link = link; direction = direction }) else None) others)) [ true ↦ (vain, rest) | false ↦ rest ]
+waits_if : (living : Bool) (out : List ℕ) → 2 ≤ direction_of living out → (direction_of living out == 3) ≡ true
+waits_if false out writes = absurd (omega (arith, writes))
+waits_if true [] writes = absurd (omega (arith, writes))
+waits_if true (byte ∷ bytes) writes = refl
 
-  wants_empty : (seens : List (Seen Ticket)) → AreReadInVain calls seens → WantsOnlyEmpty calls (wants_after seens)
-  wants_empty [] vain = tt
-  wants_empty (seen ∷ all) vain =
-      with_empty (state_after seen.history) seen.link (in_flight_after seen.history) (direction_after seen.history) (wants_after all)
-      (λ reads. vain.0 (reads_if _ (out_after seen.history) reads)) (wants_empty all vain.1)
+module _ (calls : List wire.Call) (nothing : list_any has_happened calls ≡ false) where
+  one_tried : (held : Held Ticket) (seen : Seen Ticket) → IsAt held.link held.handle held.inbox seen → (is_waiting seen.history ≡ true → list_any (is_full seen.link) calls ≡ true) → (is_reading seen.history ≡ true → WasReadInVain seen.link calls)
+      → IsTriedInVain held.link (direction_now held.handle.known) calls
+  one_tried held seen at waits reads =
+      let direction : direction_now held.handle.known ≡ direction_after seen.history = (stands_right 1024 seen.history held.handle at.stands).direction in
+      record {
+        reads = λ some. subst (λ (n : ℕ). WasReadInVain n calls) at.link (reads (not_none (direction_after seen.history) (λ none. some (direction ∙ none))));
+        writes = λ two. subst (λ (n : ℕ). WasWrittenInVain n calls) at.link (written_in_vain seen.link calls (waits (waits_if _ (out_after seen.history) (subst (λ (n : ℕ). 2 ≤ n) direction two))) nothing);
+      }
+
+  all_tried : (held : List (Held Ticket)) (seens : List (Seen Ticket)) → AreAt held seens → WaitWhereFull calls seens → AreReadInVain calls seens → AreTriedInVain calls held
+  all_tried [] [] at waits reads = tt
+  all_tried [] (s ∷ ss) at waits reads = absurd at
+  all_tried (x ∷ xs) [] at waits reads = absurd at
+  all_tried (x ∷ xs) (s ∷ ss) at waits reads = (one_tried x s at.0 waits.0 reads.0, all_tried xs ss at.1 waits.1 reads.1)
 
 -- A turn, where it is told.
 
 pub turned_vain : (a b : Option (List wire.Call)) (f g : ℕ) (told : Turn) (now now' : board.Seen) (held held' : List (Held Ticket))
-    → poll.Goes a b (λ seens. AreAt held seens) (λ seens. AreAt held' seens) (λ before calls after. TurnsWhole steps f g told before now calls after now') → told ≡ turn.Still → Stand held → LeavesFull held' a b
+    → poll.Goes a b (λ seens. AreAt held seens) (λ seens. AreAt held' seens) (λ before calls after. TurnsWhole steps f g told before now calls after now') → told ≡ turn.Still → Stand held → TurnsInVain held' a b
 turned_vain a b f g told now now' held held' goes still s = record {
   on = λ all is.
       let went = goes s.seens s.at in
       let grown = went.grown all is in
-      let nothing = ap Whole (still_none went.leads.moved told went.leads.tells still) in
-      let unpaused = turns_unpaused steps s.seens now went.calls went.after now' (Whole went.leads.moved) went.leads.turns in
-      let unheeded = turns_unheeded steps s.seens now went.calls went.after now' (Whole went.leads.moved) went.leads.turns nothing in
-      let read = all_read_in_vain steps s.seens now went.calls went.after now' (Whole went.leads.moved) went.leads.turns nothing in
-      let vain : WantsInVain went.calls (wants_after went.after) = (wants_full went.calls unpaused unheeded went.after (went.leads.still still), wants_empty went.calls went.after read) in
-      record {
-        before = grown.0;
-        more = went.calls;
-        was = grown.1;
-        now = grown.2;
-        are = (unpaused, subst (WantsInVain went.calls) (sym (wants_same held' went.after went.at)) vain);
-      };
+      let none = ap Whole (still_none went.leads.moved told went.leads.tells still) in
+      let nothing = nothing_happens steps s.seens now went.calls went.after now' (Whole went.leads.moved) went.leads.turns none in
+      let read = all_read_in_vain steps s.seens now went.calls went.after now' (Whole went.leads.moved) went.leads.turns none in
+      record { before = grown.0; more = went.calls; was = grown.1; now = grown.2; are = (nothing, all_tried went.calls nothing held' went.after went.at (went.leads.still still) read) };
 }
+
+pub vain_same : (held held' : List (Held Ticket)) (a b c : Option (List wire.Call)) → held' ≡ held → c ≡ b → TurnsInVain held a b → TurnsInVain held' a c
+vain_same held held' a b c same still vain = subst (λ (h : List (Held Ticket)). TurnsInVain h a c) (sym same) (subst (λ (t : Option (List wire.Call)). TurnsInVain held a t) (sym still) vain)
+
+-- What a pause then wants was tried in vain.
+
+reads_some : (direction : ℕ) → is_for_reading direction ≡ true → direction ≢ 0
+reads_some direction reads none = false≢true (sym (ap is_for_reading none) ∙ reads)
+
+module _ (calls : List wire.Call) where
+  with_vain : (state : State) (link in_flight direction : ℕ) (others : List Want) → IsTriedInVain link direction calls → WantsInVain calls others → WantsInVain calls (with_want (want_of link state in_flight direction) others)
+  with_vain state link in_flight direction others tried rest =
+      elim (is_wanting state in_flight direction) as (λ b. WantsInVain calls (with_want (if b then Some (record { link = link; direction = direction }) else None) others)) [
+        | true ↦ ((tried.writes, rest.0), (λ reads. tried.reads (reads_some direction reads), rest.1))
+        | false ↦ rest
+      ]
+
+  wants_vain : (held : List (Held Ticket)) → AreTriedInVain calls held → WantsInVain calls (wants_now held)
+  wants_vain [] tried = (tt, tt)
+  wants_vain (x ∷ xs) tried = with_vain (state_now x.handle.known) x.link (in_flight_now x.handle.known) (direction_now x.handle.known) (wants_now xs) tried.0 (wants_vain xs tried.1)
 
 -- The pause behind it.
 
-pub pauses_empty : (held : List (Held Ticket)) (a b c : Option (List wire.Call)) → LeavesFull held a b → Adds b c (Pause (wants_now held)) → Pauses WantsOnlyEmpty a c
-pauses_empty held a b c leaves adds = pauses_left WantsOnlyEmpty held a b c (λ calls more vain. empty_behind calls more (wants_now held) vain.1) leaves adds
+vain_unpaused : (calls : List wire.Call) → list_any has_happened calls ≡ false → HasNoPause calls
+vain_unpaused [] nothing = refl
+vain_unpaused (Connect to given ∷ calls) nothing = true_is nothing
+vain_unpaused (Listen at listener ∷ calls) nothing = true_is nothing
+vain_unpaused (Accept listener answer ∷ calls) nothing = true_is nothing
+vain_unpaused (Read n room (Moved bytes) ∷ calls) nothing = true_is nothing
+vain_unpaused (Read n room Unready ∷ calls) nothing = vain_unpaused calls nothing
+vain_unpaused (Read n room Ended ∷ calls) nothing = true_is nothing
+vain_unpaused (Read n room ReadFault ∷ calls) nothing = true_is nothing
+vain_unpaused (Write n offered (Sent bytes) ∷ calls) nothing = true_is nothing
+vain_unpaused (Write n offered Full ∷ calls) nothing = vain_unpaused calls nothing
+vain_unpaused (Write n offered WriteFault ∷ calls) nothing = true_is nothing
+vain_unpaused (Pause wants ∷ calls) nothing = true_is nothing
+vain_unpaused (Shut n ∷ calls) nothing = true_is nothing
 
-pub pauses_vain : (held : List (Held Ticket)) (a b c : Option (List wire.Call)) → LeavesFull held a b → Adds b c (Pause (wants_now held)) → Pauses WantsInVain a c
-pauses_vain held a b c leaves adds = pauses_left WantsInVain held a b c (λ calls more vain. (full_behind calls more (wants_now held) vain.0, empty_behind calls more (wants_now held) vain.1)) leaves adds
+-- A pause behind calls by which all that it wants was tried in vain, where that is enough.
+pauses_left : (Is : (before : List wire.Call) → List Want → Type 0) (held : List (Held Ticket)) (a b c : Option (List wire.Call))
+    → ((calls more : List wire.Call) → WantsInVain more (wants_now held) → Is (calls ++ more) (wants_now held)) → TurnsInVain held a b → Adds b c (Pause (wants_now held)) → Pauses Is a c
+pauses_left Is held a b c behind vain adds = record {
+  on = λ start told. pauses_adds Is start b c (wants_now held)
+      (record {
+        since = λ all is.
+            let made = vain.on all is in
+            let since = told.since made.before made.was in
+            since_on start made.before all made.more made.now since (pauses_stay Is since.calls made.more (vain_unpaused made.more made.are.0) since.is, behind since.calls made.more (wants_vain made.more held made.are.1));
+      }) adds;
+}
+
+pub pauses_full : (held : List (Held Ticket)) (a b c : Option (List wire.Call)) → TurnsInVain held a b → Adds b c (Pause (wants_now held)) → Pauses WantsOnlyFull a c
+pauses_full held a b c vain adds = pauses_left WantsOnlyFull held a b c (λ calls more wants. full_behind calls more (wants_now held) wants.0) vain adds
+
+pub pauses_empty : (held : List (Held Ticket)) (a b c : Option (List wire.Call)) → TurnsInVain held a b → Adds b c (Pause (wants_now held)) → Pauses WantsOnlyEmpty a c
+pauses_empty held a b c vain adds = pauses_left WantsOnlyEmpty held a b c (λ calls more wants. empty_behind calls more (wants_now held) wants.1) vain adds
+
+pub pauses_vain : (held : List (Held Ticket)) (a b c : Option (List wire.Call)) → TurnsInVain held a b → Adds b c (Pause (wants_now held)) → Pauses WantsInVain a c
+pauses_vain held a b c vain adds = pauses_left WantsInVain held a b c (λ calls more wants. (full_behind calls more (wants_now held) wants.0, empty_behind calls more (wants_now held) wants.1)) vain adds
 
 -- Where each pause wants what was tried in vain, it does so of writes and of reads.
 

@@ -34,6 +34,7 @@ pub mod Full
 pub mod Unanswered
 pub mod Vain
 pub mod Pauses
+pub mod Moving
 pub mod Waits
 pub mod Wanted
 pub mod Unready
@@ -41,3 +42,4 @@ pub mod Paused
 pub mod Bounded
 pub mod Sharing
 pub mod Made
+pub mod Written

@@ -1,43 +1,20 @@
 -- What is so at each pause of a copy, by the calls before it.
-use Rattle.std.specs.Prelude.{◌≡◌, ◌≤◌, ◌==◌, ℕ, Bool, true, false, List, [], ◌∷◌, ◌++◌, Option, Some, None, if◌then◌else◌}
+use Rattle.std.specs.Prelude.{◌≡◌, ◌≤◌, Bool, true, false, List, [], ◌∷◌, ◌++◌, Option, Some}
 use Rattle.std.specs.List.{list_any}
 use Rattle.lnbd_link.specs.Call as wire
-use Rattle.lnbd_link.specs.Call.{Connect, Listen, Accept, Read, Write, Pause, Shut, WriteTold, Full}
+use Rattle.lnbd_link.specs.Call.{Connect, Listen, Accept, Read, Write, Pause, Shut}
 use Rattle.lnbd_link.specs.declared.wires.Want.{Want}
-use Rattle.lnbd_poll.specs.Held.{Held, wants_now}
-use Rattle.lnbd_board.specs.declared.ticket.Ticket.{Ticket}
-use Rattle.lnbd_copy.specs.Vain.{WantsOnlyEmpty}
+use Rattle.lnbd_copy.specs.Vain.{WantsOnlyEmpty, WasWrittenInVain}
 use Rattle.lnbd_copy.specs.Way.{Told}
 
 -- At each pause among these calls this is so of the calls before it and of what it wants.
 abbrev pub AtEachPause : (Is : (before : List wire.Call) → List Want → Type 0) → List wire.Call → Type 0
 AtEachPause Is calls = (before after : List wire.Call) (wants : List Want) → calls ≡ before ++ Pause wants ∷ after → Is before wants
 
--- What was written last.
-
--- what the last write of a link told since the last pause, where it was this before the call
-abbrev pub told_with : (link : ℕ) → wire.Call → Option WriteTold → Option WriteTold
-told_with link (Connect to given) last = last
-told_with link (Listen at listener) last = last
-told_with link (Accept listener answer) last = last
-told_with link (Read n room answer) last = last
-told_with link (Write n offered answer) last = if n == link then Some answer else last
-told_with link (Pause wants) last = None
-told_with link (Shut n) last = last
-
--- the same, where it was this before the calls
-abbrev pub told_after : (link : ℕ) → List wire.Call → Option WriteTold → Option WriteTold
-told_after link [] last = last
-told_after link (call ∷ calls) last = told_after link calls (told_with link call last)
-
--- what the last write of a link told since the last pause, if there was one
-abbrev pub last_write : (link : ℕ) → List wire.Call → Option WriteTold
-last_write link calls = told_after link calls None
-
--- Each link that is wanted for writing, which 2 and 3 stand for, was last written in vain since the pause before: that write took nothing.
+-- Each link that is wanted for writing, which 2 and 3 stand for, was written in vain.
 abbrev pub WantsOnlyFull : (before : List wire.Call) → List Want → Type 0
 WantsOnlyFull before [] = Unit {0}
-WantsOnlyFull before (want ∷ others) = (2 ≤ want.direction → last_write want.link before ≡ Some Full) × WantsOnlyFull before others
+WantsOnlyFull before (want ∷ others) = (2 ≤ want.direction → WasWrittenInVain want.link before) × WantsOnlyFull before others
 
 -- Each link that is wanted was tried in vain: written where it is wanted for writing, and read where it is wanted for reading.
 abbrev pub WantsInVain : (before : List wire.Call) → List Want → Type 0
@@ -69,10 +46,6 @@ pub record Made (Are : List wire.Call → Type 0) (told : Option (List wire.Call
 -- The transcript goes on without a pause, where it is told.
 pub record Unpaused (told told' : Option (List wire.Call)) : Type 0 where
   pub on : (all : List wire.Call) → told' ≡ Some all → Made HasNoPause told all
-
--- It goes on without a pause, and each link that a pause for these handles would now want was tried in vain by that.
-pub record LeavesFull (held : List (Held Ticket)) (told told' : Option (List wire.Call)) : Type 0 where
-  pub on : (all : List wire.Call) → told' ≡ Some all → Made (λ more. HasNoPause more × WantsInVain more (wants_now held)) told all
 
 -- If this was so at each pause since some start, it is so still.
 pub record Pauses (Is : (before : List wire.Call) → List Want → Type 0) (told told' : Option (List wire.Call)) : Type 0 where

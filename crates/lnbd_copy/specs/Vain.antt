@@ -1,4 +1,4 @@
--- Which links a pause may want for reading: those that were read in vain since anything happened.
+-- Which links a pause may want: those that were read and written in vain since anything happened.
 use Rattle.std.specs.Prelude.{◌≡◌, ◌==◌, ◌||◌, ℕ, Bool, true, false, List, [], ◌∷◌, ◌++◌}
 use Rattle.std.specs.List.{list_any}
 use Rattle.lnbd_link.specs.Call as wire
@@ -26,6 +26,14 @@ pub record WasReadInVain (link : ℕ) (calls : List wire.Call) : Type 0 where
   pub room : ℕ
   pub later : List wire.Call
   pub are : calls ≡ earlier ++ Read link room Unready ∷ later
+  pub nothing : list_any has_happened later ≡ false
+
+-- By these calls a link was written in vain: a write of it took nothing, and nothing happened since on any link.
+pub record WasWrittenInVain (link : ℕ) (calls : List wire.Call) : Type 0 where
+  pub earlier : List wire.Call
+  pub offered : ℕ
+  pub later : List wire.Call
+  pub are : calls ≡ earlier ++ Write link offered Full ∷ later
   pub nothing : list_any has_happened later ≡ false
 
 -- a direction in which is read: to read alone, or to read and to write

@@ -1,6 +1,6 @@
 //! A copy from its first connection to its last byte.
 
-ghost use Rattle.std.specs.Prelude.{◌≡◌, ◌≢◌, ◌<◌, ◌≤◌, ◌+◌, ◌-◌, ◌^◌, [], ◌∷◌, ◌++◌, length, replicate, List, Option, None, true, false, IfErr, IfOk, OnErr, OnOk};
+ghost use Rattle.std.specs.Prelude.{◌≡◌, ◌≢◌, ◌<◌, ◌≤◌, ◌+◌, ◌-◌, ◌^◌, [], ◌∷◌, ◌++◌, length, replicate, ℕ, List, Option, None, true, false, IfErr, IfOk, OnErr, OnOk};
 ghost use Rattle.lnbd_link.specs.Call.{Call, Pause};
 ghost use Rattle.lnbd_link.specs.Part.{Adds};
 ghost use Rattle.lnbd_poll.specs.Held.{wants_now};
@@ -22,9 +22,10 @@ ghost use Rattle.lnbd_copy.specs.Grounds.{AllSame, FailsOn, IsGrounded, Lasts, n
 ghost use Rattle.lnbd_copy.specs.declared.terms.Terms.{Terms as Settled};
 ghost use Rattle.lnbd_copy.specs.Made.{IsMade};
 ghost use Rattle.lnbd_copy.specs.Links.{HaveSameLinks, LinksAreKept, LinksGo, LinksGoTo, LinksStand};
+ghost use Rattle.lnbd_copy.specs.Moving.{Happens, HasMoved, Stirs, TurnsInVain};
 ghost use Rattle.lnbd_copy.specs.Opening.{Dials};
 ghost use Rattle.lnbd_copy.specs.Paused.{PausesAreFull};
-ghost use Rattle.lnbd_copy.specs.Pauses.{AtEachPause, LeavesFull, Pauses, Unpaused, WantsInVain, WantsOnlyFull};
+ghost use Rattle.lnbd_copy.specs.Pauses.{AtEachPause, Pauses, Unpaused, WantsInVain, WantsOnlyFull};
 ghost use Rattle.lnbd_copy.specs.Settled.{FlushesWanted, SparesFound, SparesTold};
 ghost use Rattle.lnbd_copy.specs.Spread.{AreSpread};
 ghost use Rattle.lnbd_copy.specs.Sharing.{IsAlwaysShared, IsShared};
@@ -144,7 +145,7 @@ impl Copier {
 
         // Whatever came of it, it paused only while a connection negotiated, unless it waited to write.
         ensures unready { Told (W.told wires.old) (W.told wires.new) (AtEachPause (IsOpeningPause self.old.from self.old.to)) }
-        // At each pause a link was wanted for writing only where the last write on it since the pause before took nothing.
+        // At each pause a link was wanted for writing only where a write on it took nothing, and nothing happened since on any link.
         ensures writes { Told (W.told wires.old) (W.told wires.new) (AtEachPause WantsOnlyFull) }
         // It was wanted for reading only where a read on it told that nothing is there yet, and nothing happened since on any link.
         ensures reads { Told (W.told wires.old) (W.told wires.new) (AtEachPause WantsOnlyEmpty) }
@@ -419,9 +420,13 @@ impl Copier {
         // connection agreed no meta context, though base:allocation had been asked for where extents are wanted.
         ensures answered { OnOk result ((start : Option (List Call)) → IsOnItsWay start (W.told wires.old) self.old → self.new.from ≢ self.new.to → Told start (W.told wires.new) (ReadsAreAnswered self.new.options.extents self.new.from)) }
 
-        // It doesn't pause; and where nothing happened each link that a pause would want was tried in vain.
+        // It doesn't pause.
         ensures unpaused { Unpaused (W.told wires.old) (W.told wires.new) }
-        ensures full { IfOk result (λ told. told ≡ progress.Still → LeavesFull self.new.held (W.told wires.old) (W.told wires.new)) }
+        // `Still`: nothing happened on any link, though each was tried in its handle's direction.
+        ensures still { IfOk result (λ told. told ≡ progress.Still → TurnsInVain self.new.held (W.told wires.old) (W.told wires.new)) }
+        // `Moved`: something happened on a link, or bytes arrived that had been read of one; or else its board is not as it was, or
+        // what is under way isn't.
+        ensures moved { IfOk result (λ told. (count : ℕ) → told ≡ progress.Moved count → HasMoved self.old self.new (W.told wires.old) (W.told wires.new)) }
 
         // Its links are kept, whether it goes on or not.
         ensures links { LinksGo [] self.old.held (W.told wires.old) self.new.held (W.told wires.new) }
@@ -459,7 +464,8 @@ impl Copier {
         ensures asks { OnOk result ((start : Option (List Call)) → IsOnItsWay start (W.told wires.old) self.old → self.new.from ≢ self.new.to → Told start (W.told wires.new) (HasAskedOnce self.new.options.allocated self.new.from self.new.to)) }
         ensures answered { OnOk result ((start : Option (List Call)) → IsOnItsWay start (W.told wires.old) self.old → self.new.from ≢ self.new.to → Told start (W.told wires.new) (ReadsAreAnswered self.new.options.extents self.new.from)) }
         ensures unpaused { Unpaused (W.told wires.old) (W.told wires.new) }
-        ensures full { IfOk result (λ told. told ≡ progress.Still → LeavesFull self.new.held (W.told wires.old) (W.told wires.new)) }
+        ensures still { IfOk result (λ told. told ≡ progress.Still → TurnsInVain self.new.held (W.told wires.old) (W.told wires.new)) }
+        ensures moved { IfOk result (λ told. (count : ℕ) → told ≡ progress.Moved count → HasMoved self.old self.new (W.told wires.old) (W.told wires.new)) }
         ensures fair { (start : Option (List Call)) → IsOnItsWay start (W.told wires.old) self.old → self.old.from ≢ self.old.to → Told start (W.told wires.old) (Behaves self.old.options self.old.from self.old.to) → Told start (W.told wires.new) (Behaves self.old.options self.old.from self.old.to) }
         ensures causes { IfErr result (λ told. HasCause self.old.start (W.faults wires.new) (W.idles wires.new) told) }
         ensures grounds { IfErr result (λ told. (start : Option (List Call)) → IsOnItsWay start (W.told wires.old) self.old → IsGrounded start (W.told wires.new) self.old.from self.old.to told) }
@@ -483,7 +489,9 @@ impl Copier {
         ensures kept { self.new ≡ record self.old { held = self.new.held; board = self.new.board } }
         ensures on { OnOk result ((start : Option (List Call)) → IsOnItsWay start (W.told wires.old) self.old → IsOnItsWay start (W.told wires.new) self.new) }
         ensures unpaused { Stand self.old.held → Unpaused (W.told wires.old) (W.told wires.new) }
-        ensures full { IfOk result (λ told. told ≡ turned.Still → Stand self.old.held → LeavesFull self.new.held (W.told wires.old) (W.told wires.new)) }
+        ensures still { IfOk result (λ told. told ≡ turned.Still → Stand self.old.held → TurnsInVain self.new.held (W.told wires.old) (W.told wires.new)) }
+        ensures same { IfOk result (λ told. told ≡ turned.Still → Stand self.old.held → self.new.board ≡ self.old.board) }
+        ensures moved { IfOk result (λ told. (count : ℕ) → told ≡ turned.Moved count → Stand self.old.held → Stirs self.old.held (W.told wires.old) (W.told wires.new)) }
         ensures fair { (start : Option (List Call)) → IsOnItsWay start (W.told wires.old) self.old → self.old.from ≢ self.old.to → Told start (W.told wires.old) (Behaves self.old.options self.old.from self.old.to) → Told start (W.told wires.new) (Behaves self.old.options self.old.from self.old.to) }
         ensures causes { IfErr result (λ told. HasCause self.old.start (W.faults wires.new) (W.idles wires.new) told) }
         ensures grounds { IfErr result (λ told. (start : Option (List Call)) → IsOnItsWay start (W.told wires.old) self.old → IsGrounded start (W.told wires.new) self.old.from self.old.to told) }
@@ -505,6 +513,7 @@ impl Copier {
         ensures on { OnOk result ((start told : Option (List Call)) → IsOnItsWay start told self.old → IsOnItsWay start told self.new) }
         ensures busy { OnOk result ((start told : Option (List Call)) → IsOnItsWay start told self.old → IsBusy self.new.job self.new.board) }
         ensures still { IfOk result (λ acted. acted ≡ false → self.new.held ≡ self.old.held) }
+        ensures acted { IfOk result (λ acted. acted ≡ true → self.new.board ≡ self.old.board → self.new.job ≢ self.old.job) }
         ensures links { HaveSameLinks self.old.held self.new.held }
     {
         match &mut self.job {
@@ -530,7 +539,8 @@ impl Copier {
         ensures on { (start : Option (List Call)) → IsOnItsWay start (W.told wires.old) self.old → IsOnItsWay start (W.told wires.new) self.new }
         ensures busy { IsBusy self.old.job self.old.board → IsBusy self.new.job self.new.board }
         ensures unpaused { Unpaused (W.told wires.old) (W.told wires.new) }
-        ensures still { result ≡ 0 → (self.new.held ≡ self.old.held) × (wires.new ≡ wires.old) }
+        ensures still { result ≡ 0 → (self.new.held ≡ self.old.held) × (wires.new ≡ wires.old) × (self.new.board ≡ self.old.board) }
+        ensures happens { result ≢ 0 → Happens (W.told wires.old) (W.told wires.new) }
         ensures idly { GoesIdly (W.told wires.old) (W.told wires.new) }
         ensures counts { GoesOn (W.faults wires.old) (W.faults wires.new) (W.idles wires.old) (W.idles wires.new) (W.contents wires.old) (W.contents wires.new) }
         ensures links { LinksGo [] self.old.held (W.told wires.old) self.new.held (W.told wires.new) }
@@ -621,8 +631,8 @@ impl Copier {
         ensures within { GrewBy (ConnectsWithin self.options self.from self.to) (W.told wires.old) (W.told wires.new) }
         ensures connects { OnOk result (GrewBy (ConnectsAsTold self.options self.from self.to) (W.told wires.old) (W.told wires.new)) }
 
-        // Whatever came of it, at each pause a link was wanted for writing only where the last write on it since the pause before
-        // took nothing.
+        // Whatever came of it, at each pause a link was wanted for writing only where a write on it took nothing, and nothing happened
+        // since on any link.
         ensures writes { GrewBy (AtEachPause WantsOnlyFull) (W.told wires.old) (W.told wires.new) }
         // It was wanted for reading only where a read on it told that nothing is there yet, and nothing happened since on any link.
         ensures reads { GrewBy (AtEachPause WantsOnlyEmpty) (W.told wires.old) (W.told wires.new) }
@@ -729,6 +739,7 @@ fn progress_of(moved: Turn, acted: bool) -> Progress
     ensures flushes { (start told : Option (List Call)) (copy : Seen) → HasFlushed start told copy result }
     ensures moved { result ≡ progress.Still → moved ≡ turned.Still }
     ensures acted { result ≡ progress.Still → acted ≡ false }
+    ensures went { (count : ℕ) → result ≡ progress.Moved count → moved ≡ turned.Still → acted ≡ true }
 {
     match moved {
         Turn::Moved(count) => Progress::Moved(count),

@@ -291,6 +291,7 @@ impl Bindings {
         ensures others { OnOk result (HasGoneOn board.old board.new) }
         ensures keeps { OnOk result (Keeps board.old.how self.old.sides [] board.old board.new handles.old handles.new) }
         ensures looked { OnOk result (HaveLooked board.old board.new) }
+        ensures none { IfOk result (λ done. board.old.came ≡ [] → done ≡ 0) }
         ensures still { IfOk result (λ done. done ≡ 0 → handles.new ≡ handles.old) }
         ensures dealt { OnOk result ((limit : ℕ) → Deals limit self.old.sides self.old.bound self.new.bound board.old.rows board.new.rows) }
         ensures links { HaveSameLinks handles.old handles.new }
@@ -317,6 +318,7 @@ impl Bindings {
         ensures others { OnOk result (HasGoneOn board.old board.new) }
         ensures keeps { OnOk result (Keeps board.old.how self.old.sides [] board.old board.new handles.old handles.new) }
         ensures looked { IfOk result (λ went. HasLooked went board.old board.new) }
+        ensures none { IfOk result (λ went. board.old.came ≡ [] → went ≡ false) }
         ensures still { IfOk result (λ went. went ≡ false → handles.new ≡ handles.old) }
         ensures dealt { OnOk result ((limit : ℕ) → Deals limit self.old.sides self.old.bound self.new.bound board.old.rows board.new.rows) }
         ensures links { HaveSameLinks handles.old handles.new }
@@ -401,6 +403,7 @@ impl Bindings {
         ensures windows { windows.new ≡ record windows.old { plan = record windows.old.plan { slices = windows.new.plan.slices } } }
         ensures begins { OnOk result (Begins board.old.how self.old.sides windows.old windows.new board.old board.new handles.old handles.new) }
         ensures fills { OnOk result (Fills limit windows.old windows.new board.old board.new) }
+        ensures begun { IfOk result (λ done. board.new.begun ≡ board.old.begun → done ≡ 0) }
         ensures still { IfOk result (λ done. done ≡ 0 → handles.new ≡ handles.old) }
         ensures dealt { OnOk result (Deals limit self.old.sides self.old.bound self.new.bound board.old.rows board.new.rows) }
         ensures links { HaveSameLinks handles.old handles.new }
@@ -429,6 +432,7 @@ impl Bindings {
         ensures windows { windows.new ≡ record windows.old { plan = record windows.old.plan { slices = windows.new.plan.slices } } }
         ensures begins { OnOk result (Begins board.old.how self.old.sides windows.old windows.new board.old board.new handles.old handles.new) }
         ensures next { IfOk result (λ begun. HasBegunOne begun windows.old windows.new board.old board.new) }
+        ensures begun { IfOk result (λ begun. begun ≡ true → board.new.begun ≡ board.old.begun + 1) }
         ensures still { IfOk result (λ begun. begun ≡ false → handles.new ≡ handles.old) }
         ensures dealt { OnOk result ((limit : ℕ) → limit < 2 ^ 64 → length board.old.rows < limit → Deals limit self.old.sides self.old.bound self.new.bound board.old.rows board.new.rows) }
         ensures links { HaveSameLinks handles.old handles.new }
@@ -457,6 +461,7 @@ impl Bindings {
         ensures others { OnOk result (HasBegun board.old board.new) }
         ensures keeps { OnOk result (Keeps board.old.how self.old.sides (slice ∷ []) board.old board.new handles.old handles.new) }
         ensures more { OnOk result (length board.new.rows ≡ length board.old.rows + 1) }
+        ensures begun { OnOk result (board.new.begun ≡ board.old.begun + 1) }
         ensures dealt { OnOk result ((limit : ℕ) → limit < 2 ^ 64 → length board.old.rows < limit → Deals limit self.old.sides self.old.bound self.new.bound board.old.rows board.new.rows) }
         ensures links { HaveSameLinks handles.old handles.new }
     {

@@ -12,8 +12,9 @@ ghost use Rattle.lnbd_copy.specs.Causes.{GoesOn, HasCause, tells_no_count};
 ghost use Rattle.lnbd_copy.specs.Faults.{AreUnissued, AsksNone, GoesIdly, StaysFresh, StaysUnasked};
 ghost use Rattle.lnbd_copy.specs.Grounds.{Blames, FailsOn, FindsDead, needs_no_ground};
 ghost use Rattle.lnbd_copy.specs.Links.{LinksGo, LinksGoTo};
+ghost use Rattle.lnbd_copy.specs.Moving.{TurnsInVain};
 ghost use Rattle.lnbd_copy.specs.Opening.{Dials};
-ghost use Rattle.lnbd_copy.specs.Pauses.{LeavesFull, Pauses, Unpaused, WantsInVain};
+ghost use Rattle.lnbd_copy.specs.Pauses.{Pauses, Unpaused, WantsInVain};
 ghost use Rattle.lnbd_copy.specs.Unready.{StaysUnready};
 ghost use Rattle.lnbd_copy.specs.Wanted.{WantsSome};
 ghost use Rattle.lnbd_copy.specs.Way.{Goes, Stand};
@@ -168,7 +169,7 @@ fn rest<W: Wires>(
     requires counted { start.idles ≤ W.idles wires.old }
     ensures goes { OnOk result ((now : Seen) → Goes now handles.old (W.told wires.old) now handles.new (W.told wires.new)) }
     ensures unready { (now : Seen) → StaysUnready now handles.old (W.told wires.old) (W.told wires.new) }
-    ensures vain { (before : Option (List Call)) → Unpaused before (W.told wires.old) → (told ≡ turned.Still → LeavesFull handles.old before (W.told wires.old)) → Pauses WantsInVain before (W.told wires.new) }
+    ensures vain { (before : Option (List Call)) → Unpaused before (W.told wires.old) → (told ≡ turned.Still → TurnsInVain handles.old before (W.told wires.old)) → Pauses WantsInVain before (W.told wires.new) }
     ensures causes { IfErr result (λ told. HasCause start (W.faults wires.new) (W.idles wires.new) told) }
     ensures free { IfErr result (λ told. needs_no_ground told ≡ true) }
     ensures counts { GoesOn (W.faults wires.old) (W.faults wires.new) (W.idles wires.old) (W.idles wires.new) (W.contents wires.old) (W.contents wires.new) }

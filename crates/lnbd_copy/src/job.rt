@@ -10,7 +10,9 @@ ghost use Rattle.lnbd_copy.specs.Dealt.{AreDealt, Spreads};
 ghost use Rattle.lnbd_copy.specs.Heard.{IsHeardTo};
 ghost use Rattle.lnbd_copy.specs.Job.{cells_of};
 ghost use Rattle.lnbd_copy.specs.UnderWay.{HasAsked, HasFilled, HaveLooked, IsPast, IsWantedOf, Refills, unfinished};
+ghost use Rattle.lnbd_copy.specs.Dealing.{HasGoneOn};
 ghost use Rattle.lnbd_copy.specs.Links.{HaveSameLinks};
+ghost use Rattle.lnbd_copy.specs.Moving.{AsksFor, HasChanged, HasHeard};
 ghost use Rattle.lnbd_copy.specs.Way.{Keeps, Way};
 ghost use Rattle.lnbd_copy.specs.Windows.{IsPlanned};
 
@@ -111,6 +113,7 @@ impl Job {
         ensures terms { self.new.terms ≡ self.old.terms }
         ensures onward { self.old.phase ≢ phase.Copying → self.new.phase ≢ phase.Copying }
         ensures parting { self.old.phase ≡ phase.Parting → (self.new ≡ self.old) × (board.new ≡ board.old) × (handles.new ≡ handles.old) }
+        ensures acted { IfOk result (λ acted. acted ≡ true → HasChanged self.old self.new board.old board.new) }
         ensures full { OnOk result (Refills self.old self.new board.old board.new) }
         ensures still { IfOk result (λ acted. acted ≡ false → handles.new ≡ handles.old) }
         ensures spread { OnOk result (Spreads self.old self.new board.old board.new) }
@@ -135,6 +138,7 @@ impl Job {
         requires copying { self.old.phase ≡ phase.Copying }
         ensures acts { OnOk result (Acts self.old self.new board.old board.new handles.old handles.new) }
         ensures terms { self.new.terms ≡ self.old.terms }
+        ensures acted { IfOk result (λ acted. acted ≡ true → HasChanged self.old self.new board.old board.new) }
         ensures full { OnOk result (Refills self.old self.new board.old board.new) }
         ensures still { IfOk result (λ acted. acted ≡ false → handles.new ≡ handles.old) }
         ensures spread { OnOk result (Spreads self.old self.new board.old board.new) }
@@ -162,6 +166,8 @@ impl Job {
         requires copying { self.old.phase ≡ phase.Copying }
         ensures acts { OnOk result (Acts self.old self.new board.old board.new handles.old handles.new) }
         ensures how { OnOk result (board.new.how ≡ board.old.how) }
+        ensures others { OnOk result (HasGoneOn board.old board.new) }
+        ensures none { IfOk result (λ done. board.old.came ≡ [] → done ≡ 0) }
         ensures looked { OnOk result (HaveLooked board.old board.new) }
         ensures still { IfOk result (λ done. done ≡ 0 → handles.new ≡ handles.old) }
         ensures job { self.new ≡ record self.old { bound = self.new.bound } }
@@ -180,6 +186,7 @@ impl Job {
         ensures terms { self.new.terms ≡ self.old.terms }
         ensures phase { self.new.phase ≡ self.old.phase }
         ensures untold { OnOk result (self.new.asked ≡ true → board.now.mapped ≡ false) }
+        ensures heard { IfOk result (λ heard. HasHeard heard self.old self.new board.now) }
         ensures bound { self.new.bound ≡ self.old.bound }
     {
         if !self.has_come(board) {
@@ -211,6 +218,7 @@ impl Job {
         ensures terms { self.new.terms ≡ self.old.terms }
         ensures phase { self.new.phase ≡ self.old.phase }
         ensures asks { OnOk result (HasAsked self.old self.new board.old board.new) }
+        ensures asked { IfOk result (λ asked. AsksFor asked self.old self.new board.new) }
         ensures still { IfOk result (λ asked. asked ≡ false → handles.new ≡ handles.old) }
         ensures links { HaveSameLinks handles.old handles.new }
     {
@@ -250,6 +258,7 @@ impl Job {
         ensures acts { OnOk result (Acts self.old self.new board.old board.new handles.old handles.new) }
         ensures terms { self.new.terms ≡ self.old.terms }
         ensures fills { OnOk result (HasFilled self.old self.new board.old board.new) }
+        ensures begun { IfOk result (λ done. board.new.begun ≡ board.old.begun → done ≡ 0) }
         ensures still { IfOk result (λ done. done ≡ 0 → handles.new ≡ handles.old) }
         ensures phase { self.new.phase ≡ self.old.phase }
         ensures spread { OnOk result (Spreads self.old self.new board.old board.new) }
@@ -298,6 +307,7 @@ impl Job {
         ensures terms { self.new.terms ≡ self.old.terms }
         ensures phase { self.new.phase ≢ phase.Copying }
         ensures still { result ≡ false → handles.new ≡ handles.old }
+        ensures acted { result ≡ true → self.new.phase ≢ self.old.phase }
         ensures bound { self.new.bound ≡ self.old.bound }
         ensures links { HaveSameLinks handles.old handles.new }
     {

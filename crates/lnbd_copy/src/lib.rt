@@ -9,6 +9,7 @@ mod counts;
 mod dealing;
 mod dialing;
 mod job;
+mod laws;
 mod opening;
 mod parting;
 mod sides;
@@ -17,3 +18,4 @@ mod wanting;
 mod windows;
 
 pub use copier::{Copier, Progress};
+pub use laws::vain_writes_are_last;

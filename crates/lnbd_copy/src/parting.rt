@@ -1,6 +1,6 @@
 //! The end of a copy's connections: each is asked to end, and its link is shut once that is written or it has ended.
 
-ghost use Rattle.std.specs.Prelude.{◌≡◌, ◌<◌, ◌+◌, [], length};
+ghost use Rattle.std.specs.Prelude.{◌≡◌, ◌≢◌, ◌<◌, ◌+◌, [], length};
 ghost use Rattle.lnbd_board.specs.declared.how.How.{How};
 ghost use Rattle.lnbd_board.specs.Files.{Seen};
 ghost use Rattle.lnbd_copy.specs.declared.sides.Sides.{Sides};
@@ -8,6 +8,7 @@ ghost use Rattle.lnbd_copy.specs.Causes.{GoesOn};
 ghost use Rattle.lnbd_copy.specs.Faults.{GoesIdly};
 ghost use Rattle.lnbd_copy.specs.Grounds.{Lasts};
 ghost use Rattle.lnbd_copy.specs.Leaving.{Leaves};
+ghost use Rattle.lnbd_copy.specs.Moving.{Happens};
 ghost use Rattle.lnbd_copy.specs.Pauses.{Unpaused};
 ghost use Rattle.lnbd_copy.specs.Links.{HaveSameLinks, LinksGo};
 ghost use Rattle.lnbd_copy.specs.Way.{Keeps};
@@ -41,12 +42,13 @@ fn has_parted(handles: &Handles<Ticket>, index: usize) -> bool
 }
 
 /// Closes a handle and shuts its link.
-#[tactic(auto, using(crate::proofs::FiledLemmas::calls_filed, crate::proofs::PartLemmas::leaves_one, crate::proofs::LastLemmas::lasts_adds, crate::proofs::IdleLemmas::idly_shut, crate::proofs::PauseLemmas::unpaused_adds))]
+#[tactic(auto, using(crate::proofs::FiledLemmas::calls_filed, crate::proofs::PartLemmas::leaves_one, crate::proofs::LastLemmas::lasts_adds, crate::proofs::IdleLemmas::idly_shut, crate::proofs::PauseLemmas::unpaused_adds, crate::proofs::MovingLemmas::happens_shut))]
 fn hang_up<W: Wires>(handles: &mut Handles<Ticket>, board: &mut Board, wires: &mut W, index: usize)
     requires { index < length handles.old }
     ensures leaves { Leaves board.old handles.old (W.told wires.old) board.new handles.new (W.told wires.new) }
     ensures counts { GoesOn (W.faults wires.old) (W.faults wires.new) (W.idles wires.old) (W.idles wires.new) (W.contents wires.old) (W.contents wires.new) }
     ensures fewer { length handles.new + 1 ≡ length handles.old }
+    ensures happens { Happens (W.told wires.old) (W.told wires.new) }
     ensures lasts { Lasts (W.told wires.old) (W.told wires.new) }
     ensures unpaused { Unpaused (W.told wires.old) (W.told wires.new) }
     ensures links { LinksGo [] handles.old (W.told wires.old) handles.new (W.told wires.new) }
@@ -66,7 +68,8 @@ pub(crate) fn shut_parted<W: Wires>(
 ) -> usize
     ensures leaves { Leaves board.old handles.old (W.told wires.old) board.new handles.new (W.told wires.new) }
     ensures unpaused { Unpaused (W.told wires.old) (W.told wires.new) }
-    ensures still { result ≡ 0 → (handles.new ≡ handles.old) × (wires.new ≡ wires.old) }
+    ensures still { result ≡ 0 → (handles.new ≡ handles.old) × (wires.new ≡ wires.old) × (board.new ≡ board.old) }
+    ensures happens { result ≢ 0 → Happens (W.told wires.old) (W.told wires.new) }
     ensures counts { GoesOn (W.faults wires.old) (W.faults wires.new) (W.idles wires.old) (W.idles wires.new) (W.contents wires.old) (W.contents wires.new) }
     ensures links { LinksGo [] handles.old (W.told wires.old) handles.new (W.told wires.new) }
     ensures idly { GoesIdly (W.told wires.old) (W.told wires.new) }

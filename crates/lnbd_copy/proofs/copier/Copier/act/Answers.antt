@@ -1,8 +1,9 @@
-use Rattle.std.proofs.Common.{ap, sym, subst, ◌∙◌}
+use Rattle.std.proofs.Common.{Some, refl, ap, sym, subst, ◌∙◌}
 use Rattle.std.proofs.lemmas.Result.{on_ok_weaker}
 use Rattle.lnbd_copy.specs.Copier.{HasJob, IsOnItsWay, Seen}
 use Rattle.lnbd_copy.proofs.CopierLemmas.{if_ok_leads}
 use Rattle.lnbd_copy.proofs.EndLemmas.{after_acting, job_writes}
+use Rattle.lnbd_copy.proofs.MovingLemmas.{job_changed}
 use Rattle.lnbd_copy.proofs.SpreadLemmas.{on_ok_three}
 use Rattle.lnbd_copy.proofs.UnderWayLemmas.{busy_after}
 use Rattle.lnbd_copy.proofs.copier.Copier.act.Goals as goal
@@ -24,3 +25,6 @@ act-requires c = job_writes _ c.in-Some.job (subst HasJob (sym c.self.view_is) c
 
 pub returns-clause-still : goal.returns-clause-still
 returns-clause-still c = if_ok_leads c.act.result (λ acted still none. still none ∙ ap (λ (s : Seen). s.held) c.self.view_is) c.act.ensures.still
+
+pub returns-clause-acted : goal.returns-clause-acted
+returns-clause-acted c = if_ok_leads c.act.result (λ acted changed went same. job_changed c.in-Some.job c.act.new.self c.args.self.now.job (Some c.act.new.self) (ap (λ (s : Seen). s.job) (sym c.self.view_is) ∙ c.in-Some.is) refl (changed went (same ∙ sym (ap (λ (s : Seen). s.board) c.self.view_is)))) c.act.ensures.acted

@@ -7,14 +7,14 @@ use Rattle.lnbd_copy.proofs.CauseLemmas.{goes_as, goes_then}
 use Rattle.lnbd_copy.proofs.EndLemmas.{all_then, finished_on, moved_on, rested, still_on}
 use Rattle.lnbd_copy.proofs.FaultLemmas.{behaves_idly, fair_on}
 use Rattle.lnbd_copy.proofs.FlushLemmas.{flushed_on}
-use Rattle.lnbd_copy.proofs.PauseLemmas.{pauses_full, pauses_unpaused, told_same}
+use Rattle.lnbd_copy.proofs.PauseLemmas.{pauses_unpaused, told_same}
 use Rattle.lnbd_copy.proofs.SummedLemmas.{summed_on}
 use Rattle.lnbd_copy.proofs.GroundLemmas.{grounded_as, handed_on}
 use Rattle.lnbd_copy.proofs.PausedLemmas.{IsFine, fine_open, fine_rest, fine_turn, fine_held, told_stays, waits_rest}
 use Rattle.lnbd_copy.proofs.ConnectLemmas.{told_end, within_told}
 use Rattle.lnbd_copy.proofs.LinkLemmas.{links_as, links_then}
 use Rattle.lnbd_copy.proofs.UnaskedLemmas.{told_behaves}
-use Rattle.lnbd_copy.proofs.VainLemmas.{pauses_empty}
+use Rattle.lnbd_copy.proofs.VainLemmas.{pauses_empty, pauses_full}
 use Rattle.lnbd_copy.proofs.copier.Copier.copy.Goals.{in-Moved, in-Still+in_ok-rest-in-Still}
 use Rattle.lnbd_copy.proofs.copier.Copier.copy.Goals as goal
 
@@ -51,14 +51,14 @@ turns-preserved g c =
             pauses = subst (λ (s : Seen). IsFine s start (g.W.Wires.told c.match-branch-3.wires)) (sym w.self-is)
                 (subst (λ (t : Option (List Call)). IsFine w.rest.new.self start t) (sym (ap g.W.Wires.told w.wires-is))
                 (fine_rest c.turn.new.self w.rest.new.self start _ _ rest.kept rest.pauses (λ two. turn.under_way start was.on two) (fine_turn c.turns.self c.turn.new.self start _ _ turn.kept turn.unpaused was.pauses)));
-            writes = told_same _ start _ _ (ap g.W.Wires.told w.wires-is) ((pauses_full _ _ _ _ (turn.full w.in-Still.is) rest.pauses).on start was.writes);
+            writes = told_same _ start _ _ (ap g.W.Wires.told w.wires-is) ((pauses_full _ _ _ _ (turn.still w.in-Still.is) rest.pauses).on start was.writes);
             connects = told_end _ _ _ _ _ _ _ _ _ was.connects (links_as _ _ _ _ _ _ _ (ap (λ (s : Seen). s.held) w.self-is) (ap g.W.Wires.told w.wires-is) (links_then _ _ _ _ _ _ turn.links rest.links));
             fair = λ two. subst (λ (t : Option (List Call)). Told start t (Behaves c.args.self.now.options c.args.self.now.from c.args.self.now.to)) (sym (ap g.W.Wires.told w.wires-is)) (behaves_idly _ _ _ start _ _ w.rest.ensures.idly (fair_on c.args.self.now c.turns.self (g.W.Wires.told c.args.wires.now) _ _ c.turns.invariant.kept (c.turn.ensures.fair (g.W.Wires.told c.args.wires.now)) c.turns.invariant.on c.turns.invariant.fair two));
             waits = told_same _ start _ _ (ap g.W.Wires.told w.wires-is)
                 (waits_rest c.turn.new.self start _ _ rest.pauses (still_on start _ c.turn.new.self c.in_ok-turn.field-0 w.in-Still.is (turn.turns start was.on)) (told_stays start _ _ turn.unpaused was.waits));
             counts = goes_as _ _ _ _ _ _ _ _ _ (ap g.W.Wires.faults w.wires-is) (ap g.W.Wires.idles w.wires-is) (ap g.W.Wires.contents w.wires-is)
                 (goes_then _ _ _ _ _ _ _ _ _ was.counts (goes_then _ _ _ _ _ _ _ _ _ turn.counts rest.counts));
-            reads = told_same _ start _ _ (ap g.W.Wires.told w.wires-is) ((pauses_empty _ _ _ _ (turn.full w.in-Still.is) rest.pauses).on start was.reads);
+            reads = told_same _ start _ _ (ap g.W.Wires.told w.wires-is) ((pauses_empty _ _ _ _ (turn.still w.in-Still.is) rest.pauses).on start was.reads);
             wanted = told_same _ start _ _ (ap g.W.Wires.told w.wires-is) (rest.wanted.on start (told_stays start _ _ turn.unpaused was.wanted));
           }
     ]

@@ -1,11 +1,16 @@
-use Rattle.std.proofs.Common.{refl, ap, sym, ◌∙◌}
+use Rattle.std.proofs.Common.{◌≡◌, ◌==◌, ℕ, zero, suc, not, refl, ap, sym, ◌∙◌}
 use Rattle.std.proofs.lemmas.Bool.{eqb-true, false≢true, not-false}
+use Rattle.lnbd_poll.specs.declared.noticed.Turn.{Turn}
+use Rattle.lnbd_poll.specs.declared.noticed.Turn.TheVariants as turn
 use Rattle.lnbd_copy.specs.Copier.{Seen}
+use Rattle.lnbd_copy.specs.Moving.{HasMoved}
 use Rattle.lnbd_copy.proofs.CauseLemmas.{goes_then}
 use Rattle.lnbd_copy.proofs.EndLemmas.{finished, has_job, way_answers, way_asks}
 use Rattle.lnbd_copy.proofs.FaultLemmas.{behaves_idly}
 use Rattle.lnbd_copy.proofs.FlushLemmas.{flushed}
-use Rattle.lnbd_copy.proofs.PauseLemmas.{leaves_same, unpaused_then}
+use Rattle.lnbd_copy.proofs.MovingLemmas.{happens_behind, moved_acts, moved_happens, moved_stirs}
+use Rattle.lnbd_copy.proofs.PauseLemmas.{unpaused_then}
+use Rattle.lnbd_copy.proofs.VainLemmas.{vain_same}
 use Rattle.lnbd_copy.proofs.ShareLemmas.{way_shares}
 use Rattle.lnbd_copy.proofs.SpreadLemmas.{way_spread}
 use Rattle.lnbd_copy.proofs.SummedLemmas.{summed}
@@ -98,14 +103,14 @@ returns-then-is_finished-clause-unpaused g c = unpaused_then _ _ _ (c.take_turn.
 pub returns-clause-unpaused : goal.returns-clause-unpaused
 returns-clause-unpaused g c = unpaused_then _ _ _ (c.take_turn.ensures.unpaused c.requires.going.on.stand) c.part-parted.ensures.unpaused
 
-pub returns-clause-full : goal.returns-clause-full
-returns-clause-full g c still =
+pub returns-clause-still : goal.returns-clause-still
+returns-clause-still g c still =
     let none = c.progress_of.ensures.acted still in
     elim c.if-acted.branch [
       | then-acted w ↦ absurd (false≢true (sym none ∙ w.progress_of-is ∙ w.if-acted.true))
       | else-acted w ↦
           let same = c.part-parted.ensures.still (eqb-true c.part-parted.result 0 (not-false _ (sym w.progress_of-is ∙ none))) in
-          leaves_same _ _ _ _ _ (same.0 ∙ c.in_ok-acted.ensures.still w.if-acted.false) (ap g.W.Wires.told same.1) (c.in_ok-moved.ensures.full (c.progress_of.ensures.moved still) c.requires.going.on.stand)
+          vain_same _ _ _ _ _ (same.0 ∙ c.in_ok-acted.ensures.still w.if-acted.false) (ap g.W.Wires.told same.1) (c.in_ok-moved.ensures.still (c.progress_of.ensures.moved still) c.requires.going.on.stand)
     ]
 
 pub returns-in_err-check_well-clause-counts : goal.returns-in_err-check_well-clause-counts
@@ -157,3 +162,31 @@ returns-in_err-acted-clause-unpaused g c = c.take_turn.ensures.unpaused c.requir
 
 pub returns-in_err-check_well-clause-unpaused : goal.returns-in_err-check_well-clause-unpaused
 returns-in_err-check_well-clause-unpaused g c = unpaused_then _ _ _ (c.take_turn.ensures.unpaused c.requires.going.on.stand) c.part-parted.ensures.unpaused
+
+pub returns-clause-moved : goal.returns-clause-moved
+returns-clause-moved g c count moves = go c.in_ok-moved.moved refl
+  where
+    Is : Type 0
+    Is = HasMoved c.args.self.now c.part-parted.new.self (g.W.Wires.told c.args.wires.now) (g.W.Wires.told c.part-parted.new.wires)
+
+    acts : c.in_ok-moved.moved ≡ turn.Still → c.part-parted.result ≡ 0 → Is
+    acts is none =
+        let still = c.part-parted.ensures.still none in
+        elim c.if-acted.branch [
+          | then-acted w ↦ moved_acts c.args.self.now c.take_turn.new.self c.act.new.self c.part-parted.new.self (g.W.Wires.told c.args.wires.now) (g.W.Wires.told c.take_turn.new.wires) (g.W.Wires.told c.part-parted.new.wires)
+              (c.in_ok-moved.ensures.still is c.requires.going.on.stand) (c.in_ok-moved.ensures.same is c.requires.going.on.stand) (ap (λ (s : Seen). s.job) c.take_turn.ensures.kept)
+              (c.in_ok-acted.ensures.acted w.if-acted.true) still.2 (ap (λ (s : Seen). s.job) c.part-parted.ensures.kept) (ap g.W.Wires.told still.1)
+          | else-acted w ↦ absurd (false≢true (sym (w.progress_of-is ∙ ap (λ (n : ℕ). not (n == 0)) none) ∙ c.progress_of.ensures.went count moves is))
+        ]
+
+    parts : (parted : ℕ) → c.part-parted.result ≡ parted → c.in_ok-moved.moved ≡ turn.Still → Is
+    parts zero same is = acts is same
+    parts (suc n) same is = moved_happens c.args.self.now c.part-parted.new.self (g.W.Wires.told c.args.wires.now) (g.W.Wires.told c.part-parted.new.wires)
+        (happens_behind (g.W.Wires.told c.args.wires.now) (g.W.Wires.told c.take_turn.new.wires) (g.W.Wires.told c.part-parted.new.wires) (c.take_turn.ensures.unpaused c.requires.going.on.stand) (c.part-parted.ensures.happens (λ none. some_none (sym same ∙ none))))
+      where
+        some_none : suc n ≡ 0 → ⊥
+        some_none e = cc
+
+    go : (told : Turn) → c.in_ok-moved.moved ≡ told → Is
+    go (turn.Moved n) is = moved_stirs c.args.self.now c.part-parted.new.self (g.W.Wires.told c.args.wires.now) (g.W.Wires.told c.take_turn.new.wires) (g.W.Wires.told c.part-parted.new.wires) (c.in_ok-moved.ensures.moved n is c.requires.going.on.stand) c.part-parted.ensures.unpaused
+    go turn.Still is = parts c.part-parted.result refl is

@@ -14,4 +14,4 @@ pub returns-clause-busy : goal.returns-clause-busy
 returns-clause-busy g c busy = parting_busy _ c.shut_parted.new.board (subst IsParting (sym c.self.view_is) (c.if-not-is_parting.ensures refl))
 
 pub returns-clause-still : goal.returns-clause-still
-returns-clause-still g c none = let same = c.shut_parted.ensures.still none in (same.0 ∙ ap (λ (s : Seen). s.held) c.self.view_is, same.1)
+returns-clause-still g c none = let same = c.shut_parted.ensures.still none in (same.0 ∙ ap (λ (s : Seen). s.held) c.self.view_is, same.1, same.2 ∙ ap (λ (s : Seen). s.board) c.self.view_is)

@@ -1,4 +1,4 @@
-use Rattle.std.proofs.Common.{[], ◌≢◌, refl, sym, subst}
+use Rattle.std.proofs.Common.{[], ◌≢◌, refl, ap, sym, subst, ◌∙◌}
 use Rattle.lnbd_copy.specs.Copier.{IsOnItsWay, Seen}
 use Rattle.lnbd_copy.proofs.EndLemmas.{after_turn}
 use Rattle.lnbd_copy.specs.Grounds.{IsGrounded}
@@ -11,6 +11,8 @@ use Rattle.lnbd_copy.proofs.GroundLemmas.{way_grounded, handed_on}
 use Rattle.lnbd_copy.proofs.TurnLemmas.{turned_goes}
 use Rattle.lnbd_copy.specs.Links.{LinksGo}
 use Rattle.lnbd_copy.proofs.LinkLemmas.{links_cut_short, links_turned}
+use Rattle.lnbd_copy.specs.Moving.{Stirs}
+use Rattle.lnbd_copy.proofs.MovingLemmas.{turned_same, turned_stirs}
 use Rattle.lnbd_copy.proofs.VainLemmas.{turned_vain}
 use Rattle.lnbd_copy.proofs.copier.Copier.take_turn.Goals as goal
 
@@ -37,8 +39,8 @@ returns-in_err-check_answers-clause-grounds g c =
 pub returns-clause-unpaused : goal.returns-clause-unpaused
 returns-clause-unpaused g c stand = turned_unpaused _ _ _ _ c.in_ok-moved.moved _ _ _ _ c.in_ok-moved.ensures.ok (subst (λ (s : Seen). Stand s.held) (sym c.self.view_is) stand)
 
-pub returns-clause-full : goal.returns-clause-full
-returns-clause-full g c still stand = turned_vain _ _ _ _ c.in_ok-moved.moved _ _ _ _ c.in_ok-moved.ensures.ok still (subst (λ (s : Seen). Stand s.held) (sym c.self.view_is) stand)
+pub returns-clause-still : goal.returns-clause-still
+returns-clause-still g c still stand = turned_vain _ _ _ _ c.in_ok-moved.moved _ _ _ _ c.in_ok-moved.ensures.ok still (subst (λ (s : Seen). Stand s.held) (sym c.self.view_is) stand)
 
 pub returns-in_err-moved-clause-links : goal.returns-in_err-moved-clause-links
 returns-in_err-moved-clause-links g c =
@@ -92,3 +94,11 @@ returns-in_err-check-clause-unpaused g c stand = turned_unpaused _ _ _ _ c.in_ok
 
 pub returns-in_err-check_answers-clause-unpaused : goal.returns-in_err-check_answers-clause-unpaused
 returns-in_err-check_answers-clause-unpaused g c stand = turned_unpaused _ _ _ _ c.in_ok-moved.moved _ _ _ _ c.in_ok-moved.ensures.ok (subst (λ (s : Seen). Stand s.held) (sym c.self.view_is) stand)
+
+pub returns-clause-same : goal.returns-clause-same
+returns-clause-same g c still stand = turned_same _ _ _ _ c.in_ok-moved.moved _ _ _ _ c.in_ok-moved.ensures.ok still (subst (λ (s : Seen). Stand s.held) (sym c.self.view_is) stand) ∙ ap (λ (s : Seen). s.board) c.self.view_is
+
+pub returns-clause-moved : goal.returns-clause-moved
+returns-clause-moved g c count moves stand =
+    subst (λ (s : Seen). Stirs s.held (g.W.Wires.told c.args.wires.now) (g.W.Wires.told c.turn.new.wires)) c.self.view_is
+    (turned_stirs _ _ _ _ c.in_ok-moved.moved _ _ _ _ count c.in_ok-moved.ensures.ok moves (subst (λ (s : Seen). Stand s.held) (sym c.self.view_is) stand))

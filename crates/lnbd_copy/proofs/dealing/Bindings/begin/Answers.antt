@@ -1,13 +1,14 @@
 use Rattle.std.proofs.Common.{ℕ, ◌+◌, refl, ap, sym, ◌∙◌, arith}
 use Rattle.lnbd_copy.specs.Dealing.{Begins}
 use Rattle.lnbd_copy.proofs.DealingLemmas.{begins_none, begins_on, zeros_stay}
+use Rattle.lnbd_copy.proofs.MovingLemmas.{none_more}
 use Rattle.lnbd_copy.proofs.SpreadLemmas.{deals_none, deals_then}
 use Rattle.lnbd_copy.proofs.UnderWayLemmas.{begun_all, begun_count, fills_end, fills_stop}
 use Rattle.lnbd_copy.proofs.LinkLemmas.{same_none, same_then}
 use Rattle.lnbd_copy.proofs.dealing.Bindings.begin.Goals as goal
 
 pub slices-init : goal.slices-init
-slices-init c = record { sides = refl; zeros = c.requires.zeros; windows = refl; count = sym c.count-under_way.ensures.count; all = refl; still = λ none. refl; most = λ few. few; links = same_none c.args.handles.now; begins = begins_none c.args.board.now.how c.args.self.now.sides c.args.windows.now c.args.windows.now c.args.board.now c.args.handles.now refl refl; dealt = deals_none c.args.limit c.args.self.now.sides c.args.self.now.bound c.args.board.now.rows }
+slices-init c = record { sides = refl; zeros = c.requires.zeros; windows = refl; count = sym c.count-under_way.ensures.count; all = refl; still = λ none. refl; most = λ few. few; least = omega (arith); none = λ same. refl; links = same_none c.args.handles.now; begins = begins_none c.args.board.now.how c.args.self.now.sides c.args.windows.now c.args.windows.now c.args.board.now c.args.handles.now refl refl; dealt = deals_none c.args.limit c.args.self.now.sides c.args.self.now.bound c.args.board.now.rows }
 
 pub slices-preserved : goal.slices-preserved
 slices-preserved c =
@@ -24,6 +25,8 @@ slices-preserved c =
       all = begun_all _ c.args.windows.now c.slices.windows c.begin_next.new.windows c.args.board.now c.slices.board c.begin_next.new.board went c.slices.invariant.all c.in_ok-begin_next.ensures.next;
       still = λ none. absurd (omega (arith, none));
       most = λ few. (let count = c.slices.invariant.count in let less = c.slices-test.true in omega (arith, more, count, less));
+      least = (let least = c.slices.invariant.least in let one = c.in_ok-begin_next.ensures.begun went in omega (arith, least, one));
+      none = λ same. absurd (let least = c.slices.invariant.least in let one = c.in_ok-begin_next.ensures.begun went in omega (arith, least, one, same));
       links = same_then _ _ _ c.slices.invariant.links c.begin_next.ensures.links;
       begins = all;
       dealt = deals_then c.args.limit c.args.self.now.sides c.slices.self.sides c.args.self.now.bound c.slices.self.bound c.begin_next.new.self.bound c.args.board.now.rows c.slices.board.rows c.begin_next.new.board.rows c.slices.invariant.sides c.slices.invariant.dealt
@@ -46,3 +49,6 @@ pub returns-then-not-branch-clause-dealt : goal.returns-then-not-branch-clause-d
 returns-then-not-branch-clause-dealt c =
     deals_then c.args.limit c.args.self.now.sides c.slices.self.sides c.args.self.now.bound c.slices.self.bound c.begin_next.new.self.bound c.args.board.now.rows c.slices.board.rows c.begin_next.new.board.rows c.slices.invariant.sides c.slices.invariant.dealt
     (c.in_ok-begin_next.ensures.dealt c.args.limit c.ranges.limit.fits (let count = c.slices.invariant.count in let less = c.slices-test.true in omega (arith, count, less)))
+
+pub returns-then-not-branch-clause-begun : goal.returns-then-not-branch-clause-begun
+returns-then-not-branch-clause-begun c same = c.slices.invariant.none (sym (none_more _ c.slices.windows c.begin_next.new.windows c.slices.board c.begin_next.new.board c.if-not-branch.true c.in_ok-begin_next.ensures.next) ∙ same)

@@ -14,6 +14,8 @@ invariant-slices l = record {
   all : unfinished l.windows l.board ≡ unfinished l.fn.windows l.fn.board;
   still : l.done ≡ 0 → l.handles ≡ l.fn.handles;
   most : length l.fn.board.rows ≤ l.limit → length l.board.rows ≤ l.limit;
+  least : l.fn.board.begun ≤ l.board.begun;
+  none : l.board.begun ≡ l.fn.board.begun → l.done ≡ 0;
   links : HaveSameLinks l.fn.handles l.handles;
   begins : Begins l.fn.board.how l.fn.self.sides l.fn.windows l.windows l.fn.board l.board l.fn.handles l.handles;
   dealt : Deals l.limit l.fn.self.sides l.fn.self.bound l.self.bound l.fn.board.rows l.board.rows;

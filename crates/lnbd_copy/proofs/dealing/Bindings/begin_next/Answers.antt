@@ -8,3 +8,6 @@ returns-in-None-clause-next c = none_begun c.next.result c.args.windows.now c.ne
 pub returns-in_ok-begin_one-in-Some-clause-next : goal.returns-in_ok-begin_one-in-Some-clause-next
 returns-in_ok-begin_one-in-Some-clause-next c =
     begun_one c.in-Some.slice c.args.windows.now c.next.new.self c.args.board.now c.begin_one.new.board (taken_some c.next.result c.in-Some.slice _ _ c.in-Some.is c.next.ensures.slices) c.in_ok-begin_one-in-Some.ensures.more
+
+pub returns-in_ok-begin_one-in-Some-clause-begun : goal.returns-in_ok-begin_one-in-Some-clause-begun
+returns-in_ok-begin_one-in-Some-clause-begun c is = c.in_ok-begin_one-in-Some.ensures.begun

@@ -2,6 +2,7 @@ use Rattle.std.proofs.Common.{◌∙◌}
 use Rattle.std.proofs.lemmas.Result.{on_ok_weaker}
 use Rattle.lnbd_board.specs.Board.{first_row}
 use Rattle.lnbd_copy.proofs.DealingLemmas.{begun_keeps, on_ok_both}
+use Rattle.lnbd_copy.proofs.MovingLemmas.{one_begun}
 use Rattle.lnbd_copy.proofs.SpreadLemmas.{deals_begun}
 use Rattle.lnbd_copy.proofs.UnderWayLemmas.{begun_more}
 use Rattle.lnbd_copy.proofs.dealing.Bindings.begin_one.Goals as goal
@@ -23,3 +24,6 @@ returns-clause-dealt c =
     (λ same limit fits less. deals_begun limit c.args.self.now.sides (first_row c.args.slice c.fewest-source.result.0 c.fewest-source.result.1) c.in_ok-first.first c.args.board.now c.begin.new.self c.ask_first.new.board c.args.self.now.bound c.bind.new.self.bound c.in_ok-first.ensures.row same
     c.fewest-source.ensures.few_of_source c.fewest-source.ensures.few_of_destination c.bind.ensures.source c.bind.ensures.destination fits less)
     c.ask_first.ensures.board
+
+pub returns-clause-begun : goal.returns-clause-begun
+returns-clause-begun c = on_ok_weaker c.ask_first.result (λ same. one_begun (first_row c.args.slice c.fewest-source.result.0 c.fewest-source.result.1) c.in_ok-first.first c.args.board.now c.begin.new.self c.ask_first.new.board c.in_ok-first.ensures.row same) c.ask_first.ensures.board

@@ -1,4 +1,5 @@
-use Rattle.std.proofs.Common.{◌∙◌, arith}
+use Rattle.std.proofs.Common.{sym, ◌∙◌, arith}
+use Rattle.std.proofs.lemmas.Bool.{false≢true}
 use Rattle.lnbd_copy.proofs.DealingLemmas.{gone_then, keeps_on}
 use Rattle.lnbd_copy.proofs.LinkLemmas.{same_then}
 use Rattle.lnbd_copy.proofs.SpreadLemmas.{deals_then}
@@ -13,6 +14,7 @@ slices-preserved c =
       sides = went.sides ∙ was.sides;
       others = gone_then c.args.board.now c.slices.board c.go_on_once.new.board was.others went.others;
       still = λ none. absurd (omega (arith, none));
+      none = λ none. absurd (false≢true (sym (went.none (was.none none).1) ∙ c.if-not-branch.false));
       links = same_then _ _ _ was.links went.links;
       few = looked_more _ c.args.board.now c.slices.board c.go_on_once.new.board c.if-not-branch.false was.few went.looked;
       keeps = keeps_on c.args.self.now.sides c.slices.self.sides c.args.board.now c.slices.board c.go_on_once.new.board c.args.handles.now c.slices.handles c.go_on_once.new.handles was.sides was.others was.keeps went.keeps;
@@ -22,3 +24,6 @@ slices-preserved c =
 pub returns-then-not-branch-clause-dealt : goal.returns-then-not-branch-clause-dealt
 returns-then-not-branch-clause-dealt c limit =
     deals_then limit c.args.self.now.sides c.slices.self.sides c.args.self.now.bound c.slices.self.bound c.go_on_once.new.self.bound c.args.board.now.rows c.slices.board.rows c.go_on_once.new.board.rows c.slices.invariant.sides (c.slices.invariant.dealt limit) (c.in_ok-go_on_once.ensures.dealt limit)
+
+pub returns-then-not-branch-clause-none : goal.returns-then-not-branch-clause-none
+returns-then-not-branch-clause-none c none = (c.slices.invariant.none none).0

@@ -11,6 +11,7 @@ invariant-slices l = record {
   others : HasGoneOn l.fn.board l.board;
   still : l.done ≡ 0 → l.handles ≡ l.fn.handles;
   few : length l.board.rows ≤ length l.fn.board.rows;
+  none : l.fn.board.came ≡ [] → (l.done ≡ 0) × (l.board.came ≡ []);
   links : HaveSameLinks l.fn.handles l.handles;
   keeps : Keeps l.fn.board.how l.fn.self.sides [] l.fn.board l.board l.fn.handles l.handles;
   dealt : (limit : ℕ) → Deals limit l.fn.self.sides l.fn.self.bound l.self.bound l.fn.board.rows l.board.rows;

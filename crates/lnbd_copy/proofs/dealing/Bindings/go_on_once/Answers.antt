@@ -1,4 +1,5 @@
 use Rattle.lnbd_copy.proofs.DealingLemmas.{asks_keeps, over_keeps}
+use Rattle.lnbd_copy.proofs.MovingLemmas.{on_came, over_came}
 use Rattle.lnbd_copy.proofs.SpreadLemmas.{deals_nothing, deals_on, deals_over}
 use Rattle.lnbd_copy.proofs.UnderWayLemmas.{looked_on, looked_over}
 use Rattle.lnbd_copy.proofs.dealing.Bindings.go_on_once.Goals as goal
@@ -29,3 +30,9 @@ returns-in-Over-clause-dealt c limit =
 pub returns-in_ok-change_destination-in-Asks-clause-dealt : goal.returns-in_ok-change_destination-in-Asks-clause-dealt
 returns-in_ok-change_destination-in-Asks-clause-dealt c limit =
     deals_on limit c.args.self.now.sides c.args.board.now.how c.in-Asks.slice c.in-Asks.destination c.in-Asks.change c.in_ok-next.next c.args.board.now c.next.new.self c.change_destination.new.board c.args.self.now.bound c.in-Asks.is c.in_ok-next.ensures.ok c.in_ok-change_destination-in-Asks.ensures.board
+
+pub returns-in-Over-clause-none : goal.returns-in-Over-clause-none
+returns-in-Over-clause-none c none = over_came c.args.board.now.how c.in-Over.slice c.in-Over.source c.in-Over.destination c.in_ok-next.next c.args.board.now c.next.new.self c.in-Over.is c.in_ok-next.ensures.ok none
+
+pub returns-in_ok-change_destination-in-Asks-clause-none : goal.returns-in_ok-change_destination-in-Asks-clause-none
+returns-in_ok-change_destination-in-Asks-clause-none c none = on_came c.args.board.now.how c.in-Asks.slice c.in-Asks.destination c.in-Asks.change c.in_ok-next.next c.args.board.now c.next.new.self c.in-Asks.is c.in_ok-next.ensures.ok none
