@@ -130,13 +130,18 @@ copied_by seen from to options a b what run two =
     (subst (λ (p : Place). Copies from p seen.options.destination_is_zero a b) what.2
     (subst (λ (p : Place). Copies p seen.to seen.options.destination_is_zero a b) what.1 (run (λ e. two (sym what.1 ∙ e ∙ what.2)))))
 
--- What is so of a copy that was made of the options and places that the words name is so of these.
+-- What is so of a copy of the options and places that the words name is so of these, whatever it comes to,
 pub by_words : (Is : CopyOptions → (from to : Place) → List Call → Type 0) (seen : copier.Seen) (from to : Place) (options : CopyOptions) (a b : Option (List Call)) → (seen.options ≡ options) × (seen.from ≡ from) × (seen.to ≡ to) →
-    (seen.from ≢ seen.to → GrewBy (Is seen.options seen.from seen.to) a b) → from ≢ to → GrewBy (Is options from to) a b
-by_words Is seen from to options a b what run two =
+    GrewBy (Is seen.options seen.from seen.to) a b → GrewBy (Is options from to) a b
+by_words Is seen from to options a b what run =
     subst (λ (o : CopyOptions). GrewBy (Is o from to) a b) what.0
     (subst (λ (p : Place). GrewBy (Is seen.options from p) a b) what.2
-    (subst (λ (p : Place). GrewBy (Is seen.options p seen.to) a b) what.1 (run (λ e. two (sym what.1 ∙ e ∙ what.2)))))
+    (subst (λ (p : Place). GrewBy (Is seen.options p seen.to) a b) what.1 run))
+
+-- or where it is from one place to another.
+pub between_words : (Is : CopyOptions → (from to : Place) → List Call → Type 0) (seen : copier.Seen) (from to : Place) (options : CopyOptions) (a b : Option (List Call)) → (seen.options ≡ options) × (seen.from ≡ from) × (seen.to ≡ to) →
+    (seen.from ≢ seen.to → GrewBy (Is seen.options seen.from seen.to) a b) → from ≢ to → GrewBy (Is options from to) a b
+between_words Is seen from to options a b what run two = by_words Is seen from to options a b what (run (λ e. two (sym what.1 ∙ e ∙ what.2)))
 
 pub grounded_by : (seen : copier.Seen) (from to : Place) (options : CopyOptions) (a b : Option (List Call)) (fault : CopyFault) → (seen.options ≡ options) × (seen.from ≡ from) × (seen.to ≡ to) →
     IsGrounded a b seen.from seen.to fault → IsGrounded a b from to fault

@@ -92,7 +92,7 @@ pub fn run<W: Wires, I: Source, O: Sink, E: Sink>(
     ensures serve_complete { IsServe words.now → IsLawfulServe words.now → (¬ Rises 1 (W.faults wires.old) (W.faults wires.new)) → (¬ Rises patience (W.idles wires.old) (W.idles wires.new)) → (¬ Rises 1 (O.faults out.old) (O.faults out.new)) → IsServeDone result }
 
     // Words whose first is nbdcopy: on 0 what they ask was copied, so that over honest exports the destination holds the source's bytes; else the run ended for this
-    // cause. Nothing is printed on `out`.
+    // cause. Either way its calls, if it made any, are those of such a copy. Nothing is printed on `out`.
     ensures copy { IsCopy words.now → CopyRan words.now (W.told wires.old) (W.told wires.new) (wires.new ≡ wires.old) (Prints (E.taken err.old) (E.taken err.new) (E.faults err.old) (E.faults err.new)) result }
     ensures copy_out { IsCopy words.now → out.new ≡ out.old }
 

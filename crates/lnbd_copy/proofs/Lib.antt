@@ -54,3 +54,4 @@ pub mod ConnectLemmas
 pub mod AlwaysLemmas
 pub mod WrittenLemmas
 pub mod MovingLemmas
+pub mod ConductLemmas

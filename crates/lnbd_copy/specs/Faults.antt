@@ -25,8 +25,7 @@ abbrev pub UntouchedSoFar : (from to : Place) → List wire.Call → Type 0
 UntouchedSoFar from to calls = NothingWasAsked calls ⊎ SparesTold from to calls
 
 -- Nothing was asked twice, no flush among it, and none where the options want none; each READ was answered for before, and none is of a block that was told as
--- zero.
--- Nothing was asked twice, no flush among it, and none where the options want none; each READ was answered for before; and at every moment what was unanswered was shared.
+-- zero; no WRITE has a block of zeros that was found; and at every moment what was unanswered was shared.
 pub record Behaves (options : CopyOptions) (from to : Place) (calls : List wire.Call) : Type 0 where
   pub asks : AsksAtMostOnce options.allocated from to calls
   pub answered : ReadsAreAnswered options.extents from calls

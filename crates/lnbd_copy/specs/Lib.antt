@@ -43,3 +43,4 @@ pub mod Bounded
 pub mod Sharing
 pub mod Made
 pub mod Written
+pub mod Conduct

@@ -13,6 +13,7 @@ ghost use Rattle.lnbd_course.specs.Flushes.{FlushesLast, IsUnflushed};
 ghost use Rattle.lnbd_course.specs.Parts.{AsksAtMostOnce, FlushesAtMostOnce};
 ghost use Rattle.lnbd_copy.specs.Agreed.{AreQuiet};
 ghost use Rattle.lnbd_copy.specs.Causes.{GoesOn, HasCause};
+ghost use Rattle.lnbd_copy.specs.Conduct.{Conducts};
 ghost use Rattle.lnbd_copy.specs.Connects.{ConnectsAsTold, ConnectsWithin, LinksGoAsTold, LinksGoWithin};
 ghost use Rattle.lnbd_copy.specs.declared.copier.Progress.TheVariants as progress;
 ghost use Rattle.lnbd_copy.specs.Copier.{GoesFurther, HasJob, HasMet, HasNotBegun, HasTurned, IsDone, IsGoing, IsOnItsWay, IsParting, Seen};
@@ -644,6 +645,8 @@ impl Copier {
 
         // All of this together, where the copy is made.
         ensures made { self.from ≢ self.to → IfOk result (λ told. GrewBy (IsMade self.options self.from self.to told) (W.told wires.old) (W.told wires.new)) }
+        // And all of it that is so whatever came of it.
+        ensures conducts { GrewBy (Conducts self.options self.from self.to) (W.told wires.old) (W.told wires.new) }
 
         // What the calls show of a fault.
         ensures grounds { IfErr result (λ told. IsGrounded (W.told wires.old) (W.told wires.new) self.from self.to told) }

@@ -6,10 +6,12 @@ returns-in-Ok-copy-clause-ends g c = record {
   asked = record { wish = c.in-Ok.wish; transfer = c.in-Some.what; asks = c.in-Ok.ensures.asked; is = sym c.in-Some.ensures };
   copied = c.in-Ok-copy.ensures.copies;
   made = c.in-Ok-copy.ensures.made;
+  conduct = c.copy.ensures.conducts;
 }
 
 pub returns-in-Err-clause-ends : goal.returns-in-Err-clause-ends
 returns-in-Err-clause-ends g c = record {
   asked = record { wish = c.in-Ok.wish; transfer = c.in-Some.what; asks = c.in-Ok.ensures.asked; is = sym c.in-Some.ensures };
   grounds = c.in-Err.ensures.grounds;
+  conduct = c.copy.ensures.conducts;
 }

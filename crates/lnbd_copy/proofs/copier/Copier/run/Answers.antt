@@ -9,6 +9,7 @@ use Rattle.lnbd_copy.proofs.SummedLemmas.{done_sums}
 use Rattle.lnbd_copy.proofs.GroundLemmas.{grounded_later, if_err_leads}
 use Rattle.lnbd_copy.proofs.PausedLemmas.{done_pauses, told_stays}
 use Rattle.lnbd_copy.proofs.MadeLemmas.{is_made}
+use Rattle.lnbd_copy.proofs.ConductLemmas.{conducts}
 use Rattle.lnbd_copy.proofs.ConnectLemmas.{connects_as_told, connects_within, told_end, within_end}
 use Rattle.lnbd_copy.proofs.LinkLemmas.{links_kept}
 use Rattle.lnbd_copy.proofs.copier.Copier.run.Goals as goal
@@ -120,3 +121,8 @@ returns-clause-made g c two =
     is_made c.args.self.options c.args.self.from c.args.self.to _ _ c.copy-told.result (returns-clause-asks g c two) (returns-clause-done g c two) (returns-clause-summary g c two) (returns-clause-spares g c two) (returns-clause-dense g c two) (returns-clause-answered g c two)
     (returns-clause-flushes g c two) (returns-clause-flushed g c two) (λ unwanted. returns-clause-unflushed g c unwanted two) (returns-clause-driven g c) (returns-clause-pauses g c two) (returns-clause-shares g c two) (returns-clause-writes g c) (returns-clause-waits g c) (returns-clause-links g c) (returns-clause-connects g c) (returns-clause-reads g c)
     (returns-clause-wanted g c)
+
+pub returns-clause-conducts : goal.returns-clause-conducts
+returns-clause-conducts g c =
+    conducts c.args.self.options c.args.self.from c.args.self.to _ _ (returns-clause-links g c) (returns-clause-within g c) (λ two. told_part _ _ (behaves_idly _ _ _ _ _ _ c.end.ensures.idly (c.copy-told.ensures.fair two))) (returns-clause-pauses g c)
+    (returns-clause-waits g c) (returns-clause-writes g c) (returns-clause-reads g c) (returns-clause-wanted g c)

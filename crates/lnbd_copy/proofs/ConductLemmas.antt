@@ -1,0 +1,30 @@
+-- What is shown of a copy one by one whatever it comes to is so together.
+use Rattle.std.proofs.Common.{◌≢◌, List, Option}
+use Rattle.lnbd_model.specs.declared.target.Place.{Place}
+use Rattle.lnbd_link.specs.Call as wire
+use Rattle.lnbd_plan.specs.declared.options.CopyOptions.{CopyOptions}
+use Rattle.lnbd_course.specs.Asks.{GrewBy}
+use Rattle.lnbd_copy.specs.Conduct.{Conducts}
+use Rattle.lnbd_copy.specs.Connects.{ConnectsWithin}
+use Rattle.lnbd_copy.specs.Faults.{Behaves}
+use Rattle.lnbd_copy.specs.Links.{LinksAreKept}
+use Rattle.lnbd_copy.specs.Paused.{PausesAreFull}
+use Rattle.lnbd_copy.specs.Pauses.{AtEachPause, WantsOnlyFull}
+use Rattle.lnbd_copy.specs.Vain.{WantsOnlyEmpty}
+use Rattle.lnbd_copy.specs.Waits.{WaitsWell}
+use Rattle.lnbd_copy.specs.Wanted.{WantsSome}
+
+pub conducts : (options : CopyOptions) (from to : Place) (a b : Option (List wire.Call)) → GrewBy LinksAreKept a b → GrewBy (ConnectsWithin options from to) a b
+    → (from ≢ to → GrewBy (Behaves options from to) a b) → (from ≢ to → GrewBy (PausesAreFull options from to) a b)
+    → GrewBy (AtEachPause WaitsWell) a b → GrewBy (AtEachPause WantsOnlyFull) a b → GrewBy (AtEachPause WantsOnlyEmpty) a b → GrewBy (AtEachPause WantsSome) a b
+    → GrewBy (Conducts options from to) a b
+conducts options from to a b links within behaves pauses waits writes reads wanted = λ all part is grown. record {
+  links = links all part is grown;
+  within = within all part is grown;
+  behaves = λ two. behaves two all part is grown;
+  pauses = λ two. pauses two all part is grown;
+  waits = waits all part is grown;
+  writes = writes all part is grown;
+  reads = reads all part is grown;
+  wanted = wanted all part is grown;
+}
