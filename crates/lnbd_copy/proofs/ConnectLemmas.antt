@@ -10,6 +10,7 @@ use Rattle.lnbd_poll.specs.Held.{Held}
 use Rattle.lnbd_board.specs.declared.ticket.Ticket.{Ticket}
 use Rattle.lnbd_copy.specs.declared.sides.Sides.{Sides}
 use Rattle.lnbd_copy.specs.declared.terms.Terms.{Terms}
+use Rattle.lnbd_copy.specs.Connected.{AllConnected, StaysConnected}
 use Rattle.lnbd_copy.specs.Connects.{ConnectsAsTold, ConnectsWithin, HasSettledOn, LinksGoAsTold, LinksGoWithin, connected_to, one_each}
 use Rattle.lnbd_copy.specs.Copier.{HasMet, Seen}
 use Rattle.lnbd_copy.specs.Lasting.{Lasts}
@@ -17,6 +18,7 @@ use Rattle.lnbd_copy.specs.Links.{ConnectTo, LinksGo, LinksGoTo}
 use Rattle.lnbd_copy.specs.Settled.{HasTerms}
 use Rattle.lnbd_copy.specs.Terms as both
 use Rattle.lnbd_copy.specs.Way.{Stand, Told}
+use Rattle.lnbd_copy.proofs.ConnectedLemmas.{connected_links}
 use Rattle.lnbd_copy.proofs.EndLemmas.{told_part}
 use Rattle.lnbd_copy.proofs.LastLemmas.{terms_later}
 use Rattle.lnbd_copy.proofs.LinkLemmas.{links_end, links_joined, links_none}
@@ -108,11 +110,12 @@ within_more options from to terms held held2 held3 a b c settled one two = recor
 }
 
 pub as_told : (options : CopyOptions) (from to : Place) (terms : Terms) (held held2 held3 : List (Held Ticket)) (a b c : Option (List wire.Call)) → HasTerms options from to a b terms → LinksGo (from.to ∷ to.to ∷ []) held a held2 b
-    → LinksGo (replicate (terms.sides.source - 1) from.to ++ replicate (terms.sides.destination - 1) to.to) held2 b held3 c → LinksGoAsTold options from to held a held3 c
-as_told options from to terms held held2 held3 a b c settled one two = record {
+    → LinksGo (replicate (terms.sides.source - 1) from.to ++ replicate (terms.sides.destination - 1) to.to) held2 b held3 c → Told a b AllConnected → StaysConnected b c → LinksGoAsTold options from to held a held3 c
+as_told options from to terms held held2 held3 a b c settled one two first further = record {
   terms = terms;
   settled = terms_later options from to a b c terms two.lasts settled;
   go = links_joined (from.to ∷ to.to ∷ []) (replicate (terms.sides.source - 1) from.to ++ replicate (terms.sides.destination - 1) to.to) held held2 held3 a b c one two;
+  connected = further.on a first;
 }
 
 pub within_told : (options : CopyOptions) (from to : Place) (held held2 : List (Held Ticket)) (a b : Option (List wire.Call)) → LinksGoAsTold options from to held a held2 b → LinksGoWithin options from to held a held2 b
@@ -130,6 +133,7 @@ told_end options from to held held2 held3 a b c one two = record {
   terms = one.terms;
   settled = terms_later options from to a b c one.terms two.lasts one.settled;
   go = links_end (connected_to from to one.terms.sides) held held2 held3 a b c one.go two;
+  connected = (connected_links held2 held3 b c two).on a one.connected;
 }
 
 -- Further connections are made behind those that met.
@@ -144,10 +148,10 @@ within_met copy mid held t u v terms kept met one two =
     within_more copy.options copy.from copy.to terms copy.held mid.held held t u v settled one (subst (λ (s : Seen). LinksGoTo (further_to s.from s.to terms.sides) mid.held u held v) kept (two met.stand))
 
 pub told_met : (copy mid : Seen) (held : List (Held Ticket)) (t u v : Option (List wire.Call)) (terms : Terms) → mid ≡ record copy { held = mid.held; board = mid.board } → HasMet mid t u terms → LinksGo (copy.from.to ∷ copy.to.to ∷ []) copy.held t mid.held u
-    → (Stand mid.held → LinksGo (further_to mid.from mid.to terms.sides) mid.held u held v) → LinksGoAsTold copy.options copy.from copy.to copy.held t held v
-told_met copy mid held t u v terms kept met one two =
+    → (Stand mid.held → LinksGo (further_to mid.from mid.to terms.sides) mid.held u held v) → Told t u AllConnected → (Stand mid.held → StaysConnected u v) → LinksGoAsTold copy.options copy.from copy.to copy.held t held v
+told_met copy mid held t u v terms kept met one two first further =
     let settled : HasTerms copy.options copy.from copy.to t u terms = subst (λ (s : Seen). HasTerms s.options s.from s.to t u terms) kept met.settled in
-    as_told copy.options copy.from copy.to terms copy.held mid.held held t u v settled one (subst (λ (s : Seen). LinksGo (further_to s.from s.to terms.sides) mid.held u held v) kept (two met.stand))
+    as_told copy.options copy.from copy.to terms copy.held mid.held held t u v settled one (subst (λ (s : Seen). LinksGo (further_to s.from s.to terms.sides) mid.held u held v) kept (two met.stand)) first (further met.stand)
 
 -- What the calls of a whole copy are.
 

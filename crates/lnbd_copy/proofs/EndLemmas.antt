@@ -17,7 +17,8 @@ use Rattle.lnbd_plan.specs.declared.summary.Summary.{Summary}
 use Rattle.lnbd_board.specs.declared.how.How.{How}
 use Rattle.lnbd_board.specs.declared.ticket.Ticket.{Ticket}
 use Rattle.lnbd_board.specs.Files as board
-use Rattle.lnbd_course.specs.Asks.{GrewBy, HasAskedOnce, WereDone}
+use Rattle.lnbd_course.specs.AllDone.{WereAllDone}
+use Rattle.lnbd_course.specs.Asks.{GrewBy, HasAskedOnce}
 use Rattle.lnbd_course.specs.Between.{Between}
 use Rattle.lnbd_course.specs.Copied.{Copied, Copies}
 use Rattle.lnbd_course.specs.Course.{IsPlannedWhole}
@@ -29,7 +30,8 @@ use Rattle.lnbd_course.proofs.Dense.{ended_are_dense}
 use Rattle.lnbd_course.proofs.Driving.{ended_are_driven}
 use Rattle.lnbd_course.proofs.Flushing.{ended_flushed, ended_unflushed}
 use Rattle.lnbd_course.proofs.Holding.{take_drop}
-use Rattle.lnbd_course.proofs.Once.{ended_are_done, ended_asks_once}
+use Rattle.lnbd_course.proofs.AllDone.{ended_are_all_done}
+use Rattle.lnbd_course.proofs.Once.{ended_asks_once}
 use Rattle.lnbd_course.proofs.Placing.{taking_keeps_between}
 use Rattle.lnbd_course.proofs.Placed.{ended_copies, links_are_of_sides}
 use Rattle.lnbd_course.proofs.Sparing.{ended_spares}
@@ -320,6 +322,17 @@ way_dense j way now calls is has s well two =
     subst (λ (how : How). WritesNoZeros how (dealt_with way.to calls)) is.how
     (ended_are_dense way.from way.to j.terms.size way.how has way.slices now calls (between_sized way j.terms.size has now calls is.size s) well two)
 
+-- Each request was done, whatever it asked for.
+way_all_done : (j : job.Seen) (way : Way) (now : board.Seen) (calls : List wire.Call) → (is : job.IsJob j way now) → job.IsOver j now → job.is_parting j.phase ≡ true → (has : ℕ → Bool) → Stands way has now calls [] → now.error ≡ None → way.from ≢ way.to → WereAllDone way.from way.to calls
+way_all_done j way now calls is over parts has s well two =
+    let unasked : way.asked ≡ None = is.asked ∙ ap (λ (b : Bool). if b then windows.wanted j.windows else None) over.heard in
+    ended_are_all_done way.from way.to j.terms.size way.how has way.slices now calls (known_of way) (between_sized way j.terms.size has now calls is.size s)
+    (subst (λ (o : Option (ℕ × ℕ)). course.Told way.how has way.slices now calls [] o (known_of way)) unasked s.told) over.rows well (answered j.terms.flush refl) two
+  where
+    answered : (flush : Bool) → j.terms.flush ≡ flush → now.flushing ≡ true → now.flushed ≡ true
+    answered true wanted flushing = is.flushed (is_past j.phase parts) wanted
+    answered false unwanted flushing = absurd (false≢true (sym (is.unwanted unwanted) ∙ flushing))
+
 pub finished : (copy : Seen) (start told : Option (List wire.Call)) (j : job.Seen) → copy.job ≡ Some j → job.is_parting j.phase ≡ true → copy.held ≡ [] → copy.board.error ≡ None → IsOnItsWay start told copy → IsDone start told copy
 finished copy start told j there parts none well on =
     let same : on.job ≡ j = some_same on.job j (sym on.there ∙ there) in
@@ -336,9 +349,8 @@ finished copy start told j there parts none well on =
           let leaving : IsLeaving on.way copy.board calls [] =
           subst (λ (h : List (Held Ticket)). IsLeaving on.way copy.board calls h) none (subst (λ (p : Bool). IsUnderWay p on.way copy.board calls copy.held) parting is) in
           let s = stands_alone on.way copy.board calls leaving in
-          subst (λ (t : Place). WereDone copy.from t calls) on.to
-          (subst (λ (f : Place). WereDone f on.way.to calls) on.from
-          (ended_are_done on.way.from on.way.to on.job.terms.size on.way.how leaving.has on.way.slices copy.board calls (between_sized on.way on.job.terms.size leaving.has copy.board calls on.is.size s) over.rows well apart)))
+          subst (λ (t : Place). WereAllDone copy.from t calls) on.to
+          (subst (λ (f : Place). WereAllDone f on.way.to calls) on.from (way_all_done on.job on.way copy.board calls on.is over parting leaving.has s well apart)))
           on.on;
       spares = λ two.
           let apart : on.way.from ≢ on.way.to = λ e. two (sym on.from ∙ e ∙ on.to) in
@@ -430,10 +442,10 @@ done_asks copy new a b c kept same two done =
     subst (λ (t : Option (List wire.Call)). GrewBy (HasAskedOnce copy.options.allocated copy.from copy.to) a t) (sym same) (told_part a b (so.asked two))
 
 -- All that it asked was done.
-pub done_whole : (copy new : Seen) (a b c : Option (List wire.Call)) → new ≡ record copy { start = new.start; held = new.held; board = new.board; job = new.job } → c ≡ b → copy.from ≢ copy.to → IsDone a b new → GrewBy (WereDone copy.from copy.to) a c
+pub done_whole : (copy new : Seen) (a b c : Option (List wire.Call)) → new ≡ record copy { start = new.start; held = new.held; board = new.board; job = new.job } → c ≡ b → copy.from ≢ copy.to → IsDone a b new → GrewBy (WereAllDone copy.from copy.to) a c
 done_whole copy new a b c kept same two done =
     let so = subst (λ (s : Seen). IsDone a b s) kept done in
-    subst (λ (t : Option (List wire.Call)). GrewBy (WereDone copy.from copy.to) a t) (sym same) (told_part a b (so.done two))
+    subst (λ (t : Option (List wire.Call)). GrewBy (WereAllDone copy.from copy.to) a t) (sym same) (told_part a b (so.done two))
 
 -- It read no block that was told as zero whole,
 pub done_spares : (copy new : Seen) (a b c : Option (List wire.Call)) → new ≡ record copy { start = new.start; held = new.held; board = new.board; job = new.job } → c ≡ b → copy.from ≢ copy.to → IsDone a b new → GrewBy (SparesTold copy.from copy.to) a c

@@ -1,4 +1,5 @@
 pub mod CauseLemmas
+pub mod EndedLemmas
 pub mod LastLemmas
 pub mod PowerLemmas
 pub mod SettledLemmas
@@ -50,6 +51,7 @@ pub mod BindingLemmas
 pub mod BoundedLemmas
 pub mod ShareLemmas
 pub mod LinkLemmas
+pub mod ConnectedLemmas
 pub mod ConnectLemmas
 pub mod AlwaysLemmas
 pub mod WrittenLemmas

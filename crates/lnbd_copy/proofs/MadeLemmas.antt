@@ -4,10 +4,12 @@ use Rattle.lnbd_model.specs.declared.target.Place.{Place}
 use Rattle.lnbd_link.specs.Call as wire
 use Rattle.lnbd_plan.specs.declared.options.CopyOptions.{CopyOptions}
 use Rattle.lnbd_plan.specs.declared.summary.Summary.{Summary}
-use Rattle.lnbd_course.specs.Asks.{GrewBy, HasAskedOnce, WereDone}
+use Rattle.lnbd_course.specs.AllDone.{WereAllDone}
+use Rattle.lnbd_course.specs.Asks.{GrewBy, HasAskedOnce}
 use Rattle.lnbd_course.specs.Counts.{Summarizes}
 use Rattle.lnbd_course.specs.Driven.{AreDriven}
 use Rattle.lnbd_course.specs.Flushes.{FlushesLast, IsUnflushed}
+use Rattle.lnbd_copy.specs.Connected.{AllConnected}
 use Rattle.lnbd_copy.specs.Connects.{ConnectsAsTold}
 use Rattle.lnbd_copy.specs.Links.{LinksAreKept}
 use Rattle.lnbd_copy.specs.Made.{IsMade}
@@ -21,14 +23,15 @@ use Rattle.lnbd_copy.specs.Waits.{WaitsWell}
 use Rattle.lnbd_copy.specs.Wanted.{WantsSome}
 
 pub is_made : {F : Type 0} (options : CopyOptions) (from to : Place) (a b : Option (List wire.Call)) (r : Result Summary F)
-    → OnOk r (GrewBy (HasAskedOnce options.allocated from to) a b) → OnOk r (GrewBy (WereDone from to) a b) → IfOk r (λ summary. GrewBy (Summarizes from to summary) a b)
+    → OnOk r (GrewBy (HasAskedOnce options.allocated from to) a b) → OnOk r (GrewBy (WereAllDone from to) a b) → IfOk r (λ summary. GrewBy (Summarizes from to summary) a b)
     → OnOk r (GrewBy (SparesTold from to) a b) → OnOk r (GrewBy (SparesFound options from to) a b) → GrewBy (ReadsAreAnswered options.extents from) a b
     → IfOk r (λ summary. GrewBy (FlushesLast from to summary) a b) → OnOk r (GrewBy (FlushesWanted options from to) a b) → (options.flush ≡ false → GrewBy (IsUnflushed to) a b)
     → OnOk r (GrewBy AreDriven a b) → GrewBy (PausesAreFull options from to) a b → GrewBy (IsAlwaysShared options from to) a b → GrewBy (AtEachPause WantsOnlyFull) a b → GrewBy (AtEachPause WaitsWell) a b → GrewBy LinksAreKept a b → OnOk r (GrewBy (ConnectsAsTold options from to) a b)
     → GrewBy (AtEachPause WantsOnlyEmpty) a b
     → GrewBy (AtEachPause WantsSome) a b
+    → OnOk r (GrewBy AllConnected a b)
     → IfOk r (λ summary. GrewBy (IsMade options from to summary) a b)
-is_made options from to a b (Ok summary) asks done sums spares dense answered flushes flushed unflushed driven pauses shares writes waits links connects reads wanted = λ all part is grown. record {
+is_made options from to a b (Ok summary) asks done sums spares dense answered flushes flushed unflushed driven pauses shares writes waits links connects reads wanted connected = λ all part is grown. record {
   asks = asks all part is grown;
   done = done all part is grown;
   sums = sums all part is grown;
@@ -47,5 +50,6 @@ is_made options from to a b (Ok summary) asks done sums spares dense answered fl
   connects = connects all part is grown;
   reads = reads all part is grown;
   wanted = wanted all part is grown;
+  connected = connected all part is grown;
 }
-is_made options from to a b (Err fault) asks done sums spares dense answered flushes flushed unflushed driven pauses shares writes waits links connects reads wanted = tt
+is_made options from to a b (Err fault) asks done sums spares dense answered flushes flushed unflushed driven pauses shares writes waits links connects reads wanted connected = tt

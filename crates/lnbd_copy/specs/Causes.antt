@@ -37,3 +37,8 @@ tells_no_count (fault.Broke broken) = true
 tells_no_count (fault.Peer option code) = true
 tells_no_count (fault.Rule rule) = true
 tells_no_count (fault.Silent told) = false
+
+-- Neither count rose so far: no call failed, and the wires waited for less than is borne.
+pub record AreWell (start : Counts) (failed waited : ℕ) : Type 0 where
+  pub faults : ¬ Rises 1 start.faults failed
+  pub idles : ¬ Rises patience start.idles waited

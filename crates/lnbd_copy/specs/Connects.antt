@@ -8,9 +8,11 @@ use Rattle.lnbd_poll.specs.Held.{Held}
 use Rattle.lnbd_board.specs.declared.ticket.Ticket.{Ticket}
 use Rattle.lnbd_copy.specs.declared.sides.Sides.{Sides}
 use Rattle.lnbd_copy.specs.declared.terms.Terms.{Terms}
+use Rattle.lnbd_copy.specs.Connected.{AllConnected}
 use Rattle.lnbd_copy.specs.Links.{ConnectTo, LinksGo, LinksGoTo, targets}
 use Rattle.lnbd_copy.specs.Settled.{HasTerms, IsToldFirst}
 use Rattle.lnbd_copy.specs.Terms as both
+use Rattle.lnbd_copy.specs.Way.{Told}
 
 -- with so many connections to each side: the source's first, the destination's first, and behind them the others of the source, and then those of the destination
 abbrev pub connected_to : (from to : Place) → Sides → List Target
@@ -47,3 +49,4 @@ pub record LinksGoAsTold (options : CopyOptions) (from to : Place) (held : List 
   pub terms : Terms
   pub settled : HasTerms options from to told told' terms
   pub go : LinksGo (connected_to from to terms.sides) held told held' told'
+  pub connected : Told told told' AllConnected

@@ -11,6 +11,7 @@ pub mod Statuses
 pub mod Bound
 pub mod Way
 pub mod Links
+pub mod Connected
 pub mod Dealing
 pub mod Windows
 pub mod Heard
@@ -29,6 +30,7 @@ pub mod Connects
 pub mod Faults
 pub mod Copier
 pub mod Summed
+pub mod Ended
 pub mod Flushed
 pub mod Full
 pub mod Unanswered

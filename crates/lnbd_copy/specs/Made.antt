@@ -4,10 +4,12 @@ use Rattle.lnbd_model.specs.declared.target.Place.{Place}
 use Rattle.lnbd_link.specs.Call as wire
 use Rattle.lnbd_plan.specs.declared.options.CopyOptions.{CopyOptions}
 use Rattle.lnbd_plan.specs.declared.summary.Summary.{Summary}
-use Rattle.lnbd_course.specs.Asks.{HasAskedOnce, WereDone}
+use Rattle.lnbd_course.specs.AllDone.{WereAllDone}
+use Rattle.lnbd_course.specs.Asks.{HasAskedOnce}
 use Rattle.lnbd_course.specs.Counts.{Summarizes}
 use Rattle.lnbd_course.specs.Driven.{AreDriven}
 use Rattle.lnbd_course.specs.Flushes.{FlushesLast, IsUnflushed}
+use Rattle.lnbd_copy.specs.Connected.{AllConnected}
 use Rattle.lnbd_copy.specs.Connects.{ConnectsAsTold}
 use Rattle.lnbd_copy.specs.Links.{LinksAreKept}
 use Rattle.lnbd_copy.specs.Paused.{PausesAreFull}
@@ -21,9 +23,9 @@ use Rattle.lnbd_copy.specs.Wanted.{WantsSome}
 
 -- By these calls a copy was made from one place to another, as its options say, of which the summary tells.
 pub record IsMade (options : CopyOptions) (from to : Place) (summary : Summary) (calls : List wire.Call) : Type 0 where
-  -- nothing was asked twice, and nothing past the source's end; and all of it was done
+  -- nothing was asked twice, and nothing past the source's end; and all of it was done: no request came to an error
   pub asks : HasAskedOnce options.allocated from to calls
-  pub done : WereDone from to calls
+  pub done : WereAllDone from to calls
   -- how many bytes were read, written, zeroed and passed over
   pub sums : Summarizes from to summary calls
   -- nothing was read that was told as zero, nor before it was told of, where that could be asked, and nothing written as bytes that was found to be zero
@@ -49,3 +51,5 @@ pub record IsMade (options : CopyOptions) (from to : Place) (summary : Summary) 
   pub reads : AtEachPause WantsOnlyEmpty calls
   -- and no pause waited for nothing
   pub wanted : AtEachPause WantsSome calls
+  -- each connect gave a link
+  pub connected : AllConnected calls

@@ -2,21 +2,26 @@
 
 ghost use Rattle.std.specs.Prelude.{◌≡◌, ◌≢◌, ◌<◌, ◌≤◌, ◌+◌, ◌-◌, ◌^◌, [], ◌∷◌, ◌++◌, length, replicate, ℕ, List, Option, None, true, false, IfErr, IfOk, OnErr, OnOk};
 ghost use Rattle.lnbd_link.specs.Call.{Call, Pause};
+ghost use Rattle.lnbd_link.specs.Count.{Rises};
 ghost use Rattle.lnbd_link.specs.Part.{Adds};
 ghost use Rattle.lnbd_poll.specs.Held.{wants_now};
 ghost use Rattle.lnbd_poll.specs.declared.noticed.Turn.TheVariants as turned;
-ghost use Rattle.lnbd_course.specs.Asks.{GrewBy, HasAskedOnce, WereDone};
+ghost use Rattle.lnbd_course.specs.AllDone.{WereAllDone};
+ghost use Rattle.lnbd_course.specs.Asks.{GrewBy, HasAskedOnce};
 ghost use Rattle.lnbd_course.specs.Copied.{Copies};
 ghost use Rattle.lnbd_course.specs.Counts.{Summarizes};
 ghost use Rattle.lnbd_course.specs.Driven.{AreDriven};
 ghost use Rattle.lnbd_course.specs.Flushes.{FlushesLast, IsUnflushed};
 ghost use Rattle.lnbd_course.specs.Parts.{AsksAtMostOnce, FlushesAtMostOnce};
 ghost use Rattle.lnbd_copy.specs.Agreed.{AreQuiet};
-ghost use Rattle.lnbd_copy.specs.Causes.{GoesOn, HasCause};
+ghost use Rattle.lnbd_copy.specs.Causes.{AreWell, GoesOn, HasCause, patience};
 ghost use Rattle.lnbd_copy.specs.Conduct.{Conducts};
+ghost use Rattle.lnbd_copy.specs.Connected.{AllConnected, StaysConnected};
 ghost use Rattle.lnbd_copy.specs.Connects.{ConnectsAsTold, ConnectsWithin, LinksGoAsTold, LinksGoWithin};
 ghost use Rattle.lnbd_copy.specs.declared.copier.Progress.TheVariants as progress;
+ghost use Rattle.lnbd_copy.specs.declared.counts.Counts.{Counts as Counted};
 ghost use Rattle.lnbd_copy.specs.Copier.{GoesFurther, HasJob, HasMet, HasNotBegun, HasTurned, IsDone, IsGoing, IsOnItsWay, IsParting, Seen};
+ghost use Rattle.lnbd_copy.specs.Ended.{EndsWell};
 ghost use Rattle.lnbd_copy.specs.Faults.{AreUnissued, AsksNone, AsksNothing, Behaves, GoesIdly, SparesSoFar, StaysFresh, StaysUnasked, UntouchedSoFar};
 ghost use Rattle.lnbd_copy.specs.Flushed.{HasFlushed};
 ghost use Rattle.lnbd_copy.specs.Grounds.{AllSame, FailsOn, IsGrounded, Lasts, needs_no_ground};
@@ -41,7 +46,7 @@ ghost use Rattle.lnbd_copy.specs.Wanted.{WantsSome};
 ghost use Rattle.lnbd_copy.specs.Way.{Goes, Stand, Told};
 
 use crate::agreeing::{agree, check_answers, check_same, check_well, tells_extents};
-use crate::counts::Counts;
+use crate::counts::{Counts, check_counts};
 use crate::dialing::{MAX_TURNS, check, dial, settle, wait};
 use crate::job::Job;
 use crate::parting::{shut_all, shut_parted};
@@ -139,8 +144,8 @@ impl Copier {
         // Nothing is asked in it, whatever it comes to.
         ensures unasked { Told (W.told wires.old) (W.told wires.new) (AsksNothing self.old.from self.old.to) }
 
-        // Its links are kept, and it connected to its two places alone, as often as its options and what both sides told say, or not
-        // that often where it failed.
+        // Its links are kept, and it connected to its two places alone, as often as its options and what both sides told say, and each
+        // connect gave a link; or not that often where it failed.
         ensures links { LinksGoWithin self.old.options self.old.from self.old.to self.old.held (W.told wires.old) self.new.held (W.told wires.new) }
         ensures connects { OnOk result (LinksGoAsTold self.old.options self.old.from self.old.to self.old.held (W.told wires.old) self.new.held (W.told wires.new)) }
 
@@ -218,6 +223,7 @@ impl Copier {
         ensures counts { GoesOn (W.faults wires.old) (W.faults wires.new) (W.idles wires.old) (W.idles wires.new) (W.contents wires.old) (W.contents wires.new) }
         ensures links { LinksGoTo (self.old.from.to ∷ self.old.to.to ∷ []) self.old.held (W.told wires.old) self.new.held (W.told wires.new) }
         ensures connects { OnOk result (LinksGo (self.old.from.to ∷ self.old.to.to ∷ []) self.old.held (W.told wires.old) self.new.held (W.told wires.new)) }
+        ensures connected { OnOk result (StaysConnected (W.told wires.old) (W.told wires.new)) }
     {
         let extents = self.options.extents;
         self.dial_source(wires, extents)?;
@@ -259,6 +265,7 @@ impl Copier {
         ensures counts { GoesOn (W.faults wires.old) (W.faults wires.new) (W.idles wires.old) (W.idles wires.new) (W.contents wires.old) (W.contents wires.new) }
         ensures links { LinksGoTo (self.old.from.to ∷ []) self.old.held (W.told wires.old) self.new.held (W.told wires.new) }
         ensures connects { OnOk result (LinksGo (self.old.from.to ∷ []) self.old.held (W.told wires.old) self.new.held (W.told wires.new)) }
+        ensures connected { OnOk result (StaysConnected (W.told wires.old) (W.told wires.new)) }
     {
         dial(
             self.alloc,
@@ -285,6 +292,7 @@ impl Copier {
         ensures counts { GoesOn (W.faults wires.old) (W.faults wires.new) (W.idles wires.old) (W.idles wires.new) (W.contents wires.old) (W.contents wires.new) }
         ensures links { LinksGoTo (self.old.to.to ∷ []) self.old.held (W.told wires.old) self.new.held (W.told wires.new) }
         ensures connects { OnOk result (LinksGo (self.old.to.to ∷ []) self.old.held (W.told wires.old) self.new.held (W.told wires.new)) }
+        ensures connected { OnOk result (StaysConnected (W.told wires.old) (W.told wires.new)) }
     {
         dial(
             self.alloc,
@@ -335,6 +343,7 @@ impl Copier {
         ensures counts { GoesOn (W.faults wires.old) (W.faults wires.new) (W.idles wires.old) (W.idles wires.new) (W.contents wires.old) (W.contents wires.new) }
         ensures links { Stand self.old.held → LinksGoTo (replicate (sides.source - 1) self.old.from.to ++ replicate (sides.destination - 1) self.old.to.to) self.old.held (W.told wires.old) self.new.held (W.told wires.new) }
         ensures connects { OnOk result (Stand self.old.held → LinksGo (replicate (sides.source - 1) self.old.from.to ++ replicate (sides.destination - 1) self.old.to.to) self.old.held (W.told wires.old) self.new.held (W.told wires.new)) }
+        ensures connected { OnOk result (Stand self.old.held → StaysConnected (W.told wires.old) (W.told wires.new)) }
     {
         self.dial_sources(wires, sides)?;
         self.dial_destinations(wires, sides)?;
@@ -356,6 +365,7 @@ impl Copier {
         ensures counts { GoesOn (W.faults wires.old) (W.faults wires.new) (W.idles wires.old) (W.idles wires.new) (W.contents wires.old) (W.contents wires.new) }
         ensures links { LinksGoTo (replicate (sides.source - 1) self.old.from.to) self.old.held (W.told wires.old) self.new.held (W.told wires.new) }
         ensures connects { OnOk result (LinksGo (replicate (sides.source - 1) self.old.from.to) self.old.held (W.told wires.old) self.new.held (W.told wires.new)) }
+        ensures connected { OnOk result (StaysConnected (W.told wires.old) (W.told wires.new)) }
     {
         'further: for connection in 1..sides.source {
             self.dial_source(wires, false)?;
@@ -376,6 +386,7 @@ impl Copier {
         ensures counts { GoesOn (W.faults wires.old) (W.faults wires.new) (W.idles wires.old) (W.idles wires.new) (W.contents wires.old) (W.contents wires.new) }
         ensures links { LinksGoTo (replicate (sides.destination - 1) self.old.to.to) self.old.held (W.told wires.old) self.new.held (W.told wires.new) }
         ensures connects { OnOk result (LinksGo (replicate (sides.destination - 1) self.old.to.to) self.old.held (W.told wires.old) self.new.held (W.told wires.new)) }
+        ensures connected { OnOk result (StaysConnected (W.told wires.old) (W.told wires.new)) }
     {
         'further: for connection in 1..sides.destination {
             self.dial_destination(wires)?;
@@ -437,9 +448,10 @@ impl Copier {
         // What the calls show of a fault.
         ensures grounds { IfErr result (λ told. (start : Option (List Call)) → IsOnItsWay start (W.told wires.old) self.old → IsGrounded start (W.told wires.new) self.old.from self.old.to told) }
 
-        // The counts, and what they show of a fault.
+        // The counts, and what they show of a fault; where it is finished they show none.
         ensures causes { IfErr result (λ told. HasCause self.old.start (W.faults wires.new) (W.idles wires.new) told) }
         ensures counts { GoesOn (W.faults wires.old) (W.faults wires.new) (W.idles wires.old) (W.idles wires.new) (W.contents wires.old) (W.contents wires.new) }
+        ensures well { IfOk result (λ told. EndsWell self.old.start (W.faults wires.new) (W.idles wires.new) told) }
     {
         let told = self.go_on(wires);
         if told.is_err() {
@@ -472,12 +484,14 @@ impl Copier {
         ensures grounds { IfErr result (λ told. (start : Option (List Call)) → IsOnItsWay start (W.told wires.old) self.old → IsGrounded start (W.told wires.new) self.old.from self.old.to told) }
         ensures counts { GoesOn (W.faults wires.old) (W.faults wires.new) (W.idles wires.old) (W.idles wires.new) (W.contents wires.old) (W.contents wires.new) }
         ensures links { LinksGo [] self.old.held (W.told wires.old) self.new.held (W.told wires.new) }
+        ensures well { IfOk result (λ told. EndsWell self.old.start (W.faults wires.new) (W.idles wires.new) told) }
     {
         let moved = self.take_turn(wires)?;
         let acted = self.act()?;
         let parted = self.part(wires);
         check_well(&self.board)?;
         if self.is_finished() {
+            check_counts(wires, self.start)?;
             return Ok(Progress::Finished(self.summary()));
         }
         Ok(progress_of(moved, acted || parted != 0))
@@ -583,11 +597,11 @@ impl Copier {
         // Over honest exports the destination then holds the source's bytes.
         ensures copies { self.from ≢ self.to → OnOk result (Copies self.from self.to self.options.destination_is_zero (W.told wires.old) (W.told wires.new)) }
 
-        // Nothing was asked twice, and nothing past the source's end; and all of it was done.
+        // Nothing was asked twice, and nothing past the source's end; and all of it was done: no request of any kind came to an error.
         ensures asks { self.from ≢ self.to → OnOk result (GrewBy (HasAskedOnce self.options.allocated self.from self.to) (W.told wires.old) (W.told wires.new)) }
         // Nor was it where the copy ends with a fault: nothing was asked yet, or the source had told its size and all was asked once.
         ensures asked { self.from ≢ self.to → GrewBy (AsksAtMostOnce self.options.allocated self.from self.to) (W.told wires.old) (W.told wires.new) }
-        ensures done { self.from ≢ self.to → OnOk result (GrewBy (WereDone self.from self.to) (W.told wires.old) (W.told wires.new)) }
+        ensures done { self.from ≢ self.to → OnOk result (GrewBy (WereAllDone self.from self.to) (W.told wires.old) (W.told wires.new)) }
 
         // The summary has the bytes that were asked to be read, written and zeroed, and those that nothing was asked for.
         ensures summary { self.from ≢ self.to → IfOk result (λ told. GrewBy (Summarizes self.from self.to told) (W.told wires.old) (W.told wires.new)) }
@@ -631,6 +645,8 @@ impl Copier {
         // further ones unless both had told.
         ensures within { GrewBy (ConnectsWithin self.options self.from self.to) (W.told wires.old) (W.told wires.new) }
         ensures connects { OnOk result (GrewBy (ConnectsAsTold self.options self.from self.to) (W.told wires.old) (W.told wires.new)) }
+        // Where the copy is made, each of them gave a link.
+        ensures connected { OnOk result (GrewBy AllConnected (W.told wires.old) (W.told wires.new)) }
 
         // Whatever came of it, at each pause a link was wanted for writing only where a write on it took nothing, and nothing happened
         // since on any link.
@@ -653,6 +669,9 @@ impl Copier {
         // The counts, and what they show of a fault.
         ensures causes { IfErr result (λ told. HasCause (record { faults = W.faults wires.old; idles = W.idles wires.old }) (W.faults wires.new) (W.idles wires.new) told) }
         ensures counts { GoesOn (W.faults wires.old) (W.faults wires.new) (W.idles wires.old) (W.idles wires.new) (W.contents wires.old) (W.contents wires.new) }
+        // Where the copy is made they show none: no call failed, and the wires waited for less than is borne.
+        ensures well { OnOk result (¬ Rises 1 (W.faults wires.old) (W.faults wires.new)) }
+        ensures patient { OnOk result (¬ Rises patience (W.idles wires.old) (W.idles wires.new)) }
     {
         let mut copier = self;
         let told = copier.copy(wires);
@@ -679,6 +698,7 @@ impl Copier {
         ensures counts { GoesOn (W.faults wires.old) (W.faults wires.new) (W.idles wires.old) (W.idles wires.new) (W.contents wires.old) (W.contents wires.new) }
         ensures links { LinksGoWithin self.old.options self.old.from self.old.to self.old.held (W.told wires.old) self.new.held (W.told wires.new) }
         ensures connects { OnOk result (LinksGoAsTold self.old.options self.old.from self.old.to self.old.held (W.told wires.old) self.new.held (W.told wires.new)) }
+        ensures well { OnOk result (AreWell (record { faults = W.faults wires.old; idles = W.idles wires.old }) (W.faults wires.new) (W.idles wires.new)) }
     {
         self.begin(wires)?;
         'turns: for _ in 0..MAX_TURNS {
@@ -740,6 +760,7 @@ fn progress_of(moved: Turn, acted: bool) -> Progress
     ensures on { (start told : Option (List Call)) (copy : Seen) → IsOnItsWay start told copy → HasTurned start told copy result }
     ensures sums { (start told : Option (List Call)) (copy : Seen) → HasSummed start told copy result }
     ensures flushes { (start told : Option (List Call)) (copy : Seen) → HasFlushed start told copy result }
+    ensures well { (start : Counted) (faults idles : ℕ) → EndsWell start faults idles result }
     ensures moved { result ≡ progress.Still → moved ≡ turned.Still }
     ensures acted { result ≡ progress.Still → acted ≡ false }
     ensures went { (count : ℕ) → result ≡ progress.Moved count → moved ≡ turned.Still → acted ≡ true }

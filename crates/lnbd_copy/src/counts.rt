@@ -2,7 +2,7 @@
 
 ghost use Rattle.std.specs.Prelude.{◌≡◌, ◌≤◌, ◌<◌, true, false, IfErr, OnOk};
 ghost use Rattle.lnbd_link.specs.Count.{Rises};
-ghost use Rattle.lnbd_copy.specs.Causes.{HasCause, patience, tells_no_count};
+ghost use Rattle.lnbd_copy.specs.Causes.{AreWell, HasCause, patience, tells_no_count};
 ghost use Rattle.lnbd_copy.specs.Grounds.{fault_by, fault_of, needs_no_ground};
 
 use lnbd_link::Wires;
@@ -35,7 +35,8 @@ impl Counts {
 /// Whether a count that stands still at its end rose.
 fn rose(before: u64, after: u64) -> bool
     requires { before ≤ after }
-    ensures { result ≡ true → Rises 1 before after }
+    ensures risen { result ≡ true → Rises 1 before after }
+    ensures still { result ≡ false → ¬ Rises 1 before after }
 {
     before < after || after == u64::MAX
 }
@@ -43,6 +44,7 @@ fn rose(before: u64, after: u64) -> bool
 /// A call of the wires failed, if so.
 pub(crate) fn check_faults<W: Wires>(wires: &W, start: Counts) -> Result<(), CopyFault>
     requires counted { start.faults ≤ W.faults wires.now }
+    ensures well { OnOk result (¬ Rises 1 start.faults (W.faults wires.now)) }
     ensures causes { IfErr result (λ told. HasCause start (W.faults wires.now) (W.idles wires.now) told) }
     ensures free { IfErr result (λ told. needs_no_ground told ≡ true) }
 {
@@ -60,6 +62,7 @@ pub(crate) fn check_faults<W: Wires>(wires: &W, start: Counts) -> Result<(), Cop
 fn is_long(start: u64, now: u64) -> bool
     requires { start ≤ now }
     ensures long { result ≡ true → Rises patience start now }
+    ensures short { result ≡ false → ¬ Rises patience start now }
     ensures open_ { result ≡ false → now < 18446744073709551615 }
 {
     now - start >= PATIENCE || now == u64::MAX
@@ -69,6 +72,7 @@ fn is_long(start: u64, now: u64) -> bool
 pub(crate) fn check_idles<W: Wires>(wires: &W, start: Counts) -> Result<(), CopyFault>
     requires counted { start.idles ≤ W.idles wires.now }
     ensures open_ { OnOk result (W.idles wires.now < 18446744073709551615) }
+    ensures well { OnOk result (¬ Rises patience start.idles (W.idles wires.now)) }
     ensures causes { IfErr result (λ told. HasCause start (W.faults wires.now) (W.idles wires.now) told) }
     ensures free { IfErr result (λ told. needs_no_ground told ≡ true) }
 {
@@ -77,6 +81,18 @@ pub(crate) fn check_idles<W: Wires>(wires: &W, start: Counts) -> Result<(), Copy
         return Err(CopyFault::Silent { idles });
     }
     Ok(())
+}
+
+/// The last look at what the wires counted: a call of theirs failed, or else they waited for as long as is borne, if so.
+pub(crate) fn check_counts<W: Wires>(wires: &W, start: Counts) -> Result<(), CopyFault>
+    requires faults { start.faults ≤ W.faults wires.now }
+    requires idles { start.idles ≤ W.idles wires.now }
+    ensures well { OnOk result (AreWell start (W.faults wires.now) (W.idles wires.now)) }
+    ensures causes { IfErr result (λ told. HasCause start (W.faults wires.now) (W.idles wires.now) told) }
+    ensures free { IfErr result (λ told. needs_no_ground told ≡ true) }
+{
+    check_faults(wires, start)?;
+    check_idles(wires, start)
 }
 
 /// Why a copy ends where this connection is dead. A failed link is told by the wires' count before: if it were not counted it would

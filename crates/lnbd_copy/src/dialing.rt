@@ -9,6 +9,7 @@ ghost use Rattle.lnbd_poll.specs.declared.noticed.Turn.TheVariants as turned;
 ghost use Rattle.lnbd_board.specs.Files.{Seen};
 ghost use Rattle.lnbd_copy.specs.Agreed.{AreQuiet};
 ghost use Rattle.lnbd_copy.specs.Causes.{GoesOn, HasCause, tells_no_count};
+ghost use Rattle.lnbd_copy.specs.Connected.{StaysConnected};
 ghost use Rattle.lnbd_copy.specs.Faults.{AreUnissued, AsksNone, GoesIdly, StaysFresh, StaysUnasked};
 ghost use Rattle.lnbd_copy.specs.Grounds.{Blames, FailsOn, FindsDead, needs_no_ground};
 ghost use Rattle.lnbd_copy.specs.Links.{LinksGo, LinksGoTo};
@@ -91,6 +92,7 @@ pub(crate) fn dial<W: Wires>(
     ensures connects { OnOk result (LinksGo (place.now.to ∷ []) handles.old (W.told wires.old) handles.new (W.told wires.new)) }
     ensures unasked { (from to : At) → (place.now ≡ from) ⊎ (place.now ≡ to) → StaysUnasked from to (W.told wires.old) (W.told wires.new) }
     ensures unissued { OnOk result (AreUnissued handles.old → AreUnissued handles.new) }
+    ensures connected { OnOk result (StaysConnected (W.told wires.old) (W.told wires.new)) }
 {
     let handle = open(alloc, &place.name, extents, board)?;
     match wires.connect(&place.to) {

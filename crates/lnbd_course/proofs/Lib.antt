@@ -21,6 +21,7 @@ pub mod Sparing
 pub mod Dense
 pub mod Failing
 pub mod Flushing
+pub mod AllDone
 pub mod Flushed
 pub mod Closing
 pub mod UnderWay

@@ -3,7 +3,7 @@ use Rattle.std.proofs.Common.{◌≡◌, ◌≢◌, ◌⊎◌, inl, inr, ℕ, ze
 use Rattle.std.proofs.lemmas.Bool.{false≢true, leb-false}
 use Rattle.std.specs.Option.{option_map}
 use Rattle.lnbd_model.specs.declared.target.Place.{Place}
-use Rattle.lnbd_outcome.specs.Outcome.{Unfinished}
+use Rattle.lnbd_outcome.specs.Outcome.{Done, Unfinished}
 use Rattle.lnbd_link.specs.Call as wire
 use Rattle.lnbd_link.specs.Numbers.{is_given}
 use Rattle.lnbd_history.specs.Answers.{direction_after, direction_of, is_living, out_after}
@@ -29,10 +29,10 @@ use Rattle.lnbd_board.proofs.Lists.{Each-back}
 use Rattle.lnbd_board.specs.Rows.{AsksOfDestination, AsksOfSource, IsChange, Stands, busy}
 use Rattle.lnbd_tracks.specs.Awaiting.{IsAsking}
 use Rattle.lnbd_tracks.specs.Laws.{moves_bytes}
-use Rattle.lnbd_tracks.specs.Mapping.{first_tells, is_extents, is_over, tells_extents}
+use Rattle.lnbd_tracks.specs.Mapping.{first_tells, is_extents, tells_extents}
 use Rattle.lnbd_tracks.specs.Tracks.{Histories, request_of, told_by}
 use Rattle.lnbd_tracks.specs.Unanswered.{AreWaitingOn, IsUnanswered, unanswered_of}
-use Rattle.lnbd_tracks.proofs.Living.{over_came, waiting_lives}
+use Rattle.lnbd_tracks.proofs.Living.{waiting_lives}
 use Rattle.lnbd_tracks.proofs.Staying.{or_right}
 use Rattle.lnbd_tracks.proofs.Under.{found}
 use Rattle.lnbd_tracks.proofs.Unanswered.{tracked_are_unanswered}
@@ -239,20 +239,15 @@ module _ (from to : Place) (size : Option ℕ) (how : How) (has : ℕ → Bool) 
         let t = held link given in
         subst (λ (n : ℕ). others n ≡ histories n) t.same (one_has t.index t.seen others seens t.there told.course.held ∙ sym (one_has t.index t.seen histories seens t.there b.course.held))
 
-    -- what waits is not over
-    not_over : (link cookie : ℕ) (asks : Request Ticket) → request (others link) cookie ≡ Some asks → outcome_after (others link) cookie ≡ Unfinished → is_over (others link) cookie ≡ true → ⊥
-    not_over link cookie asks is waits over =
-        let t = held link (told_given link cookie asks is) in
-        let same : others link ≡ t.seen.history = ap others (sym t.same) ∙ one_has t.index t.seen others seens t.there told.course.held in
-        over_came t.stands.limit t.seen.history cookie asks t.stands.stands.lawful t.stands.stands.going (ap (λ (h : History Ticket). request h cookie) (sym same) ∙ is) (ap (λ (h : History Ticket). is_over h cookie) (sym same) ∙ over)
-        (ap (λ (h : History Ticket). outcome_after h cookie) (sym same) ∙ waits)
-
     -- of those that tell extents one waits
     one_waits : (link cookie : ℕ) (asks : Request Ticket) → request (others link) cookie ≡ Some asks → tells_extents asks.flight ≡ true → outcome_after (others link) cookie ≡ Unfinished → (link ≡ told.maps.link) × (cookie ≡ told.maps.cookie)
     one_waits link cookie asks is tells waits = elim (told.maps.others link cookie asks is tells) [
       | inl same ↦ same
-      | inr over ↦ absurd (not_over link cookie asks is waits over)
+      | inr done ↦ absurd (differ done.bytes (sym waits ∙ done.is))
     ]
+      where
+        differ : (bytes : List ℕ) → Unfinished ≡ Done bytes → ⊥
+        differ bytes e = cc
 
     module _ (two : from ≢ to) (well : now.error ≡ None) (unmapped : now.mapped ≡ false) where
       abbrev a : IsAsking has others

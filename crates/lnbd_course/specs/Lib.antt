@@ -13,6 +13,7 @@ pub mod Spares
 pub mod Failed
 pub mod Flushes
 pub mod Flushed
+pub mod AllDone
 pub mod UnderWay
 pub mod Slices
 pub mod Answered

@@ -1,6 +1,7 @@
 //! Laws of the course of a copy. Each is the contract of a function that does nothing.
 
 ghost use Rattle.lnbd_course.specs.Answered.{AnswersStay, NothingIsReadBehind, RangesWereAnswered};
+ghost use Rattle.lnbd_course.specs.AllDone.{EndedAreAllDone};
 ghost use Rattle.lnbd_course.specs.Asks.{EndedAreDone, EndedAsksOnce};
 ghost use Rattle.lnbd_course.specs.Counts.{EndedSums};
 ghost use Rattle.lnbd_course.specs.Driven.{EndedAreDriven};
@@ -198,6 +199,11 @@ pub fn ended_flushes()
     ensures once { EndedFlushesOnce }
     ensures none { EndedUnflushed }
     ensures done { EndedFlushed }
+{}
+
+/// In the end all is done that a copy asked: also each block status, and a flush.
+pub fn ended_all_done()
+    ensures { EndedAreAllDone }
 {}
 
 /// Where no handle has anything to write, what is under way by the board is unanswered by the calls of a copy.

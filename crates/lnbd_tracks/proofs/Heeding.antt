@@ -43,7 +43,7 @@ use Rattle.lnbd_tracks.specs.Tracks.{Histories, Happens, Adds, NoneFails, is_iss
 use Rattle.lnbd_tracks.proofs.Along.{along}
 use Rattle.lnbd_tracks.proofs.Heard.{none_zero}
 use Rattle.lnbd_tracks.proofs.Mapped.{at, asked_at, hearing_maps, told_at, not_issued}
-use Rattle.lnbd_tracks.proofs.Staying.{asked_stays, ended_more, next_beside, next_here}
+use Rattle.lnbd_tracks.proofs.Staying.{asked_stays, done_over, ended_more, next_beside, next_here}
 use Rattle.lnbd_tracks.proofs.Coming.{closed_keeps, event_keeps}
 use Rattle.lnbd_tracks.proofs.Unfiled.{own_same, own_other, unfiled}
 use Rattle.lnbd_tracks.proofs.Outcomes.{NoneFailed, heard_alike, own_well}
@@ -569,7 +569,7 @@ module _ (sources : ℕ → Bool) (histories : Histories) (range : ℕ × ℕ) (
 
   heard_one : IsHeard (histories m.link) known' m.cookie m.asks
   heard_one = record {
-    over = (hearing_maps sources histories range now maps mapped).0 m.link m.cookie m.asks m.asked (or_true (first_tells m.asks.flight.first) _ m.first);
+    over = done_over (histories m.link) m.cookie m.asks m.asked ((hearing_maps sources histories range now maps mapped).0 m.link m.cookie m.asks m.asked (or_true (first_tells m.asks.flight.first) _ m.first));
     whole = λ d block p e. holds block p (all_intro (λ q. within range q && zero_in range.0 now.told q) (p / block * block) block (λ q low high. told d q (all_elim (zero_asked (histories m.link) m.cookie m.asks) (p / block * block) block e q low high)));
   }
     where

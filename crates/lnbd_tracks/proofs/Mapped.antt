@@ -18,13 +18,13 @@ use Rattle.lnbd_asked.specs.Transcript.{outcome_of, extents_in, zero_in, zero_by
 use Rattle.lnbd_board.specs.declared.ticket.Ticket.{Ticket}
 use Rattle.lnbd_board.specs.Files.{Seen, Files}
 use Rattle.lnbd_tracks.specs.Laws.{IsDone}
-use Rattle.lnbd_tracks.specs.Mapping.{is_extents, tells_extents, is_extents_if, asks_extents, is_over, NoneAsked, IsWanted, IsToldZero, HoldsZero, AsksRange, NothingMaps, ComingMaps, OthersMap, AskingMaps, HearingMaps, ZeroesStay}
+use Rattle.lnbd_tracks.specs.Mapping.{is_extents, tells_extents, is_extents_if, asks_extents, NoneAsked, IsWanted, IsToldZero, HoldsZero, AsksRange, NothingMaps, ComingMaps, OthersMap, AskingMaps, HearingMaps, ZeroesStay}
 use Rattle.lnbd_tracks.specs.Tracks.{NoneFails, Histories, Happens, Adds, is_issue}
 use Rattle.lnbd_tracks.proofs.Along.{along}
 use Rattle.lnbd_tracks.proofs.Calling.{files_well, heard_well}
 use Rattle.lnbd_tracks.proofs.Heard.{none_zero, map_context, Knows, all_known, frees_suit, FirstSuits, filing_suits, deaf_suits, knows_more, item_told}
 use Rattle.lnbd_tracks.proofs.Outcomes.{own_well, waits, comes_done}
-use Rattle.lnbd_tracks.proofs.Staying.{or_right, or_left, issue_is, next_here, next_beside, asked_stays, ended_more, ended_stays, zero_stays, done_stays, done_over}
+use Rattle.lnbd_tracks.proofs.Staying.{or_right, or_left, issue_is, next_here, next_beside, asked_stays, ended_more, zero_stays, done_stays, done_over}
 use Rattle.lnbd_tracks.proofs.Unfiled.{own_same, own_other, request_stays}
 
 -- On the link of the block status.
@@ -210,9 +210,6 @@ module _ (link : ℕ) (event : Event Ticket) (histories histories2 : Histories) 
   pub asked_at : (other c : ℕ) (q : Request Ticket) → request (histories other) c ≡ Some q → request (histories2 other) c ≡ Some q
   asked_at other c q = at other (λ h. request h c ≡ Some q) (λ h. request h c ≡ Some q) (λ h is. asked_stays h event c q is) (λ h is. is)
 
-  over_at : (other c : ℕ) → is_over (histories other) c ≡ true → is_over (histories2 other) c ≡ true
-  over_at other c = at other (λ h. is_over h c ≡ true) (λ h. is_over h c ≡ true) (λ h e. ended_stays h event c e) (λ h e. e)
-
   zero_at : (other c p : ℕ) (q : Request Ticket) → request (histories other) c ≡ Some q → zero_after (histories other) c p ≡ true → zero_after (histories2 other) c p ≡ true
   zero_at other c p q is z = at other (λ h. (request h c ≡ Some q) × (zero_after h c p ≡ true)) (λ h. zero_after h c p ≡ true) (λ h b. zero_stays h event c p q b.0 b.1) (λ h b. b.1) (is, z)
 
@@ -226,17 +223,20 @@ module _ (link : ℕ) (event : Event Ticket) (histories histories2 : Histories) 
       go (inl same) = told_before (histories other) event c q none tells (ap (λ (h : History Ticket). request h c) (sym (ap histories2 (sym same) ∙ happens.here ∙ ap (λ x. event ∷ histories x) same)) ∙ is)
       go (inr differ) = ap (λ (h : History Ticket). request h c) (sym (happens.others other (λ e. differ (sym e)))) ∙ is
 
-  -- Where no extents are asked for, those that were stay over, or they are the ones that are waited for.
+  -- Where no extents are asked for, those that were stay done, or they are the ones that are waited for.
   none_asked : asks_extents event ≡ false → NoneAsked histories → NoneAsked histories2
-  none_asked none all other c q is tells = over_at other c (all other c q (told_at none other c q tells is) tells)
+  none_asked none all other c q is tells = let was = told_at none other c q tells is in done_at other c q was (all other c q was tells)
 
   module _ (sources : ℕ → Bool) (range : ℕ × ℕ) (before : Seen) (m : IsWanted sources histories range before) where
-    others_at : asks_extents event ≡ false → (link' cookie' : ℕ) (other : Request Ticket) → request (histories2 link') cookie' ≡ Some other → tells_extents other.flight ≡ true → ((link' ≡ m.link) × (cookie' ≡ m.cookie)) ⊎ (is_over (histories2 link') cookie' ≡ true)
-    others_at none link' cookie' other is tells = go (m.others link' cookie' other (told_at none link' cookie' other tells is) tells)
+    others_at : asks_extents event ≡ false → (link' cookie' : ℕ) (other : Request Ticket) → request (histories2 link') cookie' ≡ Some other → tells_extents other.flight ≡ true → ((link' ≡ m.link) × (cookie' ≡ m.cookie)) ⊎ IsDone (outcome_after (histories2 link') cookie')
+    others_at none link' cookie' other is tells = go (m.others link' cookie' other was tells)
       where
-        go : ((link' ≡ m.link) × (cookie' ≡ m.cookie)) ⊎ (is_over (histories link') cookie' ≡ true) → ((link' ≡ m.link) × (cookie' ≡ m.cookie)) ⊎ (is_over (histories2 link') cookie' ≡ true)
+        was : request (histories link') cookie' ≡ Some other
+        was = told_at none link' cookie' other tells is
+
+        go : ((link' ≡ m.link) × (cookie' ≡ m.cookie)) ⊎ IsDone (outcome_after (histories link') cookie') → ((link' ≡ m.link) × (cookie' ≡ m.cookie)) ⊎ IsDone (outcome_after (histories2 link') cookie')
         go (inl same) = inl same
-        go (inr over) = inr (over_at link' cookie' over)
+        go (inr done) = inr (done_at link' cookie' other was done)
 
     -- with what the board knows after it
     still_asked : asks_extents event ≡ false → (after : Seen) → Knows range.0 (λ p. zero_after (histories2 m.link) m.cookie p ≡ true) (IsDone (outcome_after (histories2 m.link) m.cookie)) after → IsWanted sources histories2 range after
@@ -280,9 +280,9 @@ module _ (link : ℕ) (event : Event Ticket) (histories histories2 : Histories) 
           others : (c : ℕ) (q : Request Ticket) → request (histories link) c ≡ Some q → tells_extents q.flight ≡ true → (c ≡ m.cookie) ⊎ (is_ended (own c (reading (histories link)).known.entries) ≡ true)
           others c q there tells = go (m.others link c q there tells)
             where
-              go : ((link ≡ m.link) × (c ≡ m.cookie)) ⊎ (is_over (histories link) c ≡ true) → (c ≡ m.cookie) ⊎ (is_ended (own c (reading (histories link)).known.entries) ≡ true)
+              go : ((link ≡ m.link) × (c ≡ m.cookie)) ⊎ IsDone (outcome_after (histories link) c) → (c ≡ m.cookie) ⊎ (is_ended (own c (reading (histories link)).known.entries) ≡ true)
               go (inl e) = inl e.1
-              go (inr over) = inr over
+              go (inr done) = inr (done_over (histories link) c q there done)
 
           heard : Heard (histories link) m.cookie range.0 starts (reading then).known.entries after
           heard = heard_after (histories link) m.cookie range.0 starts event added before after
@@ -305,9 +305,9 @@ module _ (link : ℕ) (event : Event Ticket) (histories histories2 : Histories) 
           others : (c : ℕ) (q : Request Ticket) → request (histories link) c ≡ Some q → tells_extents q.flight ≡ true → is_ended (own c (reading (histories link)).known.entries) ≡ true
           others c q there tells = go (m.others link c q there tells)
             where
-              go : ((link ≡ m.link) × (c ≡ m.cookie)) ⊎ (is_over (histories link) c ≡ true) → is_ended (own c (reading (histories link)).known.entries) ≡ true
+              go : ((link ≡ m.link) × (c ≡ m.cookie)) ⊎ IsDone (outcome_after (histories link) c) → is_ended (own c (reading (histories link)).known.entries) ≡ true
               go (inl e) = absurd (differ e.0)
-              go (inr over) = over
+              go (inr done) = done_over (histories link) c q there done
 
           u : Unheard (histories link) range.0 (λ p. zero_after (histories2 m.link) m.cookie p ≡ true) (IsDone (outcome_after (histories2 m.link) m.cookie)) (reading then).known.entries after
           u = unheard_after (histories link) range.0 (λ p. zero_after (histories2 m.link) m.cookie p ≡ true) (IsDone (outcome_after (histories2 m.link) m.cookie)) event added before after (record { others = others; knows = knows_still }) adds files
@@ -366,21 +366,21 @@ module _ (sources : ℕ → Bool) (link : ℕ) (command : Command Ticket) (range
   there : histories2 link ≡ Issue command ∷ histories link
   there = happens.here
 
-  -- what else was asked is over
-  others_over : (link' cookie' : ℕ) (other : Request Ticket) → request (histories2 link') cookie' ≡ Some other → tells_extents other.flight ≡ true → ((link' ≡ link) × (cookie' ≡ next)) ⊎ (is_over (histories2 link') cookie' ≡ true)
-  others_over link' cookie' other is tells = on (cases_eq link link')
+  -- what else was asked is done
+  others_done : (link' cookie' : ℕ) (other : Request Ticket) → request (histories2 link') cookie' ≡ Some other → tells_extents other.flight ≡ true → ((link' ≡ link) × (cookie' ≡ next)) ⊎ IsDone (outcome_after (histories2 link') cookie')
+  others_done link' cookie' other is tells = on (cases_eq link link')
     where
-      here : (link ≡ link') → (next ≡ cookie') ⊎ (next ≡ cookie' → ⊥) → ((link' ≡ link) × (cookie' ≡ next)) ⊎ (is_over (histories2 link') cookie' ≡ true)
+      here : (link ≡ link') → (next ≡ cookie') ⊎ (next ≡ cookie' → ⊥) → ((link' ≡ link) × (cookie' ≡ next)) ⊎ IsDone (outcome_after (histories2 link') cookie')
       here same (inl e) = inl (sym same, sym e)
       here same (inr d) =
           let was : request (histories link) cookie' ≡ Some other = sym (next_beside (histories link) command cookie' d) ∙ ap (λ (h : History Ticket). request h cookie') (sym there) ∙ ap (λ x. request (histories2 x) cookie') same ∙ is in
-          inr (ap (λ x. is_over (histories2 x) cookie') (sym same) ∙ ap (λ (h : History Ticket). is_over h cookie') there ∙ ended_stays (histories link) (Issue command) cookie' (none link cookie' other was tells))
+          inr (subst (λ (x : ℕ). IsDone (outcome_after (histories2 x) cookie')) same (subst (λ (h : History Ticket). IsDone (outcome_after h cookie')) (sym there) (done_stays (histories link) (Issue command) cookie' other was (none link cookie' other was tells))))
 
-      on : (link ≡ link') ⊎ (link ≡ link' → ⊥) → ((link' ≡ link) × (cookie' ≡ next)) ⊎ (is_over (histories2 link') cookie' ≡ true)
+      on : (link ≡ link') ⊎ (link ≡ link' → ⊥) → ((link' ≡ link) × (cookie' ≡ next)) ⊎ IsDone (outcome_after (histories2 link') cookie')
       on (inl same) = here same (cases_eq next cookie')
       on (inr differ) =
           let still : histories2 link' ≡ histories link' = happens.others link' (λ e. differ (sym e)) in
-          inr (ap (λ (h : History Ticket). is_over h cookie') still ∙ none link' cookie' other (ap (λ (h : History Ticket). request h cookie') (sym still) ∙ is) tells)
+          inr (subst (λ (h : History Ticket). IsDone (outcome_after h cookie')) (sym still) (none link' cookie' other (ap (λ (h : History Ticket). request h cookie') (sym still) ∙ is) tells))
 
   asking : IsWanted sources histories2 range after
   asking = record {
@@ -392,7 +392,7 @@ module _ (sources : ℕ → Bool) (link : ℕ) (command : Command Ticket) (range
     kind = asks.kind;
     offset = asks.offset;
     length_ = asks.length_;
-    others = others_over;
+    others = others_done;
     zero = λ p z. absurd (none_zero range.0 p (ap (λ (l : List Extent). zero_in range.0 l p) (sym told) ∙ z));
     answered = λ e. absurd (false≢true (sym unmapped ∙ e));
   }
@@ -401,14 +401,14 @@ pub asking_maps : AskingMaps
 asking_maps sources link command range histories histories2 before after none source asks happens told unmapped = asking sources link command range histories histories2 before after none source asks happens told unmapped
 
 pub hearing_maps : HearingMaps
-hearing_maps sources histories range now m answered = (all_over, heard)
+hearing_maps sources histories range now m answered = (all_done, heard)
   where
-    all_over : NoneAsked histories
-    all_over link cookie other is tells = go (m.others link cookie other is tells)
+    all_done : NoneAsked histories
+    all_done link cookie other is tells = go (m.others link cookie other is tells)
       where
-        go : ((link ≡ m.link) × (cookie ≡ m.cookie)) ⊎ (is_over (histories link) cookie ≡ true) → is_over (histories link) cookie ≡ true
-        go (inl same) = ap (λ x. is_over (histories x) cookie) same.0 ∙ ap (λ c. is_over (histories m.link) c) same.1 ∙ done_over (histories m.link) m.cookie m.asks m.asked (m.answered answered)
-        go (inr over) = over
+        go : ((link ≡ m.link) × (cookie ≡ m.cookie)) ⊎ IsDone (outcome_after (histories link) cookie) → IsDone (outcome_after (histories link) cookie)
+        go (inl same) = subst (λ (x : ℕ). IsDone (outcome_after (histories x) cookie)) (sym same.0) (subst (λ (c : ℕ). IsDone (outcome_after (histories m.link) c)) (sym same.1) (m.answered answered))
+        go (inr done) = done
 
     heard : (p : ℕ) → HoldsZero range now p → IsToldZero sources histories p
     heard p h = record {

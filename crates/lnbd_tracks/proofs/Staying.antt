@@ -75,11 +75,6 @@ module _ {K : Type 0} where
   ended_more c f entries e =
       elim (f.cookie == c) as (λ b. is_ended (if b then f ∷ own c entries else own c entries) ≡ true) [ true ↦ or_right (ends f.item) (is_ended (own c entries)) e | false ↦ e ]
 
-  pub ended_stays : (before : History K) (event : Event K) (c : ℕ) → is_ended (own c (reading before).known.entries) ≡ true → is_ended (own c (reading (event ∷ before)).known.entries) ≡ true
-  ended_stays before event c e =
-      event_keeps before (λ entries. is_ended (own c entries) ≡ true) (λ item. Unit {0})
-      (λ asks k item contexts answers entries any is going p. ended_more c (filing_of asks k (own k entries) contexts item answers) entries p) (λ item. tt) (λ flight entries p. p) (λ entries p. p) event e
-
   -- What was told as zero stays so.
   pub zero_stays : (before : History K) (event : Event K) (c p : ℕ) (q : Request K) → request before c ≡ Some q → zero_after before c p ≡ true → zero_after (event ∷ before) c p ≡ true
   zero_stays before event c p q is z =

@@ -47,11 +47,11 @@ is_over history cookie = is_ended (own cookie (reading history).known.entries)
 
 -- What the board knows.
 
--- no command that tells extents is under way
+-- no command that tells extents is under way: each is done
 abbrev pub NoneAsked : Histories → Type 0
-NoneAsked histories = (link cookie : ℕ) (asks : Request Ticket) → request (histories link) cookie ≡ Some asks → tells_extents asks.flight ≡ true → is_over (histories link) cookie ≡ true
+NoneAsked histories = (link cookie : ℕ) (asks : Request Ticket) → request (histories link) cookie ≡ Some asks → tells_extents asks.flight ≡ true → IsDone (outcome_after (histories link) cookie)
 
--- A block status of the source was asked for this range, its offset and its length. It is the one command that tells extents and may be under way. What the
+-- A block status of the source was asked for this range, its offset and its length. It is the one command that tells extents and may be under way: each other is done. What the
 -- board holds as told as zero, from the offset on, that command told as zero; and where the board was told that it was answered, it is done.
 pub record IsWanted (sources : ℕ → Bool) (histories : Histories) (range : ℕ × ℕ) (now : Seen) : Type 0 where
   pub link : ℕ
@@ -63,7 +63,7 @@ pub record IsWanted (sources : ℕ → Bool) (histories : Histories) (range : �
   pub offset : asks.offset ≡ range.0
   pub length_ : asks.length ≡ range.1
   pub others : (link' cookie' : ℕ) (other : Request Ticket) → request (histories link') cookie' ≡ Some other → tells_extents other.flight ≡ true →
-      ((link' ≡ link) × (cookie' ≡ cookie)) ⊎ (is_over (histories link') cookie' ≡ true)
+      ((link' ≡ link) × (cookie' ≡ cookie)) ⊎ IsDone (outcome_after (histories link') cookie')
   pub zero : (p : ℕ) → zero_in range.0 now.told p ≡ true → zero_after (histories link) cookie p ≡ true
   pub answered : now.mapped ≡ true → IsDone (outcome_after (histories link) cookie)
 

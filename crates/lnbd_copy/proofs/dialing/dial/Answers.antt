@@ -4,6 +4,7 @@ use Rattle.lnbd_copy.proofs.PauseLemmas.{unpaused_adds, unpaused_then}
 use Rattle.lnbd_copy.proofs.LinkLemmas.{links_connected, links_end, links_refused}
 use Rattle.lnbd_copy.proofs.ConnectLemmas.{goes_all}
 use Rattle.lnbd_copy.proofs.UnaskedLemmas.{unasked_connects, unasked_idle, unasked_none, unasked_then, unissued_more}
+use Rattle.lnbd_copy.proofs.ConnectedLemmas.{connected_adds, connected_same, connected_then}
 use Rattle.lnbd_copy.proofs.dialing.dial.Goals as goal
 
 pub returns-in_ok-hold-in-Ok-clause-dials : goal.returns-in_ok-hold-in-Ok-clause-dials
@@ -47,3 +48,6 @@ returns-in_err-handle-clause-unasked g c from to there = unasked_none from to _
 
 pub returns-in_err-hold-in-Ok-clause-unpaused : goal.returns-in_err-hold-in-Ok-clause-unpaused
 returns-in_err-hold-in-Ok-clause-unpaused g c = unpaused_then _ _ _ (unpaused_adds _ _ _ refl c.in-Ok.ensures.told) c.hold.ensures.unpaused
+
+pub returns-in_ok-hold-in-Ok-clause-connected : goal.returns-in_ok-hold-in-Ok-clause-connected
+returns-in_ok-hold-in-Ok-clause-connected g c = connected_then _ _ _ (connected_adds _ _ _ _ c.in-Ok.ensures.told) (connected_same _ _ c.in_ok-hold-in-Ok.ensures.told)

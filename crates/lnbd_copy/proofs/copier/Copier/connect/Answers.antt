@@ -7,6 +7,7 @@ use Rattle.lnbd_copy.proofs.GroundLemmas.{grounded_as, same_fails, handed_on}
 use Rattle.lnbd_copy.proofs.PauseLemmas.{pauses_then}
 use Rattle.lnbd_copy.proofs.LinkLemmas.{links_begin, links_same}
 use Rattle.lnbd_copy.proofs.PausedLemmas.{early_back, early_kept}
+use Rattle.lnbd_copy.proofs.ConnectedLemmas.{connected_begins}
 use Rattle.lnbd_copy.proofs.ConnectLemmas.{told_end, told_met, within_first, within_met, within_told}
 use Rattle.lnbd_copy.proofs.UnaskedLemmas.{unasked_as}
 use Rattle.lnbd_copy.proofs.copier.Copier.connect.Goals as goal
@@ -60,23 +61,23 @@ returns-in_err-dial_further-clause-links g c =
 
 pub returns-in_err-check_same-clause-links : goal.returns-in_err-check_same-clause-links
 returns-in_err-check_same-clause-links g c =
-    within_told _ _ _ _ _ _ _ (told_met c.args.self.now c.meet.new.self _ _ _ _ c.in_ok-terms.terms c.in_ok-terms.ensures.kept c.in_ok-terms.ensures.met c.in_ok-terms.ensures.connects c.in_ok-dial_further.ensures.connects)
+    within_told _ _ _ _ _ _ _ (told_met c.args.self.now c.meet.new.self _ _ _ _ c.in_ok-terms.terms c.in_ok-terms.ensures.kept c.in_ok-terms.ensures.met c.in_ok-terms.ensures.connects c.in_ok-dial_further.ensures.connects (connected_begins _ _ c.in_ok-terms.ensures.connected) c.in_ok-dial_further.ensures.connected)
 
 pub returns-in_err-check_well-clause-links : goal.returns-in_err-check_well-clause-links
 returns-in_err-check_well-clause-links g c =
-    within_told _ _ _ _ _ _ _ (told_met c.args.self.now c.meet.new.self _ _ _ _ c.in_ok-terms.terms c.in_ok-terms.ensures.kept c.in_ok-terms.ensures.met c.in_ok-terms.ensures.connects c.in_ok-dial_further.ensures.connects)
+    within_told _ _ _ _ _ _ _ (told_met c.args.self.now c.meet.new.self _ _ _ _ c.in_ok-terms.terms c.in_ok-terms.ensures.kept c.in_ok-terms.ensures.met c.in_ok-terms.ensures.connects c.in_ok-dial_further.ensures.connects (connected_begins _ _ c.in_ok-terms.ensures.connected) c.in_ok-dial_further.ensures.connected)
 
 pub returns-in_err-set_up-clause-links : goal.returns-in_err-set_up-clause-links
 returns-in_err-set_up-clause-links g c =
-    within_told _ _ _ _ _ _ _ (told_end _ _ _ _ _ _ _ _ _ (told_met c.args.self.now c.meet.new.self _ _ _ _ c.in_ok-terms.terms c.in_ok-terms.ensures.kept c.in_ok-terms.ensures.met c.in_ok-terms.ensures.connects c.in_ok-dial_further.ensures.connects) (links_same _ _ _ c.in_err-set_up.ensures.links))
+    within_told _ _ _ _ _ _ _ (told_end _ _ _ _ _ _ _ _ _ (told_met c.args.self.now c.meet.new.self _ _ _ _ c.in_ok-terms.terms c.in_ok-terms.ensures.kept c.in_ok-terms.ensures.met c.in_ok-terms.ensures.connects c.in_ok-dial_further.ensures.connects (connected_begins _ _ c.in_ok-terms.ensures.connected) c.in_ok-dial_further.ensures.connected) (links_same _ _ _ c.in_err-set_up.ensures.links))
 
 pub returns-clause-links : goal.returns-clause-links
 returns-clause-links g c =
-    within_told _ _ _ _ _ _ _ (told_end _ _ _ _ _ _ _ _ _ (told_met c.args.self.now c.meet.new.self _ _ _ _ c.in_ok-terms.terms c.in_ok-terms.ensures.kept c.in_ok-terms.ensures.met c.in_ok-terms.ensures.connects c.in_ok-dial_further.ensures.connects) (links_same _ _ _ c.in_ok-set_up.ensures.links))
+    within_told _ _ _ _ _ _ _ (told_end _ _ _ _ _ _ _ _ _ (told_met c.args.self.now c.meet.new.self _ _ _ _ c.in_ok-terms.terms c.in_ok-terms.ensures.kept c.in_ok-terms.ensures.met c.in_ok-terms.ensures.connects c.in_ok-dial_further.ensures.connects (connected_begins _ _ c.in_ok-terms.ensures.connected) c.in_ok-dial_further.ensures.connected) (links_same _ _ _ c.in_ok-set_up.ensures.links))
 
 pub returns-clause-connects : goal.returns-clause-connects
 returns-clause-connects g c =
-    told_end _ _ _ _ _ _ _ _ _ (told_met c.args.self.now c.meet.new.self _ _ _ _ c.in_ok-terms.terms c.in_ok-terms.ensures.kept c.in_ok-terms.ensures.met c.in_ok-terms.ensures.connects c.in_ok-dial_further.ensures.connects) (links_same _ _ _ c.in_ok-set_up.ensures.links)
+    told_end _ _ _ _ _ _ _ _ _ (told_met c.args.self.now c.meet.new.self _ _ _ _ c.in_ok-terms.terms c.in_ok-terms.ensures.kept c.in_ok-terms.ensures.met c.in_ok-terms.ensures.connects c.in_ok-dial_further.ensures.connects (connected_begins _ _ c.in_ok-terms.ensures.connected) c.in_ok-dial_further.ensures.connected) (links_same _ _ _ c.in_ok-set_up.ensures.links)
 
 pub returns-in_err-dial_further-clause-unready : goal.returns-in_err-dial_further-clause-unready
 returns-in_err-dial_further-clause-unready g c =

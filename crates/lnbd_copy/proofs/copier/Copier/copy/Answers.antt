@@ -4,6 +4,7 @@ use Rattle.lnbd_copy.specs.Copier.{IsOnItsWay, Seen}
 use Rattle.lnbd_copy.specs.Faults.{Behaves}
 use Rattle.lnbd_copy.specs.Way.{Told}
 use Rattle.lnbd_copy.proofs.CauseLemmas.{goes_as, goes_then}
+use Rattle.lnbd_copy.proofs.EndedLemmas.{ends_well}
 use Rattle.lnbd_copy.proofs.EndLemmas.{all_then, finished_on, moved_on, rested, still_on}
 use Rattle.lnbd_copy.proofs.FaultLemmas.{behaves_idly, fair_on}
 use Rattle.lnbd_copy.proofs.FlushLemmas.{flushed_on}
@@ -179,3 +180,6 @@ returns-in_err-turn-clause-wanted g c = told_stays (g.W.Wires.told c.args.wires.
 
 pub returns-in_err-rest-in-Still-clause-wanted : goal.returns-in_err-rest-in-Still-clause-wanted
 returns-in_err-rest-in-Still-clause-wanted g c = c.rest.ensures.wanted.on (g.W.Wires.told c.args.wires.now) (told_stays (g.W.Wires.told c.args.wires.now) _ _ c.turn.ensures.unpaused c.turns.invariant.wanted)
+
+pub returns-in-Finished-clause-well : goal.returns-in-Finished-clause-well
+returns-in-Finished-clause-well g c = ends_well _ _ _ _ c.in_ok-turn.field-0 _ c.turns.invariant.start c.in-Finished.is c.in_ok-turn.ensures.well

@@ -6,6 +6,7 @@ use Rattle.lnbd_copy.proofs.PauseLemmas.{unpaused_then}
 use Rattle.lnbd_copy.proofs.SideLemmas.{behind_source}
 use Rattle.lnbd_copy.proofs.ConnectLemmas.{all_made, goes_all, one_fails, one_more}
 use Rattle.lnbd_copy.proofs.UnaskedLemmas.{stays_kept, unasked_then}
+use Rattle.lnbd_copy.proofs.ConnectedLemmas.{connected_then}
 use Rattle.lnbd_copy.proofs.copier.Copier.dial_destinations.Goals as goal
 
 pub further-preserved : goal.further-preserved
@@ -21,6 +22,7 @@ further-preserved g c = record {
   unasked = unasked_then _ _ _ _ _ c.further.invariant.unasked (stays_kept c.args.self.now c.further.self _ _ c.further.invariant.kept c.dial_destination.ensures.unasked);
   unissued = λ none. c.in_ok-dial_destination.ensures.unissued (c.further.invariant.unissued none);
   unpaused = unpaused_then _ _ _ c.further.invariant.unpaused c.dial_destination.ensures.unpaused;
+  connected = connected_then _ _ _ c.further.invariant.connected c.in_ok-dial_destination.ensures.connected;
   counts = goes_then _ _ _ _ _ _ _ _ _ c.further.invariant.counts c.dial_destination.ensures.counts;
 }
 

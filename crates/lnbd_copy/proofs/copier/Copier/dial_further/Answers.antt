@@ -8,6 +8,7 @@ use Rattle.lnbd_copy.proofs.LinkLemmas.{links_end}
 use Rattle.lnbd_copy.proofs.ConnectLemmas.{both_made, goes_all, goes_wider, second_fails}
 use Rattle.lnbd_copy.specs.Copier.{Seen}
 use Rattle.lnbd_copy.proofs.UnaskedLemmas.{further_unasked, met_unasked, stays_kept, unasked_then}
+use Rattle.lnbd_copy.proofs.ConnectedLemmas.{connected_links, connected_then}
 use Rattle.lnbd_copy.proofs.copier.Copier.dial_further.Goals as goal
 
 pub returns-clause-further : goal.returns-clause-further
@@ -89,3 +90,8 @@ returns-in_err-dial_sources-clause-wanted g c stand = pauses_unpaused _ _ c.dial
 
 pub returns-in_err-dial_destinations-clause-wanted : goal.returns-in_err-dial_destinations-clause-wanted
 returns-in_err-dial_destinations-clause-wanted g c stand = pauses_unpaused _ _ (unpaused_then _ _ _ c.dial_sources.ensures.unpaused c.dial_destinations.ensures.unpaused)
+
+pub returns-clause-connected : goal.returns-clause-connected
+returns-clause-connected g c =
+    always_on_ok c.settle.result (λ stand. connected_then _ _ _ (connected_then _ _ _ c.in_ok-dial_sources.ensures.connected c.in_ok-dial_destinations.ensures.connected)
+    (connected_links _ _ _ _ (c.settle.ensures.links (c.in_ok-dial_destinations.ensures.further.stand (c.in_ok-dial_sources.ensures.further.stand stand)))))

@@ -4,6 +4,7 @@ use Rattle.lnbd_copy.specs.Copier.{GoesFurther}
 use Rattle.lnbd_copy.specs.Pauses.{Unpaused}
 use Rattle.lnbd_copy.specs.Links.{LinksGo}
 use Rattle.lnbd_copy.specs.Faults.{AreUnissued, StaysUnasked}
+use Rattle.lnbd_copy.specs.Connected.{StaysConnected}
 use Rattle.lnbd_copy.proofs.copier.Copier.dial_sources.Given as goal
 
 abbrev pub invariant-further : goal.invariant-further
@@ -17,5 +18,6 @@ invariant-further g l = record {
   most : l.connection - 1 ≤ l.fn.sides.source - 1;
   unasked : StaysUnasked l.fn.self.from l.fn.self.to (g.W.Wires.told l.fn.wires) (g.W.Wires.told l.wires);
   unissued : AreUnissued l.fn.self.held → AreUnissued l.self.held;
+  connected : StaysConnected (g.W.Wires.told l.fn.wires) (g.W.Wires.told l.wires);
   counts : GoesOn (g.W.Wires.faults l.fn.wires) (g.W.Wires.faults l.wires) (g.W.Wires.idles l.fn.wires) (g.W.Wires.idles l.wires) (g.W.Wires.contents l.fn.wires) (g.W.Wires.contents l.wires);
 }

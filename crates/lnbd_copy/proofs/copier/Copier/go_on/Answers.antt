@@ -190,3 +190,16 @@ returns-clause-moved g c count moves = go c.in_ok-moved.moved refl
     go : (told : Turn) → c.in_ok-moved.moved ≡ told → Is
     go (turn.Moved n) is = moved_stirs c.args.self.now c.part-parted.new.self (g.W.Wires.told c.args.wires.now) (g.W.Wires.told c.take_turn.new.wires) (g.W.Wires.told c.part-parted.new.wires) (c.in_ok-moved.ensures.moved n is c.requires.going.on.stand) c.part-parted.ensures.unpaused
     go turn.Still is = parts c.part-parted.result refl is
+
+pub returns-in_err-check_counts-clause-unpaused : goal.returns-in_err-check_counts-clause-unpaused
+returns-in_err-check_counts-clause-unpaused g c = unpaused_then _ _ _ (c.take_turn.ensures.unpaused c.requires.going.on.stand) c.part-parted.ensures.unpaused
+
+pub returns-in_err-check_counts-clause-fair : goal.returns-in_err-check_counts-clause-fair
+returns-in_err-check_counts-clause-fair g c start on two fair = behaves_idly _ _ _ start _ _ c.part-parted.ensures.idly (c.take_turn.ensures.fair start on two fair)
+
+pub returns-in_err-check_counts-clause-links : goal.returns-in_err-check_counts-clause-links
+returns-in_err-check_counts-clause-links g c =
+    links_then _ _ _ _ _ _ (c.in_ok-moved.ensures.links c.requires.going.on.stand) (links_then _ _ _ _ _ _ (links_same _ _ _ c.in_ok-acted.ensures.links) c.part-parted.ensures.links)
+
+pub returns-clause-well : goal.returns-clause-well
+returns-clause-well g c = c.progress_of.ensures.well c.args.self.now.start (g.W.Wires.faults c.part-parted.new.wires) (g.W.Wires.idles c.part-parted.new.wires)

@@ -14,6 +14,7 @@ use Rattle.lnbd_copy.proofs.LinkLemmas.{links_end}
 use Rattle.lnbd_copy.proofs.TurnLemmas.{none_stand}
 use Rattle.lnbd_copy.proofs.PausedLemmas.{meet_unready, source_dialled, source_unready, told_stays}
 use Rattle.lnbd_copy.proofs.UnaskedLemmas.{both_unasked, both_unissued, source_unasked, stays_kept}
+use Rattle.lnbd_copy.proofs.ConnectedLemmas.{connected_links, connected_then}
 use Rattle.lnbd_copy.proofs.copier.Copier.meet.Goals as goal
 
 pub returns-clause-met : goal.returns-clause-met
@@ -221,3 +222,11 @@ returns-in_err-settle-2-clause-wanted g c =
     let two = c.in_ok-dial_destination.ensures.dials.stand (c.in_ok-settle.ensures.goes.stand one) in
     pauses_then _ _ _ (pauses_then _ _ _ (pauses_unpaused _ _ c.dial_source.ensures.unpaused) (c.settle.ensures.wanted one))
     (pauses_then _ _ _ (pauses_unpaused _ _ c.dial_destination.ensures.unpaused) (c.settle-2.ensures.wanted two))
+
+pub returns-clause-connected : goal.returns-clause-connected
+returns-clause-connected g c =
+    let first = c.in_ok-dial_source.ensures.dials.stand (subst Stand (sym c.requires.begun.held) none_stand) in
+    let second = c.in_ok-dial_destination.ensures.dials.stand (c.in_ok-settle.ensures.goes.stand first) in
+    always_on_ok c.agree.result
+    (connected_then _ _ _ (connected_then _ _ _ c.in_ok-dial_source.ensures.connected (connected_links _ _ _ _ (c.in_ok-settle.ensures.links first)))
+    (connected_then _ _ _ c.in_ok-dial_destination.ensures.connected (connected_links _ _ _ _ (c.in_ok-settle-2.ensures.links second))))

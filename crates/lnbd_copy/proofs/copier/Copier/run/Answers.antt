@@ -1,7 +1,9 @@
 use Rattle.std.proofs.Common.{ap}
 use Rattle.std.proofs.lemmas.Result.{on_ok_weaker}
 use Rattle.lnbd_copy.proofs.EndLemmas.{done_asks, done_copies, done_dense, done_driven, done_flushed, done_spares, done_whole, told_part}
+use Rattle.lnbd_copy.specs.Causes.{patience}
 use Rattle.lnbd_copy.proofs.CauseLemmas.{goes_then}
+use Rattle.lnbd_copy.proofs.EndedLemmas.{on_ok_two, still_unrisen}
 use Rattle.lnbd_copy.proofs.CopierLemmas.{told_as}
 use Rattle.lnbd_copy.proofs.FaultLemmas.{behaves_idly}
 use Rattle.lnbd_copy.proofs.FlushLemmas.{done_flushes}
@@ -116,11 +118,21 @@ returns-clause-waits g c = told_part _ _ (told_stays _ _ _ c.end.ensures.unpause
 pub returns-clause-wanted : goal.returns-clause-wanted
 returns-clause-wanted g c = told_part _ _ (told_stays _ _ _ c.end.ensures.unpaused c.copy-told.ensures.wanted)
 
+pub returns-clause-connected : goal.returns-clause-connected
+returns-clause-connected g c =
+    on_ok_weaker c.copy-told.result (λ told. told_part _ _ (told_end _ _ _ _ _ _ _ _ _ told c.end.ensures.links).connected) c.copy-told.ensures.connects
+
+pub returns-clause-well : goal.returns-clause-well
+returns-clause-well g c = on_ok_two c.copy-told.result (λ done well. still_unrisen 1 _ _ _ (ap g.W.Wires.faults (c.end.ensures.parted done.parted)) well.faults) c.copy-told.ensures.done c.copy-told.ensures.well
+
+pub returns-clause-patient : goal.returns-clause-patient
+returns-clause-patient g c = on_ok_two c.copy-told.result (λ done well. still_unrisen patience _ _ _ (ap g.W.Wires.idles (c.end.ensures.parted done.parted)) well.idles) c.copy-told.ensures.done c.copy-told.ensures.well
+
 pub returns-clause-made : goal.returns-clause-made
 returns-clause-made g c two =
     is_made c.args.self.options c.args.self.from c.args.self.to _ _ c.copy-told.result (returns-clause-asks g c two) (returns-clause-done g c two) (returns-clause-summary g c two) (returns-clause-spares g c two) (returns-clause-dense g c two) (returns-clause-answered g c two)
     (returns-clause-flushes g c two) (returns-clause-flushed g c two) (λ unwanted. returns-clause-unflushed g c unwanted two) (returns-clause-driven g c) (returns-clause-pauses g c two) (returns-clause-shares g c two) (returns-clause-writes g c) (returns-clause-waits g c) (returns-clause-links g c) (returns-clause-connects g c) (returns-clause-reads g c)
-    (returns-clause-wanted g c)
+    (returns-clause-wanted g c) (returns-clause-connected g c)
 
 pub returns-clause-conducts : goal.returns-clause-conducts
 returns-clause-conducts g c =

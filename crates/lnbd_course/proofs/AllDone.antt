@@ -1,0 +1,103 @@
+-- Each request of a copy is done in the end: those for slices are over, block statuses were heard, and a flush was answered.
+use Rattle.std.proofs.Common.{◌≡◌, ◌≢◌, ◌⊎◌, inl, inr, ℕ, Bool, true, false, List, [], ◌∷◌, Some, None, refl, ap, sym, subst, ◌∙◌, nat_le, if◌then◌else◌}
+use Rattle.std.proofs.lemmas.Bool.{false≢true}
+use Rattle.lnbd_model.specs.declared.target.Place.{Place}
+use Rattle.lnbd_outcome.specs.Outcome.{Unfinished}
+use Rattle.lnbd_link.specs.Call as wire
+use Rattle.lnbd_history.specs.Commands as commands
+use Rattle.lnbd_history.specs.Commands.{Command}
+use Rattle.lnbd_history.specs.History.{request}
+use Rattle.lnbd_asked.specs.Driven.{written}
+use Rattle.lnbd_asked.specs.Link.{Nobody}
+use Rattle.lnbd_asked.specs.Transcript.{answered, bare, dealt_with, is_of, on_link}
+use Rattle.lnbd_plan.specs.declared.grid.Slice.{Slice}
+use Rattle.lnbd_board.specs.declared.how.How.{How}
+use Rattle.lnbd_board.specs.declared.ticket.Ticket.{Ticket}
+use Rattle.lnbd_board.specs.declared.ticket.Ticket.TheVariants as ticket
+use Rattle.lnbd_board.specs.Files as board
+use Rattle.lnbd_board.specs.Requests.{Each, Request}
+use Rattle.lnbd_board.specs.Rows.{AsksOfDestination, AsksOfSource, IsChange}
+use Rattle.lnbd_board.proofs.Lists.{Each-back, in_each}
+use Rattle.lnbd_tracks.specs.Laws.{IsDone, moves_bytes}
+use Rattle.lnbd_tracks.specs.Mapping.{first_tells, is_extents}
+use Rattle.lnbd_course.specs.AllDone.{AreAllDone, EndedAreAllDone}
+use Rattle.lnbd_course.specs.Asks.{AreDone}
+use Rattle.lnbd_course.specs.Between.{Between}
+use Rattle.lnbd_course.specs.Counted.{is_flush}
+use Rattle.lnbd_course.specs.Course.{beside, on_side}
+use Rattle.lnbd_course.specs.Told.{Known, Told}
+use Rattle.lnbd_course.proofs.Ending.{destination_dealt, out_in}
+use Rattle.lnbd_course.proofs.Flushing.{ended_flushed, ended_flushes_once, ended_unflushed}
+use Rattle.lnbd_course.proofs.Listing.{asked_here, listed, one_of}
+use Rattle.lnbd_course.proofs.Once.{ended_are_done}
+use Rattle.lnbd_course.proofs.Placed.{links_are_of_sides}
+use Rattle.lnbd_course.proofs.Sparing.{either_true}
+
+-- The source is asked for bytes, or for extents,
+source_asks : (slices : List Slice) (by : Ticket) (command : Command Nobody) → AsksOfSource slices by command → (moves_bytes command.kind ≡ true) ⊎ (is_extents by ≡ true)
+source_asks slices (ticket.Slice n) command asks = inl (ap moves_bytes asks.0)
+source_asks slices ticket.Extents command asks = inr refl
+source_asks slices ticket.Flush command asks = absurd asks
+
+-- and the destination to change bytes, or to flush.
+destination_asks : (how : How) (slices : List Slice) (by : Ticket) (command : Command Nobody) → AsksOfDestination how slices by command → (moves_bytes command.kind ≡ true) ⊎ (is_flush command.kind ≡ true)
+destination_asks how slices (ticket.Slice n) command asks = inl (change asks.0)
+  where
+    change : IsChange how command → moves_bytes command.kind ≡ true
+    change (inl write) = ap moves_bytes write
+    change (inr zero) = ap moves_bytes zero.0
+destination_asks how slices ticket.Extents command asks = absurd asks
+destination_asks how slices ticket.Flush command asks = inr (ap is_flush asks)
+
+-- With no extents waited for, what the source was asked is done where that is so of each of its reads.
+module _ (from : Place) (how : How) (has : ℕ → Bool) (slices : List Slice) (now : board.Seen) (calls : List wire.Call) (known : Known) (t : Told how has slices now calls [] None known) (well : now.error ≡ None)
+    (of : (link : ℕ) → is_of from calls link ≡ true → has link ≡ true) (reads : AreDone (dealt_with from calls)) where
+  source_done : AreAllDone (dealt_with from calls)
+  source_done link cookie command asked =
+      let a = asked_here from how has slices now calls t.course of link cookie command asked in
+      let in_list = listed from how has slices now calls t.course of link cookie a.1.asks a.0 a.1.is in
+      let mine = (Each-back (λ (r : Request). AsksOfSource slices r.ticket r.said.command) in_list.front (one_of from how has slices now calls t.course of link cookie a.1.asks ∷ in_list.back)
+      (subst (λ (l : List Request). Each (λ r. AsksOfSource slices r.ticket r.said.command) l) in_list.is (t.course.stood.stands well).reads)).0 in
+      go a.0 a.1.asks a.1.is a.1.same a.1.out (source_asks slices a.1.asks.flight.done.callback (bare a.1.asks) mine)
+    where
+      go : is_of from calls link ≡ true → (asks : commands.Request Ticket) → request (t.course.histories link) cookie ≡ Some asks → bare asks ≡ command → nat_le cookie (written (t.course.histories link)) ≡ true →
+          (moves_bytes asks.kind ≡ true) ⊎ (is_extents asks.flight.done.callback ≡ true) → IsDone ((dealt_with from calls).outcome link cookie)
+      go here asks is same out (inl moves) = reads link cookie command asked (ap (λ (c : Command Nobody). moves_bytes c.kind) (sym same) ∙ moves)
+      go here asks is same out (inr extents) =
+          let done = t.maps link cookie asks is (either_true (first_tells asks.flight.first) (is_extents asks.flight.done.callback) extents) in
+          record {
+            bytes = done.bytes;
+            is = ap (λ (b : Bool). if b then answered (on_link link calls) cookie else Unfinished) here ∙ (t.course.parted link tt).outcomes cookie out ∙ done.is;
+          }
+
+-- What the destination was asked is done where that is so of each of its changes, and a flush was answered.
+module _ (from to : Place) (size : ℕ) (how : How) (has : ℕ → Bool) (slices : List Slice) (now : board.Seen) (calls : List wire.Call) (b : Between from to (Some size) how has slices now calls []) (well : now.error ≡ None)
+    (flushed : now.flushing ≡ true → now.flushed ≡ true) (two : from ≢ to) (changes : AreDone (dealt_with to calls)) where
+  flush_done : (link cookie : ℕ) (command : Command Nobody) → (dealt_with to calls).asked link cookie ≡ Some command → is_flush command.kind ≡ true → IsDone ((dealt_with to calls).outcome link cookie)
+  flush_done link cookie command asked flush = go now.flushing refl
+    where
+      go : (f : Bool) → now.flushing ≡ f → IsDone ((dealt_with to calls).outcome link cookie)
+      go true e =
+          let was = ended_flushed from to size how has slices now calls b well (flushed e) two in
+          let same = ended_flushes_once from to size how has slices now calls b two was.link was.cookie link cookie was.command command was.asked asked was.kind flush in
+          subst (λ (l : ℕ). IsDone ((dealt_with to calls).outcome l cookie)) (sym same.0) (subst (λ (c : ℕ). IsDone ((dealt_with to calls).outcome was.link c)) (sym same.1) was.done)
+      go false e = absurd (false≢true (sym (ended_unflushed from to size how has slices now calls b e two link cookie command asked) ∙ flush))
+
+  destination_done : AreAllDone (dealt_with to calls)
+  destination_done link cookie command asked =
+      let u = (destination_dealt from to how has slices now calls b.course (links_are_of_sides from to size how has slices now calls b two).0).only link cookie command asked in
+      let mine = in_each (λ (r : Request). AsksOfDestination how slices r.ticket r.said.command) u.request b.course.stood.destination
+      (out_in (on_side (beside has) b.course.histories) u.request b.course.stood.destination u.within).0 (b.course.stood.stands well).changes in
+      go u.request u.asks (destination_asks how slices u.request.ticket u.request.said.command mine)
+    where
+      go : (r : Request) → r.said.command ≡ command → (moves_bytes r.said.command.kind ≡ true) ⊎ (is_flush r.said.command.kind ≡ true) → IsDone ((dealt_with to calls).outcome link cookie)
+      go r same (inl moves) = changes link cookie command asked (ap (λ (c : Command Nobody). moves_bytes c.kind) (sym same) ∙ moves)
+      go r same (inr flush) = flush_done link cookie command asked (ap (λ (c : Command Nobody). is_flush c.kind) (sym same) ∙ flush)
+
+pub ended_are_all_done : EndedAreAllDone
+ended_are_all_done from to size how has slices now calls known b t over well flushed two =
+    let done = ended_are_done from to size how has slices now calls b over well two in
+    record {
+      source = source_done from how has slices now calls known t well (links_are_of_sides from to size how has slices now calls b two).0.source done.source;
+      destination = destination_done from to size how has slices now calls b well flushed two done.destination;
+    }
