@@ -58,11 +58,11 @@ module _ (copy : Seen) (sides : Sides) (first : ℕ) where
   further_none now held told = record { stand = λ s. s; filed = λ s. filed_none now; on = λ size how start s count on. on; lasts = λ s. lasts_none told; know = λ source destination both. both }
 
   pub further_dials : (place : Place) (extents : Bool) (now now' : board.Seen) (held held2 held3 : List (Held Ticket)) (a b c : Option (List wire.Call)) → GoesFurther copy sides first now held a now' held2 b → Dials place extents now' held2 b held3 c →
-      (length held ≡ first → length held2 ≢ 0) → (length held ≡ first → (size : Option ℕ) (how : How) → place_of (beginning copy size how sides) (length held2) ≡ place) → GoesFurther copy sides first now held a now' held3 c
-  further_dials place extents now now' held held2 held3 a b c further dials some there = record {
+      extents ≡ false → (length held ≡ first → length held2 ≢ 0) → (length held ≡ first → (size : Option ℕ) (how : How) → place_of (beginning copy size how sides) (length held2) ≡ place) → GoesFurther copy sides first now held a now' held3 c
+  further_dials place extents now now' held held2 held3 a b c further dials unasked some there = record {
     stand = λ s. dials.stand (further.stand s);
     filed = further.filed;
-    on = λ size how start s count on. dials.on (beginning copy size how sides) start (there count size how) (λ none. absurd (some count none)) (further.on size how start s count on);
+    on = λ size how start s count on. dials.on (beginning copy size how sides) start (there count size how) (λ none. absurd (some count none)) (λ asks. absurd (false≢true (sym unasked ∙ asks))) (further.on size how start s count on);
     lasts = λ s. lasts_then a b c (further.lasts s) dials.lasts;
     know = λ source destination both. dials.know source destination (further.know source destination both);
   }
@@ -91,10 +91,10 @@ module _ (copy : Seen) (sides : Sides) (first : ℕ) where
 pub no_handles : (copy : Seen) → HasNotBegun copy → Stand copy.held
 no_handles copy none = subst Stand (sym none.held) (record { seens = []; at = tt })
 
-from_first : (copy : Seen) (how : How) (sides : Sides) (n : ℕ) → n ≡ 0 → place_of (beginning copy None how sides) n ≡ copy.from
+pub from_first : (copy : Seen) (how : How) (sides : Sides) (n : ℕ) → n ≡ 0 → place_of (beginning copy None how sides) n ≡ copy.from
 from_first copy how sides n is = ap (λ (m : ℕ). place_of (beginning copy None how sides) m) is
 
-to_second : (copy : Seen) (how : How) (sides : Sides) (n : ℕ) → n ≡ 1 → place_of (beginning copy None how sides) n ≡ copy.to
+pub to_second : (copy : Seen) (how : How) (sides : Sides) (n : ℕ) → n ≡ 1 → place_of (beginning copy None how sides) n ≡ copy.to
 to_second copy how sides n is = ap (λ (m : ℕ). place_of (beginning copy None how sides) m) is
 
 pub begins_on : (copy : Seen) (how : How) (sides : Sides) → HasNotBegun copy → IsOn (beginning copy None how sides) copy.board [] copy.held
@@ -118,14 +118,15 @@ agreed_on copy size how sides calls agrees on =
       all = on.all;
       hears = on.hears;
       bound = on.bound;
+      drives = on.drives;
     }
 
 pub first_on : (copy : Seen) (h : List (Held Ticket)) (t u : Option (List wire.Call)) (how : How) (sides : Sides) → HasNotBegun copy → Dials copy.from copy.options.extents copy.board copy.held t h u → Told t u (λ calls. IsOn (beginning copy None how sides) copy.board calls h)
 first_on copy h t u how sides none first =
     let none_held : length copy.held ≡ 0 = ap (λ (l : List (Held Ticket)). length l) none.held in
-    first.on (beginning copy None how sides) t (from_first copy how sides (length copy.held) none_held) (λ none. refl) (told_begins t (begins_on copy how sides none))
+    first.on (beginning copy None how sides) t (from_first copy how sides (length copy.held) none_held) (λ empty. refl) (λ asks. none_held) (told_begins t (begins_on copy how sides none))
 
-one_some : (n : ℕ) → n ≡ 1 → n ≢ 0
+pub one_some : (n : ℕ) → n ≡ 1 → n ≢ 0
 one_some n one none = absurd (omega (arith, one, none))
 
 -- What the first handle asks for is what the options want.
@@ -139,7 +140,7 @@ second_on copy b h i j t u v w how sides none first one second =
     let way = beginning copy None how sides in
     let s1 = first.stand (no_handles copy none) in
     let one_held : length i ≡ 1 = one.many s1 ∙ first.many ∙ ap (λ (n : ℕ). n + 1) (ap (λ (l : List (Held Ticket)). length l) none.held) in
-    (second.stand (one.stand s1), second.on way t (to_second copy how sides (length i) one_held) (λ none. absurd (one_some (length i) one_held none)) (one.on false way t s1 (first_on copy h t u how sides none first)))
+    (second.stand (one.stand s1), second.on way t (to_second copy how sides (length i) one_held) (λ none. absurd (one_some (length i) one_held none)) (λ asks. absurd (false≢true asks)) (one.on false way t s1 (first_on copy h t u how sides none first)))
 
 module _ (copy : Seen) (b c : board.Seen) (h i j k : List (Held Ticket)) (t u v w x : Option (List wire.Call)) where
   two_stand : Dials copy.from copy.options.extents copy.board copy.held t h u → Goes copy.board h u b i v → Dials copy.to false b i v j w → Goes b j w c k x → HasNotBegun copy → length k ≡ 2
@@ -195,14 +196,14 @@ destination_place copy size how sides n is = ap (λ (b : Bool). if b then copy.f
 
 -- A connection more is made where these were made before.
 module _ (copy mid new : Seen) (sides : Sides) (first : ℕ) (a b c : Option (List wire.Call)) (kept : mid ≡ record copy { held = mid.held; board = mid.board }) (same : new.board ≡ mid.board) (further : GoesFurther copy sides first copy.board copy.held a mid.board mid.held b) where
-  pub source_more : (extents : Bool) → Dials mid.from extents mid.board mid.held b new.held c → (length copy.held ≡ first → length mid.held ≢ 0) → (length copy.held ≡ first → is_source sides (length mid.held) ≡ true) → GoesFurther copy sides first copy.board copy.held a new.board new.held c
-  source_more extents dials some side = subst (λ (n : board.Seen). GoesFurther copy sides first copy.board copy.held a n new.held c) (sym same)
-      (further_dials copy sides first mid.from extents copy.board mid.board copy.held mid.held new.held a b c further dials some
+  pub source_more : Dials mid.from false mid.board mid.held b new.held c → (length copy.held ≡ first → length mid.held ≢ 0) → (length copy.held ≡ first → is_source sides (length mid.held) ≡ true) → GoesFurther copy sides first copy.board copy.held a new.board new.held c
+  source_more dials some side = subst (λ (n : board.Seen). GoesFurther copy sides first copy.board copy.held a n new.held c) (sym same)
+      (further_dials copy sides first mid.from false copy.board mid.board copy.held mid.held new.held a b c further dials refl some
       (λ count size how. source_place copy size how sides (length mid.held) (side count) ∙ sym (ap (λ (s : Seen). s.from) kept)))
 
-  pub destination_more : (extents : Bool) → Dials mid.to extents mid.board mid.held b new.held c → (length copy.held ≡ first → length mid.held ≢ 0) → (length copy.held ≡ first → is_source sides (length mid.held) ≡ false) → GoesFurther copy sides first copy.board copy.held a new.board new.held c
-  destination_more extents dials some side = subst (λ (n : board.Seen). GoesFurther copy sides first copy.board copy.held a n new.held c) (sym same)
-      (further_dials copy sides first mid.to extents copy.board mid.board copy.held mid.held new.held a b c further dials some
+  pub destination_more : Dials mid.to false mid.board mid.held b new.held c → (length copy.held ≡ first → length mid.held ≢ 0) → (length copy.held ≡ first → is_source sides (length mid.held) ≡ false) → GoesFurther copy sides first copy.board copy.held a new.board new.held c
+  destination_more dials some side = subst (λ (n : board.Seen). GoesFurther copy sides first copy.board copy.held a n new.held c) (sym same)
+      (further_dials copy sides first mid.to false copy.board mid.board copy.held mid.held new.held a b c further dials refl some
       (λ count size how. destination_place copy size how sides (length mid.held) (side count) ∙ sym (ap (λ (s : Seen). s.to) kept)))
 
 -- Its connections and its board go on.
@@ -280,6 +281,7 @@ all_heard way extents now calls held silent on = record {
   all = on.all;
   hears = record { answered = λ well two p h. inr (silent (not_true extents h)); first = on.hears.first; begun = on.hears.begun };
   bound = on.bound;
+  drives = on.drives;
 }
   where
     not_true : (b : Bool) → not b ≡ true → b ≡ false

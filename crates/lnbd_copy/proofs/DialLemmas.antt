@@ -40,6 +40,7 @@ use Rattle.lnbd_copy.proofs.HeldLemmas.{held_more}
 use Rattle.lnbd_copy.proofs.BindingLemmas.{bound_more, bound_none}
 use Rattle.lnbd_copy.proofs.BegunLemmas.{first_stays, went_none}
 use Rattle.lnbd_copy.proofs.FirstLemmas.{more_knowing}
+use Rattle.lnbd_copy.proofs.DrivenLemmas.{drive_dialed}
 use Rattle.lnbd_copy.proofs.HeardLemmas.{hears_dialed, hears_on}
 use Rattle.lnbd_copy.proofs.StepLemmas.{nothing_stands, settling_stands}
 use Rattle.lnbd_copy.proofs.TurnLemmas.{at_count, rested_on, none_some, since_on, some_same}
@@ -57,6 +58,7 @@ nothing_is_on way now unsettled none unasked unknown empty new uncounted unreste
   all = λ link apart. refl;
   hears = record { answered = λ well two p h. absurd (false≢true (sym (unheard p) ∙ h)); first = refl; begun = tt };
   bound = bound_none way.sides now [] empty;
+  drives = record { went = tt; left = λ link apart given. absurd (false≢true given) };
 }
 
 -- Another board, of a copy that writes otherwise, takes the place of one that is empty, before any slice is begun.
@@ -73,6 +75,7 @@ settled way how now now' calls held none unasked empty well unflushed empty' new
   all = on.all;
   hears = hears_on false way.extents way.from way.to way.heard now.error now'.error (λ none. well) calls on.seens on.seens (first_stays on.seens) on.hears;
   bound = bound_none way.sides now' on.seens empty';
+  drives = on.drives;
 }
 
 -- The last of some handles.
@@ -173,9 +176,9 @@ side_place way n place is = is
 
 -- With a handle more, on a link that was just made, a copy is on its way.
 dialed : (way : Way) (now : board.Seen) (calls : List wire.Call) (held : List (Held Ticket)) (place : Place) (link : ℕ) (extents : Bool) (handle : Machine Ticket)
-    → place_of way (length held) ≡ place → (length held ≡ 0 → way.extents ≡ extents) → IsOn way now calls held → is_given link calls ≡ false → length place.name ≤ max_text → StandsFor max_unretired (opened place.name extents) handle
+    → place_of way (length held) ≡ place → (length held ≡ 0 → way.extents ≡ extents) → (extents ≡ true → length held ≡ 0) → IsOn way now calls held → is_given link calls ≡ false → length place.name ≤ max_text → StandsFor max_unretired (opened place.name extents) handle
     → IsOn way now (calls ++ wire.Connect place.to (Some link) ∷ []) (held ++ record { link = link; handle = handle; inbox = [] } ∷ [])
-dialed way now calls held place link extents handle there wants on new short stands =
+dialed way now calls held place link extents handle there wants only on new short stands =
     let side = is_source way.sides (length on.seens) in
     let history = opened place.name extents in
     let last : Seen Ticket = record { link = link; history = history; unread = [] } in
@@ -197,6 +200,8 @@ dialed way now calls held place link extents handle there wants on new short sta
       all = held_more calls place.to link on.seens last refl on.all;
       hears = hears_dialed way.extents way.from way.to way.heard now.error calls on.seens place.to last (λ none. began_first none (at_count held on.seens on.at)) on.hears;
       bound = bound_more way.sides now on.seens last (opened_asks place.name extents) (last_or on.seens last) on.bound;
+      drives = drive_dialed way.extents way.from way.to on.has calls place.to link side on.seens place extents at_place (on.stands.told.course.unused link new).apart on.hears.first
+          (λ none. wants (at_count held on.seens on.at ∙ none)) (λ asks. sym (at_count held on.seens on.at) ∙ only asks) (held_more calls place.to link on.seens last refl on.all) on.drives;
     }
   where
     began_first : length on.seens ≡ 0 → length held ≡ length on.seens → BeganAs (opened way.from.name way.extents) (opened place.name extents)
@@ -224,12 +229,12 @@ dials a b c place now held held' link extents handle adds fresh told_is short st
     subst (λ (t : Option (List wire.Call)). Dials place extents now held a held' t) (sym told_is) (subst (λ (l : List (Held Ticket)). Dials place extents now held a l b) (sym held_is) (record {
       stand = λ s. record { seens = s.seens ++ record { link = link; history = opened place.name extents; unread = [] } ∷ []; at = last_at held s.seens link handle (opened place.name extents) s.at stands };
       many = count_more held (record { link = link; handle = handle; inbox = [] });
-      on = λ way start is wants told. record {
+      on = λ way start is wants only told. record {
         since = λ all told_all.
             let grown = adds all told_all in
             let since = told.since grown.0 grown.1 in
             let free = last_free link since.before since.calls (subst (λ (l : List wire.Call). is_given link l ≡ false) since.now (fresh grown.0 grown.1)) in
-            since_on start grown.0 all (wire.Connect place.to (Some link) ∷ []) grown.2 since (dialed way now since.calls held place link extents handle is wants since.is free short stands);
+            since_on start grown.0 all (wire.Connect place.to (Some link) ∷ []) grown.2 since (dialed way now since.calls held place link extents handle is wants only since.is free short stands);
       };
       lasts = lasts_adds a b (wire.Connect place.to (Some link)) adds;
       know = λ source destination both.

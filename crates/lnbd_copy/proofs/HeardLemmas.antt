@@ -24,7 +24,7 @@ or_later_then : (one two three : Option ℕ) → or_later (or_later one two) thr
 or_later_then None two three = refl
 or_later_then (Some link) two three = refl
 
-or_later_none : (one : Option ℕ) → or_later one None ≡ one
+pub or_later_none : (one : Option ℕ) → or_later one None ≡ one
 or_later_none None = refl
 or_later_none (Some link) = refl
 

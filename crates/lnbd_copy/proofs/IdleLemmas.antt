@@ -15,7 +15,7 @@ use Rattle.lnbd_copy.proofs.TurnLemmas.{since_on}
 pub idly_none : (told : Option (List wire.Call)) → GoesIdly told told
 idly_none told = record { on = λ all is. record { before = all; more = []; was = is; are = sym (append-nil all); quiet = λ link. refl; none = λ link. refl } }
 
-idly_adds : (a b : Option (List wire.Call)) (call : wire.Call) → ((link : ℕ) → calls_on link (call ∷ []) ≡ []) → ((link : ℕ) → is_given link (call ∷ []) ≡ false) → Adds a b call → GoesIdly a b
+pub idly_adds : (a b : Option (List wire.Call)) (call : wire.Call) → ((link : ℕ) → calls_on link (call ∷ []) ≡ []) → ((link : ℕ) → is_given link (call ∷ []) ≡ false) → Adds a b call → GoesIdly a b
 idly_adds a b call quiet none adds = record { on = λ all is. (let grown = adds all is in record { before = grown.0; more = call ∷ []; was = grown.1; are = grown.2; quiet = quiet; none = none }) }
 
 pub idly_shut : (a b : Option (List wire.Call)) (link : ℕ) → Adds a b (wire.Shut link) → GoesIdly a b

@@ -41,6 +41,7 @@ use Rattle.lnbd_copy.specs.Windows as windows
 use Rattle.lnbd_copy.proofs.AnswerLemmas.{range_may_be_read}
 use Rattle.lnbd_copy.proofs.EndLemmas.{planned_once}
 use Rattle.lnbd_copy.proofs.BegunLemmas.{event_first}
+use Rattle.lnbd_copy.proofs.DrivenLemmas.{drive_event}
 use Rattle.lnbd_copy.proofs.HeardLemmas.{hears_on}
 use Rattle.lnbd_copy.proofs.SparedLemmas.{spared_none}
 use Rattle.lnbd_copy.proofs.WindowLemmas.{or_first, or_second}
@@ -108,6 +109,7 @@ heard_on way now calls held mapped short may on = record {
     begun = on.hears.begun;
   };
   bound = on.bound;
+  drives = on.drives;
 }
 
 -- no slice more was begun
@@ -161,6 +163,7 @@ asked_on way now now' calls held held' offset size none is asked on =
       hears = hears_on false way.extents way.from way.to way.heard now.error now'.error (λ none. sym (ap (λ (b : board.Seen). b.error) is) ∙ none) calls on.seens (with_event 0 (Issue command) on.seens) (event_first 0 (Issue command) on.seens) on.hears;
       bound = asks_bound way on.has now calls on.seens on.stands now' on.begun (λ none. sym (ap (λ (b : board.Seen). b.error) is) ∙ none) on.bound true 0 0 command refl refl
           (binds_none true 0 ticket.Extents now now' extents_differ (ap (λ (b : board.Seen). b.rows) is));
+      drives = drive_event way.extents way.from way.to on.has calls 0 (Issue command) on.seens refl on.drives;
     }
 
 -- Slices go on.

@@ -14,6 +14,8 @@ pub mod FiledLemmas
 pub mod BegunLemmas
 pub mod FirstLemmas
 pub mod HeardLemmas
+pub mod DrivenLemmas
+pub mod DrivenTurns
 pub mod ReachLemmas
 pub mod AnswerLemmas
 pub mod TurnLemmas
@@ -34,6 +36,7 @@ pub mod AgreeLemmas
 pub mod GroundLemmas
 pub mod AlikeLemmas
 pub mod FailLemmas
+pub mod DrivingLemmas
 pub mod UntouchedLemmas
 pub mod FaultLemmas
 pub mod UnaskedLemmas

@@ -29,6 +29,7 @@ use Rattle.lnbd_copy.proofs.LastLemmas.{lasts_adds, lasts_none, lasts_then}
 use Rattle.lnbd_copy.proofs.HeldLemmas.{held_event}
 use Rattle.lnbd_copy.proofs.BindingLemmas.{bound_event}
 use Rattle.lnbd_copy.proofs.BegunLemmas.{event_first}
+use Rattle.lnbd_copy.proofs.DrivenLemmas.{drive_event, drive_without}
 use Rattle.lnbd_copy.proofs.HeardLemmas.{hears_on, hears_parting}
 use Rattle.lnbd_copy.proofs.StepLemmas.{others_stand, taking_stands, unasked_moves_stand}
 use Rattle.lnbd_copy.proofs.TurnLemmas.{SameLinks, called, links_stay, none_some, placed_same, some_same, told_on}
@@ -96,6 +97,7 @@ parts how sides now index held handle handle' adds is = record {
         all = held_event calls index Disconnect on.seens on.all;
         hears = hears_on false way.extents way.from way.to way.heard now.error now.error (λ well. well) calls on.seens after (event_first index Disconnect on.seens) on.hears;
         bound = bound_event way.sides now index Disconnect on.seens refl on.bound;
+        drives = drive_event way.extents way.from way.to on.has calls index Disconnect on.seens refl on.drives;
       });
 }
 
@@ -114,6 +116,7 @@ stays how sides now index held handle handle' same is = record {
     all = on.all;
     hears = on.hears;
     bound = on.bound;
+    drives = on.drives;
   });
 }
 
@@ -198,6 +201,7 @@ hung_up way now now' calls held index taken is unasked filed unanswered none on 
       all = tt;
       hears = hears_parting true way.extents way.from way.to way.heard now.error now'.error filed.error calls on.seens left on.hears;
       bound = tt;
+      drives = drive_without way.extents way.from way.to on.has calls on.seens index one.seen one.there one.stands.lawful on.stands.between.course.drive on.stands.between.placed.address on.drives;
     }
 
 -- A handle is taken out and closed, and its link is shut.
@@ -226,4 +230,4 @@ leaves_then now now2 now3 held held2 held3 a b c one two = record {
 
 -- A copy on its way may leave.
 pub on_leaving : (way : Way) (now : board.Seen) (calls : List wire.Call) (held : List (Held Ticket)) → IsOn way now calls held → IsLeaving way now calls held
-on_leaving way now calls held on = record { has = on.has; seens = on.seens; at = on.at; sided = tt; begun = on.begun; stands = on.stands; rest = on.rest; all = tt; hears = hears_parting false way.extents way.from way.to way.heard now.error now.error (λ well. well) calls on.seens on.seens on.hears; bound = tt }
+on_leaving way now calls held on = record { has = on.has; seens = on.seens; at = on.at; sided = tt; begun = on.begun; stands = on.stands; rest = on.rest; all = tt; hears = hears_parting false way.extents way.from way.to way.heard now.error now.error (λ well. well) calls on.seens on.seens on.hears; bound = tt; drives = on.drives }

@@ -48,4 +48,5 @@ at_rest way was now calls held on rest = record {
   all = on.all;
   hears = on.hears;
   bound = on.bound;
+  drives = on.drives;
 }

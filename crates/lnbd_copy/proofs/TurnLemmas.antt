@@ -24,6 +24,7 @@ use Rattle.lnbd_poll.specs.Turns.{All_took, Ending, Goes_on, Runs_short, Stops, 
 use Rattle.lnbd_poll.specs.Turns as turns
 use Rattle.lnbd_drives.specs.Driving.{with_event}
 use Rattle.lnbd_drives.proofs.Exports.{turns_give_none}
+use Rattle.lnbd_drives.proofs.Turning.{turns_pass_others}
 use Rattle.lnbd_plan.specs.declared.grid.Slice.{Slice}
 use Rattle.lnbd_board.specs.declared.how.How.{How}
 use Rattle.lnbd_board.specs.declared.ticket.Ticket.{Ticket}
@@ -40,6 +41,9 @@ use Rattle.lnbd_copy.proofs.HeldLemmas.{held_on}
 use Rattle.lnbd_copy.specs.Begun.{BeganAs}
 use Rattle.lnbd_copy.proofs.BegunLemmas.{FirstGoes, first_stays, went_event, went_same, went_then, writes_went}
 use Rattle.lnbd_copy.proofs.FirstLemmas.{AllGo, adds_none, all_stay, gives_none, gives_then, goes_knowing}
+use Rattle.lnbd_copy.specs.Driven.{beginning_on}
+use Rattle.lnbd_copy.proofs.DrivenLemmas.{drive_later}
+use Rattle.lnbd_copy.proofs.DrivenTurns.{brought_apart, brought_on, turns_brought}
 use Rattle.lnbd_copy.proofs.HeardLemmas.{hears_later, no_more_given}
 use Rattle.lnbd_copy.proofs.BindingLemmas.{Was, turn_stays_bound}
 use Rattle.lnbd_copy.proofs.StepLemmas.{calls_stand, turns_stand}
@@ -206,6 +210,7 @@ turned : (parting : Bool) (way : Way) (now now' : board.Seen) (calls part : List
     → (on : IsUnderWay parting way now calls held) → Turns steps on.seens now part after now' (Whole moved) → AreAt held' after → IsUnderWay parting way now' (calls ++ part) held'
 turned parting way now now' calls part held held' after moved on turns at =
     let led = turns_led on.seens now part after now' (Whole moved) turns in
+    let brought = turns_brought on.seens now part after now' (Whole moved) turns in
     record {
       has = on.has;
       seens = after;
@@ -218,6 +223,8 @@ turned parting way now now' calls part held held' after moved on turns at =
       hears = hears_later parting way.extents way.from way.to way.heard now.error now'.error led.filed.error calls on.seens after led.first on.hears part (turned_first on.seens after now now' part (Whole moved) turns);
       bound = turn_stays_bound parting way.sides now now' part on.seens after (Whole moved) on.stands.between.course.histories turns on.stands.between.course.drive.own on.stands.between.course.held
           (λ index here is. was on.seens after index here led.links is) led.filed.error on.bound;
+      drives = drive_later way.extents way.from way.to on.has calls part on.seens after (λ link. turns_give_none steps link part on.seens after now now' (Whole moved) turns) (λ link. brought_apart link on.seens after brought)
+          (λ link apart. turns_pass_others steps link part on.seens after now now' (Whole moved) apart turns) (brought_on (beginning_on way.extents way.from way.to on.has calls) on.seens after brought) on.drives;
     }
 
 -- The calls since the start go on.
@@ -276,6 +283,7 @@ called parting way now calls more held none given on = record {
   all = held_on parting calls more on.seens on.seens (λ link apart. apart) given on.all;
   hears = hears_later parting way.extents way.from way.to way.heard now.error now.error (λ well. well) calls on.seens on.seens (first_stays on.seens) on.hears more (no_more_given more on.seens given);
   bound = on.bound;
+  drives = drive_later way.extents way.from way.to on.has calls more on.seens on.seens given (λ link apart. apart) (λ link apart. none link) (λ went. went) on.drives;
 }
 
 -- Where the transcript is told, what a call leads from leads on.

@@ -26,6 +26,7 @@ use Rattle.lnbd_copy.specs.Way.{AreBound, AreSided, IsOn, Keeps, Stands, Way, co
 use Rattle.lnbd_copy.proofs.HeldLemmas.{held_event}
 use Rattle.lnbd_copy.proofs.BindingLemmas.{Binds, SameBindings, asks_bound, rows_bound}
 use Rattle.lnbd_copy.proofs.BegunLemmas.{event_first, first_stays}
+use Rattle.lnbd_copy.proofs.DrivenLemmas.{drive_event}
 use Rattle.lnbd_copy.proofs.HeardLemmas.{hears_on}
 use Rattle.lnbd_copy.proofs.StepLemmas.{board_moves_stand, destination_asks_stand, source_asks_stand}
 
@@ -62,6 +63,7 @@ asked_on way calls more now now' held held' index command on begun was stands ea
   all = held_event calls index (Issue (without_buffer command)) on.seens on.all;
   hears = hears_on false way.extents way.from way.to way.heard now.error now'.error earlier calls on.seens (with_event index (Issue (without_buffer command)) on.seens) (event_first index (Issue (without_buffer command)) on.seens) on.hears;
   bound = bound;
+  drives = drive_event way.extents way.from way.to on.has calls index (Issue (without_buffer command)) on.seens refl on.drives;
 }
 
 -- The board went on, and nothing was asked.
@@ -78,6 +80,7 @@ moved_on way calls now now' held on begun stands earlier bound = record {
   all = on.all;
   hears = hears_on false way.extents way.from way.to way.heard now.error now'.error earlier calls on.seens on.seens (first_stays on.seens) on.hears;
   bound = bound;
+  drives = on.drives;
 }
 
 -- as far as with no slices more

@@ -8,6 +8,7 @@ pub mod DrivenBy
 pub mod Giving
 pub mod Firsts
 pub mod Statuses
+pub mod Driven
 pub mod Bound
 pub mod Way
 pub mod Links
@@ -29,6 +30,7 @@ pub mod Settled
 pub mod Connects
 pub mod Faults
 pub mod Copier
+pub mod Driving
 pub mod Summed
 pub mod Ended
 pub mod Flushed

@@ -18,6 +18,7 @@ use Rattle.lnbd_course.specs.Told as course
 use Rattle.lnbd_course.specs.UnderWay.{AllHeld}
 use Rattle.lnbd_copy.specs.declared.sides.Sides.{Sides}
 use Rattle.lnbd_copy.specs.Bound.{on_destination, on_source}
+use Rattle.lnbd_copy.specs.Driven.{AllDriveOn}
 use Rattle.lnbd_copy.specs.Firsts.{KnowBoth}
 use Rattle.lnbd_copy.specs.Giving.{GivesNone}
 use Rattle.lnbd_copy.specs.Lasting.{Lasts}
@@ -120,6 +121,7 @@ pub record IsUnderWay (parting : Bool) (way : Way) (now : board.Seen) (calls : L
   pub all : AreHeld parting calls seens
   pub hears : Hears parting way.extents way.from way.to way.heard now.error calls seens
   pub bound : StayBound parting way.sides now seens
+  pub drives : AllDriveOn way.extents way.from way.to has calls seens
 
 -- So it is while each connection that was made is held,
 abbrev pub IsOn : Way → board.Seen → List wire.Call → List (Held Ticket) → Type 0

@@ -22,6 +22,8 @@ ghost use Rattle.lnbd_copy.specs.declared.copier.Progress.TheVariants as progres
 ghost use Rattle.lnbd_copy.specs.declared.counts.Counts.{Counts as Counted};
 ghost use Rattle.lnbd_copy.specs.Copier.{GoesFurther, HasJob, HasMet, HasNotBegun, HasTurned, IsDone, IsGoing, IsOnItsWay, IsParting, Seen};
 ghost use Rattle.lnbd_copy.specs.Ended.{EndsWell};
+ghost use Rattle.lnbd_copy.specs.Driven.{AreDrivenBy};
+ghost use Rattle.lnbd_copy.specs.Driving.{DrivesFurther, DrivesOn, DrivesOneMore};
 ghost use Rattle.lnbd_copy.specs.Faults.{AreUnissued, AsksNone, AsksNothing, Behaves, GoesIdly, SparesSoFar, StaysFresh, StaysUnasked, UntouchedSoFar};
 ghost use Rattle.lnbd_copy.specs.Flushed.{HasFlushed};
 ghost use Rattle.lnbd_copy.specs.Grounds.{AllSame, FailsOn, IsGrounded, Lasts, needs_no_ground};
@@ -143,6 +145,8 @@ impl Copier {
 
         // Nothing is asked in it, whatever it comes to.
         ensures unasked { Told (W.told wires.old) (W.told wires.new) (AsksNothing self.old.from self.old.to) }
+        // One handle drove each link that it made, as a copy does, and it read and wrote no other.
+        ensures drives { Told (W.told wires.old) (W.told wires.new) (AreDrivenBy self.old.options.extents self.old.from self.old.to) }
 
         // Its links are kept, and it connected to its two places alone, as often as its options and what both sides told say, and each
         // connect gave a link; or not that often where it failed.
@@ -193,6 +197,7 @@ impl Copier {
         ensures counts { GoesOn (W.faults wires.old) (W.faults wires.new) (W.idles wires.old) (W.idles wires.new) (W.contents wires.old) (W.contents wires.new) }
         ensures links { LinksGoWithin self.old.options self.old.from self.old.to self.old.held (W.told wires.old) self.new.held (W.told wires.new) }
         ensures connects { OnOk result (LinksGoAsTold self.old.options self.old.from self.old.to self.old.held (W.told wires.old) self.new.held (W.told wires.new)) }
+        ensures drives { Told (W.told wires.old) (W.told wires.new) (AreDrivenBy self.old.options.extents self.old.from self.old.to) }
     {
         let terms = self.meet(wires)?;
         self.dial_further(wires, terms.sides)?;
@@ -224,6 +229,7 @@ impl Copier {
         ensures links { LinksGoTo (self.old.from.to ∷ self.old.to.to ∷ []) self.old.held (W.told wires.old) self.new.held (W.told wires.new) }
         ensures connects { OnOk result (LinksGo (self.old.from.to ∷ self.old.to.to ∷ []) self.old.held (W.told wires.old) self.new.held (W.told wires.new)) }
         ensures connected { OnOk result (StaysConnected (W.told wires.old) (W.told wires.new)) }
+        ensures drives { Told (W.told wires.old) (W.told wires.new) (AreDrivenBy self.old.options.extents self.old.from self.old.to) }
     {
         let extents = self.options.extents;
         self.dial_source(wires, extents)?;
@@ -266,6 +272,7 @@ impl Copier {
         ensures links { LinksGoTo (self.old.from.to ∷ []) self.old.held (W.told wires.old) self.new.held (W.told wires.new) }
         ensures connects { OnOk result (LinksGo (self.old.from.to ∷ []) self.old.held (W.told wires.old) self.new.held (W.told wires.new)) }
         ensures connected { OnOk result (StaysConnected (W.told wires.old) (W.told wires.new)) }
+        ensures drives { DrivesOneMore self.old.from extents self.old.board self.old.held (W.told wires.old) (W.told wires.new) }
     {
         dial(
             self.alloc,
@@ -293,6 +300,7 @@ impl Copier {
         ensures links { LinksGoTo (self.old.to.to ∷ []) self.old.held (W.told wires.old) self.new.held (W.told wires.new) }
         ensures connects { OnOk result (LinksGo (self.old.to.to ∷ []) self.old.held (W.told wires.old) self.new.held (W.told wires.new)) }
         ensures connected { OnOk result (StaysConnected (W.told wires.old) (W.told wires.new)) }
+        ensures drives { DrivesOneMore self.old.to false self.old.board self.old.held (W.told wires.old) (W.told wires.new) }
     {
         dial(
             self.alloc,
@@ -321,6 +329,7 @@ impl Copier {
         ensures fails { IfErr result (λ told. FailsOn false self.old.board self.old.held (W.told wires.old) (W.told wires.new) told) }
         ensures counts { GoesOn (W.faults wires.old) (W.faults wires.new) (W.idles wires.old) (W.idles wires.new) (W.contents wires.old) (W.contents wires.new) }
         ensures links { Stand self.old.held → LinksGo [] self.old.held (W.told wires.old) self.new.held (W.told wires.new) }
+        ensures drives { DrivesOn self.old.board self.old.held (W.told wires.old) (W.told wires.new) }
     {
         settle(&mut self.handles, &mut self.board, wires, self.start)
     }
@@ -344,6 +353,7 @@ impl Copier {
         ensures links { Stand self.old.held → LinksGoTo (replicate (sides.source - 1) self.old.from.to ++ replicate (sides.destination - 1) self.old.to.to) self.old.held (W.told wires.old) self.new.held (W.told wires.new) }
         ensures connects { OnOk result (Stand self.old.held → LinksGo (replicate (sides.source - 1) self.old.from.to ++ replicate (sides.destination - 1) self.old.to.to) self.old.held (W.told wires.old) self.new.held (W.told wires.new)) }
         ensures connected { OnOk result (Stand self.old.held → StaysConnected (W.told wires.old) (W.told wires.new)) }
+        ensures drives { (start : Option (List Call)) (terms : Settled) → HasMet self.old start (W.told wires.old) terms → sides ≡ terms.sides → length self.old.held ≡ 2 → Told start (W.told wires.new) (AreDrivenBy self.old.options.extents self.old.from self.old.to) }
     {
         self.dial_sources(wires, sides)?;
         self.dial_destinations(wires, sides)?;
@@ -366,6 +376,7 @@ impl Copier {
         ensures links { LinksGoTo (replicate (sides.source - 1) self.old.from.to) self.old.held (W.told wires.old) self.new.held (W.told wires.new) }
         ensures connects { OnOk result (LinksGo (replicate (sides.source - 1) self.old.from.to) self.old.held (W.told wires.old) self.new.held (W.told wires.new)) }
         ensures connected { OnOk result (StaysConnected (W.told wires.old) (W.told wires.new)) }
+        ensures drives { DrivesFurther self.old sides 2 (W.told wires.old) (W.told wires.new) }
     {
         'further: for connection in 1..sides.source {
             self.dial_source(wires, false)?;
@@ -387,6 +398,7 @@ impl Copier {
         ensures links { LinksGoTo (replicate (sides.destination - 1) self.old.to.to) self.old.held (W.told wires.old) self.new.held (W.told wires.new) }
         ensures connects { OnOk result (LinksGo (replicate (sides.destination - 1) self.old.to.to) self.old.held (W.told wires.old) self.new.held (W.told wires.new)) }
         ensures connected { OnOk result (StaysConnected (W.told wires.old) (W.told wires.new)) }
+        ensures drives { DrivesFurther self.old sides (sides.source + 1) (W.told wires.old) (W.told wires.new) }
     {
         'further: for connection in 1..sides.destination {
             self.dial_destination(wires)?;
@@ -442,6 +454,8 @@ impl Copier {
 
         // Its links are kept, whether it goes on or not.
         ensures links { LinksGo [] self.old.held (W.told wires.old) self.new.held (W.told wires.new) }
+        // Whatever it comes to, one handle drove each link that the copy made so far, as a copy does, and it read and wrote no other.
+        ensures drives { (start : Option (List Call)) → IsOnItsWay start (W.told wires.old) self.old → Told start (W.told wires.new) (AreDrivenBy self.old.options.extents self.old.from self.old.to) }
         // Whatever it comes to, nothing was asked twice in it, and each READ was answered for before.
         ensures fair { (start : Option (List Call)) → IsOnItsWay start (W.told wires.old) self.old → self.old.from ≢ self.old.to → Told start (W.told wires.old) (Behaves self.old.options self.old.from self.old.to) → Told start (W.told wires.new) (Behaves self.old.options self.old.from self.old.to) }
 
@@ -485,6 +499,7 @@ impl Copier {
         ensures counts { GoesOn (W.faults wires.old) (W.faults wires.new) (W.idles wires.old) (W.idles wires.new) (W.contents wires.old) (W.contents wires.new) }
         ensures links { LinksGo [] self.old.held (W.told wires.old) self.new.held (W.told wires.new) }
         ensures well { IfOk result (λ told. EndsWell self.old.start (W.faults wires.new) (W.idles wires.new) told) }
+        ensures drives { (start : Option (List Call)) → IsOnItsWay start (W.told wires.old) self.old → Told start (W.told wires.new) (AreDrivenBy self.old.options.extents self.old.from self.old.to) }
     {
         let moved = self.take_turn(wires)?;
         let acted = self.act()?;
@@ -512,6 +527,7 @@ impl Copier {
         ensures grounds { IfErr result (λ told. (start : Option (List Call)) → IsOnItsWay start (W.told wires.old) self.old → IsGrounded start (W.told wires.new) self.old.from self.old.to told) }
         ensures counts { GoesOn (W.faults wires.old) (W.faults wires.new) (W.idles wires.old) (W.idles wires.new) (W.contents wires.old) (W.contents wires.new) }
         ensures links { Stand self.old.held → LinksGo [] self.old.held (W.told wires.old) self.new.held (W.told wires.new) }
+        ensures drives { (start : Option (List Call)) → IsOnItsWay start (W.told wires.old) self.old → Told start (W.told wires.new) (AreDrivenBy self.old.options.extents self.old.from self.old.to) }
     {
         check_well(&self.board)?;
         let moved = self.handles.turn(wires, &mut self.board)?;
@@ -636,6 +652,10 @@ impl Copier {
 
         // One handle drove each link, if any did.
         ensures driven { OnOk result (GrewBy AreDriven (W.told wires.old) (W.told wires.new)) }
+        // Whatever came of it, each link that it made was driven by one handle, as a copy does: it asked for its side's export, on the first
+        // link for base:allocation too where extents are wanted, and then for nothing but commands that no rule refuses, and for the end;
+        // and no other link was read or written.
+        ensures drives { GrewBy (AreDrivenBy self.options.extents self.from self.to) (W.told wires.old) (W.told wires.new) }
 
         // Whatever came of it: each link that it read, wrote or shut was one that it had made and not shut, in the end it had shut
         // each, and it listened for no peer.
@@ -699,6 +719,7 @@ impl Copier {
         ensures links { LinksGoWithin self.old.options self.old.from self.old.to self.old.held (W.told wires.old) self.new.held (W.told wires.new) }
         ensures connects { OnOk result (LinksGoAsTold self.old.options self.old.from self.old.to self.old.held (W.told wires.old) self.new.held (W.told wires.new)) }
         ensures well { OnOk result (AreWell (record { faults = W.faults wires.old; idles = W.idles wires.old }) (W.faults wires.new) (W.idles wires.new)) }
+        ensures drives { Told (W.told wires.old) (W.told wires.new) (AreDrivenBy self.old.options.extents self.old.from self.old.to) }
     {
         self.begin(wires)?;
         'turns: for _ in 0..MAX_TURNS {

@@ -10,6 +10,7 @@ ghost use Rattle.lnbd_board.specs.Files.{Seen};
 ghost use Rattle.lnbd_copy.specs.Agreed.{AreQuiet};
 ghost use Rattle.lnbd_copy.specs.Causes.{GoesOn, HasCause, tells_no_count};
 ghost use Rattle.lnbd_copy.specs.Connected.{StaysConnected};
+ghost use Rattle.lnbd_copy.specs.Driving.{DrivesOn, DrivesOneMore};
 ghost use Rattle.lnbd_copy.specs.Faults.{AreUnissued, AsksNone, GoesIdly, StaysFresh, StaysUnasked};
 ghost use Rattle.lnbd_copy.specs.Grounds.{Blames, FailsOn, FindsDead, needs_no_ground};
 ghost use Rattle.lnbd_copy.specs.Links.{LinksGo, LinksGoTo};
@@ -93,6 +94,7 @@ pub(crate) fn dial<W: Wires>(
     ensures unasked { (from to : At) → (place.now ≡ from) ⊎ (place.now ≡ to) → StaysUnasked from to (W.told wires.old) (W.told wires.new) }
     ensures unissued { OnOk result (AreUnissued handles.old → AreUnissued handles.new) }
     ensures connected { OnOk result (StaysConnected (W.told wires.old) (W.told wires.new)) }
+    ensures drives { DrivesOneMore place.now extents board.old handles.old (W.told wires.old) (W.told wires.new) }
 {
     let handle = open(alloc, &place.name, extents, board)?;
     match wires.connect(&place.to) {
@@ -213,6 +215,7 @@ pub(crate) fn settle<W: Wires>(
     ensures asks { AsksNone board.old handles.old (W.told wires.old) (W.told wires.new) }
     ensures fresh { OnOk result (StaysFresh board.old handles.old (W.told wires.old) board.new handles.new (W.told wires.new)) }
     ensures wanted { Stand handles.old → Pauses WantsSome (W.told wires.old) (W.told wires.new) }
+    ensures drives { DrivesOn board.old handles.old (W.told wires.old) (W.told wires.new) }
 {
     'turns: for _ in 0..MAX_TURNS {
         if are_quiet(handles) {

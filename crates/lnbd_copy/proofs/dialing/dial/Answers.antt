@@ -5,6 +5,8 @@ use Rattle.lnbd_copy.proofs.LinkLemmas.{links_connected, links_end, links_refuse
 use Rattle.lnbd_copy.proofs.ConnectLemmas.{goes_all}
 use Rattle.lnbd_copy.proofs.UnaskedLemmas.{unasked_connects, unasked_idle, unasked_none, unasked_then, unissued_more}
 use Rattle.lnbd_copy.proofs.ConnectedLemmas.{connected_adds, connected_same, connected_then}
+use Rattle.lnbd_copy.proofs.DrivingLemmas.{one_dials, one_idly, one_none}
+use Rattle.lnbd_copy.proofs.IdleLemmas.{idly_adds}
 use Rattle.lnbd_copy.proofs.dialing.dial.Goals as goal
 
 pub returns-in_ok-hold-in-Ok-clause-dials : goal.returns-in_ok-hold-in-Ok-clause-dials
@@ -51,3 +53,19 @@ returns-in_err-hold-in-Ok-clause-unpaused g c = unpaused_then _ _ _ (unpaused_ad
 
 pub returns-in_ok-hold-in-Ok-clause-connected : goal.returns-in_ok-hold-in-Ok-clause-connected
 returns-in_ok-hold-in-Ok-clause-connected g c = connected_then _ _ _ (connected_adds _ _ _ _ c.in-Ok.ensures.told) (connected_same _ _ c.in_ok-hold-in-Ok.ensures.told)
+
+pub returns-in_ok-hold-in-Ok-clause-drives : goal.returns-in_ok-hold-in-Ok-clause-drives
+returns-in_ok-hold-in-Ok-clause-drives g c =
+    one_dials _ _ _ _ _ _ _ (returns-in_ok-hold-in-Ok-clause-dials g c)
+
+pub returns-in_err-hold-in-Ok-clause-drives : goal.returns-in_err-hold-in-Ok-clause-drives
+returns-in_err-hold-in-Ok-clause-drives g c =
+    one_idly _ _ _ _ _ _ _
+    (one_dials _ _ _ _ _ _ _ (dials _ _ _ c.args.place.now c.args.board.now _ _ c.in-Ok.link c.args.extents c.in_ok-handle.handle.machine c.in-Ok.ensures.told c.in-Ok.ensures.fresh refl c.in_ok-handle.ensures.short c.in_ok-handle.ensures.stands refl))
+    c.hold.ensures.idly
+
+pub returns-in-Err-clause-drives : goal.returns-in-Err-clause-drives
+returns-in-Err-clause-drives g c = one_idly _ _ _ _ _ _ _ (one_none _ _ _ _ _) (idly_adds _ _ _ (λ n. refl) (λ n. refl) c.in-Err.ensures.told)
+
+pub returns-in_err-handle-clause-drives : goal.returns-in_err-handle-clause-drives
+returns-in_err-handle-clause-drives g c = one_none _ _ _ _ _

@@ -8,6 +8,7 @@ use Rattle.lnbd_copy.proofs.TurnLemmas.{goes_on, turned_goes}
 use Rattle.lnbd_copy.proofs.LinkLemmas.{links_cut_short, links_then, links_turned}
 use Rattle.lnbd_copy.proofs.UnaskedLemmas.{fresh_asks_none, fresh_on, fresh_rests, none_idly, none_then, short_unasked, whole_fresh}
 use Rattle.lnbd_copy.proofs.VainLemmas.{turned_vain}
+use Rattle.lnbd_copy.proofs.DrivingLemmas.{drives_idly, drives_then, goes_drive, short_drives}
 use Rattle.lnbd_copy.proofs.dialing.settle.Goals as goal
 
 pub turns-preserved : goal.turns-preserved
@@ -101,3 +102,19 @@ pub returns-in_err-rest-clause-wanted : goal.returns-in_err-rest-clause-wanted
 returns-in_err-rest-clause-wanted g c stand =
     pauses_then _ _ _ (c.turns.invariant.wanted stand)
     (pauses_then _ _ _ (pauses_unpaused _ _ (turned_unpaused _ _ _ _ c.in_ok-told.told _ _ _ _ c.in_ok-told.ensures.ok (c.turns.invariant.goes.stand stand))) c.rest.ensures.wanted)
+
+pub returns-then-are_quiet-clause-drives : goal.returns-then-are_quiet-clause-drives
+returns-then-are_quiet-clause-drives g c = goes_drive _ _ _ _ _ _ c.turns.invariant.goes
+
+pub returns-in_err-told-clause-drives : goal.returns-in_err-told-clause-drives
+returns-in_err-told-clause-drives g c = drives_then _ _ _ _ _ _ _ c.turns.invariant.goes (short_drives _ _ _ _ _ _ _ _ c.in_err-told.ensures.short)
+
+pub returns-in_err-check-clause-drives : goal.returns-in_err-check-clause-drives
+returns-in_err-check-clause-drives g c = drives_then _ _ _ _ _ _ _ c.turns.invariant.goes (goes_drive _ _ _ _ _ _ (turned_goes _ _ _ _ c.in_ok-told.told _ _ _ _ c.in_ok-told.ensures.ok))
+
+pub returns-in_err-rest-clause-drives : goal.returns-in_err-rest-clause-drives
+returns-in_err-rest-clause-drives g c =
+    drives_idly _ _ _ _ _ (drives_then _ _ _ _ _ _ _ c.turns.invariant.goes (goes_drive _ _ _ _ _ _ (turned_goes _ _ _ _ c.in_ok-told.told _ _ _ _ c.in_ok-told.ensures.ok))) c.rest.ensures.idly
+
+pub returns-clause-drives : goal.returns-clause-drives
+returns-clause-drives g c = goes_drive _ _ _ _ _ _ c.turns.invariant.goes

@@ -3,11 +3,14 @@ use Rattle.lnbd_copy.specs.Copier.{Seen}
 use Rattle.lnbd_copy.proofs.GroundLemmas.{grounded_as, grounded_later, if_err_leads}
 use Rattle.lnbd_copy.proofs.PauseLemmas.{pauses_begin, pauses_then, pauses_unpaused}
 use Rattle.lnbd_copy.specs.Connects.{LinksGoWithin}
+use Rattle.lnbd_copy.specs.Driven.{AreDrivenBy}
 use Rattle.lnbd_copy.specs.Links.{LinksGo}
+use Rattle.lnbd_copy.specs.Way.{Told}
 use Rattle.lnbd_copy.proofs.ConnectLemmas.{within_end}
 use Rattle.lnbd_copy.proofs.UnaskedLemmas.{told_unasked, unasked_as}
 use Rattle.lnbd_copy.proofs.PausedLemmas.{early_opening, early_waits, opening_as, told_stays}
 use Rattle.lnbd_copy.proofs.VainLemmas.{vain_empty, vain_full}
+use Rattle.lnbd_copy.proofs.DrivingLemmas.{driven_idly}
 use Rattle.lnbd_copy.proofs.copier.Copier.begin.Goals as goal
 
 pub returns-then-is_err-clause-grounds : goal.returns-then-is_err-clause-grounds
@@ -55,3 +58,7 @@ returns-else-is_err-clause-wanted g c = pauses_begin _ _ c.connect-told.ensures.
 
 pub returns-then-is_err-clause-wanted : goal.returns-then-is_err-clause-wanted
 returns-then-is_err-clause-wanted g c = pauses_begin _ _ (pauses_then _ _ _ c.connect-told.ensures.wanted (pauses_unpaused _ _ c.shut_all.ensures.unpaused))
+
+pub returns-then-is_err-clause-drives : goal.returns-then-is_err-clause-drives
+returns-then-is_err-clause-drives g c =
+    driven_idly _ _ _ _ _ _ c.shut_all.ensures.idly (subst (λ (s : Seen). Told (g.W.Wires.told c.args.wires.now) (g.W.Wires.told c.connect-told.new.wires) (AreDrivenBy s.options.extents s.from s.to)) c.self.view_is c.connect-told.ensures.drives)

@@ -10,6 +10,7 @@ use Rattle.lnbd_copy.proofs.PausedLemmas.{early_back, early_kept}
 use Rattle.lnbd_copy.proofs.ConnectedLemmas.{connected_begins}
 use Rattle.lnbd_copy.proofs.ConnectLemmas.{told_end, told_met, within_first, within_met, within_told}
 use Rattle.lnbd_copy.proofs.UnaskedLemmas.{unasked_as}
+use Rattle.lnbd_copy.proofs.DrivingLemmas.{driven_met}
 use Rattle.lnbd_copy.proofs.copier.Copier.connect.Goals as goal
 
 pub returns-clause-begins : goal.returns-clause-begins
@@ -144,3 +145,18 @@ pub returns-clause-unasked : goal.returns-clause-unasked
 returns-clause-unasked g c =
     unasked_as _ _ _ _ _ _ (ap (λ (s : Seen). s.from) c.in_ok-terms.ensures.kept) (ap (λ (s : Seen). s.to) c.in_ok-terms.ensures.kept)
     (c.dial_further.ensures.unasked _ c.in_ok-terms.terms c.in_ok-terms.ensures.met refl c.in_ok-terms.ensures.unissued c.in_ok-terms.ensures.two)
+
+pub returns-in_err-dial_further-clause-drives : goal.returns-in_err-dial_further-clause-drives
+returns-in_err-dial_further-clause-drives g c = driven_met c.args.self.now c.meet.new.self _ _ c.in_ok-terms.ensures.kept (c.dial_further.ensures.drives (g.W.Wires.told c.args.wires.now) c.in_ok-terms.terms c.in_ok-terms.ensures.met refl c.in_ok-terms.ensures.two)
+
+pub returns-in_err-check_same-clause-drives : goal.returns-in_err-check_same-clause-drives
+returns-in_err-check_same-clause-drives g c = driven_met c.args.self.now c.meet.new.self _ _ c.in_ok-terms.ensures.kept (c.dial_further.ensures.drives (g.W.Wires.told c.args.wires.now) c.in_ok-terms.terms c.in_ok-terms.ensures.met refl c.in_ok-terms.ensures.two)
+
+pub returns-in_err-check_well-clause-drives : goal.returns-in_err-check_well-clause-drives
+returns-in_err-check_well-clause-drives g c = driven_met c.args.self.now c.meet.new.self _ _ c.in_ok-terms.ensures.kept (c.dial_further.ensures.drives (g.W.Wires.told c.args.wires.now) c.in_ok-terms.terms c.in_ok-terms.ensures.met refl c.in_ok-terms.ensures.two)
+
+pub returns-in_err-set_up-clause-drives : goal.returns-in_err-set_up-clause-drives
+returns-in_err-set_up-clause-drives g c = driven_met c.args.self.now c.meet.new.self _ _ c.in_ok-terms.ensures.kept (c.dial_further.ensures.drives (g.W.Wires.told c.args.wires.now) c.in_ok-terms.terms c.in_ok-terms.ensures.met refl c.in_ok-terms.ensures.two)
+
+pub returns-clause-drives : goal.returns-clause-drives
+returns-clause-drives g c = driven_met c.args.self.now c.meet.new.self _ _ c.in_ok-terms.ensures.kept (c.dial_further.ensures.drives (g.W.Wires.told c.args.wires.now) c.in_ok-terms.terms c.in_ok-terms.ensures.met refl c.in_ok-terms.ensures.two)

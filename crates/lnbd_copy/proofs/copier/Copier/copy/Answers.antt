@@ -17,6 +17,7 @@ use Rattle.lnbd_copy.proofs.LinkLemmas.{links_as, links_then}
 use Rattle.lnbd_copy.proofs.UnaskedLemmas.{told_behaves}
 use Rattle.lnbd_copy.proofs.VainLemmas.{pauses_empty, pauses_full}
 use Rattle.lnbd_copy.proofs.copier.Copier.copy.Goals.{in-Moved, in-Still+in_ok-rest-in-Still}
+use Rattle.lnbd_copy.proofs.DrivingLemmas.{driven_as, driven_idly, drives_none, way_driven}
 use Rattle.lnbd_copy.proofs.copier.Copier.copy.Goals as goal
 
 pub turns-preserved : goal.turns-preserved
@@ -183,3 +184,15 @@ returns-in_err-rest-in-Still-clause-wanted g c = c.rest.ensures.wanted.on (g.W.W
 
 pub returns-in-Finished-clause-well : goal.returns-in-Finished-clause-well
 returns-in-Finished-clause-well g c = ends_well _ _ _ _ c.in_ok-turn.field-0 _ c.turns.invariant.start c.in-Finished.is c.in_ok-turn.ensures.well
+
+pub returns-in_err-turn-clause-drives : goal.returns-in_err-turn-clause-drives
+returns-in_err-turn-clause-drives g c = driven_as c.args.self.now c.turns.self _ _ c.turns.invariant.kept (c.turn.ensures.drives (g.W.Wires.told c.args.wires.now) c.turns.invariant.on)
+
+pub returns-in-Finished-clause-drives : goal.returns-in-Finished-clause-drives
+returns-in-Finished-clause-drives g c = driven_as c.args.self.now c.turns.self _ _ c.turns.invariant.kept (c.turn.ensures.drives (g.W.Wires.told c.args.wires.now) c.turns.invariant.on)
+
+pub returns-in_err-rest-in-Still-clause-drives : goal.returns-in_err-rest-in-Still-clause-drives
+returns-in_err-rest-in-Still-clause-drives g c = driven_idly _ _ _ _ _ _ c.rest.ensures.idly (driven_as c.args.self.now c.turns.self _ _ c.turns.invariant.kept (c.turn.ensures.drives (g.W.Wires.told c.args.wires.now) c.turns.invariant.on))
+
+pub returns-clause-drives : goal.returns-clause-drives
+returns-clause-drives g c = driven_as c.args.self.now c.turns.self _ _ c.turns.invariant.kept (way_driven c.turns.self (g.W.Wires.told c.args.wires.now) _ _ (drives_none _ _ _) c.turns.invariant.on)

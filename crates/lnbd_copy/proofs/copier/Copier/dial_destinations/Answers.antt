@@ -1,4 +1,4 @@
-use Rattle.std.proofs.Common.{◌+◌, ap, false, length, arith}
+use Rattle.std.proofs.Common.{◌+◌, ap, length, arith}
 use Rattle.lnbd_copy.specs.Copier.{Seen}
 use Rattle.lnbd_copy.proofs.CauseLemmas.{goes_then}
 use Rattle.lnbd_copy.proofs.CopierLemmas.{destination_more, kept_then}
@@ -7,13 +7,14 @@ use Rattle.lnbd_copy.proofs.SideLemmas.{behind_source}
 use Rattle.lnbd_copy.proofs.ConnectLemmas.{all_made, goes_all, one_fails, one_more}
 use Rattle.lnbd_copy.proofs.UnaskedLemmas.{stays_kept, unasked_then}
 use Rattle.lnbd_copy.proofs.ConnectedLemmas.{connected_then}
+use Rattle.lnbd_copy.proofs.DrivingLemmas.{destination_further, further_drives}
 use Rattle.lnbd_copy.proofs.copier.Copier.dial_destinations.Goals as goal
 
 pub further-preserved : goal.further-preserved
 further-preserved g c = record {
   kept = kept_then c.args.self.now c.further.self c.dial_destination.new.self c.further.invariant.kept c.in_ok-dial_destination.ensures.kept;
   more = let many = c.in_ok-dial_destination.ensures.dials.many in let more = c.further.invariant.more in omega (arith, many, more);
-  further = destination_more c.args.self.now c.further.self c.dial_destination.new.self c.args.sides (c.args.sides.source + 1) _ _ _ c.further.invariant.kept c.in_ok-dial_destination.ensures.board c.further.invariant.further false c.in_ok-dial_destination.ensures.dials
+  further = destination_more c.args.self.now c.further.self c.dial_destination.new.self c.args.sides (c.args.sides.source + 1) _ _ _ c.further.invariant.kept c.in_ok-dial_destination.ensures.board c.further.invariant.further c.in_ok-dial_destination.ensures.dials
       (λ count none. let more = c.further.invariant.more in absurd (omega (arith, count, more, none)))
       (λ count. behind_source c.args.sides (length c.further.self.held) (let more = c.further.invariant.more in omega (arith, count, more)));
   some = omega arith;
@@ -43,3 +44,12 @@ returns-in_err-dial_destination-clause-unasked g c = unasked_then _ _ _ _ _ c.fu
 
 pub returns-in_err-dial_destination-clause-unpaused : goal.returns-in_err-dial_destination-clause-unpaused
 returns-in_err-dial_destination-clause-unpaused g c = unpaused_then _ _ _ c.further.invariant.unpaused c.dial_destination.ensures.unpaused
+
+pub returns-clause-drives : goal.returns-clause-drives
+returns-clause-drives g c = further_drives c.args.self.now c.args.sides (c.args.sides.source + 1) _ _ _ _ c.further.invariant.further
+
+pub returns-in_err-dial_destination-clause-drives : goal.returns-in_err-dial_destination-clause-drives
+returns-in_err-dial_destination-clause-drives g c =
+    destination_further c.args.self.now c.args.sides (c.args.sides.source + 1) c.further.self _ _ c.further.invariant.kept c.further.invariant.further _ c.dial_destination.ensures.drives
+    (λ count none. let more = c.further.invariant.more in absurd (omega (arith, count, more, none)))
+    (λ count. behind_source c.args.sides (length c.further.self.held) (let more = c.further.invariant.more in omega (arith, count, more)))

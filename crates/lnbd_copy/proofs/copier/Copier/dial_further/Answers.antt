@@ -9,6 +9,7 @@ use Rattle.lnbd_copy.proofs.ConnectLemmas.{both_made, goes_all, goes_wider, seco
 use Rattle.lnbd_copy.specs.Copier.{Seen}
 use Rattle.lnbd_copy.proofs.UnaskedLemmas.{further_unasked, met_unasked, stays_kept, unasked_then}
 use Rattle.lnbd_copy.proofs.ConnectedLemmas.{connected_links, connected_then}
+use Rattle.lnbd_copy.proofs.DrivingLemmas.{further_behind, further_driven, further_settled}
 use Rattle.lnbd_copy.proofs.copier.Copier.dial_further.Goals as goal
 
 pub returns-clause-further : goal.returns-clause-further
@@ -95,3 +96,18 @@ pub returns-clause-connected : goal.returns-clause-connected
 returns-clause-connected g c =
     always_on_ok c.settle.result (λ stand. connected_then _ _ _ (connected_then _ _ _ c.in_ok-dial_sources.ensures.connected c.in_ok-dial_destinations.ensures.connected)
     (connected_links _ _ _ _ (c.settle.ensures.links (c.in_ok-dial_destinations.ensures.further.stand (c.in_ok-dial_sources.ensures.further.stand stand)))))
+
+pub returns-in_err-dial_sources-clause-drives : goal.returns-in_err-dial_sources-clause-drives
+returns-in_err-dial_sources-clause-drives g c start terms met same two = further_driven c.args.self.now c.args.sides start _ _ c.dial_sources.ensures.drives terms met same two
+
+pub returns-in_err-dial_destinations-clause-drives : goal.returns-in_err-dial_destinations-clause-drives
+returns-in_err-dial_destinations-clause-drives g c start terms met same two =
+    further_driven c.args.self.now c.args.sides start _ _
+    (further_behind c.args.self.now c.args.sides 2 c.dial_sources.new.self _ _ c.in_ok-dial_sources.ensures.kept c.in_ok-dial_sources.ensures.further (c.args.sides.source + 1) _ c.dial_destinations.ensures.drives c.in_ok-dial_sources.ensures.many) terms met same two
+
+pub returns-clause-drives : goal.returns-clause-drives
+returns-clause-drives g c start terms met same two =
+    let one = c.in_ok-dial_sources.ensures.further in
+    let second = further_kept c.args.self.now c.dial_sources.new.self c.args.sides (c.args.sides.source + 1) _ _ _ _ _ _ c.in_ok-dial_sources.ensures.kept c.in_ok-dial_destinations.ensures.further in
+    let both = further_then c.args.self.now c.args.sides 2 (c.args.sides.source + 1) _ _ _ _ _ _ _ _ _ one second c.in_ok-dial_sources.ensures.many in
+    further_driven c.args.self.now c.args.sides start _ _ (further_settled c.args.self.now c.args.sides 2 _ _ _ _ _ both c.settle.ensures.drives) terms met same two

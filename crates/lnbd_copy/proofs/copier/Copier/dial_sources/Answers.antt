@@ -1,4 +1,4 @@
-use Rattle.std.proofs.Common.{◌+◌, ap, ◌∙◌, arith, false, ℕ}
+use Rattle.std.proofs.Common.{◌+◌, ap, ◌∙◌, arith, ℕ}
 use Rattle.lnbd_copy.specs.Way.{is_source}
 use Rattle.lnbd_copy.specs.Copier.{Seen}
 use Rattle.lnbd_copy.proofs.CauseLemmas.{goes_then}
@@ -8,6 +8,7 @@ use Rattle.lnbd_copy.proofs.SideLemmas.{further_source}
 use Rattle.lnbd_copy.proofs.ConnectLemmas.{all_made, goes_all, one_fails, one_more}
 use Rattle.lnbd_copy.proofs.UnaskedLemmas.{stays_kept, unasked_then}
 use Rattle.lnbd_copy.proofs.ConnectedLemmas.{connected_then}
+use Rattle.lnbd_copy.proofs.DrivingLemmas.{further_drives, source_further}
 use Rattle.lnbd_copy.proofs.copier.Copier.dial_sources.Goals as goal
 
 pub further-preserved : goal.further-preserved
@@ -15,7 +16,7 @@ further-preserved g c = record {
   kept = kept_then c.args.self.now c.further.self c.dial_source.new.self c.further.invariant.kept c.in_ok-dial_source.ensures.kept;
   many = λ two. c.in_ok-dial_source.ensures.dials.many ∙ ap (λ (n : ℕ). n + 1) (c.further.invariant.many two);
   some = omega arith;
-  further = source_more c.args.self.now c.further.self c.dial_source.new.self c.args.sides 2 _ _ _ c.further.invariant.kept c.in_ok-dial_source.ensures.board c.further.invariant.further false c.in_ok-dial_source.ensures.dials
+  further = source_more c.args.self.now c.further.self c.dial_source.new.self c.args.sides 2 _ _ _ c.further.invariant.kept c.in_ok-dial_source.ensures.board c.further.invariant.further c.in_ok-dial_source.ensures.dials
       (λ two none. let many = c.further.invariant.many two in absurd (omega (arith, many, none)))
       (λ two. ap (is_source c.args.sides) (c.further.invariant.many two) ∙ further_source c.args.sides c.further.connection c.further.invariant.some c.further-test.true);
   connects = one_more c.args.self.now.from.to c.further.self.from.to c.further.connection _ _ _ _ _ _ (ap (λ (s : Seen). s.from.to) c.further.invariant.kept) c.further.invariant.some c.further.invariant.connects c.in_ok-dial_source.ensures.connects;
@@ -44,3 +45,12 @@ returns-in_err-dial_source-clause-unasked g c = unasked_then _ _ _ _ _ c.further
 
 pub returns-in_err-dial_source-clause-unpaused : goal.returns-in_err-dial_source-clause-unpaused
 returns-in_err-dial_source-clause-unpaused g c = unpaused_then _ _ _ c.further.invariant.unpaused c.dial_source.ensures.unpaused
+
+pub returns-clause-drives : goal.returns-clause-drives
+returns-clause-drives g c = further_drives c.args.self.now c.args.sides 2 _ _ _ _ c.further.invariant.further
+
+pub returns-in_err-dial_source-clause-drives : goal.returns-in_err-dial_source-clause-drives
+returns-in_err-dial_source-clause-drives g c =
+    source_further c.args.self.now c.args.sides 2 c.further.self _ _ c.further.invariant.kept c.further.invariant.further _ c.dial_source.ensures.drives
+    (λ two none. let many = c.further.invariant.many two in absurd (omega (arith, many, none)))
+    (λ two. ap (is_source c.args.sides) (c.further.invariant.many two) ∙ further_source c.args.sides c.further.connection c.further.invariant.some c.further-test.true)

@@ -17,6 +17,7 @@ use Rattle.lnbd_copy.proofs.SummedLemmas.{summed}
 use Rattle.lnbd_copy.proofs.UnansweredLemmas.{way_all_asked}
 use Rattle.lnbd_copy.proofs.LinkLemmas.{links_same, links_then}
 use Rattle.lnbd_copy.proofs.copier.Copier.go_on.Goals.{else-acted, then-acted}
+use Rattle.lnbd_copy.proofs.DrivingLemmas.{driven_idly}
 use Rattle.lnbd_copy.proofs.copier.Copier.go_on.Goals as goal
 
 pub returns-then-is_finished-clause-turns : goal.returns-then-is_finished-clause-turns
@@ -203,3 +204,12 @@ returns-in_err-check_counts-clause-links g c =
 
 pub returns-clause-well : goal.returns-clause-well
 returns-clause-well g c = c.progress_of.ensures.well c.args.self.now.start (g.W.Wires.faults c.part-parted.new.wires) (g.W.Wires.idles c.part-parted.new.wires)
+
+pub returns-then-is_finished-clause-drives : goal.returns-then-is_finished-clause-drives
+returns-then-is_finished-clause-drives g c start on = driven_idly _ _ _ start _ _ c.part-parted.ensures.idly (c.take_turn.ensures.drives start on)
+
+pub returns-clause-drives : goal.returns-clause-drives
+returns-clause-drives g c start on = driven_idly _ _ _ start _ _ c.part-parted.ensures.idly (c.take_turn.ensures.drives start on)
+
+pub returns-in_err-check_well-clause-drives : goal.returns-in_err-check_well-clause-drives
+returns-in_err-check_well-clause-drives g c start on = driven_idly _ _ _ start _ _ c.part-parted.ensures.idly (c.take_turn.ensures.drives start on)

@@ -15,6 +15,7 @@ use Rattle.lnbd_copy.proofs.TurnLemmas.{none_stand}
 use Rattle.lnbd_copy.proofs.PausedLemmas.{meet_unready, source_dialled, source_unready, told_stays}
 use Rattle.lnbd_copy.proofs.UnaskedLemmas.{both_unasked, both_unissued, source_unasked, stays_kept}
 use Rattle.lnbd_copy.proofs.ConnectedLemmas.{connected_links, connected_then}
+use Rattle.lnbd_copy.proofs.DrivingLemmas.{destination_dialed, destination_settled, one_as, source_dialed, source_settled}
 use Rattle.lnbd_copy.proofs.copier.Copier.meet.Goals as goal
 
 pub returns-clause-met : goal.returns-clause-met
@@ -230,3 +231,24 @@ returns-clause-connected g c =
     always_on_ok c.agree.result
     (connected_then _ _ _ (connected_then _ _ _ c.in_ok-dial_source.ensures.connected (connected_links _ _ _ _ (c.in_ok-settle.ensures.links first)))
     (connected_then _ _ _ c.in_ok-dial_destination.ensures.connected (connected_links _ _ _ _ (c.in_ok-settle-2.ensures.links second))))
+
+pub returns-in_err-dial_source-clause-drives : goal.returns-in_err-dial_source-clause-drives
+returns-in_err-dial_source-clause-drives g c = source_dialed c.args.self.now _ _ (one_as c.args.self.now.options _ _ _ _ _ _ (ap (λ (s : Seen). s.options.extents) c.self.view_is) c.dial_source.ensures.drives) c.requires.begun
+
+pub returns-in_err-settle-clause-drives : goal.returns-in_err-settle-clause-drives
+returns-in_err-settle-clause-drives g c = source_settled c.args.self.now c.dial_source.new.self _ _ c.in_ok-dial_source.ensures.board (dials_as c.args.self.now.options _ _ _ _ _ _ _ (ap (λ (s : Seen). s.options.extents) c.self.view_is) c.in_ok-dial_source.ensures.dials) c.requires.begun _ c.settle.ensures.drives
+
+pub returns-in_err-dial_destination-clause-drives : goal.returns-in_err-dial_destination-clause-drives
+returns-in_err-dial_destination-clause-drives g c =
+    destination_dialed c.args.self.now c.dial_source.new.self _ _ c.in_ok-dial_source.ensures.board (dials_as c.args.self.now.options _ _ _ _ _ _ _ (ap (λ (s : Seen). s.options.extents) c.self.view_is) c.in_ok-dial_source.ensures.dials) c.requires.begun
+    c.settle.new.self _ c.in_ok-dial_source.ensures.kept c.in_ok-settle.ensures.kept c.in_ok-settle.ensures.goes _ c.dial_destination.ensures.drives
+
+pub returns-in_err-settle-2-clause-drives : goal.returns-in_err-settle-2-clause-drives
+returns-in_err-settle-2-clause-drives g c =
+    destination_settled c.args.self.now c.dial_source.new.self _ _ c.in_ok-dial_source.ensures.board (dials_as c.args.self.now.options _ _ _ _ _ _ _ (ap (λ (s : Seen). s.options.extents) c.self.view_is) c.in_ok-dial_source.ensures.dials) c.requires.begun
+    c.settle.new.self _ c.in_ok-dial_source.ensures.kept c.in_ok-settle.ensures.kept c.in_ok-settle.ensures.goes c.dial_destination.new.self _ _ c.in_ok-dial_destination.ensures.board c.in_ok-dial_destination.ensures.dials c.settle-2.ensures.drives
+
+pub returns-clause-drives : goal.returns-clause-drives
+returns-clause-drives g c =
+    destination_settled c.args.self.now c.dial_source.new.self _ _ c.in_ok-dial_source.ensures.board (dials_as c.args.self.now.options _ _ _ _ _ _ _ (ap (λ (s : Seen). s.options.extents) c.self.view_is) c.in_ok-dial_source.ensures.dials) c.requires.begun
+    c.settle.new.self _ c.in_ok-dial_source.ensures.kept c.in_ok-settle.ensures.kept c.in_ok-settle.ensures.goes c.dial_destination.new.self _ _ c.in_ok-dial_destination.ensures.board c.in_ok-dial_destination.ensures.dials c.settle-2.ensures.drives

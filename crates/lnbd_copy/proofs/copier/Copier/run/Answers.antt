@@ -14,6 +14,7 @@ use Rattle.lnbd_copy.proofs.MadeLemmas.{is_made}
 use Rattle.lnbd_copy.proofs.ConductLemmas.{conducts}
 use Rattle.lnbd_copy.proofs.ConnectLemmas.{connects_as_told, connects_within, told_end, within_end}
 use Rattle.lnbd_copy.proofs.LinkLemmas.{links_kept}
+use Rattle.lnbd_copy.proofs.DrivingLemmas.{driven_idly}
 use Rattle.lnbd_copy.proofs.copier.Copier.run.Goals as goal
 
 pub returns-clause-copies : goal.returns-clause-copies
@@ -138,3 +139,6 @@ pub returns-clause-conducts : goal.returns-clause-conducts
 returns-clause-conducts g c =
     conducts c.args.self.options c.args.self.from c.args.self.to _ _ (returns-clause-links g c) (returns-clause-within g c) (λ two. told_part _ _ (behaves_idly _ _ _ _ _ _ c.end.ensures.idly (c.copy-told.ensures.fair two))) (returns-clause-pauses g c)
     (returns-clause-waits g c) (returns-clause-writes g c) (returns-clause-reads g c) (returns-clause-wanted g c)
+
+pub returns-clause-drives : goal.returns-clause-drives
+returns-clause-drives g c = told_part _ _ (driven_idly _ _ _ _ _ _ c.end.ensures.idly c.copy-told.ensures.drives)

@@ -14,6 +14,8 @@ use Rattle.lnbd_copy.proofs.LinkLemmas.{links_cut_short, links_turned}
 use Rattle.lnbd_copy.specs.Moving.{Stirs}
 use Rattle.lnbd_copy.proofs.MovingLemmas.{turned_same, turned_stirs}
 use Rattle.lnbd_copy.proofs.VainLemmas.{turned_vain}
+use Rattle.lnbd_copy.proofs.DrivingLemmas.{drives_none, goes_drive, short_drives, way_driven}
+use Rattle.lnbd_copy.specs.Driven.{AreDrivenBy}
 use Rattle.lnbd_copy.proofs.copier.Copier.take_turn.Goals as goal
 
 pub returns-clause-on : goal.returns-clause-on
@@ -102,3 +104,26 @@ pub returns-clause-moved : goal.returns-clause-moved
 returns-clause-moved g c count moves stand =
     subst (λ (s : Seen). Stirs s.held (g.W.Wires.told c.args.wires.now) (g.W.Wires.told c.turn.new.wires)) c.self.view_is
     (turned_stirs _ _ _ _ c.in_ok-moved.moved _ _ _ _ count c.in_ok-moved.ensures.ok moves (subst (λ (s : Seen). Stand s.held) (sym c.self.view_is) stand))
+
+pub returns-clause-drives : goal.returns-clause-drives
+returns-clause-drives g c start on =
+    subst (λ (s : Seen). Told start (g.W.Wires.told c.turn.new.wires) (AreDrivenBy s.options.extents s.from s.to)) c.self.view_is
+    (way_driven _ start _ _ (goes_drive _ _ _ _ _ _ (turned_goes _ _ _ _ c.in_ok-moved.moved _ _ _ _ c.in_ok-moved.ensures.ok)) (subst (λ (s : Seen). IsOnItsWay start (g.W.Wires.told c.args.wires.now) s) (sym c.self.view_is) on))
+
+pub returns-in_err-check-clause-drives : goal.returns-in_err-check-clause-drives
+returns-in_err-check-clause-drives g c start on =
+    subst (λ (s : Seen). Told start (g.W.Wires.told c.turn.new.wires) (AreDrivenBy s.options.extents s.from s.to)) c.self.view_is
+    (way_driven _ start _ _ (goes_drive _ _ _ _ _ _ (turned_goes _ _ _ _ c.in_ok-moved.moved _ _ _ _ c.in_ok-moved.ensures.ok)) (subst (λ (s : Seen). IsOnItsWay start (g.W.Wires.told c.args.wires.now) s) (sym c.self.view_is) on))
+
+pub returns-in_err-check_answers-clause-drives : goal.returns-in_err-check_answers-clause-drives
+returns-in_err-check_answers-clause-drives g c start on =
+    subst (λ (s : Seen). Told start (g.W.Wires.told c.turn.new.wires) (AreDrivenBy s.options.extents s.from s.to)) c.self.view_is
+    (way_driven _ start _ _ (goes_drive _ _ _ _ _ _ (turned_goes _ _ _ _ c.in_ok-moved.moved _ _ _ _ c.in_ok-moved.ensures.ok)) (subst (λ (s : Seen). IsOnItsWay start (g.W.Wires.told c.args.wires.now) s) (sym c.self.view_is) on))
+
+pub returns-in_err-moved-clause-drives : goal.returns-in_err-moved-clause-drives
+returns-in_err-moved-clause-drives g c start on =
+    subst (λ (s : Seen). Told start (g.W.Wires.told c.turn.new.wires) (AreDrivenBy s.options.extents s.from s.to)) c.self.view_is
+    (way_driven _ start _ _ (short_drives _ _ _ _ _ _ _ _ c.in_err-moved.ensures.short) (subst (λ (s : Seen). IsOnItsWay start (g.W.Wires.told c.args.wires.now) s) (sym c.self.view_is) on))
+
+pub returns-in_err-check_well-clause-drives : goal.returns-in_err-check_well-clause-drives
+returns-in_err-check_well-clause-drives g c start on = way_driven c.args.self.now start _ _ (drives_none _ _ _) on

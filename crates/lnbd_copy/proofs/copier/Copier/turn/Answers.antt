@@ -5,6 +5,7 @@ use Rattle.lnbd_copy.proofs.FaultLemmas.{behaves_idly}
 use Rattle.lnbd_copy.proofs.GroundLemmas.{grounded_later, if_err_leads}
 use Rattle.lnbd_copy.proofs.LinkLemmas.{links_then}
 use Rattle.lnbd_copy.proofs.PauseLemmas.{unpaused_then}
+use Rattle.lnbd_copy.proofs.DrivingLemmas.{driven_idly}
 use Rattle.lnbd_copy.proofs.copier.Copier.turn.Goals as goal
 
 pub returns-then-is_err-clause-grounds : goal.returns-then-is_err-clause-grounds
@@ -19,3 +20,6 @@ returns-then-is_err-clause-fair g c start on two fair = behaves_idly _ _ _ start
 
 pub returns-then-is_err-clause-unpaused : goal.returns-then-is_err-clause-unpaused
 returns-then-is_err-clause-unpaused g c = unpaused_then _ _ _ c.go_on-told.ensures.unpaused c.shut_all.ensures.unpaused
+
+pub returns-then-is_err-clause-drives : goal.returns-then-is_err-clause-drives
+returns-then-is_err-clause-drives g c start on = driven_idly _ _ _ start _ _ c.shut_all.ensures.idly (c.go_on-told.ensures.drives start on)

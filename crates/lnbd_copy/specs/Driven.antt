@@ -1,0 +1,88 @@
+-- How a copy drives its links, whatever it comes to.
+use Rattle.std.specs.Prelude.{◌≡◌, ℕ, Bool, true, false, ◌&&◌, List, [], ◌∷◌, ◌++◌, Some}
+use Rattle.lnbd_model.specs.declared.target.Place.{Place}
+use Rattle.lnbd_link.specs.Call.{Call}
+use Rattle.lnbd_link.specs.Numbers.{is_given, is_number}
+use Rattle.lnbd_link.specs.Traffic.{target_of}
+use Rattle.lnbd_handle.specs.Histories.{max_unretired}
+use Rattle.lnbd_history.specs.Events.{Event, History, Set, StrictMode, Start, Opt, Abort, Issue, Refuse, Disconnect, Wrote, Arrived, End, LinkFailed, Retire, ClearLog, Close}
+use Rattle.lnbd_history.specs.Laws.{Lawful}
+use Rattle.lnbd_asked.specs.Driven.{AllSpell, Drives}
+use Rattle.lnbd_poll.specs.Alone.{AreApart, calls_on}
+use Rattle.lnbd_poll.specs.Seen.{Seen}
+use Rattle.lnbd_board.specs.declared.ticket.Ticket.{Ticket}
+use Rattle.lnbd_course.specs.Between.{place_of}
+use Rattle.lnbd_copy.specs.Begun.{opened}
+use Rattle.lnbd_copy.specs.Statuses.{first_given}
+
+-- One handle.
+
+-- What comes on a handle of a copy once it was started: it is asked commands, and for the end of its connection, and there is what its link takes and brings. Nothing is
+-- set any more, strict mode neither, in which every rule holds at first.
+abbrev pub may_come : Event Ticket → Bool
+may_come (Set setting) = false
+may_come (StrictMode bits) = false
+may_come Start = false
+may_come (Opt option) = false
+may_come Abort = false
+may_come (Issue command) = true
+may_come (Refuse command why) = false
+may_come Disconnect = true
+may_come (Wrote n) = true
+may_come (Arrived bytes answers) = true
+may_come (End answers) = true
+may_come (LinkFailed answers) = true
+may_come (Retire cookie) = false
+may_come ClearLog = false
+may_come Close = false
+
+-- Nothing else came.
+abbrev pub AllMayCome : History Ticket → Type 0
+AllMayCome [] = Unit {0}
+AllMayCome (event ∷ before) = (may_come event ≡ true) × AllMayCome before
+
+-- A history began as another, and only that came since: the latest stands first.
+pub record WentOn (first history : History Ticket) : Type 0 where
+  pub since : History Ticket
+  pub are : history ≡ since ++ first
+  pub come : AllMayCome since
+
+-- One link.
+
+-- whether extents are asked for on this link: on the one that was made first, where they are wanted
+abbrev pub asks_extents_on : (link : ℕ) → (extents : Bool) → List Call → Bool
+asks_extents_on link extents calls = is_number link (first_given calls) && extents
+
+-- By these calls a handle drove this link, which is one to one of both places. It began by asking for that place's export, for extended headers and structured
+-- replies, and for base:allocation on the first link where extents are wanted, and then it went on so. No rule refused one of its commands, and each fits its
+-- request. Of what was read some may not have arrived.
+pub record WasDriven (extents : Bool) (from to : Place) (link : ℕ) (calls : List Call) : Type 0 where
+  pub source : Bool
+  pub address : target_of link calls ≡ Some (place_of from to source).to
+  pub history : History Ticket
+  pub unread : List ℕ
+  pub began : WentOn (opened (place_of from to source).name (asks_extents_on link extents calls)) history
+  pub lawful : Lawful max_unretired history
+  pub spelled : AllSpell history
+  pub drives : Drives link calls history unread
+
+-- Each link that these calls gave was driven so, and no other was read or written.
+pub record AreDrivenBy (extents : Bool) (from to : Place) (calls : List Call) : Type 0 where
+  pub each : (link : ℕ) → is_given link calls ≡ true → WasDriven extents from to link calls
+  pub none : (link : ℕ) → is_given link calls ≡ false → calls_on link calls ≡ []
+
+-- Between two turns.
+
+-- how the handle of a link begins, by its side
+abbrev pub beginning_on : (extents : Bool) → (from to : Place) → (has : ℕ → Bool) → List Call → (link : ℕ) → History Ticket
+beginning_on extents from to has calls link = opened (place_of from to (has link)).name (asks_extents_on link extents calls)
+
+-- Each handle that is held began so on its link, and went on so.
+abbrev pub AllWentOn : (first : ℕ → History Ticket) → List (Seen Ticket) → Type 0
+AllWentOn first [] = Unit {0}
+AllWentOn first (seen ∷ others) = WentOn (first seen.link) seen.history × AllWentOn first others
+
+-- So it is with each handle that is held, and each other link that was given was driven so by the handle that it had.
+pub record AllDriveOn (extents : Bool) (from to : Place) (has : ℕ → Bool) (calls : List Call) (seens : List (Seen Ticket)) : Type 0 where
+  pub went : AllWentOn (beginning_on extents from to has calls) seens
+  pub left : (link : ℕ) → AreApart link seens → is_given link calls ≡ true → WasDriven extents from to link calls
