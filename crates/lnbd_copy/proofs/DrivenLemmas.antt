@@ -22,7 +22,7 @@ use Rattle.lnbd_course.specs.Between.{place_of}
 use Rattle.lnbd_course.specs.Course.{with_link}
 use Rattle.lnbd_course.specs.UnderWay.{AllHeld}
 use Rattle.lnbd_copy.specs.Begun.{opened}
-use Rattle.lnbd_copy.specs.Driven.{AllDriveOn, AllWentOn, WasDriven, WentOn, asks_extents_on, beginning_on, may_come}
+use Rattle.lnbd_copy.specs.Driven.{AllDriveOn, AllWentOn, HasParted, WasDriven, WasLeft, WentOn, asks_extents_on, beginning_on, may_come}
 use Rattle.lnbd_copy.specs.Statuses.{first_given, first_held, or_later}
 use Rattle.lnbd_copy.proofs.HeardLemmas.{given_then, none_given, or_later_none}
 
@@ -87,7 +87,7 @@ went_there first (one ∷ others) (suc index) seen there went = went_there first
 pub asks_same : (link : ℕ) (extents : Bool) (calls more : List wire.Call) → first_given (calls ++ more) ≡ first_given calls → asks_extents_on link extents (calls ++ more) ≡ asks_extents_on link extents calls
 asks_same link extents calls more same = ap (λ (o : Option ℕ). is_number link o && extents) same
 
-first_same : (calls more : List wire.Call) → ((link : ℕ) → is_given link more ≡ false) → first_given (calls ++ more) ≡ first_given calls
+pub first_same : (calls more : List wire.Call) → ((link : ℕ) → is_given link more ≡ false) → first_given (calls ++ more) ≡ first_given calls
 first_same calls more none = given_then calls more ∙ ap (or_later (first_given calls)) (none_given more none) ∙ or_later_none (first_given calls)
 
 module _ (extents : Bool) (from to : Place) where
@@ -96,7 +96,7 @@ module _ (extents : Bool) (from to : Place) where
   began_same has calls more same link = ap (λ (b : Bool). opened (place_of from to (has link)).name b) (asks_same link extents calls more same)
 
   -- and so does how a link was driven that none of these calls reads or writes
-  pub driven_later : (link : ℕ) (calls more : List wire.Call) → calls_on link more ≡ [] → ((n : ℕ) → is_given n more ≡ false) → WasDriven extents from to link calls → WasDriven extents from to link (calls ++ more)
+  unfoldable pub driven_later : (link : ℕ) (calls more : List wire.Call) → calls_on link more ≡ [] → ((n : ℕ) → is_given n more ≡ false) → WasDriven extents from to link calls → WasDriven extents from to link (calls ++ more)
   driven_later link calls more quiet none d = record {
     source = d.source;
     address = target_stays link calls more (none link) ∙ d.address;
@@ -108,13 +108,17 @@ module _ (extents : Bool) (from to : Place) where
     drives = passes link calls d.history d.unread more d.drives quiet;
   }
 
+  left_later : (link : ℕ) (calls more : List wire.Call) → calls_on link more ≡ [] → ((n : ℕ) → is_given n more ≡ false) → WasLeft extents from to link calls → WasLeft extents from to link (calls ++ more)
+  unfolding driven_later
+  left_later link calls more quiet none l = record { driven = driven_later link calls more quiet none l.driven; parted = l.parted; arrived = l.arrived }
+
   module _ (has : ℕ → Bool) where
     -- the handles stay, or go on as the links say still
     pub drive_later : (calls more : List wire.Call) (seens seens' : List (Seen Ticket)) → ((n : ℕ) → is_given n more ≡ false) → ((link : ℕ) → AreApart link seens' → AreApart link seens) → ((link : ℕ) → AreApart link seens → calls_on link more ≡ []) →
         (AllWentOn (beginning_on extents from to has calls) seens → AllWentOn (beginning_on extents from to has calls) seens') → AllDriveOn extents from to has calls seens → AllDriveOn extents from to has (calls ++ more) seens'
     drive_later calls more seens seens' none apart quiet goes d = record {
       went = went_same (beginning_on extents from to has calls) (beginning_on extents from to has (calls ++ more)) seens' (began_same has calls more (first_same calls more none)) (goes d.went);
-      left = λ link other given. driven_later link calls more (quiet link (apart link other)) none (d.left link (apart link other) (sym (given_stays link calls more (none link)) ∙ given));
+      left = λ link other given. left_later link calls more (quiet link (apart link other)) none (d.left link (apart link other) (sym (given_stays link calls more (none link)) ∙ given));
     }
 
     event_apart : (link index : ℕ) (event : Event Ticket) (seens : List (Seen Ticket)) → AreApart link (with_event index event seens) → AreApart link seens
@@ -130,7 +134,7 @@ module _ (extents : Bool) (from to : Place) where
     }
 
     -- One of the handles drives its link.
-    pub one_drove : (calls : List wire.Call) (seens : List (Seen Ticket)) (index : ℕ) (seen : Seen Ticket) → slice_get seens index ≡ Some seen → Lawful max_unretired seen.history → AllSpell seen.history → Drives seen.link calls seen.history seen.unread →
+    unfoldable pub one_drove : (calls : List wire.Call) (seens : List (Seen Ticket)) (index : ℕ) (seen : Seen Ticket) → slice_get seens index ≡ Some seen → Lawful max_unretired seen.history → AllSpell seen.history → Drives seen.link calls seen.history seen.unread →
         target_of seen.link calls ≡ Some (place_of from to (has seen.link)).to → AllWentOn (beginning_on extents from to has calls) seens → WasDriven extents from to seen.link calls
     one_drove calls seens index seen there lawful spelled drives address went = record {
       source = has seen.link;
@@ -143,20 +147,26 @@ module _ (extents : Bool) (from to : Place) where
       drives = drives;
     }
 
-    -- It is taken out.
-    pub drive_without : (calls : List wire.Call) (seens : List (Seen Ticket)) (index : ℕ) (seen : Seen Ticket) → slice_get seens index ≡ Some seen → Lawful max_unretired seen.history → DriveOwnLinks calls seens →
+    -- One that had parted leaves it so,
+    one_left : (calls : List wire.Call) (seens : List (Seen Ticket)) (index : ℕ) (seen : Seen Ticket) → slice_get seens index ≡ Some seen → Lawful max_unretired seen.history → AllSpell seen.history → Drives seen.link calls seen.history seen.unread →
+        target_of seen.link calls ≡ Some (place_of from to (has seen.link)).to → AllWentOn (beginning_on extents from to has calls) seens → HasParted seen.history → seen.unread ≡ [] → WasLeft extents from to seen.link calls
+    unfolding one_drove
+    one_left calls seens index seen there lawful spelled drives address went parted arrived = record { driven = one_drove calls seens index seen there lawful spelled drives address went; parted = parted; arrived = arrived }
+
+    -- and is taken out.
+    pub drive_without : (calls : List wire.Call) (seens : List (Seen Ticket)) (index : ℕ) (seen : Seen Ticket) → slice_get seens index ≡ Some seen → Lawful max_unretired seen.history → HasParted seen.history → DriveOwnLinks calls seens →
         ((link : ℕ) → is_given link calls ≡ true → target_of link calls ≡ Some (place_of from to (has link)).to) → AllDriveOn extents from to has calls seens → AllDriveOn extents from to has calls (take index seens ++ drop (index + 1) seens)
-    drive_without calls seens index seen there lawful own address d = record {
+    drive_without calls seens index seen there lawful parted own address d = record {
       went = went_joined (beginning_on extents from to has calls) (take index seens) (drop (index + 1) seens)
           (went_taken (beginning_on extents from to has calls) index seens d.went) (went_dropped (beginning_on extents from to has calls) (index + 1) seens d.went);
       left = λ link apart given. go link apart given (cases_eq link seen.link);
     }
       where
-        go : (link : ℕ) → AreApart link (take index seens ++ drop (index + 1) seens) → is_given link calls ≡ true → (link ≡ seen.link) ⊎ (link ≡ seen.link → ⊥) → WasDriven extents from to link calls
+        go : (link : ℕ) → AreApart link (take index seens ++ drop (index + 1) seens) → is_given link calls ≡ true → (link ≡ seen.link) ⊎ (link ≡ seen.link → ⊥) → WasLeft extents from to link calls
         go link apart given (inl same) =
             let one = one_of calls seens index seen there own.drive own.plain in
-            subst (λ (n : ℕ). WasDriven extents from to n calls) (sym same)
-            (one_drove calls seens index seen there lawful one.plain.spelled one.drives (address seen.link (subst (λ (n : ℕ). is_given n calls ≡ true) same given)) d.went)
+            subst (λ (n : ℕ). WasLeft extents from to n calls) (sym same)
+            (one_left calls seens index seen there lawful one.plain.spelled one.drives (address seen.link (subst (λ (n : ℕ). is_given n calls ≡ true) same given)) d.went parted one.plain.arrived)
         go link apart given (inr differ) = d.left link (apart_or link index seen seens there (subst (AreApart link) (sym (take_drop index seens)) apart) differ) given
 
 -- One handle more, on a link that was just made.

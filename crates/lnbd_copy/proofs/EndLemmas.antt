@@ -7,6 +7,7 @@ use Rattle.lnbd_asked.specs.Transcript.{dealt_with}
 use Rattle.lnbd_handle.specs.Histories.{max_unretired}
 use Rattle.lnbd_link.specs.Call as wire
 use Rattle.lnbd_link.specs.Part.{Grows}
+use Rattle.lnbd_poll.specs.Alone.{AreApart}
 use Rattle.lnbd_poll.specs.Held.{Held, AreAt}
 use Rattle.lnbd_poll.specs.Seen as poll
 use Rattle.lnbd_plan.proofs.OnceLaws.{all_planned_once}
@@ -44,6 +45,7 @@ use Rattle.lnbd_copy.specs.Copier.{HasJob, HasTurned, IsDone, IsOnItsWay, Seen}
 use Rattle.lnbd_copy.specs.declared.copier.Progress.{Progress}
 use Rattle.lnbd_copy.specs.declared.copier.Progress.TheVariants.{Finished, Moved, Still}
 use Rattle.lnbd_copy.specs.Dealt.{HasDealt, Spreads}
+use Rattle.lnbd_copy.specs.Driven.{AreLeft}
 use Rattle.lnbd_copy.specs.Job as job
 use Rattle.lnbd_copy.specs.Leaving.{Leaves}
 use Rattle.lnbd_copy.specs.Limit.{IsLimited}
@@ -333,6 +335,10 @@ way_all_done j way now calls is over parts has s well two =
     answered true wanted flushing = is.flushed (is_past j.phase parts) wanted
     answered false unwanted flushing = absurd (false≢true (sym (is.unwanted unwanted) ∙ flushing))
 
+-- Each link was left as a copy does.
+all_left : (way : Way) (now : board.Seen) (calls : List wire.Call) → IsLeaving way now calls [] → AreLeft way.extents way.from way.to calls
+all_left way now calls on = record { each = λ link given. on.drives.left link (subst (AreApart link) (sym (none_left on.seens on.at)) tt) given }
+
 pub finished : (copy : Seen) (start told : Option (List wire.Call)) (j : job.Seen) → copy.job ≡ Some j → job.is_parting j.phase ≡ true → copy.held ≡ [] → copy.board.error ≡ None → IsOnItsWay start told copy → IsDone start told copy
 finished copy start told j there parts none well on =
     let same : on.job ≡ j = some_same on.job j (sym on.there ∙ there) in
@@ -414,6 +420,13 @@ finished copy start told j there parts none well on =
           subst (λ (h : List (Held Ticket)). IsLeaving on.way copy.board calls h) none (subst (λ (p : Bool). IsUnderWay p on.way copy.board calls copy.held) parting is) in
           ended_are_driven on.way.from on.way.to on.way.size on.way.how leaving.has on.way.slices copy.board calls (stands_alone on.way copy.board calls leaving).between)
           on.on;
+      left = told_as start told
+          (λ calls is.
+          let leaving : IsLeaving on.way copy.board calls [] =
+          subst (λ (h : List (Held Ticket)). IsLeaving on.way copy.board calls h) none (subst (λ (p : Bool). IsUnderWay p on.way copy.board calls copy.held) parting is) in
+          subst (λ (e : Bool). AreLeft e copy.from copy.to calls) on.extents
+          (subst (λ (t : Place). AreLeft on.way.extents copy.from t calls) on.to (subst (λ (f : Place). AreLeft on.way.extents f on.way.to calls) on.from (all_left on.way copy.board calls leaving))))
+          on.on;
     }
   where
     copied_as : (way : Way) (copy : Seen) (calls : List wire.Call) → way.from ≡ copy.from → way.to ≡ copy.to → way.how.skip ≡ copy.options.destination_is_zero → Copied way.from way.to way.how.skip calls → Copied copy.from copy.to copy.options.destination_is_zero calls
@@ -464,6 +477,12 @@ pub done_flushed : (copy new : Seen) (a b c : Option (List wire.Call)) → new �
 done_flushed copy new a b c kept same two done =
     let so = subst (λ (s : Seen). IsDone a b s) kept done in
     subst (λ (t : Option (List wire.Call)). GrewBy (FlushesWanted copy.options copy.from copy.to) a t) (sym same) (told_part a b (so.flushed two))
+
+-- It left each of its links well.
+pub done_left : (copy new : Seen) (a b c : Option (List wire.Call)) → new ≡ record copy { start = new.start; held = new.held; board = new.board; job = new.job } → c ≡ b → IsDone a b new → GrewBy (AreLeft copy.options.extents copy.from copy.to) a c
+done_left copy new a b c kept same done =
+    let so = subst (λ (s : Seen). IsDone a b s) kept done in
+    subst (λ (t : Option (List wire.Call)). GrewBy (AreLeft copy.options.extents copy.from copy.to) a t) (sym same) (told_part a b so.left)
 
 -- One handle drove each of its links.
 pub done_driven : (new : Seen) (a b c : Option (List wire.Call)) → c ≡ b → IsDone a b new → GrewBy AreDriven a c

@@ -34,6 +34,7 @@ pub mod RestLemmas
 pub mod FlushLemmas
 pub mod AgreeLemmas
 pub mod GroundLemmas
+pub mod PartedLemmas
 pub mod AlikeLemmas
 pub mod FailLemmas
 pub mod DrivingLemmas

@@ -11,6 +11,7 @@ use Rattle.lnbd_course.specs.Driven.{AreDriven}
 use Rattle.lnbd_course.specs.Flushes.{FlushesLast, IsUnflushed}
 use Rattle.lnbd_copy.specs.Connected.{AllConnected}
 use Rattle.lnbd_copy.specs.Connects.{ConnectsAsTold}
+use Rattle.lnbd_copy.specs.Driven.{AreDrivenBy, AreLeft}
 use Rattle.lnbd_copy.specs.Links.{LinksAreKept}
 use Rattle.lnbd_copy.specs.Made.{IsMade}
 use Rattle.lnbd_copy.specs.Paused.{PausesAreFull}
@@ -29,9 +30,9 @@ pub is_made : {F : Type 0} (options : CopyOptions) (from to : Place) (a b : Opti
     → OnOk r (GrewBy AreDriven a b) → GrewBy (PausesAreFull options from to) a b → GrewBy (IsAlwaysShared options from to) a b → GrewBy (AtEachPause WantsOnlyFull) a b → GrewBy (AtEachPause WaitsWell) a b → GrewBy LinksAreKept a b → OnOk r (GrewBy (ConnectsAsTold options from to) a b)
     → GrewBy (AtEachPause WantsOnlyEmpty) a b
     → GrewBy (AtEachPause WantsSome) a b
-    → OnOk r (GrewBy AllConnected a b)
+    → OnOk r (GrewBy AllConnected a b) → GrewBy (AreDrivenBy options.extents from to) a b → OnOk r (GrewBy (AreLeft options.extents from to) a b)
     → IfOk r (λ summary. GrewBy (IsMade options from to summary) a b)
-is_made options from to a b (Ok summary) asks done sums spares dense answered flushes flushed unflushed driven pauses shares writes waits links connects reads wanted connected = λ all part is grown. record {
+is_made options from to a b (Ok summary) asks done sums spares dense answered flushes flushed unflushed driven pauses shares writes waits links connects reads wanted connected drives left = λ all part is grown. record {
   asks = asks all part is grown;
   done = done all part is grown;
   sums = sums all part is grown;
@@ -51,5 +52,7 @@ is_made options from to a b (Ok summary) asks done sums spares dense answered fl
   reads = reads all part is grown;
   wanted = wanted all part is grown;
   connected = connected all part is grown;
+  drives = drives all part is grown;
+  left = left all part is grown;
 }
-is_made options from to a b (Err fault) asks done sums spares dense answered flushes flushed unflushed driven pauses shares writes waits links connects reads wanted connected = tt
+is_made options from to a b (Err fault) asks done sums spares dense answered flushes flushed unflushed driven pauses shares writes waits links connects reads wanted connected drives left = tt

@@ -21,6 +21,8 @@ use Rattle.lnbd_board.specs.declared.ticket.Ticket.{Ticket}
 use Rattle.lnbd_board.specs.Files as board
 use Rattle.lnbd_board.specs.Rows as rows
 use Rattle.lnbd_copy.specs.declared.sides.Sides.{Sides}
+use Rattle.lnbd_copy.specs.Driven.{HasParted}
+use Rattle.lnbd_copy.specs.Grounds.{Happens}
 use Rattle.lnbd_copy.specs.Leaving.{Leaves}
 use Rattle.lnbd_copy.specs.Way.{Filed, IsLeaving, IsOn, Keeps, Stands, Way}
 use Rattle.lnbd_copy.proofs.FiledLemmas.{filed_none, filed_then}
@@ -185,10 +187,11 @@ filed_stands way has now now' calls seens unasked filed unanswered none stands =
       on = λ all kept. subst (λ (r : List (ℕ × Row)). rows.Stands way.how all r source destination) (sym same) kept;
     })
 
-hung_up : (way : Way) (now now' : board.Seen) (calls : List wire.Call) (held : List (Held Ticket)) (index : ℕ) (taken : ℕ × Machine Ticket) → option_map {U = ℕ × Machine Ticket} (λ held. (held.link, held.handle)) (slice_get held index) ≡ Some taken → way.asked ≡ None → Filed now now' → ForEach taken.1 (λ history. now'.flushed ≡ now.flushed) → now.rows ≡ []
+hung_up : (way : Way) (now now' : board.Seen) (calls : List wire.Call) (held : List (Held Ticket)) (index : ℕ) (taken : ℕ × Machine Ticket) → Happens HasParted index held → option_map {U = ℕ × Machine Ticket} (λ held. (held.link, held.handle)) (slice_get held index) ≡ Some taken → way.asked ≡ None → Filed now now' → ForEach taken.1 (λ history. now'.flushed ≡ now.flushed) → now.rows ≡ []
     → IsLeaving way now calls held → IsLeaving way now' calls (take index held ++ drop (index + 1) held)
-hung_up way now now' calls held index taken is unasked filed unanswered none on =
+hung_up way now now' calls held index taken parted is unasked filed unanswered none on =
     let one = stood index held on.seens taken is on.at in
+    let has = parted.on on.seens on.at in
     let left = take index on.seens ++ drop (index + 1) on.seens in
     record {
       has = on.has;
@@ -201,17 +204,17 @@ hung_up way now now' calls held index taken is unasked filed unanswered none on 
       all = tt;
       hears = hears_parting true way.extents way.from way.to way.heard now.error now'.error filed.error calls on.seens left on.hears;
       bound = tt;
-      drives = drive_without way.extents way.from way.to on.has calls on.seens index one.seen one.there one.stands.lawful on.stands.between.course.drive on.stands.between.placed.address on.drives;
+      drives = drive_without way.extents way.from way.to on.has calls on.seens index one.seen one.there one.stands.lawful (subst (λ (s : Seen Ticket). HasParted s.history) (some_same has.seen one.seen (sym has.there ∙ one.there)) has.is) on.stands.between.course.drive on.stands.between.placed.address on.drives;
     }
 
 -- A handle is taken out and closed, and its link is shut.
 pub leaves_one : (a b : Option (List wire.Call)) (now now' : board.Seen) (held held' : List (Held Ticket)) (index : ℕ) (one : ℕ × Machine Ticket) → option_map {U = ℕ × Machine Ticket} (λ held. (held.link, held.handle)) (slice_get held index) ≡ Some one
-    → held' ≡ take index held ++ drop (index + 1) held → Filed now now' → ForEach one.1 (λ history. now'.flushed ≡ now.flushed) → Adds a b (wire.Shut one.0) → Leaves now held a now' held' b
-leaves_one a b now now' held held' index one is held_is filed unanswered adds = subst (λ (l : List (Held Ticket)). Leaves now held a now' l b) (sym held_is) (record {
+    → held' ≡ take index held ++ drop (index + 1) held → Filed now now' → ForEach one.1 (λ history. now'.flushed ≡ now.flushed) → Adds a b (wire.Shut one.0) → Happens HasParted index held → Leaves now held a now' held' b
+leaves_one a b now now' held held' index one is held_is filed unanswered adds parted = subst (λ (l : List (Held Ticket)). Leaves now held a now' l b) (sym held_is) (record {
   stand = λ s. record { seens = take index s.seens ++ drop (index + 1) s.seens; at = without_at index held s.seens s.at };
   filed = filed;
   on = λ way start unasked none told. told_on start a b (wire.Shut one.0) adds
-      (λ calls on. called true way now' calls (wire.Shut one.0 ∷ []) (take index held ++ drop (index + 1) held) (λ n. refl) (λ n. refl) (hung_up way now now' calls held index one is unasked filed unanswered none on)) told;
+      (λ calls on. called true way now' calls (wire.Shut one.0 ∷ []) (take index held ++ drop (index + 1) held) (λ n. refl) (λ n. refl) (hung_up way now now' calls held index one parted is unasked filed unanswered none on)) told;
   lasts = lasts_adds a b (wire.Shut one.0) adds;
   gives = adds_none a b (wire.Shut one.0) (λ link. refl) adds;
 })

@@ -22,6 +22,7 @@ use Rattle.lnbd_copy.specs.declared.terms.Terms.{Terms}
 use Rattle.lnbd_copy.specs.Agreed.{IsWished}
 use Rattle.lnbd_copy.specs.Dealt.{HasDealt}
 use Rattle.lnbd_copy.specs.Job as work
+use Rattle.lnbd_copy.specs.Driven.{AreLeft}
 use Rattle.lnbd_copy.specs.Firsts.{KnowBoth}
 use Rattle.lnbd_copy.specs.Lasting.{Lasts}
 use Rattle.lnbd_copy.specs.Limit.{IsLimited}
@@ -118,7 +119,7 @@ pub record IsParting (copy : Seen) : Type 0 where
   pub there : copy.job ≡ Some job
   pub parts : work.is_parting job.phase ≡ true
 
--- It is finished: each connection has parted, and its calls copied, asked nothing twice, and all of it was done, block statuses and flushes too, if it was from one place to another. Where its options want no flush none was asked for, and where one is wanted that the destination can make, it is done. One handle drove each link.
+-- It is finished: each connection has parted, and its calls copied, asked nothing twice, and all of it was done, block statuses and flushes too, if it was from one place to another. Where its options want no flush none was asked for, and where one is wanted that the destination can make, it is done. One handle drove each link, and left it as a copy does.
 pub record IsDone (start told : Option (List wire.Call)) (copy : Seen) : Type 0 where
   pub parted : copy.held ≡ []
   pub asked : copy.from ≢ copy.to → Told start told (HasAskedOnce copy.options.allocated copy.from copy.to)
@@ -130,6 +131,7 @@ pub record IsDone (start told : Option (List wire.Call)) (copy : Seen) : Type 0 
   pub dense : copy.from ≢ copy.to → Told start told (SparesFound copy.options copy.from copy.to)
   pub answered : copy.from ≢ copy.to → Told start told (ReadsAreAnswered copy.options.extents copy.from)
   pub driven : Told start told AreDriven
+  pub left : Told start told (AreLeft copy.options.extents copy.from copy.to)
 
 -- After a turn it is on its way still, or it is finished.
 abbrev pub HasTurned : (start told : Option (List wire.Call)) → Seen → Progress → Type 0

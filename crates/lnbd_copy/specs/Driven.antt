@@ -1,10 +1,12 @@
 -- How a copy drives its links, whatever it comes to.
-use Rattle.std.specs.Prelude.{◌≡◌, ℕ, Bool, true, false, ◌&&◌, List, [], ◌∷◌, ◌++◌, Some}
+use Rattle.std.specs.Prelude.{◌≡◌, ◌≢◌, ◌⊎◌, ℕ, Bool, true, false, ◌&&◌, List, [], ◌∷◌, ◌++◌, Some}
+use Rattle.lnbd_model.specs.declared.state.State.TheVariants as state
 use Rattle.lnbd_model.specs.declared.target.Place.{Place}
 use Rattle.lnbd_link.specs.Call.{Call}
 use Rattle.lnbd_link.specs.Numbers.{is_given, is_number}
 use Rattle.lnbd_link.specs.Traffic.{target_of}
 use Rattle.lnbd_handle.specs.Histories.{max_unretired}
+use Rattle.lnbd_history.specs.Answers.{direction_after, state_after}
 use Rattle.lnbd_history.specs.Events.{Event, History, Set, StrictMode, Start, Opt, Abort, Issue, Refuse, Disconnect, Wrote, Arrived, End, LinkFailed, Retire, ClearLog, Close}
 use Rattle.lnbd_history.specs.Laws.{Lawful}
 use Rattle.lnbd_asked.specs.Driven.{AllSpell, Drives}
@@ -71,6 +73,22 @@ pub record AreDrivenBy (extents : Bool) (from to : Place) (calls : List Call) : 
   pub each : (link : ℕ) → is_given link calls ≡ true → WasDriven extents from to link calls
   pub none : (link : ℕ) → is_given link calls ≡ false → calls_on link calls ≡ []
 
+-- The end.
+
+-- A handle has parted: it was asked for the end of its connection, and has written that, or its peer ended it then.
+abbrev pub HasParted : History Ticket → Type 0
+HasParted history = (state_after history ≡ state.Closed) ⊎ ((state_after history ≡ state.Closing) × (direction_after history ≢ 3))
+
+-- A link was driven so, by a handle that had parted in the end, and to which all had come that was read.
+pub record WasLeft (extents : Bool) (from to : Place) (link : ℕ) (calls : List Call) : Type 0 where
+  pub driven : WasDriven extents from to link calls
+  pub parted : HasParted driven.history
+  pub arrived : driven.unread ≡ []
+
+-- So it is with each link that these calls gave.
+pub record AreLeft (extents : Bool) (from to : Place) (calls : List Call) : Type 0 where
+  pub each : (link : ℕ) → is_given link calls ≡ true → WasLeft extents from to link calls
+
 -- Between two turns.
 
 -- how the handle of a link begins, by its side
@@ -82,7 +100,7 @@ abbrev pub AllWentOn : (first : ℕ → History Ticket) → List (Seen Ticket) �
 AllWentOn first [] = Unit {0}
 AllWentOn first (seen ∷ others) = WentOn (first seen.link) seen.history × AllWentOn first others
 
--- So it is with each handle that is held, and each other link that was given was driven so by the handle that it had.
+-- So it is with each handle that is held, and each other link that was given was left so by the handle that it had.
 pub record AllDriveOn (extents : Bool) (from to : Place) (has : ℕ → Bool) (calls : List Call) (seens : List (Seen Ticket)) : Type 0 where
   pub went : AllWentOn (beginning_on extents from to has calls) seens
-  pub left : (link : ℕ) → AreApart link seens → is_given link calls ≡ true → WasDriven extents from to link calls
+  pub left : (link : ℕ) → AreApart link seens → is_given link calls ≡ true → WasLeft extents from to link calls

@@ -11,6 +11,7 @@ use Rattle.lnbd_course.specs.Driven.{AreDriven}
 use Rattle.lnbd_course.specs.Flushes.{FlushesLast, IsUnflushed}
 use Rattle.lnbd_copy.specs.Connected.{AllConnected}
 use Rattle.lnbd_copy.specs.Connects.{ConnectsAsTold}
+use Rattle.lnbd_copy.specs.Driven.{AreDrivenBy, AreLeft}
 use Rattle.lnbd_copy.specs.Links.{LinksAreKept}
 use Rattle.lnbd_copy.specs.Paused.{PausesAreFull}
 use Rattle.lnbd_copy.specs.Pauses.{AtEachPause, WantsOnlyFull}
@@ -53,3 +54,6 @@ pub record IsMade (options : CopyOptions) (from to : Place) (summary : Summary) 
   pub wanted : AtEachPause WantsSome calls
   -- each connect gave a link
   pub connected : AllConnected calls
+  -- each link that it made was driven as a copy does, and left well
+  pub drives : AreDrivenBy options.extents from to calls
+  pub left : AreLeft options.extents from to calls

@@ -21,8 +21,8 @@ ghost use Rattle.lnbd_copy.specs.Connects.{ConnectsAsTold, ConnectsWithin, Links
 ghost use Rattle.lnbd_copy.specs.declared.copier.Progress.TheVariants as progress;
 ghost use Rattle.lnbd_copy.specs.declared.counts.Counts.{Counts as Counted};
 ghost use Rattle.lnbd_copy.specs.Copier.{GoesFurther, HasJob, HasMet, HasNotBegun, HasTurned, IsDone, IsGoing, IsOnItsWay, IsParting, Seen};
+ghost use Rattle.lnbd_copy.specs.Driven.{AreDrivenBy, AreLeft};
 ghost use Rattle.lnbd_copy.specs.Ended.{EndsWell};
-ghost use Rattle.lnbd_copy.specs.Driven.{AreDrivenBy};
 ghost use Rattle.lnbd_copy.specs.Driving.{DrivesFurther, DrivesOn, DrivesOneMore};
 ghost use Rattle.lnbd_copy.specs.Faults.{AreUnissued, AsksNone, AsksNothing, Behaves, GoesIdly, SparesSoFar, StaysFresh, StaysUnasked, UntouchedSoFar};
 ghost use Rattle.lnbd_copy.specs.Flushed.{HasFlushed};
@@ -656,6 +656,8 @@ impl Copier {
         // link for base:allocation too where extents are wanted, and then for nothing but commands that no rule refuses, and for the end;
         // and no other link was read or written.
         ensures drives { GrewBy (AreDrivenBy self.options.extents self.from self.to) (W.told wires.old) (W.told wires.new) }
+        // On success each was left well: its handle had asked for the end, and that was written or the peer ended the connection then.
+        ensures left { OnOk result (GrewBy (AreLeft self.options.extents self.from self.to) (W.told wires.old) (W.told wires.new)) }
 
         // Whatever came of it: each link that it read, wrote or shut was one that it had made and not shut, in the end it had shut
         // each, and it listened for no peer.

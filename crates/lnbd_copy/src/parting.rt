@@ -1,12 +1,13 @@
 //! The end of a copy's connections: each is asked to end, and its link is shut once that is written or it has ended.
 
-ghost use Rattle.std.specs.Prelude.{◌≡◌, ◌≢◌, ◌<◌, ◌+◌, [], length};
+ghost use Rattle.std.specs.Prelude.{◌≡◌, ◌≢◌, ◌<◌, ◌+◌, [], length, true};
 ghost use Rattle.lnbd_board.specs.declared.how.How.{How};
 ghost use Rattle.lnbd_board.specs.Files.{Seen};
 ghost use Rattle.lnbd_copy.specs.declared.sides.Sides.{Sides};
 ghost use Rattle.lnbd_copy.specs.Causes.{GoesOn};
+ghost use Rattle.lnbd_copy.specs.Driven.{HasParted};
 ghost use Rattle.lnbd_copy.specs.Faults.{GoesIdly};
-ghost use Rattle.lnbd_copy.specs.Grounds.{Lasts};
+ghost use Rattle.lnbd_copy.specs.Grounds.{Happens, Lasts};
 ghost use Rattle.lnbd_copy.specs.Leaving.{Leaves};
 ghost use Rattle.lnbd_copy.specs.Moving.{Happens};
 ghost use Rattle.lnbd_copy.specs.Pauses.{Unpaused};
@@ -32,6 +33,7 @@ pub(crate) fn part(handles: &mut Handles<Ticket>)
 /// Whether a connection has written that it ends, or has ended.
 fn has_parted(handles: &Handles<Ticket>, index: usize) -> bool
     requires { index < length handles.now }
+    ensures { result ≡ true → Happens HasParted index handles.now }
 {
     let handle = handles.get(index);
     match handle.state() {
@@ -45,7 +47,7 @@ fn has_parted(handles: &Handles<Ticket>, index: usize) -> bool
 #[tactic(auto, using(crate::proofs::FiledLemmas::calls_filed, crate::proofs::PartLemmas::leaves_one, crate::proofs::LastLemmas::lasts_adds, crate::proofs::IdleLemmas::idly_shut, crate::proofs::PauseLemmas::unpaused_adds, crate::proofs::MovingLemmas::happens_shut))]
 fn hang_up<W: Wires>(handles: &mut Handles<Ticket>, board: &mut Board, wires: &mut W, index: usize)
     requires { index < length handles.old }
-    ensures leaves { Leaves board.old handles.old (W.told wires.old) board.new handles.new (W.told wires.new) }
+    ensures leaves { Happens HasParted index handles.old → Leaves board.old handles.old (W.told wires.old) board.new handles.new (W.told wires.new) }
     ensures counts { GoesOn (W.faults wires.old) (W.faults wires.new) (W.idles wires.old) (W.idles wires.new) (W.contents wires.old) (W.contents wires.new) }
     ensures fewer { length handles.new + 1 ≡ length handles.old }
     ensures happens { Happens (W.told wires.old) (W.told wires.new) }

@@ -1,6 +1,6 @@
 use Rattle.std.proofs.Common.{ap}
 use Rattle.std.proofs.lemmas.Result.{on_ok_weaker}
-use Rattle.lnbd_copy.proofs.EndLemmas.{done_asks, done_copies, done_dense, done_driven, done_flushed, done_spares, done_whole, told_part}
+use Rattle.lnbd_copy.proofs.EndLemmas.{done_asks, done_copies, done_dense, done_driven, done_flushed, done_left, done_spares, done_whole, told_part}
 use Rattle.lnbd_copy.specs.Causes.{patience}
 use Rattle.lnbd_copy.proofs.CauseLemmas.{goes_then}
 use Rattle.lnbd_copy.proofs.EndedLemmas.{on_ok_two, still_unrisen}
@@ -129,16 +129,22 @@ returns-clause-well g c = on_ok_two c.copy-told.result (λ done well. still_unri
 pub returns-clause-patient : goal.returns-clause-patient
 returns-clause-patient g c = on_ok_two c.copy-told.result (λ done well. still_unrisen patience _ _ _ (ap g.W.Wires.idles (c.end.ensures.parted done.parted)) well.idles) c.copy-told.ensures.done c.copy-told.ensures.well
 
+pub returns-clause-drives : goal.returns-clause-drives
+returns-clause-drives g c = told_part _ _ (driven_idly _ _ _ _ _ _ c.end.ensures.idly c.copy-told.ensures.drives)
+
+pub returns-clause-left : goal.returns-clause-left
+returns-clause-left g c =
+    on_ok_weaker c.copy-told.result
+    (λ done. done_left c.args.self c.copy-told.new.self _ _ _ c.copy-told.ensures.kept (ap g.W.Wires.told (c.end.ensures.parted done.parted)) done)
+    c.copy-told.ensures.done
+
 pub returns-clause-made : goal.returns-clause-made
 returns-clause-made g c two =
     is_made c.args.self.options c.args.self.from c.args.self.to _ _ c.copy-told.result (returns-clause-asks g c two) (returns-clause-done g c two) (returns-clause-summary g c two) (returns-clause-spares g c two) (returns-clause-dense g c two) (returns-clause-answered g c two)
     (returns-clause-flushes g c two) (returns-clause-flushed g c two) (λ unwanted. returns-clause-unflushed g c unwanted two) (returns-clause-driven g c) (returns-clause-pauses g c two) (returns-clause-shares g c two) (returns-clause-writes g c) (returns-clause-waits g c) (returns-clause-links g c) (returns-clause-connects g c) (returns-clause-reads g c)
-    (returns-clause-wanted g c) (returns-clause-connected g c)
+    (returns-clause-wanted g c) (returns-clause-connected g c) (returns-clause-drives g c) (returns-clause-left g c)
 
 pub returns-clause-conducts : goal.returns-clause-conducts
 returns-clause-conducts g c =
     conducts c.args.self.options c.args.self.from c.args.self.to _ _ (returns-clause-links g c) (returns-clause-within g c) (λ two. told_part _ _ (behaves_idly _ _ _ _ _ _ c.end.ensures.idly (c.copy-told.ensures.fair two))) (returns-clause-pauses g c)
     (returns-clause-waits g c) (returns-clause-writes g c) (returns-clause-reads g c) (returns-clause-wanted g c)
-
-pub returns-clause-drives : goal.returns-clause-drives
-returns-clause-drives g c = told_part _ _ (driven_idly _ _ _ _ _ _ c.end.ensures.idly c.copy-told.ensures.drives)
