@@ -58,7 +58,7 @@ nothing_is_on way now unsettled none unasked unknown empty new uncounted unreste
   all = λ link apart. refl;
   hears = record { answered = λ well two p h. absurd (false≢true (sym (unheard p) ∙ h)); first = refl; begun = tt };
   bound = bound_none way.sides now [] empty;
-  drives = record { went = tt; left = λ link apart given. absurd (false≢true given) };
+  drives = record { went = tt; left = λ link apart given. absurd (false≢true given); first = λ link is. absurd (none_some link is) };
 }
 
 -- Another board, of a copy that writes otherwise, takes the place of one that is empty, before any slice is begun.
@@ -200,7 +200,7 @@ dialed way now calls held place link extents handle there wants only on new shor
       all = held_more calls place.to link on.seens last refl on.all;
       hears = hears_dialed way.extents way.from way.to way.heard now.error calls on.seens place.to last (λ none. began_first none (at_count held on.seens on.at)) on.hears;
       bound = bound_more way.sides now on.seens last (opened_asks place.name extents) (last_or on.seens last) on.bound;
-      drives = drive_dialed way.extents way.from way.to on.has calls place.to link side on.seens place extents at_place (on.stands.told.course.unused link new).apart on.hears.first
+      drives = drive_dialed way.extents way.from way.to on.has calls place.to link side on.seens place extents at_place (λ none. ap (is_source way.sides) none) (on.stands.told.course.unused link new).apart on.hears.first
           (λ none. wants (at_count held on.seens on.at ∙ none)) (λ asks. sym (at_count held on.seens on.at) ∙ only asks) (held_more calls place.to link on.seens last refl on.all) on.drives;
     }
   where

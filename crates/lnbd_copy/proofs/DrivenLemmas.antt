@@ -106,6 +106,7 @@ module _ (extents : Bool) (from to : Place) where
     lawful = d.lawful;
     spelled = d.spelled;
     drives = passes link calls d.history d.unread more d.drives quiet;
+    first = λ is. d.first (sym (first_same calls more none) ∙ is);
   }
 
   left_later : (link : ℕ) (calls more : List wire.Call) → calls_on link more ≡ [] → ((n : ℕ) → is_given n more ≡ false) → WasLeft extents from to link calls → WasLeft extents from to link (calls ++ more)
@@ -119,6 +120,7 @@ module _ (extents : Bool) (from to : Place) where
     drive_later calls more seens seens' none apart quiet goes d = record {
       went = went_same (beginning_on extents from to has calls) (beginning_on extents from to has (calls ++ more)) seens' (began_same has calls more (first_same calls more none)) (goes d.went);
       left = λ link other given. left_later link calls more (quiet link (apart link other)) none (d.left link (apart link other) (sym (given_stays link calls more (none link)) ∙ given));
+      first = λ link is. d.first link (sym (first_same calls more none) ∙ is);
     }
 
     event_apart : (link index : ℕ) (event : Event Ticket) (seens : List (Seen Ticket)) → AreApart link (with_event index event seens) → AreApart link seens
@@ -131,12 +133,13 @@ module _ (extents : Bool) (from to : Place) where
     drive_event calls index event seens may d = record {
       went = went_event (beginning_on extents from to has calls) index event seens may d.went;
       left = λ link apart given. d.left link (event_apart link index event seens apart) given;
+      first = d.first;
     }
 
     -- One of the handles drives its link.
     unfoldable pub one_drove : (calls : List wire.Call) (seens : List (Seen Ticket)) (index : ℕ) (seen : Seen Ticket) → slice_get seens index ≡ Some seen → Lawful max_unretired seen.history → AllSpell seen.history → Drives seen.link calls seen.history seen.unread →
-        target_of seen.link calls ≡ Some (place_of from to (has seen.link)).to → AllWentOn (beginning_on extents from to has calls) seens → WasDriven extents from to seen.link calls
-    one_drove calls seens index seen there lawful spelled drives address went = record {
+        target_of seen.link calls ≡ Some (place_of from to (has seen.link)).to → AllWentOn (beginning_on extents from to has calls) seens → (first_given calls ≡ Some seen.link → has seen.link ≡ true) → WasDriven extents from to seen.link calls
+    one_drove calls seens index seen there lawful spelled drives address went first = record {
       source = has seen.link;
       address = address;
       history = seen.history;
@@ -145,13 +148,14 @@ module _ (extents : Bool) (from to : Place) where
       lawful = lawful;
       spelled = spelled;
       drives = drives;
+      first = first;
     }
 
     -- One that had parted leaves it so,
     one_left : (calls : List wire.Call) (seens : List (Seen Ticket)) (index : ℕ) (seen : Seen Ticket) → slice_get seens index ≡ Some seen → Lawful max_unretired seen.history → AllSpell seen.history → Drives seen.link calls seen.history seen.unread →
-        target_of seen.link calls ≡ Some (place_of from to (has seen.link)).to → AllWentOn (beginning_on extents from to has calls) seens → HasParted seen.history → seen.unread ≡ [] → WasLeft extents from to seen.link calls
+        target_of seen.link calls ≡ Some (place_of from to (has seen.link)).to → AllWentOn (beginning_on extents from to has calls) seens → (first_given calls ≡ Some seen.link → has seen.link ≡ true) → HasParted seen.history → seen.unread ≡ [] → WasLeft extents from to seen.link calls
     unfolding one_drove
-    one_left calls seens index seen there lawful spelled drives address went parted arrived = record { driven = one_drove calls seens index seen there lawful spelled drives address went; parted = parted; arrived = arrived }
+    one_left calls seens index seen there lawful spelled drives address went first parted arrived = record { driven = one_drove calls seens index seen there lawful spelled drives address went first; parted = parted; arrived = arrived }
 
     -- and is taken out.
     pub drive_without : (calls : List wire.Call) (seens : List (Seen Ticket)) (index : ℕ) (seen : Seen Ticket) → slice_get seens index ≡ Some seen → Lawful max_unretired seen.history → HasParted seen.history → DriveOwnLinks calls seens →
@@ -160,13 +164,14 @@ module _ (extents : Bool) (from to : Place) where
       went = went_joined (beginning_on extents from to has calls) (take index seens) (drop (index + 1) seens)
           (went_taken (beginning_on extents from to has calls) index seens d.went) (went_dropped (beginning_on extents from to has calls) (index + 1) seens d.went);
       left = λ link apart given. go link apart given (cases_eq link seen.link);
+      first = d.first;
     }
       where
         go : (link : ℕ) → AreApart link (take index seens ++ drop (index + 1) seens) → is_given link calls ≡ true → (link ≡ seen.link) ⊎ (link ≡ seen.link → ⊥) → WasLeft extents from to link calls
         go link apart given (inl same) =
             let one = one_of calls seens index seen there own.drive own.plain in
             subst (λ (n : ℕ). WasLeft extents from to n calls) (sym same)
-            (one_left calls seens index seen there lawful one.plain.spelled one.drives (address seen.link (subst (λ (n : ℕ). is_given n calls ≡ true) same given)) d.went parted one.plain.arrived)
+            (one_left calls seens index seen there lawful one.plain.spelled one.drives (address seen.link (subst (λ (n : ℕ). is_given n calls ≡ true) same given)) d.went (d.first seen.link) parted one.plain.arrived)
         go link apart given (inr differ) = d.left link (apart_or link index seen seens there (subst (AreApart link) (sym (take_drop index seens)) apart) differ) given
 
 -- One handle more, on a link that was just made.
@@ -180,6 +185,9 @@ link_there link other source has differ = ap (λ (b : Bool). if b then source el
 not_true : (b : Bool) → (b ≡ true → ⊥) → b ≡ false
 not_true true not = absurd (not refl)
 not_true false not = refl
+
+same_number : (one other : ℕ) → Some one ≡ Some other → one ≡ other
+same_number one other e = cc
 
 not_empty : (seen : Seen Ticket) (others : List (Seen Ticket)) → length (seen ∷ others) ≡ 0 → ⊥
 not_empty seen others e = cc
@@ -208,13 +216,23 @@ module _ (extents : Bool) (from to : Place) (has : ℕ → Bool) (calls : List w
       (λ n differ. ap (λ (b : Bool). opened (place_of from to (with_link link source has n)).name b) (asks_same n extents calls (wire.Connect at (Some link) ∷ []) (first_kept link calls seen at first))
       ∙ ap (λ (b : Bool). opened (place_of from to b).name (asks_extents_on n extents calls)) (link_there link n source has differ)) apart went
 
-  pub drive_dialed : (seens : List (Seen Ticket)) (place : Place) (asks : Bool) → place_of from to source ≡ place → AreApart link seens → first_given calls ≡ first_held seens → (length seens ≡ 0 → extents ≡ asks) → (asks ≡ true → length seens ≡ 0) →
+  -- the first one is the source's
+  first_side : (seens : List (Seen Ticket)) → AreApart link seens → first_given calls ≡ first_held seens → (length seens ≡ 0 → source ≡ true) → ((n : ℕ) → first_given calls ≡ Some n → has n ≡ true) → (n : ℕ) → first_given calls' ≡ Some n → with_link link source has n ≡ true
+  first_side [] apart first side had n is =
+      let here : Some link ≡ Some n = sym (given_then calls (wire.Connect at (Some link) ∷ []) ∙ ap (λ (o : Option ℕ). or_later o (Some link)) first) ∙ is in
+      subst (λ (m : ℕ). with_link link source has m ≡ true) (same_number link n here) (link_here link source has ∙ side refl)
+  first_side (seen ∷ others) apart first side had n is =
+      let was : first_given calls ≡ Some n = sym (first_kept link calls seen at first) ∙ is in
+      link_there link n source has (λ e. apart.0 (same_number seen.link n (sym first ∙ was) ∙ e)) ∙ had n was
+
+  pub drive_dialed : (seens : List (Seen Ticket)) (place : Place) (asks : Bool) → place_of from to source ≡ place → (length seens ≡ 0 → source ≡ true) → AreApart link seens → first_given calls ≡ first_held seens → (length seens ≡ 0 → extents ≡ asks) → (asks ≡ true → length seens ≡ 0) →
       AllHeld calls' (seens ++ record { link = link; history = opened place.name asks; unread = [] } ∷ []) → AllDriveOn extents from to has calls seens →
       AllDriveOn extents from to (with_link link source has) calls' (seens ++ record { link = link; history = opened place.name asks; unread = [] } ∷ [])
-  drive_dialed seens place asks is apart first wants only all d = record {
+  drive_dialed seens place asks is side apart first wants only all d = record {
     went = went_more (beginning_on extents from to (with_link link source has) calls') seens (record { link = link; history = opened place.name asks; unread = [] }) (others_went seens apart first d.went)
         (subst (λ (h : History Ticket). WentOn h (opened place.name asks)) (sym begins) (on_none (opened place.name asks)));
     left = λ n other given. absurd (false≢true (sym (all n other) ∙ given));
+    first = first_side seens apart first side d.first;
   }
     where
       begins : beginning_on extents from to (with_link link source has) calls' link ≡ opened place.name asks

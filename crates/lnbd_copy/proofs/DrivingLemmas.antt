@@ -77,7 +77,7 @@ all_driven extents from to has calls held seens at drive spelled address unused 
     | inl t ↦
         subst (λ (n : ℕ). WasDriven extents from to n calls) t.same
         (one_drove extents from to has calls seens t.index t.seen t.there (lawful_there held seens t.index t.seen at t.there) (spelled_there seens t.index t.seen t.there spelled) (drives_there calls seens t.index t.seen t.there drive)
-        (address t.seen.link (subst (λ (n : ℕ). is_given n calls ≡ true) (sym t.same) given)) d.went)
+        (address t.seen.link (subst (λ (n : ℕ). is_given n calls ≡ true) (sym t.same) given)) d.went (d.first t.seen.link))
     | inr apart ↦ (d.left link apart given).driven
   ];
   none = unused;

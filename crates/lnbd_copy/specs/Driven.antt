@@ -55,7 +55,7 @@ pub record WentOn (first history : History Ticket) : Type 0 where
 abbrev pub asks_extents_on : (link : ℕ) → (extents : Bool) → List Call → Bool
 asks_extents_on link extents calls = is_number link (first_given calls) && extents
 
--- By these calls a handle drove this link, which is one to one of both places. It began by asking for that place's export, for extended headers and structured
+-- By these calls a handle drove this link, which is one to one of both places, and to the source if it was made first. It began by asking for that place's export, for extended headers and structured
 -- replies, and for base:allocation on the first link where extents are wanted, and then it went on so. No rule refused one of its commands, and each fits its
 -- request. Of what was read some may not have arrived.
 pub record WasDriven (extents : Bool) (from to : Place) (link : ℕ) (calls : List Call) : Type 0 where
@@ -67,6 +67,7 @@ pub record WasDriven (extents : Bool) (from to : Place) (link : ℕ) (calls : Li
   pub lawful : Lawful max_unretired history
   pub spelled : AllSpell history
   pub drives : Drives link calls history unread
+  pub first : first_given calls ≡ Some link → source ≡ true
 
 -- Each link that these calls gave was driven so, and no other was read or written.
 pub record AreDrivenBy (extents : Bool) (from to : Place) (calls : List Call) : Type 0 where
@@ -100,7 +101,8 @@ abbrev pub AllWentOn : (first : ℕ → History Ticket) → List (Seen Ticket) �
 AllWentOn first [] = Unit {0}
 AllWentOn first (seen ∷ others) = WentOn (first seen.link) seen.history × AllWentOn first others
 
--- So it is with each handle that is held, and each other link that was given was left so by the handle that it had.
+-- So it is with each handle that is held, and each other link that was given was left so by the handle that it had. The link that was made first is the source's.
 pub record AllDriveOn (extents : Bool) (from to : Place) (has : ℕ → Bool) (calls : List Call) (seens : List (Seen Ticket)) : Type 0 where
   pub went : AllWentOn (beginning_on extents from to has calls) seens
   pub left : (link : ℕ) → AreApart link seens → is_given link calls ≡ true → WasLeft extents from to link calls
+  pub first : (link : ℕ) → first_given calls ≡ Some link → has link ≡ true
