@@ -6,6 +6,7 @@ use Rattle.lnbd_plan.specs.declared.options.CopyOptions.{CopyOptions}
 use Rattle.lnbd_course.specs.Asks.{GrewBy}
 use Rattle.lnbd_copy.specs.Conduct.{Conducts}
 use Rattle.lnbd_copy.specs.Connects.{ConnectsWithin}
+use Rattle.lnbd_copy.specs.Driven.{AreDrivenBy}
 use Rattle.lnbd_copy.specs.Faults.{Behaves}
 use Rattle.lnbd_copy.specs.Links.{LinksAreKept}
 use Rattle.lnbd_copy.specs.Paused.{PausesAreFull}
@@ -16,9 +17,9 @@ use Rattle.lnbd_copy.specs.Wanted.{WantsSome}
 
 pub conducts : (options : CopyOptions) (from to : Place) (a b : Option (List wire.Call)) → GrewBy LinksAreKept a b → GrewBy (ConnectsWithin options from to) a b
     → (from ≢ to → GrewBy (Behaves options from to) a b) → (from ≢ to → GrewBy (PausesAreFull options from to) a b)
-    → GrewBy (AtEachPause WaitsWell) a b → GrewBy (AtEachPause WantsOnlyFull) a b → GrewBy (AtEachPause WantsOnlyEmpty) a b → GrewBy (AtEachPause WantsSome) a b
+    → GrewBy (AtEachPause WaitsWell) a b → GrewBy (AtEachPause WantsOnlyFull) a b → GrewBy (AtEachPause WantsOnlyEmpty) a b → GrewBy (AtEachPause WantsSome) a b → GrewBy (AreDrivenBy options.extents from to) a b
     → GrewBy (Conducts options from to) a b
-conducts options from to a b links within behaves pauses waits writes reads wanted = λ all part is grown. record {
+conducts options from to a b links within behaves pauses waits writes reads wanted drives = λ all part is grown. record {
   links = links all part is grown;
   within = within all part is grown;
   behaves = λ two. behaves two all part is grown;
@@ -27,4 +28,5 @@ conducts options from to a b links within behaves pauses waits writes reads want
   writes = writes all part is grown;
   reads = reads all part is grown;
   wanted = wanted all part is grown;
+  drives = drives all part is grown;
 }

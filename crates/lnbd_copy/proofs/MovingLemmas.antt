@@ -30,7 +30,7 @@ use Rattle.lnbd_board.specs.Board.{AsksOn, EndsRow, IsNext, begun_with}
 use Rattle.lnbd_board.specs.Files as board
 use Rattle.lnbd_copy.specs.Copier as copier
 use Rattle.lnbd_copy.specs.Job as work
-use Rattle.lnbd_copy.specs.Moving.{AreTaken, Happens, HasMoved, Stirs, TurnsInVain}
+use Rattle.lnbd_copy.specs.Moving.{AreTaken, SomethingHappens, HasMoved, Stirs, TurnsInVain}
 use Rattle.lnbd_copy.specs.Pauses.{Unpaused}
 use Rattle.lnbd_copy.specs.UnderWay.{HasBegunOne}
 use Rattle.lnbd_copy.specs.Vain.{has_happened}
@@ -52,10 +52,10 @@ or_none false b none = (refl, none)
 none_of_both : (p : wire.Call → Bool) (calls own other : List wire.Call) → calls ≡ own ++ other → list_any p calls ≡ false → (list_any p own ≡ false) × (list_any p other ≡ false)
 none_of_both p calls own other are none = or_none _ _ (sym (list_any-append p own other) ∙ sym (ap (list_any p) are) ∙ none)
 
-pub happens_shut : (a b : Option (List wire.Call)) (link : ℕ) → Adds a b (Shut link) → Happens a b
+pub happens_shut : (a b : Option (List wire.Call)) (link : ℕ) → Adds a b (Shut link) → SomethingHappens a b
 happens_shut a b link adds = record { on = λ all is. let added = adds all is in record { before = added.0; more = Shut link ∷ []; was = added.1; now = added.2; are = refl } }
 
-pub happens_behind : (a b c : Option (List wire.Call)) → Unpaused a b → Happens b c → Happens a c
+pub happens_behind : (a b c : Option (List wire.Call)) → Unpaused a b → SomethingHappens b c → SomethingHappens a c
 happens_behind a b c one two = record {
   on = λ all is.
       let late = two.on all is in
@@ -230,7 +230,7 @@ moved_stirs copy copy' a b c stirs unpaused = record {
       };
 }
 
-pub moved_happens : (copy copy' : copier.Seen) (a b : Option (List wire.Call)) → Happens a b → HasMoved copy copy' a b
+pub moved_happens : (copy copy' : copier.Seen) (a b : Option (List wire.Call)) → SomethingHappens a b → HasMoved copy copy' a b
 moved_happens copy copy' a b happens = record {
   on = λ all is.
       let made = happens.on all is in

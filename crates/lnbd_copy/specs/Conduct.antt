@@ -4,6 +4,7 @@ use Rattle.lnbd_model.specs.declared.target.Place.{Place}
 use Rattle.lnbd_link.specs.Call as wire
 use Rattle.lnbd_plan.specs.declared.options.CopyOptions.{CopyOptions}
 use Rattle.lnbd_copy.specs.Connects.{ConnectsWithin}
+use Rattle.lnbd_copy.specs.Driven.{AreDrivenBy}
 use Rattle.lnbd_copy.specs.Faults.{Behaves}
 use Rattle.lnbd_copy.specs.Links.{LinksAreKept}
 use Rattle.lnbd_copy.specs.Paused.{PausesAreFull}
@@ -28,3 +29,5 @@ pub record Conducts (options : CopyOptions) (from to : Place) (calls : List wire
   pub reads : AtEachPause WantsOnlyEmpty calls
   -- and no pause waited for nothing
   pub wanted : AtEachPause WantsSome calls
+  -- each link that it made was driven as a copy does, and no other was read or written
+  pub drives : AreDrivenBy options.extents from to calls

@@ -26,7 +26,7 @@ pub record TurnsInVain (held : List (Held Ticket)) (told told' : Option (List wi
   pub on : (all : List wire.Call) → told' ≡ Some all → Made (λ more. (list_any has_happened more ≡ false) × AreTriedInVain more held) told all
 
 -- The transcript goes on, where it is told, and something happened on a link.
-pub record Happens (told told' : Option (List wire.Call)) : Type 0 where
+pub record SomethingHappens (told told' : Option (List wire.Call)) : Type 0 where
   pub on : (all : List wire.Call) → told' ≡ Some all → Made (λ more. list_any has_happened more ≡ true) told all
 
 -- All that was read of the links has arrived.

@@ -30,7 +30,7 @@ ghost use Rattle.lnbd_copy.specs.Grounds.{AllSame, FailsOn, IsGrounded, Lasts, n
 ghost use Rattle.lnbd_copy.specs.declared.terms.Terms.{Terms as Settled};
 ghost use Rattle.lnbd_copy.specs.Made.{IsMade};
 ghost use Rattle.lnbd_copy.specs.Links.{HaveSameLinks, LinksAreKept, LinksGo, LinksGoTo, LinksStand};
-ghost use Rattle.lnbd_copy.specs.Moving.{Happens, HasMoved, Stirs, TurnsInVain};
+ghost use Rattle.lnbd_copy.specs.Moving.{HasMoved, SomethingHappens, Stirs, TurnsInVain};
 ghost use Rattle.lnbd_copy.specs.Opening.{Dials};
 ghost use Rattle.lnbd_copy.specs.Paused.{PausesAreFull};
 ghost use Rattle.lnbd_copy.specs.Pauses.{AtEachPause, Pauses, Unpaused, WantsInVain, WantsOnlyFull};
@@ -571,7 +571,7 @@ impl Copier {
         ensures busy { IsBusy self.old.job self.old.board → IsBusy self.new.job self.new.board }
         ensures unpaused { Unpaused (W.told wires.old) (W.told wires.new) }
         ensures still { result ≡ 0 → (self.new.held ≡ self.old.held) × (wires.new ≡ wires.old) × (self.new.board ≡ self.old.board) }
-        ensures happens { result ≢ 0 → Happens (W.told wires.old) (W.told wires.new) }
+        ensures happens { result ≢ 0 → SomethingHappens (W.told wires.old) (W.told wires.new) }
         ensures idly { GoesIdly (W.told wires.old) (W.told wires.new) }
         ensures counts { GoesOn (W.faults wires.old) (W.faults wires.new) (W.idles wires.old) (W.idles wires.new) (W.contents wires.old) (W.contents wires.new) }
         ensures links { LinksGo [] self.old.held (W.told wires.old) self.new.held (W.told wires.new) }

@@ -9,7 +9,7 @@ ghost use Rattle.lnbd_copy.specs.Driven.{HasParted};
 ghost use Rattle.lnbd_copy.specs.Faults.{GoesIdly};
 ghost use Rattle.lnbd_copy.specs.Grounds.{Happens, Lasts};
 ghost use Rattle.lnbd_copy.specs.Leaving.{Leaves};
-ghost use Rattle.lnbd_copy.specs.Moving.{Happens};
+ghost use Rattle.lnbd_copy.specs.Moving.{SomethingHappens};
 ghost use Rattle.lnbd_copy.specs.Pauses.{Unpaused};
 ghost use Rattle.lnbd_copy.specs.Links.{HaveSameLinks, LinksGo};
 ghost use Rattle.lnbd_copy.specs.Way.{Keeps};
@@ -50,7 +50,7 @@ fn hang_up<W: Wires>(handles: &mut Handles<Ticket>, board: &mut Board, wires: &m
     ensures leaves { Happens HasParted index handles.old → Leaves board.old handles.old (W.told wires.old) board.new handles.new (W.told wires.new) }
     ensures counts { GoesOn (W.faults wires.old) (W.faults wires.new) (W.idles wires.old) (W.idles wires.new) (W.contents wires.old) (W.contents wires.new) }
     ensures fewer { length handles.new + 1 ≡ length handles.old }
-    ensures happens { Happens (W.told wires.old) (W.told wires.new) }
+    ensures happens { SomethingHappens (W.told wires.old) (W.told wires.new) }
     ensures lasts { Lasts (W.told wires.old) (W.told wires.new) }
     ensures unpaused { Unpaused (W.told wires.old) (W.told wires.new) }
     ensures links { LinksGo [] handles.old (W.told wires.old) handles.new (W.told wires.new) }
@@ -71,7 +71,7 @@ pub(crate) fn shut_parted<W: Wires>(
     ensures leaves { Leaves board.old handles.old (W.told wires.old) board.new handles.new (W.told wires.new) }
     ensures unpaused { Unpaused (W.told wires.old) (W.told wires.new) }
     ensures still { result ≡ 0 → (handles.new ≡ handles.old) × (wires.new ≡ wires.old) × (board.new ≡ board.old) }
-    ensures happens { result ≢ 0 → Happens (W.told wires.old) (W.told wires.new) }
+    ensures happens { result ≢ 0 → SomethingHappens (W.told wires.old) (W.told wires.new) }
     ensures counts { GoesOn (W.faults wires.old) (W.faults wires.new) (W.idles wires.old) (W.idles wires.new) (W.contents wires.old) (W.contents wires.new) }
     ensures links { LinksGo [] handles.old (W.told wires.old) handles.new (W.told wires.new) }
     ensures idly { GoesIdly (W.told wires.old) (W.told wires.new) }

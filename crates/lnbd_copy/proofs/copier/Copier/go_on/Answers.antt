@@ -213,3 +213,6 @@ returns-clause-drives g c start on = driven_idly _ _ _ start _ _ c.part-parted.e
 
 pub returns-in_err-check_well-clause-drives : goal.returns-in_err-check_well-clause-drives
 returns-in_err-check_well-clause-drives g c start on = driven_idly _ _ _ start _ _ c.part-parted.ensures.idly (c.take_turn.ensures.drives start on)
+
+pub returns-in_err-check_counts-clause-drives : goal.returns-in_err-check_counts-clause-drives
+returns-in_err-check_counts-clause-drives g c start on = driven_idly _ _ _ start _ _ c.part-parted.ensures.idly (c.take_turn.ensures.drives start on)
