@@ -88,6 +88,14 @@ copied_silent (copying.Broke broken) P rose is = absurd (omega (arith, is))
 copied_silent (copying.Rule rule) P rose is = absurd (omega (arith, is))
 copied_silent copying.NoMemory P rose is = absurd (omega (arith, is))
 
+pub copied_fails : (fault : CopyFault) → status_of_copied fault ≢ 0
+copied_fails (copying.Peer option code) = λ e. omega (arith, e)
+copied_fails (copying.Broke broken) = λ e. omega (arith, e)
+copied_fails (copying.Link before after) = λ e. omega (arith, e)
+copied_fails (copying.Rule rule) = λ e. omega (arith, e)
+copied_fails (copying.Silent idles) = λ e. omega (arith, e)
+copied_fails copying.NoMemory = λ e. omega (arith, e)
+
 -- The status.
 
 pub copy_status : (n status : ℕ) (end : End) (P Q : Type 0) → n ≢ 9 → ((status ≡ status_of_copy end) × P) ⊎ ((status ≡ 9) × Q) → status ≡ n → status_of_copy end ≡ n

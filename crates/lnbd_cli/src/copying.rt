@@ -74,6 +74,8 @@ fn copy<W: Wires>(alloc: Global, what: Transfer, wires: &mut W) -> Result<(), Co
     ensures conducts { GrewBy (Conducts what.options what.from what.to) (W.told wires.old) (W.told wires.new) }
     ensures link { (before after : ℕ) → result ≡ Err (CopyFault.Link before after) → Rises 1 (W.faults wires.old) (W.faults wires.new) }
     ensures silent { (idles : ℕ) → result ≡ Err (CopyFault.Silent idles) → Rises patience (W.idles wires.old) (W.idles wires.new) }
+    ensures well { OnOk result (¬ Rises 1 (W.faults wires.old) (W.faults wires.new)) }
+    ensures patient { OnOk result (¬ Rises patience (W.idles wires.old) (W.idles wires.new)) }
 {
     let Transfer { options, from, to } = what;
     match Copier::new(alloc, options, from, to).run(wires) {
@@ -89,6 +91,8 @@ fn copy_asked<W: Wires>(alloc: Global, words: &[String], wires: &mut W) -> Resul
     ensures accepts { IsTransfer words.now → status_of_copy result ≢ 1 }
     ensures link { status_of_copy result ≡ 5 → Rises 1 (W.faults wires.old) (W.faults wires.new) }
     ensures silent { status_of_copy result ≡ 7 → Rises patience (W.idles wires.old) (W.idles wires.new) }
+    ensures well { status_of_copy result ≡ 0 → ¬ Rises 1 (W.faults wires.old) (W.faults wires.new) }
+    ensures patient { status_of_copy result ≡ 0 → ¬ Rises patience (W.idles wires.old) (W.idles wires.new) }
 {
     let wish = match read_words(alloc, words) {
         Ok(wish) => wish,
@@ -208,6 +212,8 @@ pub(crate) fn run_copy<W: Wires, E: Sink>(
     ensures known { is_copy_status result ≡ true }
     ensures link_cause { result ≡ 5 → Rises 1 (W.faults wires.old) (W.faults wires.new) }
     ensures silent_cause { result ≡ 7 → Rises patience (W.idles wires.old) (W.idles wires.new) }
+    ensures well { result ≡ 0 → ¬ Rises 1 (W.faults wires.old) (W.faults wires.new) }
+    ensures patient { result ≡ 0 → ¬ Rises patience (W.idles wires.old) (W.idles wires.new) }
     ensures complete { IsTransfer words.now → (¬ Rises 1 (W.faults wires.old) (W.faults wires.new)) → (¬ Rises patience (W.idles wires.old) (W.idles wires.new)) → IsCopyDone result }
 {
     let end = copy_asked(alloc, words, wires);

@@ -96,6 +96,10 @@ pub fn run<W: Wires, I: Source, O: Sink, E: Sink>(
     ensures copy { IsCopy words.now → CopyRan words.now (W.told wires.old) (W.told wires.new) (wires.new ≡ wires.old) (Prints (E.taken err.old) (E.taken err.new) (E.faults err.old) (E.faults err.new)) result }
     ensures copy_out { IsCopy words.now → out.new ≡ out.old }
 
+    // On 0 no call on the wires failed in it, and they waited for less than is borne.
+    ensures copy_well { IsCopy words.now → result ≡ 0 → ¬ Rises 1 (W.faults wires.old) (W.faults wires.new) }
+    ensures copy_patient { IsCopy words.now → result ≡ 0 → ¬ Rises patience (W.idles wires.old) (W.idles wires.new) }
+
     // Where they are lawful and no count rose, all is copied, a peer told an error or broke off, a rule between the exports doesn't hold, or memory runs out.
     ensures copy_complete { IsCopy words.now → IsTransfer words.now → (¬ Rises 1 (W.faults wires.old) (W.faults wires.new)) → (¬ Rises patience (W.idles wires.old) (W.idles wires.new)) → IsCopyDone result }
 

@@ -1,4 +1,5 @@
 use Rattle.std.proofs.Common.{sym}
+use Rattle.lnbd_cli.proofs.CopyLemmas.{copied_fails}
 use Rattle.lnbd_cli.proofs.copying.copy_asked.Goals as goal
 
 pub returns-in-Ok-copy-clause-ends : goal.returns-in-Ok-copy-clause-ends
@@ -15,3 +16,9 @@ returns-in-Err-clause-ends g c = record {
   grounds = c.in-Err.ensures.grounds;
   conduct = c.copy.ensures.conducts;
 }
+
+pub returns-in-Err-clause-well : goal.returns-in-Err-clause-well
+returns-in-Err-clause-well g c is = absurd (copied_fails c.in-Err.fault is)
+
+pub returns-in-Err-clause-patient : goal.returns-in-Err-clause-patient
+returns-in-Err-clause-patient g c is = absurd (copied_fails c.in-Err.fault is)

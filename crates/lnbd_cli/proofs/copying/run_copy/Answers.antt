@@ -17,3 +17,9 @@ returns-clause-silent_cause g c is = c.copy_asked-end.ensures.silent (copy_statu
 pub returns-clause-complete : goal.returns-clause-complete
 returns-clause-complete g c lawful link silent =
     copy_done c.print_copy_end.result c.copy_asked-end.result _ _ (c.copy_asked-end.ensures.accepts lawful) (λ e. link (c.copy_asked-end.ensures.link e)) (λ e. silent (c.copy_asked-end.ensures.silent e)) c.print_copy_end.ensures
+
+pub returns-clause-well : goal.returns-clause-well
+returns-clause-well g c is = c.copy_asked-end.ensures.well (copy_status 0 c.print_copy_end.result c.copy_asked-end.result _ _ (λ e. omega (arith, e)) c.print_copy_end.ensures is)
+
+pub returns-clause-patient : goal.returns-clause-patient
+returns-clause-patient g c is = c.copy_asked-end.ensures.patient (copy_status 0 c.print_copy_end.result c.copy_asked-end.result _ _ (λ e. omega (arith, e)) c.print_copy_end.ensures is)

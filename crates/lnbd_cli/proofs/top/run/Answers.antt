@@ -271,3 +271,15 @@ returns-then-names_copy-clause-selftest_refuses g c tests = absurd (no_copy_test
 
 pub run_selftest-requires : goal.run_selftest-requires
 run_selftest-requires g c = c.names_selftest.ensures.yes c.if-names_selftest.true
+
+pub returns-then-names_info-clause-copy_well : goal.returns-then-names_info-clause-copy_well
+returns-then-names_info-clause-copy_well g c copies = absurd (no_info_copies c.args.words.now (c.names_info.ensures.yes c.if-names_info.true) copies)
+
+pub returns-then-names_info-clause-copy_patient : goal.returns-then-names_info-clause-copy_patient
+returns-then-names_info-clause-copy_patient g c copies = absurd (no_info_copies c.args.words.now (c.names_info.ensures.yes c.if-names_info.true) copies)
+
+pub returns-then-names_serve-clause-copy_well : goal.returns-then-names_serve-clause-copy_well
+returns-then-names_serve-clause-copy_well g c copies = absurd (no_serve_copies c.args.words.now (c.names_serve.ensures.yes c.if-names_serve.true) copies)
+
+pub returns-then-names_serve-clause-copy_patient : goal.returns-then-names_serve-clause-copy_patient
+returns-then-names_serve-clause-copy_patient g c copies = absurd (no_serve_copies c.args.words.now (c.names_serve.ensures.yes c.if-names_serve.true) copies)
