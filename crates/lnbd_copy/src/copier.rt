@@ -422,7 +422,6 @@ impl Copier {
         // It goes on, or it is finished and has copied; or no connection is held any more.
         ensures turns { IfOk result (λ told. (start : Option (List Call)) → IsOnItsWay start (W.told wires.old) self.old → HasTurned start (W.told wires.new) self.new told) }
         ensures shut { OnErr result (self.new.held ≡ []) }
-
         // Where it is finished, the summary says what its calls asked.
         ensures sums { IfOk result (λ told. (start : Option (List Call)) → IsOnItsWay start (W.told wires.old) self.old → HasSummed start (W.told wires.new) self.new told) }
         // Then no flush was asked for before all else was done, and one at most.
@@ -439,7 +438,6 @@ impl Copier {
 
         // Nothing was asked twice so far, and nothing past the source's end.
         ensures asks { OnOk result ((start : Option (List Call)) → IsOnItsWay start (W.told wires.old) self.old → self.new.from ≢ self.new.to → Told start (W.told wires.new) (HasAskedOnce self.new.options.allocated self.new.from self.new.to)) }
-
         // Each position that was read so far was read after a block status had been answered for it, or the source's first
         // connection agreed no meta context, though base:allocation had been asked for where extents are wanted.
         ensures answered { OnOk result ((start : Option (List Call)) → IsOnItsWay start (W.told wires.old) self.old → self.new.from ≢ self.new.to → Told start (W.told wires.new) (ReadsAreAnswered self.new.options.extents self.new.from)) }
