@@ -149,8 +149,7 @@ module _ (parting : Bool) (way : Way) (now : board.Seen) (calls : List wire.Call
   drove_on index h P so =
       let between = on.stands.between in
       let course = between.course in
-      let given : is_given h.seen.link calls ≡ true = given_at calls h.seen.link (is_given h.seen.link calls) refl (λ none. not_one h.seen.link index h.seen on.seens h.there (course.unused h.seen.link none).apart refl) in
-      (
+      let given : is_given h.seen.link calls ≡ true = given_at calls h.seen.link (is_given h.seen.link calls) refl (λ none. not_one h.seen.link index h.seen on.seens h.there (course.unused h.seen.link none).apart refl) in (
         record {
           link = h.seen.link;
           history = h.seen.history;
