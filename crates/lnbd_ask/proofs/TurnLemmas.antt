@@ -11,7 +11,7 @@ use Rattle.lnbd_poll.specs.Seen.{Seen, Goes}
 use Rattle.lnbd_poll.specs.Held.{Held, AreAt}
 use Rattle.lnbd_poll.specs.Steps.{TookEnough, TookShort}
 use Rattle.lnbd_poll.specs.Turned.{TurnsShort, TurnsWhole}
-use Rattle.lnbd_poll.specs.Turns.{Ending, Whole, Short, Turns, All_took, Takes, Runs_short, TurnsOne, is_short, turn_of, with_moved}
+use Rattle.lnbd_poll.specs.Turns.{AllTook, Ending, Whole, Short, Turns, All_took, Takes, Runs_short, Breaks_off, TurnsOne, is_short, turn_of, with_moved}
 use Rattle.lnbd_ask.specs.Waits.{Holds}
 
 pub held_one : {K : Type 0} (all : List (Held K)) (seen : Seen K) → Holds all seen → length all ≡ 1
@@ -24,6 +24,10 @@ with_no_other : (moved : Option ℕ) (rest : Ending) → rest ≡ Whole None →
 with_no_other None rest is = ap (with_moved None) is
 with_no_other (Some n) rest is = ap (with_moved (Some n)) is
 
+rest_short : (moved : Option ℕ) (rest : Ending) → with_moved moved rest ≡ Short → rest ≡ Short
+rest_short moved (Whole rest) is = absurd (cc is)
+rest_short moved Short is = refl
+
 module _ {K World : Type 0} (steps : World → List (Call K) → World → Type 0) where
   -- No handle took a part.
   record Nobody (world : World) (calls : List wire.Call) (after : List (Seen K)) (world' : World) (ending : Ending) : Type 0 where
@@ -32,10 +36,18 @@ module _ {K World : Type 0} (steps : World → List (Call K) → World → Type 
     same : world' ≡ world
     whole : ending ≡ Whole None
 
-  nobody : (before : List (Seen K)) (world : World) (calls : List wire.Call) (after : List (Seen K)) (world' : World) (ending : Ending) → Turns steps before world calls after world' ending → before ≡ [] → Nobody world calls after world' ending
-  nobody before world calls after world' ending (All_took _ _ _ _ _ _ is made none same end) empty = record { made = made; none = none; same = same; whole = end }
-  nobody before world calls after world' ending (Takes _ _ _ _ _ _ seen others notice own here half moved other there rest is turns enough more calls_are after_is end) empty = absurd (cc (is, empty))
-  nobody before world calls after world' ending (Runs_short _ _ _ _ _ _ seen others here moved is turns after_is end) empty = absurd (cc (is, empty))
+  nobody : (before : List (Seen K)) (world : World) (calls : List wire.Call) (after : List (Seen K)) (world' : World) (ending : Ending) (turns : Turns steps before world calls after world' ending) → AllTook turns → before ≡ [] → Nobody world calls after world' ending
+  nobody before world calls after world' ending (All_took _ _ _ _ _ _ is made none same end) all empty = record { made = made; none = none; same = same; whole = end }
+  nobody before world calls after world' ending (Takes _ _ _ _ _ _ seen others notice own here half moved other there rest is turns enough more calls_are after_is end) all empty = absurd (cc (is, empty))
+  nobody before world calls after world' ending (Runs_short _ _ _ _ _ _ seen others here moved is turns after_is end) all empty = absurd (cc (is, empty))
+  nobody before world calls after world' ending (Breaks_off _ _ _ _ _ _ none after_is world_is end) all empty = absurd all
+
+  -- Memory doesn't run out where there is no handle.
+  none_short : (before : List (Seen K)) (world : World) (calls : List wire.Call) (after : List (Seen K)) (world' : World) (ending : Ending) → Turns steps before world calls after world' ending → before ≡ [] → ending ≡ Short → ⊥
+  none_short before world calls after world' ending (All_took _ _ _ _ _ _ is made none same end) empty short = cc (end, short)
+  none_short before world calls after world' ending (Takes _ _ _ _ _ _ seen others notice own here half moved other there rest is turns enough more calls_are after_is end) empty short = cc (is, empty)
+  none_short before world calls after world' ending (Runs_short _ _ _ _ _ _ seen others here moved is turns after_is end) empty short = cc (is, empty)
+  none_short before world calls after world' ending (Breaks_off _ _ _ _ _ _ none after_is world_is end) empty short = cc (end, short)
 
   -- The one handle took its part.
   record One (seen : Seen K) (world : World) (calls : List wire.Call) (after : List (Seen K)) (world' : World) (moved : Option ℕ) : Type 0 where
@@ -45,14 +57,15 @@ module _ {K World : Type 0} (steps : World → List (Call K) → World → Type 
     enough : is_short notice ≡ false
     turns : TurnsOne steps notice seen world calls here world' moved
 
-  whole_one : (seen : Seen K) (moved : Option ℕ) (before : List (Seen K)) (world : World) (calls : List wire.Call) (after : List (Seen K)) (world' : World) (ending : Ending) → Turns steps before world calls after world' ending → before ≡ seen ∷ [] → ending ≡ Whole moved
+  whole_one : (seen : Seen K) (moved : Option ℕ) (before : List (Seen K)) (world : World) (calls : List wire.Call) (after : List (Seen K)) (world' : World) (ending : Ending) (turns : Turns steps before world calls after world' ending) → AllTook turns → before ≡ seen ∷ [] → ending ≡ Whole moved
       → One seen world calls after world' moved
-  whole_one seen moved before world calls after world' ending (All_took _ _ _ _ _ _ is made none same end) one whole = absurd (cc (is, one))
-  whole_one seen moved before world calls after world' ending (Runs_short _ _ _ _ _ _ first others here n is turns after_is end) one whole = absurd (cc (end, whole))
-  whole_one seen moved before world calls after world' ending (Takes _ _ _ _ _ _ first others notice own here half n other there rest is turns enough more calls_are after_is end) one whole =
+  whole_one seen moved before world calls after world' ending (All_took _ _ _ _ _ _ is made none same end) all one whole = absurd (cc (is, one))
+  whole_one seen moved before world calls after world' ending (Runs_short _ _ _ _ _ _ first others here n is turns after_is end) all one whole = absurd (cc (end, whole))
+  whole_one seen moved before world calls after world' ending (Breaks_off _ _ _ _ _ _ none after_is world_is end) all one whole = absurd all
+  whole_one seen moved before world calls after world' ending (Takes _ _ _ _ _ _ first others notice own here half n other there rest is turns enough more calls_are after_is end) all one whole =
       let alone : others ≡ [] = cc (is, one) in
       let same : first ≡ seen = cc (is, one) in
-      let none = nobody others half other there world' rest more alone in
+      let none = nobody others half other there world' rest more all alone in
       let so_much : n ≡ moved = cc (sym (with_no_other n rest none.whole) ∙ (sym end ∙ whole)) in
       let own_calls : calls ≡ own = calls_are ∙ (ap (λ (l : List wire.Call). own ++ l) none.made ∙ append-nil own) in
       record {
@@ -87,15 +100,15 @@ module _ {K World : Type 0} (steps : World → List (Call K) → World → Type 
       }
   short_one seen before world calls after world' ending (Takes _ _ _ _ _ _ first others notice own here half n other there rest is turns enough more calls_are after_is end) one short =
       let alone : others ≡ [] = cc (is, one) in
-      let none = nobody others half other there world' rest more alone in
-      absurd (cc (sym (with_no_other n rest none.whole) ∙ (sym end ∙ short)))
+      absurd (none_short others half other there world' rest more alone (rest_short n rest (sym end ∙ short)))
+  short_one seen before world calls after world' ending (Breaks_off _ _ _ _ _ _ none after_is world_is end) one short = absurd (cc (end, short))
 
   pub turn_one : (a b : Option (List wire.Call)) (f g : ℕ) (old new : List (Held K)) (told : Turn) (world world' : World)
       → Goes a b (λ seen. AreAt old seen) (λ seen. AreAt new seen) (λ before calls after. TurnsWhole steps f g told before world calls after world')
       → Goes a b (Holds old) (Holds new) (λ before calls after. TookEnough steps f g told before world calls after world')
   turn_one a b f g old new told world world' goes seen at =
       let went = goes (seen ∷ []) at in
-      let one = whole_one seen went.leads.moved (seen ∷ []) world went.calls went.after world' (Whole went.leads.moved) went.leads.turns refl refl in
+      let one = whole_one seen went.leads.moved (seen ∷ []) world went.calls went.after world' (Whole went.leads.moved) went.leads.turns went.leads.all refl refl in
       record {
         calls = went.calls;
         after = one.here;

@@ -60,13 +60,13 @@ pub begins_as : (how : How) (s : Slice) (n : ℕ) (one : Ask) (row : Row) (rows 
 begins_as how s n (ask.Read offset buf) row rows rows2 first same stage e = record {
   on = λ slices source destination link cookie len stands.
       let reading : row.stage ≡ Reading = stage ∙ ap first_stage first.0 in
-      rw e (began_read how slices n link cookie s row (read_at offset (length buf)) rows source destination (sym len) stands same reading first.0 refl first.1 first.2);
+      rw e (began_read how slices n link cookie s row (read_at offset (length buf)) rows source destination (sym len) stands same reading first.0 refl first.1 first.2 refl);
 }
 begins_as how s n (ask.Change one) row rows rows2 first same stage e = record {
   on = λ slices source destination link cookie len stands.
       let last : row.stage ≡ Last = stage ∙ ap first_stage first.0 in
       let z = first.1 in
-      rw (e, z.is) (began_zero how slices n link cookie s row z.piece rows source destination (sym len) stands same last first.0 z.spelt z.kept z.change z.dense);
+      rw (e, z.is) (began_zero how slices n link cookie s row z.piece rows source destination (sym len) stands same last first.0 z.spelt z.kept z.change z.dense z.zeroed);
 }
 
 -- What a board says next.

@@ -33,7 +33,7 @@ its_own p i n slices command few l h inside k =
 
 unchanged_by : (slices : List Slice) (by : Ticket) (command : Command Nobody) → AsksOfSource slices by command → changes command.kind ≡ false
 unchanged_by slices (ticket.Slice n) command h = ap changes h.0
-unchanged_by slices ticket.Extents command h = ap changes h
+unchanged_by slices ticket.Extents command h = ap changes h.0
 unchanged_by slices ticket.Flush command h = absurd h
 
 pub not_changed : (p : ℕ) (slices : List Slice) (by : Ticket) (command : Command Nobody) → AsksOfSource slices by command → covers command p ≡ false
@@ -42,7 +42,7 @@ not_changed p slices by command h = ap (λ b. b && has command p) (unchanged_by 
 read_by : (p i : ℕ) (slices : List Slice) (by : Ticket) (command : Command Nobody) → length (slices_at p slices) ≤ 1 → i < length slices → lies_in (slice_at slices i) p ≡ true →
     AsksOfSource slices by command → reads command p ≡ true → is_of i by ≡ true
 read_by p i slices (ticket.Slice n) command few l h a r = its_own p i n slices command few l h a.1 (both _ _ r).1
-read_by p i slices ticket.Extents command few l h a r = absurd (let k : is_read command.kind ≡ false = ap is_read a in let t = (both (is_read command.kind) (has command p) r).0 in cc)
+read_by p i slices ticket.Extents command few l h a r = absurd (let k : is_read command.kind ≡ false = ap is_read a.0 in let t = (both (is_read command.kind) (has command p) r).0 in cc)
 read_by p i slices ticket.Flush command few l h a r = absurd a
 
 pub reads_slice : (p i : ℕ) (slices : List Slice) (asked : List Request) → length (slices_at p slices) ≤ 1 → i < length slices → lies_in (slice_at slices i) p ≡ true →
@@ -51,7 +51,7 @@ reads_slice p i slices asked few l h a = reads_over_own p i asked (Each-map (λ 
 
 unread_by : (p : ℕ) (slices : List Slice) (by : Ticket) (command : Command Nobody) → slices_at p slices ≡ [] → AsksOfSource slices by command → reads command p ≡ true → ⊥
 unread_by p slices (ticket.Slice n) command none a r = let o = some_at p n slices a.1.begun (a.1.inside p (both _ _ r).1) in let z : length (slices_at p slices) ≡ 0 = rw none refl in omega (arith, o, z)
-unread_by p slices ticket.Extents command none a r = let k : is_read command.kind ≡ false = ap is_read a in let t = (both (is_read command.kind) (has command p) r).0 in absurd (cc)
+unread_by p slices ticket.Extents command none a r = let k : is_read command.kind ≡ false = ap is_read a.0 in let t = (both (is_read command.kind) (has command p) r).0 in absurd (cc)
 unread_by p slices ticket.Flush command none a r = a
 
 pub reads_nowhere : (p : ℕ) (slices : List Slice) (asked : List Request) → slices_at p slices ≡ [] → Each (λ r. AsksOfSource slices r.ticket r.said.command) asked → reads_over p asked ≡ []
@@ -63,7 +63,7 @@ changed_by : (how : How) (p i : ℕ) (slices : List Slice) (by : Ticket) (comman
     AsksOfDestination how slices by command → covers command p ≡ true → is_of i by ≡ true
 changed_by how p i slices (ticket.Slice n) command few l h a c = its_own p i n slices command few l h a.1 (both _ _ c).1
 changed_by how p i slices ticket.Extents command few l h a c = absurd a
-changed_by how p i slices ticket.Flush command few l h a c = absurd (let k : changes command.kind ≡ false = ap changes a in let t = (both (changes command.kind) (has command p) c).0 in cc)
+changed_by how p i slices ticket.Flush command few l h a c = absurd (let k : changes command.kind ≡ false = ap changes a.0 in let t = (both (changes command.kind) (has command p) c).0 in cc)
 
 pub over_slice : (how : How) (p i : ℕ) (slices : List Slice) (asked : List Request) → length (slices_at p slices) ≤ 1 → i < length slices → lies_in (slice_at slices i) p ≡ true →
     Each (λ r. AsksOfDestination how slices r.ticket r.said.command) asked → over p asked ≡ over_said p (own i asked)
@@ -72,7 +72,7 @@ over_slice how p i slices asked few l h a = over_own p i asked (Each-map (λ r k
 unchanged_at : (how : How) (p : ℕ) (slices : List Slice) (by : Ticket) (command : Command Nobody) → slices_at p slices ≡ [] → AsksOfDestination how slices by command → covers command p ≡ true → ⊥
 unchanged_at how p slices (ticket.Slice n) command none a c = let o = some_at p n slices a.1.begun (a.1.inside p (both _ _ c).1) in let z : length (slices_at p slices) ≡ 0 = rw none refl in omega (arith, o, z)
 unchanged_at how p slices ticket.Extents command none a c = a
-unchanged_at how p slices ticket.Flush command none a c = let k : changes command.kind ≡ false = ap changes a in let t = (both (changes command.kind) (has command p) c).0 in absurd (cc)
+unchanged_at how p slices ticket.Flush command none a c = let k : changes command.kind ≡ false = ap changes a.0 in let t = (both (changes command.kind) (has command p) c).0 in absurd (cc)
 
 pub over_nowhere : (how : How) (p : ℕ) (slices : List Slice) (asked : List Request) → slices_at p slices ≡ [] → Each (λ r. AsksOfDestination how slices r.ticket r.said.command) asked → over p asked ≡ []
 over_nowhere how p slices asked none a = over_none p asked (Each-map (λ r k. not_true _ (unchanged_at how p slices r.ticket r.said.command none k)) asked a)

@@ -1,6 +1,7 @@
 -- What a row asks for next keeps the invariant.
 use Rattle.std.proofs.Common.{◌≡◌, ℕ, zero, suc, ◌+◌, ◌-◌, ◌*◌, ◌/◌, ◌<◌, ◌≤◌, List, [], ◌∷◌, ◌++◌, Bool, true, false, not, ◌&&◌, ◌==◌, inl, inr, refl, ap, sym, subst, ◌∙◌, arith, length, get_or, take, drop, Option, Some, None, length-take, length-drop, replicate, Result, Ok, Err, OnErr}
 use Rattle.std.proofs.lemmas.Grind.{common_steps, same_number_lists}
+use Rattle.std.proofs.lemmas.Bool.{false≢true}
 use Rattle.std.proofs.lemmas.List.{get_or-take, get_or-drop}
 use Rattle.std.proofs.Math.ListN.{length-replicate, get_or-replicate}
 use Rattle.std.proofs.Math.Seq.{take-add}
@@ -26,7 +27,7 @@ use Rattle.lnbd_board.specs.declared.row.Stage.TheVariants.{Reading, Last, Came,
 use Rattle.lnbd_board.specs.Files.{rows_with}
 use Rattle.lnbd_board.specs.Requests.{Said, own, waiting}
 use Rattle.lnbd_board.specs.Pieces.{Piece, Bytes, Zeros, spell, spell1, ask_of, is_passed, wrote, zero_flags, detects, is_told, AreLeft, IsDense}
-use Rattle.lnbd_board.specs.Rows.{is_busy, IsHeld, IsWritten, IsEnding, StandsAt, slice_at, IsInside, IsChange}
+use Rattle.lnbd_board.specs.Rows.{is_busy, IsHeld, IsWritten, IsEnding, StandsAt, slice_at, IsInside, IsChange, IsZeroed}
 use Rattle.lnbd_board.specs.Asks.{change_of, Advances, Sits, Cuts, Passes, cutting, bytes_of}
 use Rattle.lnbd_board.proofs.Spelling.{within_at, within_true, has_piece, spell_more, wrote_passed}
 use Rattle.lnbd_board.proofs.Steps.{row_stands, regarded, asked}
@@ -81,7 +82,7 @@ idle_step how n s old new idle idle2 f = record {
 -- a row asks for a change
 busy_step : (how : How) (n : ℕ) (s : Slice) (old new : Stage) (one : Change) → is_busy old ≡ false → is_busy new ≡ true →
     ((read changed : List Said) → StandsAt how s old read changed → StandsAt how s new read (changed ++ waiting (change_of one) ∷ [])) →
-    ((read changed : List Said) → StandsAt how s old read changed → IsChange how (change_of one) × ((p : ℕ) → has (change_of one) p ≡ true → within (s.start, s.length) p ≡ true) × IsDense how (change_of one)) →
+    ((read changed : List Said) → StandsAt how s old read changed → IsChange how (change_of one) × ((p : ℕ) → has (change_of one) p ≡ true → within (s.start, s.length) p ≡ true) × IsDense how (change_of one) × IsZeroed how s (change_of one)) →
     Advances how n s old new (Some one)
 busy_step how n s old new one idle idle2 f lawful = record {
   on = λ row rows source destination link cookie held same stage. record {
@@ -93,7 +94,7 @@ busy_step how n s old new one idle idle2 f lawful = record {
         let inside : IsInside slices n (change_of one) = record { begun = r.0; inside = λ p t. rw is (k.1 p t) } in
         asked how slices n link cookie row (record row { stage = new }) (change_of one) rows source destination stands held refl (rw stage idle) idle2
         (λ g. rw is (f (own n source) (own n destination) h))
-        (k.0, inside, k.2);
+        (k.0, inside, k.2, subst (λ (x : Slice). IsZeroed how x (change_of one)) (sym is) k.3);
   };
 }
 
@@ -157,6 +158,7 @@ cut_step how n s bytes left h = idle_step how n s (Came bytes) (Holding bytes le
   fits = omega arith;
   asked = k.unchanged;
   rest = h;
+  data_ = k.data_;
 })
 
 pub cut_steps : (how : How) (n : ℕ) (s : Slice) (stage : Stage) (left : List Slice) → Cuts how s stage left → Advances how n s stage (cutting stage left) None
@@ -198,6 +200,7 @@ pass_step how n s bytes piece left skip z = idle_step how n s (Holding bytes (pi
       fits = omega (arith, size, fits);
       asked = k.asked ∙ sym (wrote_passed how s.start k.did (Zeros piece.length) skip);
       rest = f.rest;
+      data_ = k.data_;
     })
 
 pub passes_none : (how : How) (left : List Slice) → Passes how left left
@@ -228,6 +231,7 @@ end_step how n s bytes = idle_step how n s (Holding bytes []) (Finished bytes) r
       did = k.did;
       spelt = k.spelt ∙ grind (arith, common_steps, all);
       asked = k.asked;
+      one = λ z. absurd (false≢true (sym k.data_ ∙ z));
     })
 
 -- A piece is asked to be written.
@@ -260,6 +264,7 @@ writes how s bytes piece left now read changed k e kept =
       kept = kept;
       asked = ap (λ c. c ++ waiting (ask_of how piece.start now) ∷ []) k.asked ∙ ap (λ (m : ℕ). wrote how s.start k.did ++ waiting (ask_of how m now) ∷ []) place;
       rest = f.rest;
+      data_ = k.data_;
     }
 
 ends : (how : How) (s : Slice) (bytes : List ℕ) (piece : Slice) (left : List Slice) (now : Piece) (read changed : List Said) (k : IsHeld how s bytes (piece ∷ left) read changed) →
@@ -279,6 +284,7 @@ ends how s bytes piece left now read changed k e kept all =
       spelt = front ∙ whole;
       kept = kept;
       asked = ap (λ c. c ++ waiting (ask_of how piece.start now) ∷ []) k.asked ∙ ap (λ (m : ℕ). wrote how s.start k.did ++ waiting (ask_of how m now) ∷ []) place;
+      alone = λ z. absurd (false≢true (sym k.data_ ∙ z));
     }
 
 length_piece : (bytes : List ℕ) (at n : ℕ) → at + n ≤ length bytes → length (take n (drop at bytes)) ≡ n
@@ -341,9 +347,10 @@ zero_step how n s bytes piece left z skip = busy_step how n s (Holding bytes (pi
     let f = first_left how s bytes k.at piece left k.rest in
     let fits = f.fits in
     let len = length-replicate {A = ℕ} piece.length 0 in (
-      inr (refl, refl),
+      inr (refl, refl, skip),
       λ p h. piece_inside how s k.at (Zeros piece.length) p (omega (arith, fits, len)) (subst (λ (m : ℕ). has (ask_of how m (Zeros piece.length)) p ≡ true) f.start h),
       λ looks w. absurd (not_write (ask_of how piece.start (Zeros piece.length)) refl w),
+      λ zero. absurd (false≢true (sym k.data_ ∙ zero)),
     ))
 
 pub part_step : (how : How) (n : ℕ) (s : Slice) (bytes part : List ℕ) (piece : Slice) (left : List Slice) → piece.zero ≡ false → part ≡ bytes_of s bytes piece →
@@ -355,9 +362,10 @@ part_step how n s bytes part piece left z is = busy_step how n s (Holding bytes 
     let fits = f.fits in
     let size = k.known.size in
     let len : length part ≡ piece.length = ap length (here read changed k) ∙ length_piece bytes k.at piece.length (omega (arith, fits, size)) in (
-      inl refl,
+      inl (refl, refl),
       λ p h. piece_inside how s k.at (Bytes part) p (omega (arith, fits, len)) (subst (λ (m : ℕ). has (ask_of how m (Bytes part)) p ≡ true) f.start h),
       subst (λ (b : List ℕ). IsDense how (ask_of how piece.start (Bytes b))) (sym (here read changed k)) (dense_piece how s bytes k.at piece left k.known.size f z),
+      λ zero. absurd (false≢true (sym k.data_ ∙ zero)),
     ))
   where
     here : (read changed : List Said) (k : IsHeld how s bytes (piece ∷ left) read changed) → part ≡ take piece.length (drop k.at bytes)
@@ -382,9 +390,10 @@ last_step how n s bytes piece left z all = busy_step how n s (Holding bytes (pie
     let f = first_left how s bytes k.at piece left k.rest in
     let fits = f.fits in
     let size = k.known.size in (
-      inl refl,
+      inl (refl, refl),
       λ p h. piece_inside how s k.at (Bytes bytes) p (omega (arith, fits, size, all)) (subst (λ (m : ℕ). has (ask_of how m (Bytes bytes)) p ≡ true) f.start h),
       subst (λ (b : List ℕ). IsDense how (ask_of how piece.start (Bytes b))) (sym (here read changed k)) (dense_piece how s bytes k.at piece left k.known.size f z),
+      λ zero. absurd (false≢true (sym k.data_ ∙ zero)),
     ))
   where
     here : (read changed : List Said) (k : IsHeld how s bytes (piece ∷ left) read changed) → bytes ≡ take piece.length (drop k.at bytes)

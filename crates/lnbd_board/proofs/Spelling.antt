@@ -9,7 +9,7 @@ use Rattle.lnbd_plan.specs.declared.grid.Slice.{Slice}
 use Rattle.lnbd_plan.specs.Laws.{slices_at}
 use Rattle.lnbd_board.specs.declared.how.How.{How}
 use Rattle.lnbd_board.specs.Requests.{Said, done, done_with, over_said, said_unanswered, Suits}
-use Rattle.lnbd_board.specs.Pieces.{Piece, Bytes, Zeros, spell, spell1, ask_of, is_passed, wrote}
+use Rattle.lnbd_board.specs.Pieces.{Piece, Bytes, Zeros, spell, spell1, ask_of, is_passed, kind_of, wrote}
 use Rattle.lnbd_board.specs.Rows.{slice_at, lies_in}
 
 -- What the test says.
@@ -70,6 +70,11 @@ found p s (x ∷ ss) more h =
 pub covers_piece : (how : How) (p at : ℕ) (piece : Piece) → covers (ask_of how at piece) p ≡ within (at, length (spell1 piece)) p
 covers_piece how p at (Bytes bytes) = refl
 covers_piece how p at (Zeros n) = rw (length-replicate {A = ℕ} n 0) refl
+
+-- a piece is asked for by its kind
+pub ask_kind : (how : How) (at : ℕ) (piece : Piece) → (ask_of how at piece).kind ≡ kind_of piece
+ask_kind how at (Bytes bytes) = refl
+ask_kind how at (Zeros n) = refl
 
 pub has_piece : (how : How) (p at : ℕ) (piece : Piece) → has (ask_of how at piece) p ≡ within (at, length (spell1 piece)) p
 has_piece how p at (Bytes bytes) = refl

@@ -18,10 +18,10 @@ use Rattle.lnbd_board.specs.declared.row.Stage.TheVariants.{Reading, Last, Came,
 use Rattle.lnbd_board.specs.declared.ticket.Ticket.{Ticket}
 use Rattle.lnbd_board.specs.declared.ticket.Ticket.TheVariants as ticket
 use Rattle.lnbd_board.specs.Requests.{Said, Request, own, is_of, unanswered, said_unanswered, Each, waiting, asking, Answers}
-use Rattle.lnbd_board.specs.Pieces.{Piece, spell, spell1, ask_of, is_passed, wrote, IsDense}
-use Rattle.lnbd_board.specs.Rows.{is_busy, busy, IsRead, KnownBy, IsReading, IsEnding, IsHere, IsHeld, IsWritten, IsOver, StandsAt, StandsAs, slice_at, IsInside, AsksOfSource, AsksOfDestination, IsChange, Stands}
+use Rattle.lnbd_board.specs.Pieces.{Piece, spell, spell1, ask_of, is_passed, wrote, IsDense, kind_of, zeroing_kind}
+use Rattle.lnbd_board.specs.Rows.{is_busy, busy, IsRead, KnownBy, IsReading, IsEnding, IsHere, IsHeld, IsWritten, IsOver, StandsAt, StandsAs, slice_at, IsInside, AsksOfSource, AsksOfDestination, IsChange, IsZeroed, Stands}
 use Rattle.lnbd_board.proofs.Lists.{eq_true, eq_false, not_same, Each-append, Each-map, own_asking, own_asking_other, own_answers, own_answers_other, each_answers, unanswered_asking, unanswered_answers}
-use Rattle.lnbd_board.proofs.Spelling.{has_piece, spell_more, wrote_more, wrote_idle, suits_piece}
+use Rattle.lnbd_board.proofs.Spelling.{ask_kind, has_piece, spell_more, wrote_more, wrote_idle, suits_piece}
 
 -- The number of busy rows.
 
@@ -62,6 +62,7 @@ read_done how n s buf source source2 changed h a =
     record {
       known = record { by = subst (λ (b : Bool). KnownBy b s buf (own n source2)) (sym h.data_) by_read; size = k.1.read (ap is_read h.asked.kind) ∙ h.asked.size };
       unchanged = h.unchanged;
+      data_ = h.data_;
     }
 
 pub last_done : (how : How) (n : ℕ) (s : Slice) (buf : List ℕ) (destination destination2 : List Request) (read : List Said) → IsEnding how s read (own n destination) → Answers (ticket.Slice n) buf destination destination2 → IsOver how s read (own n destination2)
@@ -73,6 +74,7 @@ last_done how n s buf destination destination2 read h a =
       did = h.did ++ h.now ∷ [];
       spelt = spell_more h.did h.now ∙ h.spelt;
       asked = k.0 ∙ (ap (λ x. wrote how s.start h.did ++ x ∷ []) (suits_piece how (s.start + length (spell h.did)) h.now buf k.1) ∙ sym (wrote_more how s.start (s.start + length (spell h.did)) h.did h.now h.kept refl));
+      one = λ z. record { piece = h.now; is = ap (λ (l : List Piece). l ++ h.now ∷ []) (h.alone z).0; kept = h.kept; kind = (h.alone z).1 };
     }
 
 pub write_done : (how : How) (n : ℕ) (s : Slice) (bytes : List ℕ) (left : List Slice) (buf : List ℕ) (destination destination2 : List Request) (read : List Said) →
@@ -87,6 +89,7 @@ write_done how n s bytes left buf destination destination2 read h a =
       fits = h.fits;
       asked = k.0 ∙ (ap (λ x. wrote how s.start h.did ++ x ∷ []) (suits_piece how (s.start + length (spell h.did)) h.now buf k.1) ∙ sym (wrote_more how s.start (s.start + length (spell h.did)) h.did h.now h.kept refl));
       rest = h.rest;
+      data_ = h.data_;
     }
 
 -- The steps of the whole.
@@ -223,12 +226,16 @@ inside_more slices more n command h =
     record { begun = omega (arith, l, b); inside = λ p k. rw e (h.inside p k) }
 
 source_more : (slices more : List Slice) (by : Ticket) (command : Command Nobody) → AsksOfSource slices by command → AsksOfSource (slices ++ more) by command
-source_more slices more (ticket.Slice n) command h = (h.0, inside_more slices more n command h.1)
+source_more slices more (ticket.Slice n) command h =
+    let e : slice_at (slices ++ more) n ≡ slice_at slices n = get_or-append slices more (record { start = 0; length = 0; zero = false }) n h.1.begun in
+    (h.0, inside_more slices more n command h.1, h.2, ap (λ (s : Slice). s.zero) e ∙ h.3)
 source_more slices more ticket.Extents command h = h
 source_more slices more ticket.Flush command h = h
 
 destination_more : (how : How) (slices more : List Slice) (by : Ticket) (command : Command Nobody) → AsksOfDestination how slices by command → AsksOfDestination how (slices ++ more) by command
-destination_more how slices more (ticket.Slice n) command h = (h.0, inside_more slices more n command h.1, h.2)
+destination_more how slices more (ticket.Slice n) command h =
+    let e : slice_at (slices ++ more) n ≡ slice_at slices n = get_or-append slices more (record { start = 0; length = 0; zero = false }) n h.1.begun in
+    (h.0, inside_more slices more n command h.1, h.2, subst (λ (s : Slice). IsZeroed how s command) (sym e) h.3)
 destination_more how slices more ticket.Extents command h = h
 destination_more how slices more ticket.Flush command h = h
 
@@ -288,9 +295,9 @@ began how slices n s row rows source source2 destination destination2 len stands
 
 -- It begins to be read.
 pub began_read : (how : How) (slices : List Slice) (n link cookie : ℕ) (s : Slice) (row : Row) (command : Command Nobody) (rows : List (ℕ × Row)) (source destination : List Request) → n ≡ length slices →
-    Stands how slices rows source destination → row.slice ≡ s → row.stage ≡ Reading → s.zero ≡ false → command.kind ≡ Read → command.offset ≡ s.start → command.length ≡ s.length →
+    Stands how slices rows source destination → row.slice ≡ s → row.stage ≡ Reading → s.zero ≡ false → command.kind ≡ Read → command.offset ≡ s.start → command.length ≡ s.length → command.flags ≡ 0 →
     Stands how (slices ++ s ∷ []) (rows ++ (n, row) ∷ []) (asking link cookie (ticket.Slice n) command source) destination
-began_read how slices n link cookie s row command rows source destination len stands same stage told kind start size =
+began_read how slices n link cookie s row command rows source destination len stands same stage told kind start size plain =
     let u = unanswered_asking n link cookie command source in
     let z : busy1 row ≡ 1 = rw stage refl in
     let l = length-append slices (s ∷ []) in
@@ -306,16 +313,16 @@ began_read how slices n link cookie s row command rows source destination len st
     (λ j d. own_asking_other n j link cookie command source d) (λ j d. refl)
     (rw stage reading)
     (Each-append (λ (r : Request). AsksOfSource (slices ++ s ∷ []) r.ticket r.said.command) source _ (Each-map (λ r k. source_more slices (s ∷ []) r.ticket r.said.command k) source stands.reads)
-    ((kind, record { begun = omega (arith, len, l); inside = λ p h. rw is (subst (λ (m : ℕ). within (s.start, m) p ≡ true) size (subst (λ (m : ℕ). within (m, command.length) p ≡ true) start h)) }), tt))
+    ((kind, record { begun = omega (arith, len, l); inside = λ p h. rw is (subst (λ (m : ℕ). within (s.start, m) p ≡ true) size (subst (λ (m : ℕ). within (m, command.length) p ≡ true) start h)) }, plain, ap (λ (x : Slice). x.zero) is ∙ told), tt))
     (Each-map (λ r k. destination_more how slices (s ∷ []) r.ticket r.said.command k) destination stands.changes)
     (omega (arith, u, z))
 
 -- It begins to be written, since its bytes are known to be zero.
 pub began_zero : (how : How) (slices : List Slice) (n link cookie : ℕ) (s : Slice) (row : Row) (piece : Piece) (rows : List (ℕ × Row)) (source destination : List Request) → n ≡ length slices →
     Stands how slices rows source destination → row.slice ≡ s → row.stage ≡ Last → s.zero ≡ true → spell1 piece ≡ replicate s.length 0 → is_passed how piece ≡ false →
-    IsChange how (ask_of how s.start piece) → IsDense how (ask_of how s.start piece) →
+    IsChange how (ask_of how s.start piece) → IsDense how (ask_of how s.start piece) → kind_of piece ≡ zeroing_kind how →
     Stands how (slices ++ s ∷ []) (rows ++ (n, row) ∷ []) source (asking link cookie (ticket.Slice n) (ask_of how s.start piece) destination)
-began_zero how slices n link cookie s row piece rows source destination len stands same stage told spelt kept change dense =
+began_zero how slices n link cookie s row piece rows source destination len stands same stage told spelt kept change dense zeroed =
     let u = unanswered_asking n link cookie (ask_of how s.start piece) destination in
     let z : busy1 row ≡ 1 = rw stage refl in
     let l = length-append slices (s ∷ []) in
@@ -332,11 +339,12 @@ began_zero how slices n link cookie s row piece rows source destination len stan
       spelt = spelt;
       kept = kept;
       asked = own_asking n link cookie (ask_of how s.start piece) destination ∙ rw (none2, plus) refl;
+      alone = λ z. (refl, zeroed);
     } in
     began how slices n s row rows source source destination (asking link cookie (ticket.Slice n) (ask_of how s.start piece) destination) len stands same
     (λ j d. refl) (λ j d. own_asking_other n j link cookie (ask_of how s.start piece) destination d)
     (rw stage ending)
     (Each-map (λ r k. source_more slices (s ∷ []) r.ticket r.said.command k) source stands.reads)
     (Each-append (λ (r : Request). AsksOfDestination how (slices ++ s ∷ []) r.ticket r.said.command) destination _ (Each-map (λ r k. destination_more how slices (s ∷ []) r.ticket r.said.command k) destination stands.changes)
-    ((change, record { begun = omega (arith, len, l); inside = λ p h. rw is (subst (λ (m : ℕ). within (s.start, m) p ≡ true) many (sym (has_piece how p s.start piece) ∙ h)) }, dense), tt))
+    ((change, record { begun = omega (arith, len, l); inside = λ p h. rw is (subst (λ (m : ℕ). within (s.start, m) p ≡ true) many (sym (has_piece how p s.start piece) ∙ h)) }, dense, subst (λ (x : Slice). IsZeroed how x (ask_of how s.start piece)) (sym is) (λ z. ask_kind how s.start piece ∙ zeroed)), tt))
     (omega (arith, u, z))

@@ -13,7 +13,7 @@ use Rattle.lnbd_board.specs.declared.row.Stage.TheVariants.{Reading, Last, Came,
 use Rattle.lnbd_board.specs.declared.ticket.Ticket.{Ticket}
 use Rattle.lnbd_board.specs.declared.ticket.Ticket.TheVariants as ticket
 use Rattle.lnbd_board.specs.Requests.{Said, Request, own, unanswered, said_unanswered, is_slice, Answers, Each, asking}
-use Rattle.lnbd_board.specs.Files.{Seen, Files, Hears, received, rows_with, came_with, filed, filed_done, or_error, is_map, is_unfit}
+use Rattle.lnbd_board.specs.Files.{Seen, Files, Hears, received, rows_with, came_with, filed, filed_done, or_error, content_first, is_map, is_unfit}
 use Rattle.lnbd_board.specs.Rows.{is_busy, IsOver, StandsAt, StandsAs, Stands, slice_at, AsksOfSource, AsksOfDestination}
 use Rattle.lnbd_board.specs.Asks.{Keeps}
 use Rattle.lnbd_board.specs.Turns.{IsAnswered, Tells, CallsAreKept, NothingStands, ExtentsAreKept, FlushIsKept}
@@ -142,6 +142,14 @@ or_error_some : (o : Option ℕ) (error : ℕ) → or_error o error ≡ None →
 or_error_some None error h = absurd (cc)
 or_error_some (Some first) error h = absurd (cc)
 
+content_first_some : (o : Option ℕ) (error : ℕ) → content_first o error ≡ None → ⊥
+content_first_some None error h = absurd (cc)
+content_first_some (Some first) error h = go (error == 71) h
+  where
+    go : (b : Bool) → cond b (Some error) (Some first) ≡ None → ⊥
+    go true h = absurd (cc)
+    go false h = absurd (cc)
+
 -- a board after a read that doesn't fit, and after any other completion of a slice
 abbrev unfit : ℕ → List ℕ → Seen → Seen
 unfit n buf board = record board { error = or_error board.error 71 }
@@ -187,9 +195,9 @@ pub record ToldNone (board : Seen) (error : ℕ) : Type 0 where
 
 filed_none : (by : Ticket) (error : ℕ) (buf : List ℕ) (board : Seen) → (filed by error buf board).error ≡ None → ToldNone board error
 filed_none by error buf board h =
-    elim (error == 0) as (λ b. (error == 0) ≡ b → (cond b (filed_done by buf board) (record board { error = or_error board.error error })).error ≡ None → ToldNone board error) [
+    elim (error == 0) as (λ b. (error == 0) ≡ b → (cond b (filed_done by buf board) (record board { error = content_first board.error error })).error ≡ None → ToldNone board error) [
       | true ↦ λ e k. record { none = eq_true 0 error e; before = done_none by buf board k }
-      | false ↦ λ e k. absurd (or_error_some board.error error k)
+      | false ↦ λ e k. absurd (content_first_some board.error error k)
     ] refl h
 
 call_error : (call : Call Ticket) (board board2 : Seen) → Files board call board2 → board2.error ≡ None → board.error ≡ None
@@ -231,17 +239,17 @@ pub nothing_stands : NothingStands
 nothing_stands how = record { each = λ i l. absurd (omega (arith, l)); reads = tt; changes = tt; rising = tt; below = tt; counted = refl }
 
 pub extents_kept : ExtentsAreKept
-extents_kept how rows source destination link cookie command is = record {
+extents_kept how rows source destination link cookie command is plain few = record {
   on = λ slices stands.
       beside how slices rows source destination (asking link cookie ticket.Extents command source) destination
       (λ n. own_asking_none n link cookie ticket.Extents command source refl) (λ n. refl) (unanswered_asking_none link cookie ticket.Extents command source refl) refl
-      (Each-append (λ (r : Request). AsksOfSource slices r.ticket r.said.command) source _ stands.reads (is, tt)) stands.changes stands;
+      (Each-append (λ (r : Request). AsksOfSource slices r.ticket r.said.command) source _ stands.reads ((is, plain, few), tt)) stands.changes stands;
 }
 
 pub flush_kept : FlushIsKept
-flush_kept how rows source destination link cookie command is = record {
+flush_kept how rows source destination link cookie command is plain = record {
   on = λ slices stands.
       beside how slices rows source destination source (asking link cookie ticket.Flush command destination)
       (λ n. refl) (λ n. own_asking_none n link cookie ticket.Flush command destination refl) refl (unanswered_asking_none link cookie ticket.Flush command destination refl)
-      stands.reads (Each-append (λ (r : Request). AsksOfDestination how slices r.ticket r.said.command) destination _ stands.changes (is, tt)) stands;
+      stands.reads (Each-append (λ (r : Request). AsksOfDestination how slices r.ticket r.said.command) destination _ stands.changes ((is, plain), tt)) stands;
 }

@@ -14,7 +14,7 @@ use Rattle.lnbd_board.specs.declared.row.Row.{Row}
 use Rattle.lnbd_board.specs.declared.row.Stage.{Stage}
 use Rattle.lnbd_board.specs.declared.row.Stage.TheVariants.{Reading, Last, Came, Writing, Holding, Finished}
 use Rattle.lnbd_board.specs.declared.ticket.Ticket.TheVariants as ticket
-use Rattle.lnbd_board.specs.Pieces.{Piece, spell1, ask_of, is_passed, write_at, AreLeft, IsDense}
+use Rattle.lnbd_board.specs.Pieces.{Piece, spell1, ask_of, is_passed, kind_of, write_at, zeroing_kind, AreLeft, IsDense}
 use Rattle.lnbd_board.specs.Requests.{Request, asking}
 use Rattle.lnbd_board.specs.Rows.{IsChange, Stands}
 
@@ -179,6 +179,7 @@ pub record WritesZeros (how : How) (s : Slice) (one : Change) : Type 0 where
   pub kept : is_passed how piece ≡ false
   pub change : IsChange how (ask_of how s.start piece)
   pub dense : IsDense how (ask_of how s.start piece)
+  pub zeroed : kind_of piece ≡ zeroing_kind how
 
 -- what is asked first for a slice
 abbrev pub IsFirstAsk : How → Slice → Ask → Type 0

@@ -23,7 +23,7 @@ pub record Seen : Type 0 where
   pub rows : List (ℕ × Row)
   -- those of them that something came for, the earliest first
   pub came : List ℕ
-  -- the first error that was told
+  -- the first error that was told, or that of faulty content where some came
   pub error : Option ℕ
   -- the extents that were told last, whether there was no memory for some or some were told twice, and whether that request was answered
   pub told : List Extent
@@ -60,6 +60,11 @@ abbrev pub or_error : Option ℕ → ℕ → Option ℕ
 or_error None error = Some error
 or_error (Some first) error = Some first
 
+-- the first error stands, but faulty content comes before it
+abbrev pub content_first : Option ℕ → ℕ → Option ℕ
+content_first None error = Some error
+content_first (Some first) error = if error == 71 then Some error else Some first
+
 -- a row waits for its read
 abbrev pub is_reading : Stage → Bool
 is_reading stage.Reading = true
@@ -82,9 +87,9 @@ filed_done (ticket.Slice n) buf old =
 filed_done ticket.Extents buf old = record old { mapped = true }
 filed_done ticket.Flush buf old = record old { flushed = true }
 
--- A completion is filed, or its error is kept where it is the first.
+-- A completion is filed, or its error is kept where it is the first or that of faulty content.
 abbrev pub filed : Ticket → ℕ → List ℕ → Seen → Seen
-filed by error buf old = if error == 0 then filed_done by buf old else record old { error = or_error old.error error }
+filed by error buf old = if error == 0 then filed_done by buf old else record old { error = content_first old.error error }
 
 -- the extents of base:allocation are told for this ticket
 abbrev pub is_map : Ticket → List ℕ → Bool

@@ -1,5 +1,6 @@
 -- The pieces in which the bytes of a slice are written.
 use Rattle.std.specs.Prelude.{◌≡◌, ℕ, ◌+◌, ◌/◌, ◌*◌, ◌≤◌, Bool, true, false, not, ◌&&◌, ◌||◌, List, [], ◌∷◌, ◌++◌, length, replicate, cond, None, if◌then◌else◌, ◌==◌}
+use Rattle.lnbd_model.specs.declared.kind.Kind.{Kind}
 use Rattle.lnbd_model.specs.declared.kind.Kind.TheVariants.{Write, Zero}
 use Rattle.lnbd_records.specs.Flags.{cmd_flag_no_hole}
 use Rattle.lnbd_history.specs.Commands.{Command}
@@ -36,6 +37,14 @@ zero_at allocated at n = record { kind = Zero; flags = zero_flags allocated; off
 abbrev pub ask_of : How → ℕ → Piece → Command Nobody
 ask_of how at (Bytes bytes) = write_at at bytes
 ask_of how at (Zeros n) = zero_at how.allocated at n
+
+-- the kind of a piece's request, and that by which a destination zeroes: WRITE_ZEROES where it takes that, or else zeros are written
+abbrev pub kind_of : Piece → Kind
+kind_of (Bytes bytes) = Write
+kind_of (Zeros n) = Zero
+
+abbrev pub zeroing_kind : How → Kind
+zeroing_kind how = if how.zeroes then Zero else Write
 
 -- zero pieces are passed over where the destination is zero
 abbrev pub is_passed : How → Piece → Bool

@@ -16,7 +16,7 @@ use Rattle.lnbd_board.specs.declared.row.Stage.TheVariants.{Reading, Last, Came,
 use Rattle.lnbd_board.specs.declared.ticket.Ticket.{Ticket}
 use Rattle.lnbd_board.specs.declared.ticket.Ticket.TheVariants as ticket
 use Rattle.lnbd_board.specs.Requests.{Said, Request, own, unanswered, Each, waiting}
-use Rattle.lnbd_board.specs.Pieces.{Piece, spell, spell1, ask_of, is_passed, wrote, AreLeft, IsDense, zero_flags}
+use Rattle.lnbd_board.specs.Pieces.{Piece, spell, spell1, ask_of, is_passed, wrote, AreLeft, IsDense, kind_of, zero_flags, zeroing_kind}
 
 -- whether a request is under way
 abbrev pub is_busy : Stage → Bool
@@ -54,7 +54,7 @@ pub record IsReading (s : Slice) (read changed : List Said) : Type 0 where
   pub asked : IsRead s Unfinished read
   pub unchanged : changed ≡ []
 
--- the last piece is asked to be written
+-- the last piece is asked to be written, which of a zero slice is all of it
 pub record IsEnding (how : How) (s : Slice) (read changed : List Said) : Type 0 where
   pub bytes : List ℕ
   pub known : Known s bytes read
@@ -63,11 +63,13 @@ pub record IsEnding (how : How) (s : Slice) (read changed : List Said) : Type 0 
   pub spelt : spell did ++ spell1 now ≡ bytes
   pub kept : is_passed how now ≡ false
   pub asked : changed ≡ wrote how s.start did ++ waiting (ask_of how (s.start + length (spell did)) now) ∷ []
+  pub alone : s.zero ≡ true → (did ≡ []) × (kind_of now ≡ zeroing_kind how)
 
 -- the slice was read
 pub record IsHere (s : Slice) (bytes : List ℕ) (read changed : List Said) : Type 0 where
   pub known : Known s bytes read
   pub unchanged : changed ≡ []
+  pub data_ : s.zero ≡ false
 
 -- the pieces before a place are written
 pub record IsHeld (how : How) (s : Slice) (bytes : List ℕ) (left : List Slice) (read changed : List Said) : Type 0 where
@@ -78,6 +80,7 @@ pub record IsHeld (how : How) (s : Slice) (bytes : List ℕ) (left : List Slice)
   pub fits : at ≤ length bytes
   pub asked : changed ≡ wrote how s.start did
   pub rest : AreLeft how s bytes at left
+  pub data_ : s.zero ≡ false
 
 -- and the next piece is asked to be, up to a place
 pub record IsWritten (how : How) (s : Slice) (bytes : List ℕ) (left : List Slice) (read changed : List Said) : Type 0 where
@@ -90,14 +93,23 @@ pub record IsWritten (how : How) (s : Slice) (bytes : List ℕ) (left : List Sli
   pub kept : is_passed how now ≡ false
   pub asked : changed ≡ wrote how s.start did ++ waiting (ask_of how (s.start + length (spell did)) now) ∷ []
   pub rest : AreLeft how s bytes to left
+  pub data_ : s.zero ≡ false
 
--- A slice that is over: its bytes are known, and all its pieces are written.
+-- one piece, which is not passed over, and is asked for as zeros are
+pub record IsOnePiece (how : How) (did : List Piece) : Type 0 where
+  pub piece : Piece
+  pub is : did ≡ piece ∷ []
+  pub kept : is_passed how piece ≡ false
+  pub kind : kind_of piece ≡ zeroing_kind how
+
+-- A slice that is over: its bytes are known, and all its pieces are written. Of a zero slice that is one.
 pub record IsOver (how : How) (s : Slice) (read changed : List Said) : Type 0 where
   pub bytes : List ℕ
   pub known : Known s bytes read
   pub did : List Piece
   pub spelt : spell did ≡ bytes
   pub asked : changed ≡ wrote how s.start did
+  pub one : s.zero ≡ true → IsOnePiece how did
 
 abbrev pub StandsAt : How → Slice → Stage → List Said → List Said → Type 0
 StandsAt how s Reading read changed = IsReading s read changed
@@ -123,21 +135,29 @@ pub record IsInside (slices : List Slice) (n : ℕ) (command : Command Nobody) :
   pub begun : n < length slices
   pub inside : (p : ℕ) → has command p ≡ true → lies_in (slice_at slices n) p ≡ true
 
--- On the source slices are read, and extents asked for.
+-- the most bytes whose extents are asked for at once
+abbrev pub max_extents : ℕ
+max_extents = 134217728
+
+-- On the source slices are read that were not told as zero, and the extents of so many bytes at most asked for. No request has flags.
 abbrev pub AsksOfSource : List Slice → Ticket → Command Nobody → Type 0
-AsksOfSource slices (ticket.Slice n) command = (command.kind ≡ Read) × IsInside slices n command
-AsksOfSource slices ticket.Extents command = command.kind ≡ BlockStatus
+AsksOfSource slices (ticket.Slice n) command = (command.kind ≡ Read) × IsInside slices n command × (command.flags ≡ 0) × ((slice_at slices n).zero ≡ false)
+AsksOfSource slices ticket.Extents command = (command.kind ≡ BlockStatus) × (command.flags ≡ 0) × (command.length ≤ max_extents)
 AsksOfSource slices ticket.Flush command = ⊥
 
--- a change: WRITE, or WRITE_ZEROES with its flags
+-- a change: WRITE without flags; or WRITE_ZEROES with its flags, where zeros are not passed over
 abbrev pub IsChange : How → Command Nobody → Type 0
-IsChange how command = (command.kind ≡ Write) ⊎ ((command.kind ≡ Zero) × (command.flags ≡ zero_flags how.allocated))
+IsChange how command = ((command.kind ≡ Write) × (command.flags ≡ 0)) ⊎ ((command.kind ≡ Zero) × (command.flags ≡ zero_flags how.allocated) × (how.skip ≡ false))
 
--- On the destination slices are written, and it is flushed.
+-- a slice that was told as zero is zeroed as the destination takes it
+abbrev pub IsZeroed : How → Slice → Command Nobody → Type 0
+IsZeroed how s command = s.zero ≡ true → command.kind ≡ zeroing_kind how
+
+-- On the destination slices are written, and it is flushed, without flags.
 abbrev pub AsksOfDestination : How → List Slice → Ticket → Command Nobody → Type 0
-AsksOfDestination how slices (ticket.Slice n) command = IsChange how command × IsInside slices n command × IsDense how command
+AsksOfDestination how slices (ticket.Slice n) command = IsChange how command × IsInside slices n command × IsDense how command × IsZeroed how (slice_at slices n) command
 AsksOfDestination how slices ticket.Extents command = ⊥
-AsksOfDestination how slices ticket.Flush command = command.kind ≡ Flush
+AsksOfDestination how slices ticket.Flush command = (command.kind ≡ Flush) × (command.flags ≡ 0)
 
 -- The central invariant, slice by slice.
 pub record Stands (how : How) (slices : List Slice) (rows : List (ℕ × Row)) (source destination : List Request) : Type 0 where

@@ -1,6 +1,6 @@
 -- What is answered and asked beside the board: requests are answered in whatever order, and each answer is filed by its ticket; extents are asked for, and
 -- the destination is flushed.
-use Rattle.std.specs.Prelude.{◌≡◌, ◌⊎◌, ℕ, List, [], ◌∷◌, None}
+use Rattle.std.specs.Prelude.{◌≡◌, ◌⊎◌, ◌≤◌, ℕ, List, [], ◌∷◌, None}
 use Rattle.lnbd_model.specs.declared.kind.Kind.TheVariants.{BlockStatus, Flush}
 use Rattle.lnbd_callbacks.specs.Calls.{Call, Chunk, Extents, Complete, Free}
 use Rattle.lnbd_callbacks.specs.Steps.{OneByOne}
@@ -13,7 +13,7 @@ use Rattle.lnbd_board.specs.declared.ticket.Ticket.TheVariants as ticket
 use Rattle.lnbd_board.specs.Asks.{Keeps}
 use Rattle.lnbd_board.specs.Files.{Seen, Files}
 use Rattle.lnbd_board.specs.Requests.{Request, Answers, asking}
-use Rattle.lnbd_board.specs.Rows.{Stands}
+use Rattle.lnbd_board.specs.Rows.{Stands, max_extents}
 
 -- A request of this ticket is done with this buffer, on one of both sides.
 abbrev pub IsAnswered : Ticket → List ℕ → (source destination source2 destination2 : List Request) → Type 0
@@ -43,11 +43,11 @@ CallsAreKept = (how : How) (calls : List (Call Ticket)) (board board2 : Seen) (s
 abbrev pub NothingStands : Type 0
 NothingStands = (how : How) → Stands how [] [] [] []
 
--- It stands on where extents are asked for, and where the destination is to be flushed.
+-- It stands on where the extents of so many bytes are asked for, and where the destination is to be flushed.
 abbrev pub ExtentsAreKept : Type 0
-ExtentsAreKept = (how : How) (rows : List (ℕ × Row)) (source destination : List Request) (link cookie : ℕ) (command : Command Nobody) → command.kind ≡ BlockStatus →
+ExtentsAreKept = (how : How) (rows : List (ℕ × Row)) (source destination : List Request) (link cookie : ℕ) (command : Command Nobody) → command.kind ≡ BlockStatus → command.flags ≡ 0 → command.length ≤ max_extents →
     Keeps how rows source destination rows (asking link cookie ticket.Extents command source) destination
 
 abbrev pub FlushIsKept : Type 0
-FlushIsKept = (how : How) (rows : List (ℕ × Row)) (source destination : List Request) (link cookie : ℕ) (command : Command Nobody) → command.kind ≡ Flush →
+FlushIsKept = (how : How) (rows : List (ℕ × Row)) (source destination : List Request) (link cookie : ℕ) (command : Command Nobody) → command.kind ≡ Flush → command.flags ≡ 0 →
     Keeps how rows source destination rows source (asking link cookie ticket.Flush command destination)

@@ -3,7 +3,7 @@
 ghost use Rattle.std.specs.Prelude.{◌≡◌, ℕ, ◌+◌, ◌<◌, ◌≤◌, ◌^◌, ◌-◌, [], ◌∷◌, ◌++◌, true, false, not, length, slice_get, IfOk, OnOk, OnErr, OnSome, IfNone, IsSome, Some, None, if◌then◌else◌, ◌==◌};
 ghost use Rattle.std.specs.VecDeque.{deque_capacity};
 ghost use Rattle.lnbd_keyed.specs.Keyed.{value_at, without, IsBelow};
-ghost use Rattle.lnbd_board.specs.Files.{or_error, is_reading, is_unfit, received, rows_with, came_with};
+ghost use Rattle.lnbd_board.specs.Files.{or_error, content_first, is_reading, is_unfit, received, rows_with, came_with};
 ghost use Rattle.lnbd_board.specs.Rows.{is_busy, busy};
 ghost use Rattle.lnbd_board.specs.Asks.{Goes, is_over};
 ghost use Rattle.lnbd_board.specs.Board.{AllSit, IsIdle, WentOn, IsOverAt, IsBoundTo, HasRoom};
@@ -186,7 +186,7 @@ impl Board {
         self.begun
     }
 
-    /// The first error that was told.
+    /// The first error that was told, or that of faulty content, EPROTO, where a command came to it.
     pub fn error(&self) -> Option<u32>
         ensures { result ≡ self.now.error }
     {
@@ -278,7 +278,7 @@ impl Board {
         ensures { self.new ≡ filed by error buf self.old }
     {
         if error != 0 {
-            self.error = first_error(self.error, error);
+            self.error = content_first(self.error, error);
             return;
         }
         match by {
@@ -310,11 +310,28 @@ impl Board {
     }
 }
 
+/// The first error stands.
 fn first_error(old: Option<u32>, error: u32) -> Option<u32>
     ensures { result ≡ or_error old error }
 {
     match old {
         Some(first) => Some(first),
+        None => Some(error),
+    }
+}
+
+/// The first error stands, but faulty content comes before it.
+fn content_first(old: Option<u32>, error: u32) -> Option<u32>
+    ensures { result ≡ content_first old error }
+{
+    match old {
+        Some(first) => {
+            if error == EPROTO {
+                Some(error)
+            } else {
+                Some(first)
+            }
+        }
         None => Some(error),
     }
 }

@@ -98,7 +98,8 @@ fn copy_one(rt: &impl Abort, alloc: Global, board: &mut Board) -> Result<(), NoM
     Ok(())
 }
 
-// Extents are kept for the request that asked for them, an error that came first stands, and a flush is noted.
+// Extents are kept for the request that asked for them, a flush is noted, and an error that came first stands, but that
+// of faulty content, 71, comes before it.
 #[test]
 fn what_comes_is_filed(rt: HostRuntime) {
     let alloc = rt.alloc();
@@ -119,6 +120,10 @@ fn what_comes_is_filed(rt: HostRuntime) {
     let _verdict = Ticket::Flush.complete(&mut board, 5, none(alloc));
     let _verdict = Ticket::Flush.complete(&mut board, 28, none(alloc));
     assert_eq!(rt; board.error(), Some(5));
+    let _verdict = Ticket::Flush.complete(&mut board, 71, none(alloc));
+    assert_eq!(rt; board.error(), Some(71));
+    let _verdict = Ticket::Flush.complete(&mut board, 5, none(alloc));
+    assert_eq!(rt; board.error(), Some(71));
     assert_eq!(rt; board.begun(), 0);
     board.end();
 }

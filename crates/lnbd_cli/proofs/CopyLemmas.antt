@@ -14,6 +14,7 @@ use Rattle.lnbd_plan.specs.declared.fault.CopyFault.TheVariants as copying
 use Rattle.lnbd_course.specs.Asks.{GrewBy}
 use Rattle.lnbd_course.specs.Copied.{Copies}
 use Rattle.lnbd_copy.specs.Copier as copier
+use Rattle.lnbd_copy.specs.Decided.{IsDecided}
 use Rattle.lnbd_copy.specs.Grounds.{IsGrounded}
 use Rattle.lnbd_cli.specs.declared.copying.Uncopied.{Uncopied}
 use Rattle.lnbd_cli.specs.declared.copying.Uncopied.TheVariants as why
@@ -155,3 +156,9 @@ pub grounded_by : (seen : copier.Seen) (from to : Place) (options : CopyOptions)
     IsGrounded a b seen.from seen.to fault → IsGrounded a b from to fault
 grounded_by seen from to options a b fault what shown =
     subst (λ (p : Place). IsGrounded a b from p fault) what.2 (subst (λ (p : Place). IsGrounded a b p seen.to fault) what.1 shown)
+
+pub decided_by : (seen : copier.Seen) (from to : Place) (options : CopyOptions) (a b : Option (List Call)) (fault : CopyFault) → (seen.options ≡ options) × (seen.from ≡ from) × (seen.to ≡ to) →
+    IsDecided a b seen.options.extents seen.from seen.to fault → IsDecided a b options.extents from to fault
+decided_by seen from to options a b fault what shown =
+    subst (λ (o : CopyOptions). IsDecided a b o.extents from to fault) what.0
+    (subst (λ (p : Place). IsDecided a b seen.options.extents from p fault) what.2 (subst (λ (p : Place). IsDecided a b seen.options.extents p seen.to fault) what.1 shown))

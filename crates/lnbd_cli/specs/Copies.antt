@@ -16,6 +16,7 @@ use Rattle.lnbd_args.specs.Tools.{Asks, IsMisplaced, Reads, Wanted}
 use Rattle.lnbd_course.specs.Asks.{GrewBy}
 use Rattle.lnbd_course.specs.Copied.{Copies}
 use Rattle.lnbd_copy.specs.Conduct.{Conducts}
+use Rattle.lnbd_copy.specs.Decided.{IsDecided}
 use Rattle.lnbd_copy.specs.Grounds.{IsGrounded}
 use Rattle.lnbd_copy.specs.Made.{IsMade}
 use Rattle.lnbd_cli.specs.declared.copying.Transfer.{Transfer}
@@ -100,11 +101,12 @@ pub record HasCopied (words : List (String Global)) (told told' : Option (List C
   pub made : asked.transfer.from ≢ asked.transfer.to → GrewBy (WasMade asked.transfer.options asked.transfer.from asked.transfer.to) told told'
   pub conduct : GrewBy (Conducts asked.transfer.options asked.transfer.from asked.transfer.to) told told'
 
--- What the words ask to be copied did not come to its end, for a fault on the grounds that the calls show by which this transcript grew; and these conduct such a copy until it is broken off.
+-- What the words ask to be copied did not come to its end, for a fault on the grounds that the calls show by which this transcript grew; these conduct such a copy until it is broken off, and before the event that decided nothing had come for which it ends.
 pub record HasFailed (words : List (String Global)) (told told' : Option (List Call)) (fault : CopyFault) : Type 0 where
   pub asked : IsTransfer words
   pub grounds : IsGrounded told told' asked.transfer.from asked.transfer.to fault
   pub conduct : GrewBy (Conducts asked.transfer.options asked.transfer.from asked.transfer.to) told told'
+  pub decided : IsDecided told told' asked.transfer.options.extents asked.transfer.from asked.transfer.to fault
 
 -- What the end of a run tells of the words and of the calls; the last says that nothing was called.
 abbrev pub CopyEnds : Result (Unit {0}) Uncopied → List (String Global) → (told told' : Option (List Call)) → (Uncalled : Type 0) → Type 0

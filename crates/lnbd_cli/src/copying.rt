@@ -6,6 +6,7 @@ ghost use Rattle.lnbd_script.specs.Seen.{patience};
 ghost use Rattle.lnbd_course.specs.Asks.{GrewBy};
 ghost use Rattle.lnbd_course.specs.Copied.{Copies};
 ghost use Rattle.lnbd_copy.specs.Conduct.{Conducts};
+ghost use Rattle.lnbd_copy.specs.Decided.{IsDecided};
 ghost use Rattle.lnbd_copy.specs.Grounds.{IsGrounded};
 ghost use Rattle.lnbd_cli.specs.Runs.{Prints};
 ghost use Rattle.lnbd_cli.specs.declared.copying.Uncopied.TheVariants as why;
@@ -71,6 +72,7 @@ fn copy<W: Wires>(alloc: Global, what: Transfer, wires: &mut W) -> Result<(), Co
     ensures copies { what.from ≢ what.to → OnOk result (Copies what.from what.to what.options.destination_is_zero (W.told wires.old) (W.told wires.new)) }
     ensures made { what.from ≢ what.to → OnOk result (GrewBy (WasMade what.options what.from what.to) (W.told wires.old) (W.told wires.new)) }
     ensures grounds { IfErr result (λ fault. IsGrounded (W.told wires.old) (W.told wires.new) what.from what.to fault) }
+    ensures decides { IfErr result (λ fault. IsDecided (W.told wires.old) (W.told wires.new) what.options.extents what.from what.to fault) }
     ensures conducts { GrewBy (Conducts what.options what.from what.to) (W.told wires.old) (W.told wires.new) }
     ensures link { (before after : ℕ) → result ≡ Err (CopyFault.Link before after) → Rises 1 (W.faults wires.old) (W.faults wires.new) }
     ensures silent { (idles : ℕ) → result ≡ Err (CopyFault.Silent idles) → Rises patience (W.idles wires.old) (W.idles wires.new) }

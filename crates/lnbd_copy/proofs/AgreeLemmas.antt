@@ -56,7 +56,7 @@ quiet_more n held handle below is quiet = record {
   ];
 }
 
-held_below : (held : List (Held Ticket)) (index : ℕ) (one : Held Ticket) → slice_get held index ≡ Some one → index < length held
+pub held_below : (held : List (Held Ticket)) (index : ℕ) (one : Held Ticket) → slice_get held index ≡ Some one → index < length held
 held_below [] index one there = absurd (none_some one there)
 held_below (first ∷ others) zero one there = omega arith
 held_below (first ∷ others) (suc index) one there = let more = held_below others index one there in omega (arith, more)

@@ -24,7 +24,7 @@ use Rattle.lnbd_board.specs.declared.row.Row.{Row}
 use Rattle.lnbd_board.specs.declared.row.Stage.{Stage}
 use Rattle.lnbd_board.specs.declared.ticket.Ticket.{Ticket}
 use Rattle.lnbd_board.specs.declared.ticket.Ticket.TheVariants as ticket
-use Rattle.lnbd_board.specs.Files.{Files, Hears, came_with, filed_done, is_map, is_unfit, or_error, received, rows_with}
+use Rattle.lnbd_board.specs.Files.{Files, Hears, came_with, filed_done, is_map, is_unfit, or_error, content_first, received, rows_with}
 use Rattle.lnbd_board.specs.Files as board
 use Rattle.lnbd_board.specs.Requests as sides_of
 use Rattle.lnbd_board.specs.Rows.{AsksOfDestination, AsksOfSource, is_busy}
@@ -112,7 +112,7 @@ done_same (ticket.Slice n) buf old = slice_same (is_unfit (value_at n old.rows) 
 done_same ticket.Extents buf old = same_none old.rows
 done_same ticket.Flush buf old = same_none old.rows
 
-completed_same : (well : Bool) (by : Ticket) (error : ℕ) (buf : List ℕ) (old : board.Seen) → SameBindings old.rows (if well then filed_done by buf old else record old { error = or_error old.error error }).rows
+completed_same : (well : Bool) (by : Ticket) (error : ℕ) (buf : List ℕ) (old : board.Seen) → SameBindings old.rows (if well then filed_done by buf old else record old { error = content_first old.error error }).rows
 completed_same true by error buf old = done_same by buf old
 completed_same false by error buf old = same_none old.rows
 

@@ -6,20 +6,21 @@ use Rattle.lnbd_plan.specs.declared.options.CopyOptions.{CopyOptions}
 use Rattle.lnbd_course.specs.Asks.{GrewBy}
 use Rattle.lnbd_copy.specs.Conduct.{Conducts}
 use Rattle.lnbd_copy.specs.Connects.{ConnectsWithin}
-use Rattle.lnbd_copy.specs.Driven.{AreDrivenBy}
+use Rattle.lnbd_copy.specs.DrivenAs.{AreDrivenBy}
 use Rattle.lnbd_copy.specs.Faults.{Behaves}
 use Rattle.lnbd_copy.specs.Links.{LinksAreKept}
 use Rattle.lnbd_copy.specs.Paused.{PausesAreFull}
 use Rattle.lnbd_copy.specs.Pauses.{AtEachPause, WantsOnlyFull}
+use Rattle.lnbd_copy.specs.Tried.{TriedBefore}
 use Rattle.lnbd_copy.specs.Vain.{WantsOnlyEmpty}
 use Rattle.lnbd_copy.specs.Waits.{WaitsWell}
 use Rattle.lnbd_copy.specs.Wanted.{WantsSome}
 
 pub conducts : (options : CopyOptions) (from to : Place) (a b : Option (List wire.Call)) → GrewBy LinksAreKept a b → GrewBy (ConnectsWithin options from to) a b
     → (from ≢ to → GrewBy (Behaves options from to) a b) → (from ≢ to → GrewBy (PausesAreFull options from to) a b)
-    → GrewBy (AtEachPause WaitsWell) a b → GrewBy (AtEachPause WantsOnlyFull) a b → GrewBy (AtEachPause WantsOnlyEmpty) a b → GrewBy (AtEachPause WantsSome) a b → GrewBy (AreDrivenBy options.extents from to) a b
+    → GrewBy (AtEachPause WaitsWell) a b → GrewBy (AtEachPause WantsOnlyFull) a b → GrewBy (AtEachPause WantsOnlyEmpty) a b → GrewBy (AtEachPause WantsSome) a b → GrewBy (AreDrivenBy options from to) a b → GrewBy (AtEachPause TriedBefore) a b
     → GrewBy (Conducts options from to) a b
-conducts options from to a b links within behaves pauses waits writes reads wanted drives = λ all part is grown. record {
+conducts options from to a b links within behaves pauses waits writes reads wanted drives tries = λ all part is grown. record {
   links = links all part is grown;
   within = within all part is grown;
   behaves = λ two. behaves two all part is grown;
@@ -29,4 +30,5 @@ conducts options from to a b links within behaves pauses waits writes reads want
   reads = reads all part is grown;
   wanted = wanted all part is grown;
   drives = drives all part is grown;
+  tries = tries all part is grown;
 }

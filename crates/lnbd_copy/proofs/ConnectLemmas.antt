@@ -10,8 +10,8 @@ use Rattle.lnbd_poll.specs.Held.{Held}
 use Rattle.lnbd_board.specs.declared.ticket.Ticket.{Ticket}
 use Rattle.lnbd_copy.specs.declared.sides.Sides.{Sides}
 use Rattle.lnbd_copy.specs.declared.terms.Terms.{Terms}
-use Rattle.lnbd_copy.specs.Connected.{AllConnected, StaysConnected}
-use Rattle.lnbd_copy.specs.Connects.{ConnectsAsTold, ConnectsWithin, HasSettledOn, LinksGoAsTold, LinksGoWithin, connected_to, one_each}
+use Rattle.lnbd_copy.specs.Connected.{AllConnected}
+use Rattle.lnbd_copy.specs.Connects.{ConnectsAsTold, ConnectsWithin, HasSettledOn, LinksGoAsTold, LinksGoWithin, StaysConnected, connected_to, one_each}
 use Rattle.lnbd_copy.specs.Copier.{HasMet, Seen}
 use Rattle.lnbd_copy.specs.Lasting.{Lasts}
 use Rattle.lnbd_copy.specs.Links.{ConnectTo, LinksGo, LinksGoTo}

@@ -1,23 +1,18 @@
 -- Where no connect fails, each gave a link; and a step that connects to nothing keeps it so.
-use Rattle.std.proofs.Common.{◌≡◌, ℕ, Bool, true, false, ◌||◌, List, [], ◌∷◌, ◌++◌, Option, Some, refl, sym, subst, ◌∙◌}
-use Rattle.std.proofs.lemmas.List.Folds.{list_any-append}
-use Rattle.std.specs.List.{list_any}
+use Rattle.std.proofs.Common.{◌≡◌, ℕ, List, [], ◌∷◌, Option, Some, refl, sym, subst}
 use Rattle.lnbd_link.specs.Call.{Call, Connect, Listen, Accept, Read, Write, Pause, Shut}
 use Rattle.lnbd_link.specs.Part.{Adds}
 use Rattle.lnbd_model.specs.declared.target.Target.{Target}
 use Rattle.lnbd_poll.specs.Held.{Held}
 use Rattle.lnbd_board.specs.declared.ticket.Ticket.{Ticket}
-use Rattle.lnbd_copy.specs.Connected.{AllConnected, StaysConnected, fails_to_connect}
+use Rattle.lnbd_board.specs.Files as board
+use Rattle.lnbd_copy.specs.Connected.{AllConnected}
+use Rattle.lnbd_copy.specs.Connects.{StaysConnected}
+use Rattle.lnbd_copy.specs.Giving.{GivesNone}
 use Rattle.lnbd_copy.specs.Links.{LinksGo, targets}
-use Rattle.lnbd_copy.specs.Way.{Told}
+use Rattle.lnbd_copy.specs.Way.{Goes, Stand, Told}
+use Rattle.lnbd_copy.proofs.RefusalLemmas.{connected_more}
 use Rattle.lnbd_copy.proofs.TurnLemmas.{since_on, told_begins, told_on}
-
-neither : (a b : Bool) → a ≡ false → b ≡ false → (a || b) ≡ false
-neither true b e f = e
-neither false b e f = f
-
-connected_more : (calls more : List Call) → AllConnected calls → AllConnected more → AllConnected (calls ++ more)
-connected_more calls more one two = list_any-append fails_to_connect calls more ∙ neither (list_any fails_to_connect calls) (list_any fails_to_connect more) one two
 
 -- Calls that connect to nothing.
 nowhere_connected : (calls : List Call) → targets calls ≡ [] → AllConnected calls
@@ -56,6 +51,20 @@ connected_links held held2 a b go = record {
         since_on start more.before all more.calls more.now was (connected_more was.calls more.calls was.is (nowhere_connected more.calls more.is));
   };
 }
+
+-- Calls of which none is a connect that failed.
+pub gives_connected : (a b : Option (List Call)) → GivesNone a b → StaysConnected a b
+gives_connected a b gives = record {
+  on = λ start is. record {
+    since = λ all told.
+        let gave = gives.on all told in
+        let was = is.since gave.before gave.was in
+        since_on start gave.before all gave.more gave.are was (connected_more was.calls gave.more was.is gave.connected);
+  };
+}
+
+pub goes_connected : (now now' : board.Seen) (held held' : List (Held Ticket)) (a b : Option (List Call)) → Goes now held a now' held' b → Stand held → StaysConnected a b
+goes_connected now now' held held' a b goes stand = gives_connected a b (goes.gives stand)
 
 pub connected_begins : (a b : Option (List Call)) → StaysConnected a b → Told a b AllConnected
 connected_begins a b stays = stays.on a (told_begins a refl)

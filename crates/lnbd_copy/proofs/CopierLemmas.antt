@@ -15,6 +15,7 @@ use Rattle.lnbd_course.specs.Counted.{HasNotCounted}
 use Rattle.lnbd_course.proofs.Placing.{agreeing_settles}
 use Rattle.lnbd_copy.specs.Agreed.{Agrees, AreAgreed, IsWished}
 use Rattle.lnbd_copy.specs.declared.job.Phase.TheVariants.{Copying}
+use Rattle.lnbd_copy.specs.Connected.{AllConnected}
 use Rattle.lnbd_copy.specs.Copier.{GoesFurther, HasMet, HasNotBegun, IsOnItsWay, Seen, beginning}
 use Rattle.lnbd_copy.specs.Dealt.{AreDealt}
 use Rattle.lnbd_copy.specs.Job as job
@@ -25,11 +26,13 @@ use Rattle.lnbd_copy.specs.Firsts.{KnowBoth}
 use Rattle.lnbd_copy.specs.Settled.{AreSettledBy, HasTerms, HasSettled}
 use Rattle.lnbd_copy.specs.Statuses.{FirstAgreedNone}
 use Rattle.lnbd_copy.specs.Way.{Goes, IsOn, IsUnderWay, Stand, Told, Way, is_source}
+use Rattle.lnbd_copy.proofs.ConnectedLemmas.{connected_begins, connected_none, connected_then, goes_connected}
 use Rattle.lnbd_copy.proofs.DialLemmas.{nothing_is_on, settled}
 use Rattle.lnbd_copy.proofs.FiledLemmas.{filed_none, filed_then}
 use Rattle.lnbd_copy.proofs.LastLemmas.{terms_later, lasts_none, lasts_then}
 use Rattle.lnbd_copy.proofs.SpreadLemmas.{begins_dealt}
 use Rattle.lnbd_copy.proofs.TurnLemmas.{told_begins}
+use Rattle.lnbd_copy.proofs.UnendedLemmas.{ended_wanting}
 
 pub told_as : {Is Is' : List wire.Call → Type 0} (start told : Option (List wire.Call)) → ((calls : List wire.Call) → Is calls → Is' calls) → Told start told Is → Told start told Is'
 told_as start told leads t = record {
@@ -55,7 +58,7 @@ always_on_ok (Err fault) a = tt
 
 module _ (copy : Seen) (sides : Sides) (first : ℕ) where
   pub further_none : (now : board.Seen) (held : List (Held Ticket)) (told : Option (List wire.Call)) → GoesFurther copy sides first now held told now held told
-  further_none now held told = record { stand = λ s. s; filed = λ s. filed_none now; on = λ size how start s count on. on; lasts = λ s. lasts_none told; know = λ source destination both. both }
+  further_none now held told = record { stand = λ s. s; filed = λ s. filed_none now; on = λ size how start s count on. on; lasts = λ s. lasts_none told; know = λ source destination both. both; connected = λ s. connected_none told }
 
   pub further_dials : (place : Place) (extents : Bool) (now now' : board.Seen) (held held2 held3 : List (Held Ticket)) (a b c : Option (List wire.Call)) → GoesFurther copy sides first now held a now' held2 b → Dials place extents now' held2 b held3 c →
       extents ≡ false → (length held ≡ first → length held2 ≢ 0) → (length held ≡ first → (size : Option ℕ) (how : How) → place_of (beginning copy size how sides) (length held2) ≡ place) → GoesFurther copy sides first now held a now' held3 c
@@ -65,6 +68,7 @@ module _ (copy : Seen) (sides : Sides) (first : ℕ) where
     on = λ size how start s count on. dials.on (beginning copy size how sides) start (there count size how) (λ none. absurd (some count none)) (λ asks. absurd (false≢true (sym unasked ∙ asks))) (further.on size how start s count on);
     lasts = λ s. lasts_then a b c (further.lasts s) dials.lasts;
     know = λ source destination both. dials.know source destination (further.know source destination both);
+    connected = λ s. connected_then a b c (further.connected s) dials.connected;
   }
 
   pub further_goes : (now now2 now3 : board.Seen) (held held2 held3 : List (Held Ticket)) (a b c : Option (List wire.Call)) → GoesFurther copy sides first now held a now2 held2 b → Goes now2 held2 b now3 held3 c → GoesFurther copy sides first now held a now3 held3 c
@@ -74,6 +78,7 @@ module _ (copy : Seen) (sides : Sides) (first : ℕ) where
     on = λ size how start s count on. goes.on false (beginning copy size how sides) start (further.stand s) (further.on size how start s count on);
     lasts = λ s. lasts_then a b c (further.lasts s) (goes.lasts (further.stand s));
     know = λ source destination both. goes.know source destination (further.know source destination both);
+    connected = λ s. connected_then a b c (further.connected s) (goes_connected now2 now3 held2 held3 b c goes (further.stand s));
   }
 
   pub further_then : (second : ℕ) (now now2 now3 : board.Seen) (held held2 held3 : List (Held Ticket)) (a b c : Option (List wire.Call)) → GoesFurther copy sides first now held a now2 held2 b → GoesFurther copy sides second now2 held2 b now3 held3 c →
@@ -84,6 +89,7 @@ module _ (copy : Seen) (sides : Sides) (first : ℕ) where
     on = λ size how start s is on. two.on size how start (one.stand s) (count is) (one.on size how start s is on);
     lasts = λ s. lasts_then a b c (one.lasts s) (two.lasts (one.stand s));
     know = λ source destination both. two.know source destination (one.know source destination both);
+    connected = λ s. connected_then a b c (one.connected s) (two.connected (one.stand s));
   }
 
 -- The first connection of each side.
@@ -98,7 +104,7 @@ pub to_second : (copy : Seen) (how : How) (sides : Sides) (n : ℕ) → n ≡ 1 
 to_second copy how sides n is = ap (λ (m : ℕ). place_of (beginning copy None how sides) m) is
 
 pub begins_on : (copy : Seen) (how : How) (sides : Sides) → HasNotBegun copy → IsOn (beginning copy None how sides) copy.board [] copy.held
-begins_on copy how sides none = subst (λ (held : List (Held Ticket)). IsOn (beginning copy None how sides) copy.board [] held) (sym none.held) (nothing_is_on (beginning copy None how sides) copy.board refl refl refl (λ p. refl) none.rows none.begun none.uncounted refl (λ p. refl))
+begins_on copy how sides none = subst (λ (held : List (Held Ticket)). IsOn (beginning copy None how sides) copy.board [] held) (sym none.held) (nothing_is_on (beginning copy None how sides) copy.board refl refl refl (λ p. refl) none.rows none.begun none.uncounted refl (λ p. refl) refl)
 
 -- The first two handles agreed on the source's size.
 agreed_on : (copy : Seen) (size : ℕ) (how : How) (sides : Sides) (calls : List wire.Call) → Agrees size copy.held → IsOn (beginning copy None how sides) copy.board calls copy.held → IsOn (beginning copy (Some size) how sides) copy.board calls copy.held
@@ -119,6 +125,8 @@ agreed_on copy size how sides calls agrees on =
       hears = on.hears;
       bound = on.bound;
       drives = on.drives;
+      ends = on.ends;
+      order = on.order;
     }
 
 pub first_on : (copy : Seen) (h : List (Held Ticket)) (t u : Option (List wire.Call)) (how : How) (sides : Sides) → HasNotBegun copy → Dials copy.from copy.options.extents copy.board copy.held t h u → Told t u (λ calls. IsOn (beginning copy None how sides) copy.board calls h)
@@ -142,6 +150,13 @@ second_on copy b h i j t u v w how sides none first one second =
     let one_held : length i ≡ 1 = one.many s1 ∙ first.many ∙ ap (λ (n : ℕ). n + 1) (ap (λ (l : List (Held Ticket)). length l) none.held) in
     (second.stand (one.stand s1), second.on way t (to_second copy how sides (length i) one_held) (λ none. absurd (one_some (length i) one_held none)) (λ asks. absurd (false≢true asks)) (one.on false way t s1 (first_on copy h t u how sides none first)))
 
+-- Each connect gave a link.
+pub one_connects : (copy : Seen) (b : board.Seen) (h i : List (Held Ticket)) (t u v : Option (List wire.Call)) → HasNotBegun copy → Dials copy.from copy.options.extents copy.board copy.held t h u → Goes copy.board h u b i v → Told t v AllConnected
+one_connects copy b h i t u v none first one = (goes_connected copy.board b h i u v one (first.stand (no_handles copy none))).on t (connected_begins t u first.connected)
+
+pub second_connects : (copy : Seen) (b : board.Seen) (h i j : List (Held Ticket)) (t u v w : Option (List wire.Call)) → HasNotBegun copy → Dials copy.from copy.options.extents copy.board copy.held t h u → Goes copy.board h u b i v → Dials copy.to false b i v j w → Told t w AllConnected
+second_connects copy b h i j t u v w none first one second = second.connected.on t (one_connects copy b h i t u v none first one)
+
 module _ (copy : Seen) (b c : board.Seen) (h i j k : List (Held Ticket)) (t u v w x : Option (List wire.Call)) where
   two_stand : Dials copy.from copy.options.extents copy.board copy.held t h u → Goes copy.board h u b i v → Dials copy.to false b i v j w → Goes b j w c k x → HasNotBegun copy → length k ≡ 2
   two_stand first one second two none =
@@ -154,6 +169,10 @@ module _ (copy : Seen) (b c : board.Seen) (h i j k : List (Held Ticket)) (t u v 
   two_on how sides none first one second two =
       let both = second_on copy b h i j t u v w how sides none first one second in
       two.on false (beginning copy None how sides) t both.0 both.1
+
+  pub two_connect : HasNotBegun copy → Dials copy.from copy.options.extents copy.board copy.held t h u → Goes copy.board h u b i v → Dials copy.to false b i v j w → Goes b j w c k x → Told t x AllConnected
+  two_connect none first one second two =
+      (goes_connected b c j k w x two (second.stand (one.stand (first.stand (no_handles copy none))))).on t (second_connects copy b h i j t u v w none first one second)
 
   pub has_met : (terms : Terms) → IsWished copy.options terms → IsLimited copy.options terms → (settled : HasTerms copy.options copy.from copy.to t x terms) → KnowBoth settled.source settled.destination k → Agrees terms.size k → HasNotBegun copy → Dials copy.from copy.options.extents copy.board copy.held t h u → Goes copy.board h u b i v → Dials copy.to false b i v j w → Goes b j w c k x →
       HasMet (record copy { held = k; board = c }) t x terms
@@ -173,6 +192,7 @@ module _ (copy : Seen) (b c : board.Seen) (h i j k : List (Held Ticket)) (t u v 
             (two_on terms.how terms.sides none first one second two);
         settled = settled;
         know = know;
+        connected = two_connect none first one second two;
       }
 
 -- the options are the same
@@ -258,6 +278,7 @@ met_on copy now held t u v terms met two further =
       on = further.on (Some terms.size) terms.how t met.stand two met.on;
       settled = terms_later copy.options copy.from copy.to t u v terms (further.lasts met.stand) met.settled;
       know = further.know met.settled.source met.settled.destination met.know;
+      connected = (further.connected met.stand).on t met.connected;
     }
 
 pub met_further : (copy new : Seen) (t u v : Option (List wire.Call)) (terms : Terms) → new ≡ with_held copy new → HasMet copy t u terms → length copy.held ≡ 2 → GoesFurther copy terms.sides 2 copy.board copy.held u new.board new.held v → HasMet new t v terms
@@ -266,11 +287,11 @@ met_further copy new t u v terms kept met two further = subst (λ (s : Seen). Ha
 pub further_kept : (copy mid : Seen) (sides : Sides) (first : ℕ) (now now' : board.Seen) (held held' : List (Held Ticket)) (a b : Option (List wire.Call)) → mid ≡ with_held copy mid → GoesFurther mid sides first now held a now' held' b → GoesFurther copy sides first now held a now' held' b
 further_kept copy mid sides first now now' held held' a b kept further =
     let same : GoesFurther (with_held copy mid) sides first now held a now' held' b = subst (λ (s : Seen). GoesFurther s sides first now held a now' held' b) kept further in
-    record { stand = same.stand; filed = same.filed; on = λ size how start s count on. same.on size how start s count on; lasts = same.lasts; know = same.know }
+    record { stand = same.stand; filed = same.filed; on = λ size how start s count on. same.on size how start s count on; lasts = same.lasts; know = same.know; connected = same.connected }
 
 -- Where no extents may be asked for, every position counts as heard.
-all_heard : (way : Way) (extents : Bool) (now : board.Seen) (calls : List wire.Call) (held : List (Held Ticket)) → (extents ≡ false → FirstAgreedNone way.extents way.from calls) → IsOn way now calls held → IsOn (record way { heard = λ p. not extents }) now calls held
-all_heard way extents now calls held silent on = record {
+all_heard : (way : Way) (extents flush : Bool) (now : board.Seen) (calls : List wire.Call) (held : List (Held Ticket)) → (extents ≡ false → FirstAgreedNone way.extents way.from calls) → way.ended ≡ false → IsOn way now calls held → IsOn (record way { heard = λ p. not extents; flush = flush }) now calls held
+all_heard way extents flush now calls held silent unended on = record {
   has = on.has;
   seens = on.seens;
   at = on.at;
@@ -282,6 +303,8 @@ all_heard way extents now calls held silent on = record {
   hears = record { answered = λ well two p h. inr (silent (not_true extents h)); first = on.hears.first; begun = on.hears.begun };
   bound = on.bound;
   drives = on.drives;
+  ends = ended_wanting way.extents way.how.skip way.how.skip way.flush flush way.from way.to calls way.ended on.seens unended on.ends;
+  order = on.order;
 }
   where
     not_true : (b : Bool) → not b ≡ true → b ≡ false
@@ -292,11 +315,11 @@ all_heard way extents now calls held silent on = record {
 pub begins_job : (copy : Seen) (start told : Option (List wire.Call)) (terms : Terms) (j : job.Seen) (now : board.Seen) (extents : Bool) → (met : HasMet copy start told terms) → copy.board.error ≡ None → now.rows ≡ [] → now.begun ≡ 0 → HasNotCounted now → now.how ≡ terms.how → j.terms ≡ terms → j.phase ≡ Copying → AreDealt terms.limit terms.sides j.bound [] →
     (extents ≡ false → (calls : List wire.Call) → IsOn (beginning copy (Some terms.size) terms.how terms.sides) copy.board calls copy.held → FirstAgreedNone copy.options.extents copy.from calls) →
     ((calls : List wire.Call) → IsOn (beginning copy (Some terms.size) terms.how terms.sides) copy.board calls copy.held → AllAlike copy.from copy.to met.settled.source met.settled.destination calls) →
-    ((way : Way) (b : board.Seen) → way.size ≡ Some terms.size → b.how ≡ terms.how → way.how ≡ terms.how → way.sides ≡ terms.sides → way.slices ≡ [] → way.asked ≡ None → ((block p : ℕ) → way.whole block p ≡ false) → b.flushing ≡ false → (extents ≡ false → (p : ℕ) → way.heard p ≡ true) → job.IsJob j way b) →
+    ((way : Way) (b : board.Seen) → way.size ≡ Some terms.size → b.how ≡ terms.how → way.how ≡ terms.how → way.sides ≡ terms.sides → way.slices ≡ [] → way.asked ≡ None → ((block p : ℕ) → way.whole block p ≡ false) → b.flushing ≡ false → (extents ≡ false → (p : ℕ) → way.heard p ≡ true) → ((p : ℕ) → way.reach p ≡ false) → way.ended ≡ false → way.flush ≡ terms.flush → job.IsJob j way b) →
     IsOnItsWay start told (record copy { board = now; job = Some j })
 begins_job copy start told terms j now extents met well empty new uncounted writes same copying dealt silent alike is =
     let before = beginning copy (Some terms.size) terms.how terms.sides in
-    let way : Way = record before { heard = λ p. not extents } in
+    let way : Way = record before { heard = λ p. not extents; flush = terms.flush } in
     record {
       stand = met.stand;
       job = j;
@@ -308,11 +331,12 @@ begins_job copy start told terms j now extents met well empty new uncounted writ
       wished = subst (IsWished copy.options) (sym same) met.wished;
       limited = subst (IsLimited copy.options) (sym same) met.limited;
       most = subst (λ (rows : List (ℕ × Row)). length rows ≤ j.terms.limit) (sym empty) (omega arith);
-      is = is way now refl writes refl refl refl refl (λ block p. refl) uncounted.flushing (λ none p. ap not none);
+      is = is way now refl writes refl refl refl refl (λ block p. refl) uncounted.flushing (λ none p. ap not none) (λ p. refl) refl refl;
       on = told_as start told
           (λ calls on. subst (λ (p : Bool). IsUnderWay p way now calls copy.held) (sym (ap job.is_parting copying))
-          (settled way terms.how copy.board now calls copy.held refl refl met.blank.rows well met.blank.unflushed empty new uncounted (all_heard before extents copy.board calls copy.held (λ none. silent none calls on) on)))
+          (settled way terms.how copy.board now calls copy.held refl refl refl met.blank.rows well met.blank.unflushed empty new uncounted (all_heard before extents terms.flush copy.board calls copy.held (λ none. silent none calls on) refl on)))
           met.on;
       settled = subst (HasSettled copy.options copy.from copy.to start told) (sym same) (record { first = met.settled; all = told_as start told alike met.on });
       spread = begins_dealt j terms now same empty dealt;
+      connected = met.connected;
     }

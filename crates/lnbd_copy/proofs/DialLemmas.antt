@@ -39,15 +39,18 @@ use Rattle.lnbd_copy.proofs.LastLemmas.{lasts_adds}
 use Rattle.lnbd_copy.proofs.HeldLemmas.{held_more}
 use Rattle.lnbd_copy.proofs.BindingLemmas.{bound_more, bound_none}
 use Rattle.lnbd_copy.proofs.BegunLemmas.{first_stays, went_none}
+use Rattle.lnbd_copy.proofs.ConnectedLemmas.{connected_adds}
 use Rattle.lnbd_copy.proofs.FirstLemmas.{more_knowing}
 use Rattle.lnbd_copy.proofs.DrivenLemmas.{drive_dialed}
+use Rattle.lnbd_copy.proofs.OrderLemmas.{ordered_dialed}
+use Rattle.lnbd_copy.proofs.UnendedLemmas.{ended_begins, ended_dialed, ended_wanting}
 use Rattle.lnbd_copy.proofs.HeardLemmas.{hears_dialed, hears_on}
 use Rattle.lnbd_copy.proofs.StepLemmas.{nothing_stands, settling_stands}
 use Rattle.lnbd_copy.proofs.TurnLemmas.{at_count, rested_on, none_some, since_on, some_same}
 
 -- Before any call a copy without handles, whose board is empty, is on its way.
-pub nothing_is_on : (way : Way) (now : board.Seen) → way.size ≡ None → way.slices ≡ [] → way.asked ≡ None → ((p : ℕ) → way.zero p ≡ false) → now.rows ≡ [] → now.begun ≡ 0 → HasNotCounted now → way.rested ≡ None → ((p : ℕ) → way.heard p ≡ false) → IsOn way now [] []
-nothing_is_on way now unsettled none unasked unknown empty new uncounted unrested unheard = record {
+pub nothing_is_on : (way : Way) (now : board.Seen) → way.size ≡ None → way.slices ≡ [] → way.asked ≡ None → ((p : ℕ) → way.zero p ≡ false) → now.rows ≡ [] → now.begun ≡ 0 → HasNotCounted now → way.rested ≡ None → ((p : ℕ) → way.heard p ≡ false) → way.ended ≡ false → IsOn way now [] []
+nothing_is_on way now unsettled none unasked unknown empty new uncounted unrested unheard unended = record {
   has = λ link. false;
   seens = [];
   at = tt;
@@ -59,12 +62,14 @@ nothing_is_on way now unsettled none unasked unknown empty new uncounted unreste
   hears = record { answered = λ well two p h. absurd (false≢true (sym (unheard p) ∙ h)); first = refl; begun = tt };
   bound = bound_none way.sides now [] empty;
   drives = record { went = tt; left = λ link apart given. absurd (false≢true given); first = λ link is. absurd (none_some link is) };
+  ends = ended_begins way.extents way.how.skip way.flush way.from way.to [] way.ended unended;
+  order = refl;
 }
 
 -- Another board, of a copy that writes otherwise, takes the place of one that is empty, before any slice is begun.
-pub settled : (way : Way) (how : How) (now now' : board.Seen) (calls : List wire.Call) (held : List (Held Ticket)) → way.slices ≡ [] → way.asked ≡ None → now.rows ≡ [] → now.error ≡ None → now.flushing ≡ false → now'.rows ≡ [] → now'.begun ≡ 0 → HasNotCounted now'
+pub settled : (way : Way) (how : How) (now now' : board.Seen) (calls : List wire.Call) (held : List (Held Ticket)) → way.ended ≡ false → way.slices ≡ [] → way.asked ≡ None → now.rows ≡ [] → now.error ≡ None → now.flushing ≡ false → now'.rows ≡ [] → now'.begun ≡ 0 → HasNotCounted now'
     → IsOn way now calls held → IsOn (record way { how = how }) now' calls held
-settled way how now now' calls held none unasked empty well unflushed empty' new uncounted on = record {
+settled way how now now' calls held unended none unasked empty well unflushed empty' new uncounted on = record {
   has = on.has;
   seens = on.seens;
   at = on.at;
@@ -76,6 +81,8 @@ settled way how now now' calls held none unasked empty well unflushed empty' new
   hears = hears_on false way.extents way.from way.to way.heard now.error now'.error (λ none. well) calls on.seens on.seens (first_stays on.seens) on.hears;
   bound = bound_none way.sides now' on.seens empty';
   drives = on.drives;
+  ends = ended_wanting way.extents way.how.skip how.skip way.flush way.flush way.from way.to calls way.ended on.seens unended on.ends;
+  order = on.order;
 }
 
 -- The last of some handles.
@@ -202,6 +209,8 @@ dialed way now calls held place link extents handle there wants only on new shor
       bound = bound_more way.sides now on.seens last (opened_asks place.name extents) (last_or on.seens last) on.bound;
       drives = drive_dialed way.extents way.from way.to on.has calls place.to link side on.seens place extents at_place (λ none. ap (is_source way.sides) none) (on.stands.told.course.unused link new).apart on.hears.first
           (λ none. wants (at_count held on.seens on.at ∙ none)) (λ asks. sym (at_count held on.seens on.at) ∙ only asks) (held_more calls place.to link on.seens last refl on.all) on.drives;
+      ends = ended_dialed way.extents way.how.skip way.flush way.from way.to calls (wire.Connect place.to (Some link) ∷ []) way.ended false on.seens link place.name extents on.ends;
+      order = ordered_dialed (is_source way.sides) on.has (with_link link side on.has) calls place.to on.seens last on.order;
     }
   where
     began_first : length on.seens ≡ 0 → length held ≡ length on.seens → BeganAs (opened way.from.name way.extents) (opened place.name extents)
@@ -240,4 +249,5 @@ dials a b c place now held held' link extents handle adds fresh told_is short st
       know = λ source destination both.
           let last : Seen Ticket = record { link = link; history = opened place.name extents; unread = [] } in
           record { seens = both.seens ++ last ∷ []; at = last_at held both.seens link handle (opened place.name extents) both.at stands; first = more_knowing 0 source both.seens (last ∷ []) both.first; second = more_knowing 1 destination both.seens (last ∷ []) both.second };
+      connected = connected_adds a b place.to link adds;
     }))

@@ -96,22 +96,21 @@ module _ (extents : Bool) (from to : Place) where
   began_same has calls more same link = ap (λ (b : Bool). opened (place_of from to (has link)).name b) (asks_same link extents calls more same)
 
   -- and so does how a link was driven that none of these calls reads or writes
-  unfoldable pub driven_later : (link : ℕ) (calls more : List wire.Call) → calls_on link more ≡ [] → ((n : ℕ) → is_given n more ≡ false) → WasDriven extents from to link calls → WasDriven extents from to link (calls ++ more)
-  driven_later link calls more quiet none d = record {
-    source = d.source;
+  unfoldable pub driven_later : (source : Bool) (link : ℕ) (calls more : List wire.Call) → calls_on link more ≡ [] → ((n : ℕ) → is_given n more ≡ false) → WasDriven extents from to source link calls → WasDriven extents from to source link (calls ++ more)
+  driven_later source link calls more quiet none d = record {
     address = target_stays link calls more (none link) ∙ d.address;
     history = d.history;
     unread = d.unread;
-    began = subst (λ (b : Bool). WentOn (opened (place_of from to d.source).name b) d.history) (sym (asks_same link extents calls more (first_same calls more none))) d.began;
+    began = subst (λ (b : Bool). WentOn (opened (place_of from to source).name b) d.history) (sym (asks_same link extents calls more (first_same calls more none))) d.began;
     lawful = d.lawful;
     spelled = d.spelled;
     drives = passes link calls d.history d.unread more d.drives quiet;
     first = λ is. d.first (sym (first_same calls more none) ∙ is);
   }
 
-  left_later : (link : ℕ) (calls more : List wire.Call) → calls_on link more ≡ [] → ((n : ℕ) → is_given n more ≡ false) → WasLeft extents from to link calls → WasLeft extents from to link (calls ++ more)
+  left_later : (source : Bool) (link : ℕ) (calls more : List wire.Call) → calls_on link more ≡ [] → ((n : ℕ) → is_given n more ≡ false) → WasLeft extents from to source link calls → WasLeft extents from to source link (calls ++ more)
   unfolding driven_later
-  left_later link calls more quiet none l = record { driven = driven_later link calls more quiet none l.driven; parted = l.parted; arrived = l.arrived }
+  left_later source link calls more quiet none l = record { driven = driven_later source link calls more quiet none l.driven; parted = l.parted; arrived = l.arrived }
 
   module _ (has : ℕ → Bool) where
     -- the handles stay, or go on as the links say still
@@ -119,7 +118,7 @@ module _ (extents : Bool) (from to : Place) where
         (AllWentOn (beginning_on extents from to has calls) seens → AllWentOn (beginning_on extents from to has calls) seens') → AllDriveOn extents from to has calls seens → AllDriveOn extents from to has (calls ++ more) seens'
     drive_later calls more seens seens' none apart quiet goes d = record {
       went = went_same (beginning_on extents from to has calls) (beginning_on extents from to has (calls ++ more)) seens' (began_same has calls more (first_same calls more none)) (goes d.went);
-      left = λ link other given. left_later link calls more (quiet link (apart link other)) none (d.left link (apart link other) (sym (given_stays link calls more (none link)) ∙ given));
+      left = λ link other given. left_later (has link) link calls more (quiet link (apart link other)) none (d.left link (apart link other) (sym (given_stays link calls more (none link)) ∙ given));
       first = λ link is. d.first link (sym (first_same calls more none) ∙ is);
     }
 
@@ -138,9 +137,8 @@ module _ (extents : Bool) (from to : Place) where
 
     -- One of the handles drives its link.
     unfoldable pub one_drove : (calls : List wire.Call) (seens : List (Seen Ticket)) (index : ℕ) (seen : Seen Ticket) → slice_get seens index ≡ Some seen → Lawful max_unretired seen.history → AllSpell seen.history → Drives seen.link calls seen.history seen.unread →
-        target_of seen.link calls ≡ Some (place_of from to (has seen.link)).to → AllWentOn (beginning_on extents from to has calls) seens → (first_given calls ≡ Some seen.link → has seen.link ≡ true) → WasDriven extents from to seen.link calls
+        target_of seen.link calls ≡ Some (place_of from to (has seen.link)).to → AllWentOn (beginning_on extents from to has calls) seens → (first_given calls ≡ Some seen.link → has seen.link ≡ true) → WasDriven extents from to (has seen.link) seen.link calls
     one_drove calls seens index seen there lawful spelled drives address went first = record {
-      source = has seen.link;
       address = address;
       history = seen.history;
       unread = seen.unread;
@@ -153,7 +151,7 @@ module _ (extents : Bool) (from to : Place) where
 
     -- One that had parted leaves it so,
     one_left : (calls : List wire.Call) (seens : List (Seen Ticket)) (index : ℕ) (seen : Seen Ticket) → slice_get seens index ≡ Some seen → Lawful max_unretired seen.history → AllSpell seen.history → Drives seen.link calls seen.history seen.unread →
-        target_of seen.link calls ≡ Some (place_of from to (has seen.link)).to → AllWentOn (beginning_on extents from to has calls) seens → (first_given calls ≡ Some seen.link → has seen.link ≡ true) → HasParted seen.history → seen.unread ≡ [] → WasLeft extents from to seen.link calls
+        target_of seen.link calls ≡ Some (place_of from to (has seen.link)).to → AllWentOn (beginning_on extents from to has calls) seens → (first_given calls ≡ Some seen.link → has seen.link ≡ true) → HasParted seen.history → seen.unread ≡ [] → WasLeft extents from to (has seen.link) seen.link calls
     unfolding one_drove
     one_left calls seens index seen there lawful spelled drives address went first parted arrived = record { driven = one_drove calls seens index seen there lawful spelled drives address went first; parted = parted; arrived = arrived }
 
@@ -167,10 +165,10 @@ module _ (extents : Bool) (from to : Place) where
       first = d.first;
     }
       where
-        go : (link : ℕ) → AreApart link (take index seens ++ drop (index + 1) seens) → is_given link calls ≡ true → (link ≡ seen.link) ⊎ (link ≡ seen.link → ⊥) → WasLeft extents from to link calls
+        go : (link : ℕ) → AreApart link (take index seens ++ drop (index + 1) seens) → is_given link calls ≡ true → (link ≡ seen.link) ⊎ (link ≡ seen.link → ⊥) → WasLeft extents from to (has link) link calls
         go link apart given (inl same) =
             let one = one_of calls seens index seen there own.drive own.plain in
-            subst (λ (n : ℕ). WasLeft extents from to n calls) (sym same)
+            subst (λ (n : ℕ). WasLeft extents from to (has n) n calls) (sym same)
             (one_left calls seens index seen there lawful one.plain.spelled one.drives (address seen.link (subst (λ (n : ℕ). is_given n calls ≡ true) same given)) d.went (d.first seen.link) parted one.plain.arrived)
         go link apart given (inr differ) = d.left link (apart_or link index seen seens there (subst (AreApart link) (sym (take_drop index seens)) apart) differ) given
 

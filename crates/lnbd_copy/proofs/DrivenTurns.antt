@@ -12,7 +12,7 @@ use Rattle.lnbd_poll.specs.declared.noticed.Noticed.TheVariants as noticed
 use Rattle.lnbd_poll.specs.Alone.{AreApart}
 use Rattle.lnbd_poll.specs.Notices.{Arrives, Hears, ReadsIf, ReadsOn, Sends, WritesIf, is_reading, is_waiting}
 use Rattle.lnbd_poll.specs.Seen.{Follows, Seen}
-use Rattle.lnbd_poll.specs.Turns.{All_took, Ending, Goes_on, Runs_short, Stops, Takes, Turns, TurnsOne, WritesAll, is_lost}
+use Rattle.lnbd_poll.specs.Turns.{All_took, Ending, Goes_on, Runs_short, Breaks_off, Stops, Takes, Turns, TurnsOne, WritesAll, is_lost}
 use Rattle.lnbd_poll.specs.Turns as turns
 use Rattle.lnbd_drives.specs.Driving.{AllPlain}
 use Rattle.lnbd_board.specs.declared.ticket.Ticket.{Ticket}
@@ -186,6 +186,7 @@ turns_brought before now part after now' ending (Takes _ _ _ _ _ _ seen others n
 turns_brought before now part after now' ending (Runs_short _ _ _ _ _ _ seen others here moved is one after_is end) =
     subst (λ (l : List (Seen Ticket)). AllBrought l after) (sym is)
     (subst (λ (l : List (Seen Ticket)). AllBrought (seen ∷ others) l) (sym after_is) (one_brought noticed.NoMemory seen here part now now' moved one, all_still others))
+turns_brought before now part after now' ending (Breaks_off _ _ _ _ _ _ none after_is world_is end) = subst (λ (l : List (Seen Ticket)). AllBrought before l) (sym after_is) (all_still before)
 
 -- So handles go on,
 pub brought_on : (first : ℕ → History Ticket) (before after : List (Seen Ticket)) → AllBrought before after → AllWentOn first before → AllWentOn first after

@@ -55,6 +55,7 @@ use Rattle.lnbd_copy.specs.Statuses.{ReadsAreAnswered}
 use Rattle.lnbd_copy.specs.Windows as windows
 use Rattle.lnbd_copy.specs.Way.{Filed, Goes, IsLeaving, IsOn, IsUnderWay, Stands, Told, Way, known_of}
 use Rattle.lnbd_copy.proofs.AnswerLemmas.{none_held, reads_are_answered}
+use Rattle.lnbd_copy.proofs.ConnectedLemmas.{gives_connected, goes_connected}
 use Rattle.lnbd_copy.proofs.CopierLemmas.{told_as}
 use Rattle.lnbd_copy.proofs.AlikeLemmas.{settled_later}
 use Rattle.lnbd_copy.proofs.PartLemmas.{on_leaving}
@@ -83,12 +84,15 @@ job_filed j way now now' filed is = record {
   rests = λ past. let r = is.rests past in record { was = r.was; is = r.is; error = λ none. r.error (filed.error none); read = filed.read ∙ r.read; written = filed.written ∙ r.written; zeroed = filed.zeroed ∙ r.zeroed };
   flushed = λ parts wanted. filed.flushed (is.flushed parts wanted);
   heard = is.heard;
+  reached = is.reached;
+  parts = is.parts;
+  wants = is.wants;
 }
 
 -- Once the connections part, places don't count any more.
-from_on : (parting : Bool) (way : Way) (now : board.Seen) (calls : List wire.Call) (held : List (Held Ticket)) → IsOn way now calls held → IsUnderWay parting way now calls held
-from_on true way now calls held on = on_leaving way now calls held on
-from_on false way now calls held on = on
+from_on : (parting : Bool) (way : Way) (now : board.Seen) (calls : List wire.Call) (held : List (Held Ticket)) → way.ended ≡ parting → IsOn way now calls held → IsUnderWay parting way now calls held
+from_on true way now calls held ended on = on_leaving way now calls held ended on
+from_on false way now calls held ended on = on
 
 pub past_copying : (phase : Phase) → job.is_parting phase ≡ true → phase ≢ Copying
 past_copying Copying parts = absurd (false≢true parts)
@@ -113,6 +117,7 @@ module _ (copy : Seen) (start : Option (List wire.Call)) where
     on = goes.on (job.is_parting on.job.phase) on.way start on.stand on.on;
     settled = settled_later copy.options copy.from copy.to start a b on.job.terms (goes.gives on.stand) on.settled;
     spread = dealt_filed on.job copy.board now (goes.filed on.stand) on.spread;
+    connected = (goes_connected copy.board now copy.held held a b goes on.stand).on start on.connected;
   }
 
   -- The job goes on.
@@ -134,10 +139,11 @@ module _ (copy : Seen) (start : Option (List wire.Call)) where
         most = subst (λ (t : Terms). length now.rows ≤ t.limit) (sym terms) (few (subst (λ (x : job.Seen). length copy.board.rows ≤ x.terms.limit) same on.most));
         is = acted.job';
         on = told_as start told
-            (λ calls is. from_on (job.is_parting j'.phase) acted.way' now calls held (acted.on calls (subst (λ (b : Bool). IsUnderWay b on.way copy.board calls copy.held) (ap (λ (x : job.Seen). job.is_parting x.phase) same ∙ going) is)))
+            (λ calls is. from_on (job.is_parting j'.phase) acted.way' now calls held acted.job'.parts (acted.on calls (subst (λ (b : Bool). IsUnderWay b on.way copy.board calls copy.held) (ap (λ (x : job.Seen). job.is_parting x.phase) same ∙ going) is)))
             on.on;
         settled = subst (HasSettled copy.options copy.from copy.to start told) (ap (λ (x : job.Seen). x.terms) same ∙ sym terms) on.settled;
         spread = spreads.on (subst (λ (x : job.Seen). HasDealt x copy.board) same on.spread);
+        connected = on.connected;
       }
 
   -- Connections part.
@@ -163,6 +169,7 @@ module _ (copy : Seen) (start : Option (List wire.Call)) where
             (leaves.on on.way start (on.is.asked ∙ ap (λ (b : Bool). if b then windows.wanted on.job.windows else None) over.heard) over.rows (told_as start a (λ calls is. subst (λ (p : Bool). IsUnderWay p on.way copy.board calls copy.held) parting is) on.on));
         settled = settled_later copy.options copy.from copy.to start a b on.job.terms leaves.gives on.settled;
         spread = dealt_filed on.job copy.board now leaves.filed on.spread;
+        connected = (gives_connected a b leaves.gives).on start on.connected;
       }
 
 -- The job goes on, whatever it is at.
@@ -232,7 +239,7 @@ pub between_sized : (way : Way) (size : ℕ) (has : ℕ → Bool) (now : board.S
 between_sized way size has now calls settled s = subst (λ (o : Option ℕ). Between way.from way.to o way.how has way.slices now calls []) settled s.between
 
 -- All is planned, as it was told.
-planned_whole : (j : job.Seen) (way : Way) (now : board.Seen) (calls : List wire.Call) → (is : job.IsJob j way now) → job.IsOver j now → (has : ℕ → Bool) → Stands way has now calls [] → way.from ≢ way.to →
+pub planned_whole : (j : job.Seen) (way : Way) (now : board.Seen) (calls : List wire.Call) → (is : job.IsJob j way now) → job.IsOver j now → (has : ℕ → Bool) → Stands way has now calls [] → way.from ≢ way.to →
     IsPlannedWhole way.how j.windows.plan.cells is.planned.parts way.from calls j.terms.size way.slices
 planned_whole j way now calls is over has s two =
     let b = between_sized way j.terms.size has now calls is.size s in
@@ -272,7 +279,7 @@ planned_once j way now is p =
     (subst (λ (n : ℕ). IsPlannedOnce j.windows.plan.cells (told_by 0 is.planned.parts) 0 n p (windows_slices j.windows.plan.cells 0 is.planned.parts)) is.planned.end (all_planned_once j.windows.plan.cells 0 is.planned.parts p))
 
 under_way_asks : (j : job.Seen) (way : Way) (now : board.Seen) (parting : Bool) (calls : List wire.Call) (held : List (Held Ticket)) → job.IsJob j way now → now.error ≡ None → IsUnderWay parting way now calls held → way.from ≢ way.to →
-    HasAskedOnce way.how.allocated way.from way.to calls
+    HasAskedOnce way.how.allocated way.how.skip way.from way.to calls
 under_way_asks j way now parting calls held is well on two =
     let between = subst (λ (o : Option ℕ). Between way.from way.to o way.how on.has way.slices now calls on.seens) is.size on.stands.between in
     let within = is.planned.within in
@@ -280,14 +287,15 @@ under_way_asks j way now parting calls held is well on two =
     ended_asks_once way.from way.to j.terms.size way.how on.has way.slices j.windows.plan.slices now calls j.windows.plan.cells (told_by 0 is.planned.parts) j.windows.plan.end
     (all_taken way.from way.to (Some j.terms.size) way.how on.has way.slices now calls held on.seens on.at between) well (planned_once j way now is) (omega (arith, within, ends)) two
 
-pub way_asks : (copy : Seen) (start told : Option (List wire.Call)) → copy.board.error ≡ None → IsOnItsWay start told copy → copy.from ≢ copy.to → Told start told (HasAskedOnce copy.options.allocated copy.from copy.to)
+pub way_asks : (copy : Seen) (start told : Option (List wire.Call)) → copy.board.error ≡ None → IsOnItsWay start told copy → copy.from ≢ copy.to → Told start told (HasAskedOnce copy.options.allocated copy.options.destination_is_zero copy.from copy.to)
 way_asks copy start told well on two =
     let apart : on.way.from ≢ on.way.to = λ e. two (sym on.from ∙ e ∙ on.to) in
     let allocated : on.way.how.allocated ≡ copy.options.allocated = ap (λ (h : How). h.allocated) on.is.how ∙ on.wished.allocated in
+    let skip : on.way.how.skip ≡ copy.options.destination_is_zero = ap (λ (h : How). h.skip) on.is.how ∙ on.wished.skip in
     told_as start told
-    (λ calls is. subst (λ (b : Bool). HasAskedOnce b copy.from copy.to calls) allocated
-    (subst (λ (t : Place). HasAskedOnce on.way.how.allocated copy.from t calls) on.to (subst (λ (f : Place). HasAskedOnce on.way.how.allocated f on.way.to calls) on.from
-    (under_way_asks on.job on.way copy.board (job.is_parting on.job.phase) calls copy.held on.is well is apart))))
+    (λ calls is. subst (λ (b : Bool). HasAskedOnce copy.options.allocated b copy.from copy.to calls) skip (subst (λ (b : Bool). HasAskedOnce b on.way.how.skip copy.from copy.to calls) allocated
+    (subst (λ (t : Place). HasAskedOnce on.way.how.allocated on.way.how.skip copy.from t calls) on.to (subst (λ (f : Place). HasAskedOnce on.way.how.allocated on.way.how.skip f on.way.to calls) on.from
+    (under_way_asks on.job on.way copy.board (job.is_parting on.job.phase) calls copy.held on.is well is apart)))))
     on.on
 
 -- Each read of the source so far was answered before, or no block status could be asked for.
@@ -337,7 +345,7 @@ way_all_done j way now calls is over parts has s well two =
 
 -- Each link was left as a copy does.
 all_left : (way : Way) (now : board.Seen) (calls : List wire.Call) → IsLeaving way now calls [] → AreLeft way.extents way.from way.to calls
-all_left way now calls on = record { each = λ link given. on.drives.left link (subst (AreApart link) (sym (none_left on.seens on.at)) tt) given }
+all_left way now calls on = record { has = on.has; each = λ link given. on.drives.left link (subst (AreApart link) (sym (none_left on.seens on.at)) tt) given }
 
 pub finished : (copy : Seen) (start told : Option (List wire.Call)) (j : job.Seen) → copy.job ≡ Some j → job.is_parting j.phase ≡ true → copy.held ≡ [] → copy.board.error ≡ None → IsOnItsWay start told copy → IsDone start told copy
 finished copy start told j there parts none well on =
@@ -449,10 +457,10 @@ done_copies copy new a b c kept same two done =
     subst (λ (t : Option (List wire.Call)). Copies copy.from copy.to copy.options.destination_is_zero a t) (sym same) (told_part a b (so.copied two))
 
 -- It asked nothing twice.
-pub done_asks : (copy new : Seen) (a b c : Option (List wire.Call)) → new ≡ record copy { start = new.start; held = new.held; board = new.board; job = new.job } → c ≡ b → copy.from ≢ copy.to → IsDone a b new → GrewBy (HasAskedOnce copy.options.allocated copy.from copy.to) a c
+pub done_asks : (copy new : Seen) (a b c : Option (List wire.Call)) → new ≡ record copy { start = new.start; held = new.held; board = new.board; job = new.job } → c ≡ b → copy.from ≢ copy.to → IsDone a b new → GrewBy (HasAskedOnce copy.options.allocated copy.options.destination_is_zero copy.from copy.to) a c
 done_asks copy new a b c kept same two done =
     let so = subst (λ (s : Seen). IsDone a b s) kept done in
-    subst (λ (t : Option (List wire.Call)). GrewBy (HasAskedOnce copy.options.allocated copy.from copy.to) a t) (sym same) (told_part a b (so.asked two))
+    subst (λ (t : Option (List wire.Call)). GrewBy (HasAskedOnce copy.options.allocated copy.options.destination_is_zero copy.from copy.to) a t) (sym same) (told_part a b (so.asked two))
 
 -- All that it asked was done.
 pub done_whole : (copy new : Seen) (a b c : Option (List wire.Call)) → new ≡ record copy { start = new.start; held = new.held; board = new.board; job = new.job } → c ≡ b → copy.from ≢ copy.to → IsDone a b new → GrewBy (WereAllDone copy.from copy.to) a c

@@ -9,8 +9,8 @@ use Rattle.lnbd_poll.specs.Held.{Held, AreAt}
 use Rattle.lnbd_poll.specs.Seen.{Seen}
 use Rattle.lnbd_poll.specs.Seen as poll
 use Rattle.lnbd_poll.specs.declared.noticed.Turn.{Turn}
-use Rattle.lnbd_poll.specs.Turned.{TurnsShort, TurnsWhole}
-use Rattle.lnbd_poll.specs.Turns.{Ending, Short, Turns, Whole}
+use Rattle.lnbd_poll.specs.Turned.{TurnsCut, TurnsWhole}
+use Rattle.lnbd_poll.specs.Turns.{Ending, Turns, Whole}
 use Rattle.lnbd_plan.specs.declared.options.CopyOptions.{CopyOptions}
 use Rattle.lnbd_plan.specs.Laws.{told_by}
 use Rattle.lnbd_board.specs.declared.how.How.{How}
@@ -18,12 +18,14 @@ use Rattle.lnbd_board.specs.declared.ticket.Ticket.{Ticket}
 use Rattle.lnbd_board.specs.Files as board
 use Rattle.lnbd_course.specs.Asks.{AreAskedOnce, HasAskedOnce}
 use Rattle.lnbd_course.specs.Between.{Between}
+use Rattle.lnbd_course.specs.Cells.{AreInCells}
 use Rattle.lnbd_course.specs.Flushes.{IsUnflushed, NoneFlushes, OneFlushes}
 use Rattle.lnbd_course.specs.Parts.{FlushesAtMostOnce, PartAsksOnce}
 use Rattle.lnbd_course.specs.Spares.{ReadsNoZeros, WritesNoZeros}
 use Rattle.lnbd_drives.proofs.Exports.{turns_give_none}
 use Rattle.lnbd_course.proofs.Parts.{parts_ask_once}
 use Rattle.lnbd_course.proofs.Quiet.{at_most_stays, dealt_stays, nothing_stays}
+use Rattle.lnbd_copy.specs.Cells.{KeepsToCells}
 use Rattle.lnbd_copy.specs.Copier.{IsOnItsWay}
 use Rattle.lnbd_copy.specs.Copier as copier
 use Rattle.lnbd_copy.specs.Faults.{Behaves, GoesIdly}
@@ -36,11 +38,13 @@ use Rattle.lnbd_copy.specs.Terms as both
 use Rattle.lnbd_copy.specs.Way.{IsUnderWay, Told, Way}
 use Rattle.lnbd_copy.proofs.AlikeLemmas.{alike_later, settled_later}
 use Rattle.lnbd_copy.proofs.AlwaysLemmas.{AreTerms, always_stays, always_turned, some_longer, way_settled}
+use Rattle.lnbd_copy.proofs.CellLemmas.{cells_stay, part_in_cells}
 use Rattle.lnbd_copy.proofs.CopierLemmas.{told_as}
 use Rattle.lnbd_copy.proofs.EndLemmas.{planned_once, with_all}
 use Rattle.lnbd_copy.proofs.FailLemmas.{all_stand}
 use Rattle.lnbd_copy.proofs.HeardLemmas.{may_stay}
 use Rattle.lnbd_copy.proofs.IdleLemmas.{StaysIdly, told_idly}
+use Rattle.lnbd_copy.proofs.RefusalLemmas.{turns_connected}
 use Rattle.lnbd_copy.proofs.SettledLemmas.{same_since, settled_with}
 use Rattle.lnbd_copy.proofs.TurnLemmas.{since_on, some_same}
 use Rattle.lnbd_copy.proofs.UntouchedLemmas.{grain_some, part_spares, untouched_stays}
@@ -70,7 +74,7 @@ found_stays options from to calls more quiet none found = record {
 
 behaves_stays : (options : CopyOptions) (from to : Place) → StaysIdly (Behaves options from to)
 behaves_stays options from to calls more quiet none b = record {
-  asks = at_most_stays calls more quiet none options.allocated from to b.asks;
+  asks = at_most_stays calls more quiet none options.allocated options.destination_is_zero from to b.asks;
   answered = answered_stays options.extents from calls more quiet none b.answered;
   dense = elim b.dense [
     | inl nothing ↦ inl (nothing_stays calls more quiet nothing)
@@ -83,6 +87,10 @@ behaves_stays options from to calls more quiet none b = record {
     | inr spared ↦ inr (untouched_stays from to calls more quiet none spared)
   ];
   shared = always_stays options from to calls more quiet none b.shared;
+  cut = elim b.cut [
+    | inl nothing ↦ inl (nothing_stays calls more quiet nothing)
+    | inr kept ↦ inr (cells_stay options from to calls more quiet none kept)
+  ];
 }
 
 pub behaves_idly : (options : CopyOptions) (from to : Place) (start a b : Option (List wire.Call)) → GoesIdly a b → Told start a (Behaves options from to) → Told start b (Behaves options from to)
@@ -104,8 +112,8 @@ pub record IsTurn (before : List (Seen Ticket)) (now : board.Seen) (calls : List
   pub turns : Turns steps before now calls after now' ending
 
 -- of which nothing behind the end of what is planned was asked, nothing was behind the last byte
-once_within : (allocated : Bool) (end size : ℕ) (source destination : Dealt) → end ≤ size → AreAskedOnce allocated end source destination → AreAskedOnce allocated size source destination
-once_within allocated end size source destination fits once = record {
+once_within : (allocated skip : Bool) (end size : ℕ) (source destination : Dealt) → end ≤ size → AreAskedOnce allocated skip end source destination → AreAskedOnce allocated skip size source destination
+once_within allocated skip end size source destination fits once = record {
   looks = once.looks;
   stores = once.stores;
   reads_once = once.reads_once;
@@ -113,6 +121,10 @@ once_within allocated end size source destination fits once = record {
   reads_within = λ link cookie command is p here. (let l = once.reads_within link cookie command is p here in omega (arith, l, fits));
   changes_within = λ link cookie command is p here. (let l = once.changes_within link cookie command is p here in omega (arith, l, fits));
   holes = once.holes;
+  looks_plain = once.looks_plain;
+  stores_plain = once.stores_plain;
+  skips = once.skips;
+  extents = once.extents;
 }
 
 module _ (j : job.Seen) (way : Way) (now now' : board.Seen) (parting : Bool) (calls part : List wire.Call) (held held' : List (Held Ticket)) (after : List (Seen Ticket)) (is : job.IsJob j way now) (well : now.error ≡ None) (on : IsUnderWay parting way now calls held) (at : AreAt held' after)
@@ -125,7 +137,7 @@ module _ (j : job.Seen) (way : Way) (now now' : board.Seen) (parting : Bool) (ca
       parts_ask_once way.from way.to j.terms.size way.how on.has way.slices j.windows.plan.slices now now' calls part on.seens after turn.ending j.windows.plan.cells (told_by 0 is.planned.parts) j.windows.plan.end
       between well turn.turns (all_stand held' after at) (planned_once j way now is) (omega (arith, within, ends)) two
 
-  pub part_asks : HasAskedOnce way.how.allocated way.from way.to (calls ++ part)
+  pub part_asks : HasAskedOnce way.how.allocated way.how.skip way.from way.to (calls ++ part)
   part_asks =
       let within = is.planned.within in
       let ends = is.ends in
@@ -133,7 +145,7 @@ module _ (j : job.Seen) (way : Way) (now now' : board.Seen) (parting : Bool) (ca
         links = asked.links;
         size = j.terms.size;
         told = asked.told;
-        asked = once_within way.how.allocated j.windows.plan.end j.terms.size (dealt_with way.from (calls ++ part)) (dealt_with way.to (calls ++ part)) (omega (arith, within, ends)) asked.asked;
+        asked = once_within way.how.allocated way.how.skip j.windows.plan.end j.terms.size (dealt_with way.from (calls ++ part)) (dealt_with way.to (calls ++ part)) (omega (arith, within, ends)) asked.asked;
       }
 
   pub part_answers : ReadsAreAnswered way.extents way.from (calls ++ part)
@@ -164,7 +176,8 @@ module _ (copy : copier.Seen) (now : board.Seen) (held : List (Held Ticket)) (st
   some_grain = let settled = on.settled.first in subst (λ (n : ℕ). 0 < n) (sym settled.settled.grain) (grain_some settled.source settled.destination)
 
   abbrev Asked : List wire.Call → Type 0
-  Asked calls = HasAskedOnce on.way.how.allocated on.way.from on.way.to calls × ReadsAreAnswered on.way.extents on.way.from calls × WritesNoZeros on.way.how (dealt_with on.way.to calls) × FlushesAtMostOnce on.way.to calls × (copy.board.flushing ≡ false → IsUnflushed on.way.to calls) × ReadsNoZeros on.job.terms.grain (dealt_with on.way.from calls)
+  Asked calls = HasAskedOnce on.way.how.allocated on.way.how.skip on.way.from on.way.to calls × ReadsAreAnswered on.way.extents on.way.from calls × WritesNoZeros on.way.how (dealt_with on.way.to calls) × FlushesAtMostOnce on.way.to calls × (copy.board.flushing ≡ false → IsUnflushed on.way.to calls) × ReadsNoZeros on.job.terms.grain (dealt_with on.way.from calls)
+      × AreInCells on.job.terms.cell on.job.terms.zero_cell (dealt_with on.way.from calls) (dealt_with on.way.to calls)
 
   turn_asked : Told start b Asked
   turn_asked = record {
@@ -183,6 +196,7 @@ module _ (copy : copier.Seen) (now : board.Seen) (held : List (Held Ticket)) (st
           part_flushes on.job on.way copy.board now parting since.calls went.calls copy.held held went.after on.is well since.is went.at turn apart,
           part_unflushed on.job on.way copy.board now parting since.calls went.calls copy.held held went.after on.is well since.is went.at turn apart,
           part_spares on.job on.way copy.board now parting since.calls went.calls copy.held held went.after on.is well since.is went.at turn.ending turn.turns apart some_grain,
+          part_in_cells copy.options on.settled.first.source on.settled.first.destination on.job on.way on.settled.first.settled copy.board now parting since.calls went.calls copy.held held went.after on.is well since.is went.at turn.ending turn.turns apart,
         );
   }
 
@@ -192,7 +206,14 @@ module _ (copy : copier.Seen) (now : board.Seen) (held : List (Held Ticket)) (st
         let went = goes on.stand.seens on.stand.at in
         let grown = went.grown all is in
         let turn = turns on.stand.seens went.calls went.after went.leads in
-        record { before = grown.0; more = went.calls; was = grown.1; are = grown.2; none = λ link. turns_give_none steps link went.calls on.stand.seens went.after copy.board now turn.ending turn.turns };
+        record {
+          before = grown.0;
+          more = went.calls;
+          was = grown.1;
+          are = grown.2;
+          none = λ link. turns_give_none steps link went.calls on.stand.seens went.after copy.board now turn.ending turn.turns;
+          connected = turns_connected steps on.stand.seens copy.board went.calls went.after now turn.ending turn.turns;
+        };
   }
 
   turn_settled : HasSettled copy.options copy.from copy.to start b on.job.terms
@@ -212,6 +233,21 @@ module _ (copy : copier.Seen) (now : board.Seen) (held : List (Held Ticket)) (st
       turn_settled
       (told_as start b
       (λ calls is. subst (λ (block : ℕ). ReadsNoZeros block (dealt_with copy.from calls)) turn_settled.first.settled.grain (subst (λ (f : Place). ReadsNoZeros on.job.terms.grain (dealt_with f calls)) on.from is.5))
+      turn_asked)
+
+  turn_cells : Told start b (KeepsToCells copy.options copy.from copy.to)
+  turn_cells =
+      let source = turn_settled.first.source in
+      let destination = turn_settled.first.destination in
+      let settled = turn_settled.first.settled in
+      settled_with (λ source destination calls. AreInCells (both.cell copy.options source destination) (both.zero_cell copy.options source destination) (dealt_with copy.from calls) (dealt_with copy.to calls)) copy.options copy.from copy.to start b on.job.terms
+      turn_settled
+      (told_as start b
+      (λ calls is.
+      subst (λ (n : ℕ). AreInCells n (both.zero_cell copy.options source destination) (dealt_with copy.from calls) (dealt_with copy.to calls)) settled.cell
+      (subst (λ (n : ℕ). AreInCells on.job.terms.cell n (dealt_with copy.from calls) (dealt_with copy.to calls)) settled.zero_cell
+      (subst (λ (t : Place). AreInCells on.job.terms.cell on.job.terms.zero_cell (dealt_with copy.from calls) (dealt_with t calls)) on.to
+      (subst (λ (f : Place). AreInCells on.job.terms.cell on.job.terms.zero_cell (dealt_with f calls) (dealt_with on.way.to calls)) on.from is.6))))
       turn_asked)
 
   turn_always : Told start a (IsAlwaysShared copy.options copy.from copy.to) → Told start b (IsAlwaysShared copy.options copy.from copy.to)
@@ -234,11 +270,13 @@ module _ (copy : copier.Seen) (now : board.Seen) (held : List (Held Ticket)) (st
   pub turn_behaves : Told start a (Behaves copy.options copy.from copy.to) → Told start b (Behaves copy.options copy.from copy.to)
   turn_behaves was =
       let allocated : on.way.how.allocated ≡ copy.options.allocated = ap (λ (h : How). h.allocated) on.is.how ∙ on.wished.allocated in
+      let skip : on.way.how.skip ≡ copy.options.destination_is_zero = ap (λ (h : How). h.skip) on.is.how ∙ on.wished.skip in
       told_as start b
       (λ calls is.
-      let once : HasAskedOnce copy.options.allocated copy.from copy.to calls =
-      subst (λ (x : Bool). HasAskedOnce x copy.from copy.to calls) allocated
-      (subst (λ (t : Place). HasAskedOnce on.way.how.allocated copy.from t calls) on.to (subst (λ (f : Place). HasAskedOnce on.way.how.allocated f on.way.to calls) on.from is.0.0)) in
+      let once : HasAskedOnce copy.options.allocated copy.options.destination_is_zero copy.from copy.to calls =
+      subst (λ (x : Bool). HasAskedOnce copy.options.allocated x copy.from copy.to calls) skip
+      (subst (λ (x : Bool). HasAskedOnce x on.way.how.skip copy.from copy.to calls) allocated
+      (subst (λ (t : Place). HasAskedOnce on.way.how.allocated on.way.how.skip copy.from t calls) on.to (subst (λ (f : Place). HasAskedOnce on.way.how.allocated on.way.how.skip f on.way.to calls) on.from is.0.0))) in
       record {
         asks = record { links = once.links; asked = inr once };
         answered = subst (λ (x : Bool). ReadsAreAnswered x copy.from calls) on.extents (subst (λ (f : Place). ReadsAreAnswered on.way.extents f calls) on.from is.0.1);
@@ -246,19 +284,20 @@ module _ (copy : copier.Seen) (now : board.Seen) (held : List (Held Ticket)) (st
         untouched = inr is.1.1.0;
         flushes = subst (λ (t : Place). FlushesAtMostOnce t calls) on.to is.0.3;
         unflushed = λ unwanted. subst (λ (t : Place). IsUnflushed t calls) on.to (is.0.4 (on.is.unwanted (on.wished.unflushed unwanted)));
-        shared = is.1.1.1;
+        shared = is.1.1.1.1;
+        cut = inr is.1.1.1.0;
       })
-      (told_both start b turn_asked (told_both start b turn_dense (told_both start b turn_spares (turn_always (told_as start a (λ calls is. is.shared) was)))))
+      (told_both start b turn_asked (told_both start b turn_dense (told_both start b turn_spares (told_both start b turn_cells (turn_always (told_as start a (λ calls is. is.shared) was))))))
 
 pub whole_behaves : (copy : copier.Seen) (now : board.Seen) (held : List (Held Ticket)) (start a b : Option (List wire.Call)) (f g : ℕ) (turn : Turn) → poll.Goes a b (λ seens. AreAt copy.held seens) (λ seens. AreAt held seens) (λ before calls after. TurnsWhole steps f g turn before copy.board calls after now) →
     copy.board.error ≡ None → IsOnItsWay start a copy → copy.from ≢ copy.to → Told start a (Behaves copy.options copy.from copy.to) → Told start b (Behaves copy.options copy.from copy.to)
 whole_behaves copy now held start a b f g turn goes well on two was =
     turn_behaves copy now held start a b (λ before calls after. TurnsWhole steps f g turn before copy.board calls after now) (λ before calls after leads. record { ending = Whole leads.moved; turns = leads.turns }) goes well on two was
 
-pub short_behaves : (copy : copier.Seen) (now : board.Seen) (held : List (Held Ticket)) (start a b : Option (List wire.Call)) (f g : ℕ) → poll.Goes a b (λ seens. AreAt copy.held seens) (λ seens. AreAt held seens) (λ before calls after. TurnsShort steps f g before copy.board calls after now) →
+pub cut_behaves : (copy : copier.Seen) (now : board.Seen) (held : List (Held Ticket)) (start a b : Option (List wire.Call)) (f g : ℕ) → poll.Goes a b (λ seens. AreAt copy.held seens) (λ seens. AreAt held seens) (λ before calls after. TurnsCut steps f g before copy.board calls after now) →
     copy.board.error ≡ None → IsOnItsWay start a copy → copy.from ≢ copy.to → Told start a (Behaves copy.options copy.from copy.to) → Told start b (Behaves copy.options copy.from copy.to)
-short_behaves copy now held start a b f g goes well on two was =
-    turn_behaves copy now held start a b (λ before calls after. TurnsShort steps f g before copy.board calls after now) (λ before calls after leads. record { ending = Short; turns = leads.turns }) goes well on two was
+cut_behaves copy now held start a b f g goes well on two was =
+    turn_behaves copy now held start a b (λ before calls after. TurnsCut steps f g before copy.board calls after now) (λ before calls after leads. record { ending = leads.ending; turns = leads.turns }) goes well on two was
 
 -- From turn to turn.
 pub fair_on : (first now : copier.Seen) (start a b : Option (List wire.Call)) → now ≡ with_all first now → (IsOnItsWay start a now → now.from ≢ now.to → Told start a (Behaves now.options now.from now.to) → Told start b (Behaves now.options now.from now.to)) →

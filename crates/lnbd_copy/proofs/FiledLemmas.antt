@@ -9,7 +9,7 @@ use Rattle.lnbd_handle.specs.Histories.{Plays}
 use Rattle.lnbd_board.specs.declared.row.Row.{Row}
 use Rattle.lnbd_board.specs.declared.ticket.Ticket.{Ticket}
 use Rattle.lnbd_board.specs.declared.ticket.Ticket.TheVariants as ticket
-use Rattle.lnbd_board.specs.Files.{Files, Hears, came_with, filed_done, is_map, is_unfit, or_error, rows_with}
+use Rattle.lnbd_board.specs.Files.{Files, Hears, came_with, filed_done, is_map, is_unfit, or_error, content_first, rows_with}
 use Rattle.lnbd_board.specs.Files as board
 use Rattle.lnbd_copy.specs.Way.{Filed}
 use Rattle.lnbd_copy.proofs.BoundLemmas.{rows_bound}
@@ -41,12 +41,23 @@ no_error : (old : Option ℕ) (error : ℕ) → or_error old error ≡ None → 
 no_error None error e = refl
 no_error (Some first) error e = e
 
-error_filed : (old : board.Seen) (error : ℕ) → Filed old (record old { error = or_error old.error error })
-error_filed old error = record { how = refl; begun = refl; none = λ e. e; many = refl; error = λ e. no_error old.error error e; read = refl; written = refl; zeroed = refl; flushing = refl; flushed = λ e. e; reads = refl; writes = refl }
+no_content : (old : Option ℕ) (error : ℕ) → content_first old error ≡ None → old ≡ None
+no_content None error e = refl
+no_content (Some first) error e = go (error == 71) e
+  where
+    some_none : {A : Type 0} (n : ℕ) → Some n ≡ None → A
+    some_none n e = absurd (cc)
+
+    go : (b : Bool) → (if b then Some error else Some first) ≡ None → Some first ≡ None
+    go true e = some_none error e
+    go false e = e
+
+error_filed : (old : board.Seen) (told : Option ℕ) → (told ≡ None → old.error ≡ None) → Filed old (record old { error = told })
+error_filed old told earlier = record { how = refl; begun = refl; none = λ e. e; many = refl; error = earlier; read = refl; written = refl; zeroed = refl; flushing = refl; flushed = λ e. e; reads = refl; writes = refl }
 
 slice_filed : (unfit : Bool) (n : ℕ) (buf : List ℕ) (old : board.Seen)
     → Filed old (if unfit then record old { error = or_error old.error 71 } else record old { rows = rows_with (value_at n old.rows) n buf old.rows; came = came_with (value_at n old.rows) n old.came })
-slice_filed true n buf old = error_filed old 71
+slice_filed true n buf old = error_filed old (or_error old.error 71) (no_error old.error 71)
 slice_filed false n buf old = record {
   how = refl;
   begun = refl;
@@ -67,9 +78,9 @@ done_filed (ticket.Slice n) buf old = slice_filed (is_unfit (value_at n old.rows
 done_filed ticket.Extents buf old = record { how = refl; begun = refl; none = λ e. e; many = refl; error = λ e. e; read = refl; written = refl; zeroed = refl; flushing = refl; flushed = λ e. e; reads = refl; writes = refl }
 done_filed ticket.Flush buf old = record { how = refl; begun = refl; none = λ e. e; many = refl; error = λ e. e; read = refl; written = refl; zeroed = refl; flushing = refl; flushed = λ e. refl; reads = refl; writes = refl }
 
-completed_filed : (well : Bool) (by : Ticket) (error : ℕ) (buf : List ℕ) (old : board.Seen) → Filed old (if well then filed_done by buf old else record old { error = or_error old.error error })
+completed_filed : (well : Bool) (by : Ticket) (error : ℕ) (buf : List ℕ) (old : board.Seen) → Filed old (if well then filed_done by buf old else record old { error = content_first old.error error })
 completed_filed true by error buf old = done_filed by buf old
-completed_filed false by error buf old = error_filed old error
+completed_filed false by error buf old = error_filed old (content_first old.error error) (no_content old.error error)
 
 hears_filed : (is : Bool) (entries : List Extent) (old new : board.Seen) → Hears is entries old new → Filed old new
 hears_filed true entries old new (inl e) = subst (Filed old) (sym e.1) (record { how = refl; begun = refl; none = λ e. e; many = refl; error = λ e. e; read = refl; written = refl; zeroed = refl; flushing = refl; flushed = λ e. e; reads = refl; writes = refl })

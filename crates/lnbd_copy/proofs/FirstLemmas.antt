@@ -1,4 +1,4 @@
--- What the first connection of each side was told stays told, and calls that give no link follow one another.
+-- What the first connection of each side was told stays told, and calls that give no link, with no connect that fails, follow one another.
 use Rattle.std.proofs.Common.{◌≡◌, ℕ, zero, suc, List, [], ◌∷◌, ◌++◌, Option, Some, None, false, refl, ap, sym, subst, ◌∙◌, append_assoc}
 use Rattle.std.proofs.lemmas.List.{append-nil}
 use Rattle.lnbd_history.specs.Events.{History}
@@ -16,9 +16,11 @@ use Rattle.lnbd_poll.specs.Seen.{Seen}
 use Rattle.lnbd_board.specs.declared.ticket.Ticket.{Ticket}
 use Rattle.lnbd_course.proofs.Address.{given_stays}
 use Rattle.lnbd_copy.specs.Begun.{BeganAs}
+use Rattle.lnbd_copy.specs.Connected.{AllConnected}
 use Rattle.lnbd_copy.specs.Firsts.{Knows}
 use Rattle.lnbd_copy.specs.Giving.{GivesNone}
 use Rattle.lnbd_copy.proofs.BegunLemmas.{went_none}
+use Rattle.lnbd_copy.proofs.RefusalLemmas.{connected_more}
 
 none_some : (seen : Seen Ticket) → None ≡ Some seen → ⊥
 none_some seen e = cc
@@ -66,13 +68,13 @@ more_knowing (suc index) info (seen ∷ others) more knows =
     let rest = more_knowing index info others more (record { seen = knows.seen; there = knows.there; known = knows.known }) in
     record { seen = rest.seen; there = rest.there; known = rest.known }
 
--- Calls that give no link.
+-- Calls that give no link, and none of which is a connect that failed.
 
 pub gives_none : (told : Option (List wire.Call)) → GivesNone told told
-gives_none told = record { on = λ all is. record { before = all; more = []; was = is; are = sym (append-nil all); none = λ link. refl } }
+gives_none told = record { on = λ all is. record { before = all; more = []; was = is; are = sym (append-nil all); none = λ link. refl; connected = refl } }
 
-pub adds_none : (a b : Option (List wire.Call)) (call : wire.Call) → ((link : ℕ) → is_given link (call ∷ []) ≡ false) → Adds a b call → GivesNone a b
-adds_none a b call none adds = record { on = λ all is. let added = adds all is in record { before = added.0; more = call ∷ []; was = added.1; are = added.2; none = none } }
+pub adds_none : (a b : Option (List wire.Call)) (call : wire.Call) → ((link : ℕ) → is_given link (call ∷ []) ≡ false) → AllConnected (call ∷ []) → Adds a b call → GivesNone a b
+adds_none a b call none connected adds = record { on = λ all is. let added = adds all is in record { before = added.0; more = call ∷ []; was = added.1; are = added.2; none = none; connected = connected } }
 
 pub gives_then : (a b c : Option (List wire.Call)) → GivesNone a b → GivesNone b c → GivesNone a c
 gives_then a b c one two = record {
@@ -85,5 +87,6 @@ gives_then a b c one two = record {
         was = early.was;
         are = late.are ∙ ap (λ (l : List wire.Call). l ++ late.more) early.are ∙ append_assoc early.before early.more late.more;
         none = λ link. given_stays link early.more late.more (late.none link) ∙ early.none link;
+        connected = connected_more early.more late.more early.connected late.connected;
       };
 }

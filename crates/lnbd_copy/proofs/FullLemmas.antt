@@ -16,8 +16,8 @@ use Rattle.lnbd_poll.specs.Held.{Held, AreAt}
 use Rattle.lnbd_poll.specs.Notices.{ReadsIf, ReadsOn, WritesIf, is_reading, is_waiting}
 use Rattle.lnbd_poll.specs.Seen.{Seen}
 use Rattle.lnbd_poll.specs.Seen as poll
-use Rattle.lnbd_poll.specs.Turned.{TurnsShort, TurnsWhole}
-use Rattle.lnbd_poll.specs.Turns.{All_took, Ending, Goes_on, Runs_short, Short, Stops, Takes, Turns, TurnsOne, Whole, WritesAll, is_moved, moved_by, together, turn_of, with_moved}
+use Rattle.lnbd_poll.specs.Turned.{TurnsCut, TurnsWhole}
+use Rattle.lnbd_poll.specs.Turns.{All_took, Ending, Goes_on, Runs_short, Breaks_off, Short, Stops, Takes, Turns, TurnsOne, Whole, WritesAll, is_moved, moved_by, together, turn_of, with_moved}
 use Rattle.lnbd_board.specs.declared.ticket.Ticket.{Ticket}
 use Rattle.lnbd_board.specs.Files.{Files}
 use Rattle.lnbd_board.specs.Files as board
@@ -82,6 +82,7 @@ module _ {K World : Type 0} (steps : World → List (Call K) → World → Type 
   turns_unpaused before world calls after world' ending (Takes _ _ _ _ _ _ seen others notice own here half moved other there rest is one enough more calls_are after_is end) =
       none_then is_pause calls own other calls_are (one_unpaused notice seen world own here half moved one) (turns_unpaused others half other there world' rest more)
   turns_unpaused before world calls after world' ending (Runs_short _ _ _ _ _ _ seen others here moved is one after_is end) = one_unpaused noticed.NoMemory seen world calls here world' moved one
+  turns_unpaused before world calls after world' ending (Breaks_off _ _ _ _ _ _ none after_is world_is end) = ap (list_any is_pause) none
 
 -- A turn, where it is told.
 
@@ -104,12 +105,12 @@ turned_unpaused a b f g told now now' held held' goes s = record {
       record { before = grown.0; more = went.calls; was = grown.1; now = grown.2; are = turns_unpaused steps s.seens now went.calls went.after now' (Whole went.leads.moved) went.leads.turns };
 }
 
--- Where memory ran out in it, too.
-pub short_unpaused : (a b : Option (List wire.Call)) (f g : ℕ) (now now' : board.Seen) (held held' : List (Held Ticket))
-    → poll.Goes a b (λ seens. AreAt held seens) (λ seens. AreAt held' seens) (λ before calls after. TurnsShort steps f g before now calls after now') → Stand held → Unpaused a b
-short_unpaused a b f g now now' held held' goes s = record {
+-- Where it was cut, too.
+pub cut_unpaused : (a b : Option (List wire.Call)) (f g : ℕ) (now now' : board.Seen) (held held' : List (Held Ticket))
+    → poll.Goes a b (λ seens. AreAt held seens) (λ seens. AreAt held' seens) (λ before calls after. TurnsCut steps f g before now calls after now') → Stand held → Unpaused a b
+cut_unpaused a b f g now now' held held' goes s = record {
   on = λ all is.
       let went = goes s.seens s.at in
       let grown = went.grown all is in
-      record { before = grown.0; more = went.calls; was = grown.1; now = grown.2; are = turns_unpaused steps s.seens now went.calls went.after now' Short went.leads.turns };
+      record { before = grown.0; more = went.calls; was = grown.1; now = grown.2; are = turns_unpaused steps s.seens now went.calls went.after now' went.leads.ending went.leads.turns };
 }

@@ -1,12 +1,11 @@
 -- What the connections of a copy were told for which it does not end well is told by the calls on the wires.
-use Rattle.std.proofs.Common.{◌≡◌, ◌≤◌, ◌+◌, inl, inr, ℕ, zero, suc, Bool, true, false, List, [], ◌∷◌, length, Option, Some, None, Result, Ok, Err, IfErr, slice_get, if◌then◌else◌, refl, ap, sym, subst, ◌∙◌, arith}
+use Rattle.std.proofs.Common.{◌≡◌, ◌≤◌, ◌+◌, inl, inr, ℕ, zero, suc, Bool, true, false, List, [], ◌∷◌, length, Option, Some, None, Result, Ok, Err, IfErr, OnErr, slice_get, if◌then◌else◌, refl, ap, sym, subst, ◌∙◌, arith}
 use Rattle.std.proofs.lemmas.Bool.{cases_lt, false≢true}
 use Rattle.std.specs.Option.{option_map}
 use Rattle.std.specs.Prelude.{IsErrAnd}
 use Rattle.lnbd_model.specs.declared.breach.Broken.TheVariants as broken
 use Rattle.lnbd_model.specs.declared.export.ExportInfo.{ExportInfo}
 use Rattle.lnbd_model.specs.declared.state.Cause.{Cause}
-use Rattle.lnbd_model.specs.declared.state.Cause.TheVariants as cause
 use Rattle.lnbd_model.specs.declared.state.State.{State}
 use Rattle.lnbd_model.specs.declared.state.State.TheVariants as state
 use Rattle.lnbd_model.specs.declared.target.Place.{Place}
@@ -34,16 +33,16 @@ use Rattle.lnbd_course.proofs.Holding.{one_has}
 use Rattle.lnbd_copy.specs.declared.sides.Sides.{Sides}
 use Rattle.lnbd_copy.specs.declared.terms.Terms.{Terms}
 use Rattle.lnbd_copy.specs.Copier.{GoesFurther, HasMet, HasNotBegun, IsOnItsWay, beginning}
-use Rattle.lnbd_copy.specs.Job as work
 use Rattle.lnbd_copy.specs.Copier as copier
-use Rattle.lnbd_copy.specs.Grounds.{AllSame, Answers, AreSame, AtSome, Blames, Differ, Drove, FailsOn, Finds, FindsBeside, FindsDead, FindsOther, Happened, Happens, HasDied, IsDead, IsFound, IsGrounded, IsRefused, IsShown, Lasts, Settle, fault_by, fault_of, first_of, needs_no_ground}
+use Rattle.lnbd_copy.specs.Grounds.{AllSame, Answers, AreSame, Differ, Drove, FailsOn, Finds, FindsBeside, FindsDead, FindsOther, Happened, Happens, HasDied, IsDead, IsFound, IsGrounded, IsRefused, IsShown, Lasts, Settle, fault_by, fault_of, first_of, needs_no_ground}
 use Rattle.lnbd_copy.specs.DrivenBy.{DrivenBy}
 use Rattle.lnbd_copy.specs.Firsts.{KnowBoth}
 use Rattle.lnbd_copy.specs.Links.{ConnectTo, LinksGo}
 use Rattle.lnbd_copy.specs.Opening.{Dials}
 use Rattle.lnbd_copy.specs.Settled.{FindsTerms, HasTerms}
 use Rattle.lnbd_copy.specs.Way.{Goes, IsOn, IsUnderWay, Stand, Told, Way, is_source}
-use Rattle.lnbd_copy.proofs.CopierLemmas.{first_on, kept_then, no_handles, second_on, told_as, two_meet_stand, two_on, with_held}
+use Rattle.lnbd_copy.proofs.ConnectedLemmas.{connected_begins, goes_connected}
+use Rattle.lnbd_copy.proofs.CopierLemmas.{first_on, kept_then, no_handles, second_connects, second_on, told_as, two_meet_stand, two_on, with_held}
 use Rattle.lnbd_copy.proofs.LastLemmas.{at_once, told_later}
 use Rattle.lnbd_copy.proofs.SettledLemmas.{told_both}
 use Rattle.lnbd_copy.proofs.TurnLemmas.{told_begins}
@@ -96,12 +95,6 @@ same_more sides n held all one = record {
 
 pub same_all : (sides : Sides) (n : ℕ) (held : List (Held Ticket)) → AllSame sides n held → length held ≤ n → AllSame sides (length held) held
 same_all sides n held all end = record { on = λ index some less. all.on index some (omega (arith, less, end)) }
-
-pub blames_free : (held : List (Held Ticket)) (why : CopyFault) → needs_no_ground why ≡ true → Blames held why
-blames_free held why free = record { on = inl free }
-
-pub blames_dead : (held : List (Held Ticket)) (why : CopyFault) → FindsDead why held → Blames held why
-blames_dead held why dead = record { on = inr dead }
 
 pub answers_free : (now : board.Seen) (why : CopyFault) → needs_no_ground why ≡ true → Answers now why
 answers_free now why free = record { on = inl free }
@@ -164,7 +157,7 @@ module _ (parting : Bool) (way : Way) (now : board.Seen) (calls : List wire.Call
   drove_has : (index : ℕ) → (h : Happened Is index on.seens) → Drove (place_of way.from way.to (on.has h.seen.link)) Is calls
   drove_has index h = (drove_on index h (λ link. Unit {0}) tt).0
 
-died : (parting : Bool) (way : Way) (now : board.Seen) (calls : List wire.Call) (held : List (Held Ticket)) (index : ℕ) (death : Cause) → IsUnderWay parting way now calls held → Happens (IsDead death) index held → HasDied way.from way.to death calls
+pub died : (parting : Bool) (way : Way) (now : board.Seen) (calls : List wire.Call) (held : List (Held Ticket)) (index : ℕ) (death : Cause) → IsUnderWay parting way now calls held → Happens (IsDead death) index held → HasDied way.from way.to death calls
 died parting way now calls held index death on dead =
     let h = dead.on on.seens on.at in
     record { source = on.has h.seen.link; dead = drove_has parting way now calls held on (IsDead death) index h }
@@ -174,7 +167,7 @@ drove way now calls held Is index on happens =
     let h = happens.on on.seens on.at in
     subst (λ (b : Bool). Drove (place_of way.from way.to b) Is calls) (on.sided index h.seen h.there) (drove_has false way now calls held on Is index h)
 
-settles : (way : Way) (now : board.Seen) (calls : List wire.Call) (held : List (Held Ticket)) (rule : Option Rule) → Finds rule held → IsOn way now calls held → ConnectTo (way.from.to ∷ way.to.to ∷ []) calls → Settle way.from way.to rule calls
+pub settles : (way : Way) (now : board.Seen) (calls : List wire.Call) (held : List (Held Ticket)) (rule : Option Rule) → Finds rule held → IsOn way now calls held → ConnectTo (way.from.to ∷ way.to.to ∷ []) calls → Settle way.from way.to rule calls
 settles way now calls held rule finds on only = record {
   source = finds.source;
   destination = finds.destination;
@@ -184,7 +177,7 @@ settles way now calls held rule finds on only = record {
   only = only;
 }
 
-differs : (way : Way) (now : board.Seen) (calls : List wire.Call) (held : List (Held Ticket)) → FindsOther way.sides held → IsOn way now calls held → Differ way.from way.to calls
+pub differs : (way : Way) (now : board.Seen) (calls : List wire.Call) (held : List (Held Ticket)) → FindsOther way.sides held → IsOn way now calls held → Differ way.from way.to calls
 differs way now calls held finds on = record {
   source = is_source way.sides finds.index;
   one = finds.beside.one;
@@ -207,20 +200,6 @@ none_grounded start told from to (fault.Peer None code) free = absurd (false≢t
 none_grounded start told from to (fault.Peer (Some option) code) free = absurd (false≢true free)
 none_grounded start told from to (fault.Rule rule) free = absurd (false≢true free)
 none_grounded start told from to (fault.Silent idles) free = record { shown = tt }
-
-death_grounded : (start told : Option (List wire.Call)) (from to : Place) (death : Cause) → Told start told (AtSome (HasDied from to death)) → IsGrounded start told from to (fault_of death)
-death_grounded start told from to (cause.Broke breach) died = record { shown = died }
-death_grounded start told from to (cause.Refused option code) died = record { shown = died }
-death_grounded start told from to cause.Ended died = record { shown = died }
-death_grounded start told from to cause.LinkFailed died = record { shown = tt }
-
-pub blames_grounded : (parting : Bool) (way : Way) (now : board.Seen) (held : List (Held Ticket)) (start told : Option (List wire.Call)) (why : CopyFault) → Blames held why → Told start told (λ calls. IsUnderWay parting way now calls held) → IsGrounded start told way.from way.to why
-blames_grounded parting way now held start told why blames on = elim blames.on [
-  | inl free ↦ none_grounded start told way.from way.to why free
-  | inr dead ↦
-      subst (IsGrounded start told way.from way.to) (sym dead.is)
-      (death_grounded start told way.from way.to dead.death (told_as start told (λ calls is. at_once calls (died parting way now calls held dead.index dead.death is dead.dead)) on))
-]
 
 pub found_grounded : (way : Way) (now : board.Seen) (held : List (Held Ticket)) (start told : Option (List wire.Call)) (why : CopyFault) → IsFound way.sides held why → Told start told (λ calls. IsOn way now calls held) → IsGrounded start told way.from way.to why
 found_grounded way now held start told fault.NoMemory is on = record { shown = tt }
@@ -264,26 +243,28 @@ pub handed_on : {T F : Type 0} (P : F → Type 0) (r : Result T F) (why : F) →
 handed_on P (Ok value) why is p = tt
 handed_on P (Err f) why is p = subst P (sym is) p
 
+-- What is so is so on a failure.
+pub on_err_so : {T F A : Type 0} (r : Result T F) → A → OnErr r A
+on_err_so (Ok value) a = tt
+on_err_so (Err why) a = a
+
 -- A step that keeps a copy on its way, and then one that fails.
 pub fails_then : (parting : Bool) (now now' : board.Seen) (held held' : List (Held Ticket)) (a b c : Option (List wire.Call)) (why : CopyFault) → Goes now held a now' held' b → FailsOn parting now' held' b c why → FailsOn parting now held a c why
-fails_then parting now now' held held' a b c why goes fails = record { on = λ way start s on. fails.on way start (goes.stand s) (goes.on parting way start s on) }
-
-pub fails_blamed : (parting : Bool) (now : board.Seen) (held : List (Held Ticket)) (told : Option (List wire.Call)) (why : CopyFault) → Blames held why → FailsOn parting now held told told why
-fails_blamed parting now held told why blames = record { on = λ way start s on. blames_grounded parting way now held start told why blames on }
+fails_then parting now now' held held' a b c why goes fails = record { on = λ way start s connected on. fails.on way start (goes.stand s) ((goes_connected now now' held held' a b goes s).on start connected) (goes.on parting way start s on) }
 
 pub fails_free : (parting : Bool) (now : board.Seen) (held : List (Held Ticket)) (told told' : Option (List wire.Call)) (why : CopyFault) → needs_no_ground why ≡ true → FailsOn parting now held told told' why
-fails_free parting now held told told' why free = record { on = λ way start s on. none_grounded start told' way.from way.to why free }
+fails_free parting now held told told' why free = record { on = λ way start s connected on. none_grounded start told' way.from way.to why free }
 
 -- The first connection of each side, and then what both settle.
 
-one_side : Sides
+pub one_side : Sides
 one_side = record { source = 1; destination = 1 }
 
 -- A step fails behind the source's first connection,
 pub source_fails : (s0 s1 : copier.Seen) (t u c : Option (List wire.Call)) (why : CopyFault) → s1.board ≡ s0.board → Dials s0.from s0.options.extents s0.board s0.held t s1.held u → HasNotBegun s0 → FailsOn false s1.board s1.held u c why → IsGrounded t c s0.from s0.to why
 source_fails s0 s1 t u c why same first none fails =
     let how = s0.board.how in
-    fails.on (beginning s0 None how one_side) t (first.stand (no_handles s0 none)) (subst (λ (b : board.Seen). Told t u (λ calls. IsOn (beginning s0 None how one_side) b calls s1.held)) (sym same) (first_on s0 s1.held t u how one_side none first))
+    fails.on (beginning s0 None how one_side) t (first.stand (no_handles s0 none)) (connected_begins t u first.connected) (subst (λ (b : board.Seen). Told t u (λ calls. IsOn (beginning s0 None how one_side) b calls s1.held)) (sym same) (first_on s0 s1.held t u how one_side none first))
 
 pub goes_first : (s0 s1 s2 : copier.Seen) (u v : Option (List wire.Call)) → s1.board ≡ s0.board → Goes s1.board s1.held u s2.board s2.held v → Goes s0.board s1.held u s2.board s2.held v
 goes_first s0 s1 s2 u v same one = subst (λ (b : board.Seen). Goes b s1.held u s2.board s2.held v) same one
@@ -297,7 +278,7 @@ pub destination_fails : (s0 s1 s2 s3 : copier.Seen) (t u v w c : Option (List wi
 destination_fails s0 s1 s2 s3 t u v w c why k1 k2 b1 b3 first one second none fails =
     let how = s0.board.how in
     let both = second_on s0 s2.board s1.held s2.held s3.held t u v w how one_side none first (goes_first s0 s1 s2 u v b1 one) (dials_second s0 s1 s2 s3 v w k1 k2 second) in
-    fails.on (beginning s0 None how one_side) t both.0 (subst (λ (b : board.Seen). Told t w (λ calls. IsOn (beginning s0 None how one_side) b calls s3.held)) (sym b3) both.1)
+    fails.on (beginning s0 None how one_side) t both.0 (second_connects s0 s2.board s1.held s2.held s3.held t u v w none first (goes_first s0 s1 s2 u v b1 one) (dials_second s0 s1 s2 s3 v w k1 k2 second)) (subst (λ (b : board.Seen). Told t w (λ calls. IsOn (beginning s0 None how one_side) b calls s3.held)) (sym b3) both.1)
 
 -- or what both were told is refused.
 pub found_fails : (s0 s1 s2 s3 s4 : copier.Seen) (t u v w x : Option (List wire.Call)) (held : List (Held Ticket)) (why : CopyFault) → s1 ≡ with_held s0 s1 → s2 ≡ with_held s1 s2 → s1.board ≡ s0.board → s3.board ≡ s2.board → held ≡ s4.held →
@@ -341,7 +322,7 @@ found_terms s0 s1 s2 s3 s4 t u v w x options terms held k1 k2 b1 b3 same first o
 pub further_fails : (copy mid : copier.Seen) (sides : Sides) (start a b c : Option (List wire.Call)) (why : CopyFault) → GoesFurther copy sides 2 copy.board copy.held a mid.board mid.held b → FailsOn false mid.board mid.held b c why →
     (terms : Terms) → HasMet copy start a terms → sides ≡ terms.sides → length copy.held ≡ 2 → IsGrounded start c copy.from copy.to why
 further_fails copy mid sides start a b c why further fails terms met same two =
-    fails.on (beginning copy (Some terms.size) terms.how sides) start (further.stand met.stand)
+    fails.on (beginning copy (Some terms.size) terms.how sides) start (further.stand met.stand) ((further.connected met.stand).on start met.connected)
     (further.on (Some terms.size) terms.how start met.stand two (subst (λ (x : Sides). Told start a (λ calls. IsOn (beginning copy (Some terms.size) terms.how x) copy.board calls copy.held)) (sym same) met.on))
 
 pub same_fails : (copy : copier.Seen) (held : List (Held Ticket)) (start told : Option (List wire.Call)) (terms : Terms) (why : CopyFault) → held ≡ copy.held → HasMet copy start told terms → IsFound terms.sides held why → IsGrounded start told copy.from copy.to why
@@ -352,8 +333,3 @@ same_fails copy held start told terms why same met found =
 
 pub grounded_as : (start told : Option (List wire.Call)) (from from' to to' : Place) (why : CopyFault) → from ≡ from' → to ≡ to' → IsGrounded start told from to why → IsGrounded start told from' to' why
 grounded_as start told from from' to to' why one two g = subst (λ (p : Place). IsGrounded start told from' p why) two (subst (λ (p : Place). IsGrounded start told p to why) one g)
-
-pub way_grounded : (copy : copier.Seen) (held : List (Held Ticket)) (start told : Option (List wire.Call)) (why : CopyFault) → held ≡ copy.held → Blames held why → IsOnItsWay start told copy → IsGrounded start told copy.from copy.to why
-way_grounded copy held start told why same blames on =
-    grounded_as start told on.way.from copy.from on.way.to copy.to why on.from on.to
-    (blames_grounded (work.is_parting on.job.phase) on.way copy.board copy.held start told why (subst (λ (l : List (Held Ticket)). Blames l why) same blames) on.on)

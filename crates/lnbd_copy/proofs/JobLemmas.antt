@@ -1,5 +1,5 @@
 -- What a job does keeps a copy on its way: its slices go on and begin, extents are asked for and heard, and in the end all connections part.
-use Rattle.std.proofs.Common.{◌≡◌, ◌≢◌, ◌⊎◌, inl, inr, ◌&&◌, ◌||◌, ℕ, Bool, true, false, List, [], ◌++◌, cond, Option, Some, None, if◌then◌else◌, refl, ap, sym, subst, ◌∙◌, arith}
+use Rattle.std.proofs.Common.{◌≡◌, ◌≢◌, ◌⊎◌, ◌≤◌, ◌-◌, inl, inr, ◌&&◌, ◌||◌, ℕ, Bool, true, false, List, [], ◌++◌, cond, Option, Some, None, if◌then◌else◌, refl, ap, sym, subst, ◌∙◌, arith, nat_lt}
 use Rattle.std.proofs.lemmas.Bool.{false≢true}
 use Rattle.std.proofs.lemmas.List.{append-nil, append_assoc}
 use Rattle.lnbd_link.specs.Call as wire
@@ -33,17 +33,23 @@ use Rattle.lnbd_copy.specs.declared.sides.Sides.{Sides}
 use Rattle.lnbd_copy.specs.Asked.{IsAsked}
 use Rattle.lnbd_copy.specs.Dealing.{Begins}
 use Rattle.lnbd_copy.specs.Heard.{IsHeardTo, has_position}
-use Rattle.lnbd_copy.specs.Job.{Acts, AreOfOne, IsJob, IsOver, Seen, cells_of, with_asked, with_heard}
-use Rattle.lnbd_copy.specs.Way.{IsOn, Keeps, Stand, Stands, Way, connection_of, with_slices}
+use Rattle.lnbd_copy.specs.Reached.{IsToldTo, told_heard, told_within}
+use Rattle.lnbd_copy.specs.Job.{Acts, AreOfOne, IsJob, IsOver, Seen, cells_of, with_asked, with_heard, is_parting}
+use Rattle.lnbd_copy.specs.Way.{IsOn, Keeps, Stand, Stands, Way, connection_of, with_slices, is_source}
+use Rattle.lnbd_copy.specs.Leaving.{Parts}
 use Rattle.lnbd_copy.specs.Spared.{IsSpared, whole_heard, whole_within}
 use Rattle.lnbd_copy.specs.Statuses.{MayBeRead}
 use Rattle.lnbd_copy.specs.Windows as windows
 use Rattle.lnbd_copy.proofs.AnswerLemmas.{range_may_be_read}
 use Rattle.lnbd_copy.proofs.EndLemmas.{planned_once}
 use Rattle.lnbd_copy.proofs.BegunLemmas.{event_first}
+use Rattle.lnbd_copy.proofs.DoneLemmas.{all_is_done, at_end, flush_is_done}
 use Rattle.lnbd_copy.proofs.DrivenLemmas.{drive_event}
+use Rattle.lnbd_copy.proofs.OrderLemmas.{ordered_event}
+use Rattle.lnbd_copy.proofs.UnendedLemmas.{ended_event}
 use Rattle.lnbd_copy.proofs.HeardLemmas.{hears_on}
 use Rattle.lnbd_copy.proofs.SparedLemmas.{spared_none}
+use Rattle.lnbd_copy.proofs.ToldLemmas.{told_handed}
 use Rattle.lnbd_copy.proofs.WindowLemmas.{or_first, or_second}
 use Rattle.lnbd_copy.proofs.HeldLemmas.{held_event}
 use Rattle.lnbd_copy.proofs.StepLemmas.{extents_ask_stand, hearing_stands, unheard_stands}
@@ -86,11 +92,11 @@ heard_in : (way : Way) (range : ℕ × ℕ) (now : board.Seen) (p : ℕ) → (wa
 heard_in way range now p e = elim (or_heard (way.zero p) (windows.zero_within range now.told p) e) [ inl was ↦ inl was | inr here ↦ let h = both (within range p) (zero_in range.0 now.told p) here in inr (record { has = h.0; zero = h.1 }) ]
 
 heard_stands : (way : Way) (asked : Option (ℕ × ℕ)) → way.asked ≡ asked → (has : ℕ → Bool) (now : board.Seen) (calls : List wire.Call) (seens : List (poll.Seen Ticket)) → now.mapped ≡ true → now.short ≡ false → Stands way has now calls seens →
-    Stands (record way { zero = λ p. way.zero p || windows.zero_heard asked now.told p; whole = λ block p. way.whole block p || whole_heard block asked now.told p; asked = None }) has now calls seens
-heard_stands way None none has now calls seens mapped short s = unheard_stands way has now calls seens (λ p. way.zero p || false) (λ block p. way.whole block p || false) none s (λ p e. elim (or_heard (way.zero p) false e) [ inl was ↦ was | inr e ↦ absurd (false≢true e) ]) (λ block p e. or_first (way.whole block p) false e)
+    Stands (record way { zero = λ p. way.zero p || windows.zero_heard asked now.told p; whole = λ block p. way.whole block p || whole_heard block asked now.told p; asked = None; reach = λ p. way.reach p || told_heard asked now.told p }) has now calls seens
+heard_stands way None none has now calls seens mapped short s = unheard_stands way has now calls seens (λ p. way.zero p || false) (λ block p. way.whole block p || false) (λ p. way.reach p || false) none s (λ p e. elim (or_heard (way.zero p) false e) [ inl was ↦ was | inr e ↦ absurd (false≢true e) ]) (λ block p e. or_first (way.whole block p) false e) (λ p e. or_first (way.reach p) false e)
 heard_stands way (Some range) some has now calls seens mapped short s =
-    hearing_stands way has now calls seens range (λ p. way.zero p || windows.zero_within range now.told p) (λ block p. way.whole block p || whole_within block range now.told p) some s mapped short (heard_in way range now)
-    (λ block p e. or_first (way.whole block p) _ e) (λ block p e. or_second (way.whole block p) _ e)
+    hearing_stands way has now calls seens range (λ p. way.zero p || windows.zero_within range now.told p) (λ block p. way.whole block p || whole_within block range now.told p) (λ p. way.reach p || told_within range now.told p) some s mapped short (heard_in way range now)
+    (λ block p e. or_first (way.whole block p) _ e) (λ block p e. or_second (way.whole block p) _ e) (λ p e. or_first (way.reach p) _ e) (λ p e. or_second (way.reach p) _ e)
 
 heard_on : (way : Way) (now : board.Seen) (calls : List wire.Call) (held : List (Held Ticket)) → now.mapped ≡ true → now.short ≡ false → (now.error ≡ None → way.from ≢ way.to → (p : ℕ) → has_position way.asked p ≡ true → MayBeRead way.extents way.from p calls) → IsOn way now calls held →
     IsOn (with_heard now.told way) now calls held
@@ -110,6 +116,8 @@ heard_on way now calls held mapped short may on = record {
   };
   bound = on.bound;
   drives = on.drives;
+  ends = on.ends;
+  order = on.order;
 }
 
 -- no slice more was begun
@@ -118,16 +126,16 @@ none_on : (how : How) (sides : Sides) (now now' : board.Seen) (held held' : List
 none_on how sides now now' held held' keeps way calls h s on = subst (λ (slices : List Slice). IsOn (record way { slices = slices }) now' calls held') (append-nil way.slices) (keeps.on way calls h s on)
 
 -- With a block status that the source was asked the invariant of the slices stands.
-extents_ask : (how : How) (now now' : board.Seen) (offset size : ℕ) (slices : List Slice) → now' ≡ record now { told = []; mapped = false } →
+extents_ask : (how : How) (now now' : board.Seen) (offset size : ℕ) (slices : List Slice) → now' ≡ record now { told = []; mapped = false } → size ≤ rows.max_extents →
     AsksSource how (without_buffer (block_status_of size offset ticket.Extents ticket.Extents 0)) slices slices now now'
-extents_ask how now now' offset size slices is =
+extents_ask how now now' offset size slices is few =
     let command = without_buffer (block_status_of size offset ticket.Extents ticket.Extents 0) in
     record {
       bytes = λ _. refl;
       earlier = λ none. sym (ap (λ (b : board.Seen). b.error) is) ∙ none;
       on = λ source destination link cookie stands.
           subst (λ (b : board.Seen). rows.Stands how slices b.rows (asking link cookie ticket.Extents (asked_by command) source) destination) (sym is)
-          ((extents_kept how now.rows source destination link cookie (asked_by command) refl).on slices stands);
+          ((extents_kept how now.rows source destination link cookie (asked_by command) refl refl few).on slices stands);
       counts = λ source destination link cookie k. record {
         read = ap (λ (b : board.Seen). b.read) is ∙ k.read ∙ ap up_to_end (sym (bytes_beside is_read link cookie ticket.Extents (asked_by command) source refl));
         written = ap (λ (b : board.Seen). b.written) is ∙ k.written;
@@ -145,9 +153,9 @@ flush_differs : (n : ℕ) → ticket.Flush ≡ ticket.Slice n → ⊥
 flush_differs n e = cc
 
 -- Extents of a range are asked for, of the source's first connection, while none are.
-asked_on : (way : Way) (now now' : board.Seen) (calls : List wire.Call) (held held' : List (Held Ticket)) (offset size : ℕ) → way.asked ≡ None → now' ≡ record now { told = []; mapped = false } →
+asked_on : (way : Way) (now now' : board.Seen) (calls : List wire.Call) (held held' : List (Held Ticket)) (offset size : ℕ) → size ≤ rows.max_extents → way.asked ≡ None → now' ≡ record now { told = []; mapped = false } →
     IsAsked 0 (block_status_of size offset ticket.Extents ticket.Extents 0) held held' → IsOn way now calls held → IsOn (with_asked (Some (offset, size)) way) now' calls held'
-asked_on way now now' calls held held' offset size none is asked on =
+asked_on way now now' calls held held' offset size few none is asked on =
     let command = without_buffer (block_status_of size offset ticket.Extents ticket.Extents 0) in
     let was = asked.on on.seens on.at in
     record {
@@ -156,7 +164,7 @@ asked_on way now now' calls held held' offset size none is asked on =
       at = was.at;
       sided = sided_after way.sides on.has 0 (Issue command) on.seens on.sided;
       begun = on.begun ∙ ap (λ (b : board.Seen). b.begun) (sym is);
-      stands = extents_ask_stand way on.has now now' calls on.seens (offset, size) 0 was.seen command none on.stands was.there (on.sided 0 was.seen was.there) was.spells (extents_ask way.how now now' offset size way.slices is)
+      stands = extents_ask_stand way on.has now now' calls on.seens (offset, size) 0 was.seen command none on.stands was.there (on.sided 0 was.seen was.there) was.spells (extents_ask way.how now now' offset size way.slices is few)
           (record { asks = record { kind = refl; offset = refl; length_ = refl }; first = refl; done = refl }) (ap (λ (b : board.Seen). b.told) is) (ap (λ (b : board.Seen). b.mapped) is);
       rest = on.rest;
       all = held_event calls 0 (Issue command) on.seens on.all;
@@ -164,6 +172,8 @@ asked_on way now now' calls held held' offset size none is asked on =
       bound = asks_bound way on.has now calls on.seens on.stands now' on.begun (λ none. sym (ap (λ (b : board.Seen). b.error) is) ∙ none) on.bound true 0 0 command refl refl
           (binds_none true 0 ticket.Extents now now' extents_differ (ap (λ (b : board.Seen). b.rows) is));
       drives = drive_event way.extents way.from way.to on.has calls 0 (Issue command) on.seens refl on.drives;
+      ends = ended_event way.extents way.how.skip way.flush way.from way.to calls way.ended false 0 (Issue command) on.seens refl on.ends;
+      order = ordered_event (is_source way.sides) on.has calls false 0 (Issue command) on.seens on.order;
     }
 
 -- Slices go on.
@@ -181,7 +191,7 @@ acts_keeps job how sides now now' held held' h s copying writes unflushed keeps 
   on = λ way had. record {
     way' = way;
     one = one_same way;
-    job' = record { size = had.size; how = had.how; writes = writes ∙ had.writes; sides = had.sides; ends = had.ends; cells = had.cells; planned = had.planned; grain = had.grain; spared = had.spared; asked = had.asked; over = λ other. absurd (other copying); unwanted = λ no. unflushed ∙ had.unwanted no; unflushed = λ c. unflushed ∙ had.unflushed c; rests = λ other. absurd (other copying); flushed = λ parts. absurd (still_copying job.phase copying parts); heard = had.heard };
+    job' = record { size = had.size; how = had.how; writes = writes ∙ had.writes; sides = had.sides; ends = had.ends; cells = had.cells; planned = had.planned; grain = had.grain; spared = had.spared; asked = had.asked; over = λ other. absurd (other copying); unwanted = λ no. unflushed ∙ had.unwanted no; unflushed = λ c. unflushed ∙ had.unflushed c; rests = λ other. absurd (other copying); flushed = λ parts. absurd (still_copying job.phase copying parts); heard = had.heard; reached = had.reached; parts = had.parts; wants = had.wants };
     on = λ calls on. none_on how sides now now' held held' keeps way calls (had.how ∙ sym h) (had.sides ∙ sym s) on;
   };
 }
@@ -193,8 +203,8 @@ pub acts_heard : (job job' : Seen) (windows' : windows.Seen) (now : board.Seen) 
     ((whole : ℕ → Bool) (slices : List Slice) → IsSpared job.windows whole slices → IsSpared windows' (λ p. whole p || whole_heard job.windows.grain (windows.wanted job.windows) now.told p) slices) →
     ((blank : ℕ → Bool) (slices : List Slice) → windows.IsPlanned job.windows blank slices → windows.IsPlanned windows' (λ p. blank p || windows.zero_heard (windows.wanted job.windows) now.told p) slices) →
     ((heard : ℕ → Bool) → IsHeardTo job.windows heard → IsHeardTo windows' (λ p. heard p || has_position (windows.wanted job.windows) p)) →
-    Acts job job' now now held held
-acts_heard job job' windows' now held copying asked mapped short is cells size grain spares hears reaches = subst (λ (j : Seen). Acts job j now now held held) (sym is) (record {
+    ((reach : ℕ → Bool) → IsToldTo job.windows reach → IsToldTo windows' (λ p. reach p || told_heard (windows.wanted job.windows) now.told p)) → Acts job job' now now held held
+acts_heard job job' windows' now held copying asked mapped short is cells size grain spares hears reaches tells = subst (λ (j : Seen). Acts job j now now held held) (sym is) (record {
   stand = λ s. s;
   on = λ way had.
       let range : way.asked ≡ windows.wanted job.windows = had.asked ∙ ap (λ (b : Bool). if b then windows.wanted job.windows else None) asked in
@@ -219,6 +229,9 @@ acts_heard job job' windows' now held copying asked mapped short is cells size g
           rests = λ other. absurd (other copying);
           flushed = λ parts. absurd (still_copying job.phase copying parts);
           heard = subst (λ (r : Option (ℕ × ℕ)). IsHeardTo windows' (λ p. way.heard p || has_position r p)) (sym range) (reaches way.heard had.heard);
+          reached = subst (λ (r : Option (ℕ × ℕ)). IsToldTo windows' (λ p. way.reach p || told_heard r now.told p)) (sym range) (tells way.reach had.reached);
+          parts = had.parts;
+          wants = had.wants;
         };
         on = λ calls on. heard_on way now calls held mapped short (range_may_be_read way job.terms.size job.windows (told_by 0 had.planned.parts) now calls held had.size range had.heard (planned_once job way now had) mapped on) on;
       };
@@ -226,6 +239,19 @@ acts_heard job job' windows' now held copying asked mapped short is cells size g
 
 stand_asked : (index : ℕ) (command : Command Ticket) (held held' : List (Held Ticket)) → IsAsked index command held held' → Stand held → Stand held'
 stand_asked index command held held' asked s = record { seens = with_event index (Issue (without_buffer command)) s.seens; at = (asked.on s.seens s.at).at }
+
+-- No more extents are asked for at once than those of a window.
+length_of : Option (ℕ × ℕ) → ℕ
+length_of None = 0
+length_of (Some range) = range.1
+
+few_of : (w : windows.Seen) (offset size : ℕ) → w.plan.end ≤ w.at → (here : ℕ × ℕ) → here.1 ≡ windows.window_end w - w.at → (b : Bool) → (if b then Some here else None) ≡ Some (offset, size) → size ≤ rows.max_extents
+unfolding length_of
+few_of w offset size low here is true e = let same : here.1 ≡ size = ap length_of e in omega (arith, same, is, low)
+few_of w offset size low here is false e = absurd (cc)
+
+few_wanted : (w : windows.Seen) (offset size : ℕ) → w.plan.end ≤ w.at → windows.wanted w ≡ Some (offset, size) → size ≤ rows.max_extents
+few_wanted w offset size low range = few_of w offset size low (w.at, windows.window_end w - w.at) refl (nat_lt w.at (windows.window_end w)) range
 
 pub acts_asked : (job job' : Seen) (now now' : board.Seen) (held held' : List (Held Ticket)) (offset size : ℕ) → job.phase ≡ Copying → job.asked ≡ false → windows.wanted job.windows ≡ Some (offset, size) →
     job' ≡ record job { asked = true } → now' ≡ record now { told = []; mapped = false } → IsAsked 0 (block_status_of size offset ticket.Extents ticket.Extents 0) held held' → Acts job job' now now' held held'
@@ -236,8 +262,8 @@ acts_asked job job' now now' held held' offset size copying none range is forget
       record {
         way' = with_asked (Some (offset, size)) way;
         one = record { from = refl; to = refl; how = refl; sides = refl; extents = refl };
-        job' = record { size = had.size; how = had.how; writes = ap (λ (b : board.Seen). b.how) forgets ∙ had.writes; sides = had.sides; ends = had.ends; cells = had.cells; planned = had.planned; grain = had.grain; spared = had.spared; asked = sym range; over = λ other. absurd (other copying); unwanted = λ no. ap (λ (b : board.Seen). b.flushing) forgets ∙ had.unwanted no; unflushed = λ c. ap (λ (b : board.Seen). b.flushing) forgets ∙ had.unflushed c; rests = λ other. absurd (other copying); flushed = λ parts. absurd (still_copying job.phase copying parts); heard = had.heard };
-        on = λ calls on. asked_on way now now' calls held held' offset size blank forgets asked on;
+        job' = record { size = had.size; how = had.how; writes = ap (λ (b : board.Seen). b.how) forgets ∙ had.writes; sides = had.sides; ends = had.ends; cells = had.cells; planned = had.planned; grain = had.grain; spared = had.spared; asked = sym range; over = λ other. absurd (other copying); unwanted = λ no. ap (λ (b : board.Seen). b.flushing) forgets ∙ had.unwanted no; unflushed = λ c. ap (λ (b : board.Seen). b.flushing) forgets ∙ had.unflushed c; rests = λ other. absurd (other copying); flushed = λ parts. absurd (still_copying job.phase copying parts); heard = had.heard; reached = had.reached; parts = had.parts; wants = had.wants };
+        on = λ calls on. asked_on way now now' calls held held' offset size (few_wanted job.windows offset size had.heard.planned range) blank forgets asked on;
       };
 })
 
@@ -296,6 +322,9 @@ acts_begun job job' windows' how sides now now' held held' copying h s is begins
       rests = λ other. absurd (other copying);
       flushed = λ parts. absurd (still_copying job.phase copying parts);
       heard = handed_heard job.windows windows' way.heard begins.others had.heard;
+      reached = told_handed job.windows windows' way.reach begins.others had.reached;
+      parts = had.parts;
+      wants = had.wants;
     };
     on = λ calls on. begins.keeps.on way calls (had.how ∙ sym h) (had.sides ∙ sym s) on;
   };
@@ -305,11 +334,11 @@ acts_begun job job' windows' how sides now now' held held' copying h s is begins
 
 -- All is asked and done: the copy comes to rest.
 acts_concludes : (job job' : Seen) (phase' : Phase) (now now' : board.Seen) (held held' : List (Held Ticket)) → job' ≡ record job { phase = phase' } → (phase' ≡ Copying → ⊥) → job.phase ≡ Copying → IsOver job now → now' ≡ record now { flushing = now'.flushing } → ((job.terms.flush ≡ false → now.flushing ≡ false) → job.terms.flush ≡ false → now'.flushing ≡ false) → (phase' ≡ Parting → job.terms.flush ≡ true → now'.flushed ≡ true) →
-    (Stand held → Stand held') → ((way : Way) → IsJob job way now → Keeps job.terms.how job.terms.sides [] now now' held held') → Acts job job' now now' held held'
-acts_concludes job job' phase' now now' held held' is past copying over same unwanted flushed stand keeps = subst (λ (j : Seen). Acts job j now now' held held') (sym is) (record {
+    (Stand held → Stand held') → ((way : Way) (calls : List wire.Call) → IsJob job way now → IsOn way now calls held → IsOn (record way { ended = is_parting phase' }) now' calls held') → Acts job job' now now' held held'
+acts_concludes job job' phase' now now' held held' is past copying over same unwanted flushed stand goes = subst (λ (j : Seen). Acts job j now now' held held') (sym is) (record {
   stand = stand;
   on = λ way had. record {
-    way' = record way { rested = Some now };
+    way' = record way { rested = Some now; ended = is_parting phase' };
     one = record { from = refl; to = refl; how = refl; sides = refl; extents = refl };
     job' = record {
       size = had.size;
@@ -335,8 +364,11 @@ acts_concludes job job' phase' now now' held held' is past copying over same unw
       };
       flushed = flushed;
       heard = had.heard;
+      reached = had.reached;
+      parts = refl;
+      wants = had.wants;
     };
-    on = λ calls on. at_rest way now now' calls held' (none_on job.terms.how job.terms.sides now now' held held' (keeps way had) way calls had.how had.sides on) (came_to_rest job way now calls held copying over had on);
+    on = λ calls on. at_rest (record way { ended = is_parting phase' }) now now' calls held' (goes way calls had on) (came_to_rest job way now calls held copying over had on);
   };
 })
 
@@ -344,20 +376,23 @@ parting_past : Parting ≡ Copying → ⊥
 parting_past e = cc
 
 -- All connections are asked to part, where no flush is wanted.
-pub acts_parting : (job job' : Seen) (now : board.Seen) (held held' : List (Held Ticket)) → job.terms.flush ≡ false → job' ≡ record job { phase = Parting } → job.phase ≡ Copying → IsOver job now →
-    Keeps job.terms.how job.terms.sides [] now now held held' → Acts job job' now now held held'
-acts_parting job job' now held held' unwanted is copying over keeps = acts_concludes job job' Parting now now held held' is parting_past copying over refl (λ none. none) (λ parts wanted. absurd (false≢true (sym unwanted ∙ wanted))) keeps.stand (λ way had. keeps)
+pub acts_parting : (job job' : Seen) (now : board.Seen) (held held' : List (Held Ticket)) → job.terms.flush ≡ false → job' ≡ record job { phase = Parting } → job.phase ≡ Copying → IsOver job now → now.error ≡ None → Parts now held held' →
+    Acts job job' now now held held'
+acts_parting job job' now held held' unwanted is copying over well parts =
+    acts_concludes job job' Parting now now held held' is parting_past copying over refl (λ none. none) (λ parts wanted. absurd (false≢true (sym unwanted ∙ wanted))) parts.stand
+    (λ way calls had on.
+    parts.on (record way { ended = true }) calls refl (at_end way now calls held (had.parts ∙ ap is_parting copying) (λ two. all_is_done job way now calls held had over well (λ flushing. absurd (false≢true (sym (had.unwanted unwanted) ∙ flushing))) on two)
+    (λ wanted two. absurd (false≢true (sym unwanted ∙ sym had.wants ∙ wanted))) on))
 
 -- So they are where the flush was answered.
-pub acts_flushed : (job job' : Seen) (now : board.Seen) (held held' : List (Held Ticket)) → now.flushed ≡ true → job' ≡ record job { phase = Parting } → job.phase ≡ Flushing →
-    Keeps job.terms.how job.terms.sides [] now now held held' → Acts job job' now now held held'
-acts_flushed job job' now held held' answered is flushing keeps =
+pub acts_flushed : (job job' : Seen) (now : board.Seen) (held held' : List (Held Ticket)) → now.flushed ≡ true → job' ≡ record job { phase = Parting } → job.phase ≡ Flushing → now.error ≡ None → Parts now held held' → Acts job job' now now held held'
+acts_flushed job job' now held held' answered is flushing well parts =
     let past : job.phase ≡ Copying → ⊥ = λ e. phases_differ (sym flushing ∙ e) in
     subst (λ (j : Seen). Acts job j now now held held') (sym is) (record {
-      stand = keeps.stand;
+      stand = parts.stand;
       on = λ way had. record {
-        way' = way;
-        one = one_same way;
+        way' = record way { ended = true };
+        one = record { from = refl; to = refl; how = refl; sides = refl; extents = refl };
         job' = record {
           size = had.size;
           how = had.how;
@@ -375,8 +410,12 @@ acts_flushed job job' now held held' answered is flushing keeps =
           rests = λ other. had.rests past;
           flushed = λ parts wanted. answered;
           heard = had.heard;
+          reached = had.reached;
+          parts = refl;
+          wants = had.wants;
         };
-        on = λ calls on. none_on job.terms.how job.terms.sides now now held held' keeps way calls had.how had.sides on;
+        on = λ calls on.
+            parts.on (record way { ended = true }) calls refl (at_end way now calls held (had.parts ∙ ap is_parting flushing) (λ two. all_is_done job way now calls held had (had.over past) well (λ flushing. answered) on two) (λ wanted two. flush_is_done job way now calls held had well answered on two) on);
       };
     })
 
@@ -393,7 +432,7 @@ flush_asks how now now' slices is unflushed =
       on = λ source destination link cookie stands.
           subst (λ (more : List Slice). rows.Stands how more now'.rows source (asking link cookie ticket.Flush (asked_by command) destination)) (sym (append-nil slices))
           (subst (λ (b : board.Seen). rows.Stands how slices b.rows source (asking link cookie ticket.Flush (asked_by command) destination)) (sym is)
-          ((flush_kept how now.rows source destination link cookie (asked_by command) refl).on slices stands));
+          ((flush_kept how now.rows source destination link cookie (asked_by command) refl refl).on slices stands));
       counts = λ source destination link cookie k. record {
         read = ap (λ (b : board.Seen). b.read) is ∙ k.read;
         written = ap (λ (b : board.Seen). b.written) is ∙ k.written ∙ ap up_to_end (sym (bytes_beside is_write link cookie ticket.Flush (asked_by command) destination refl));
@@ -408,15 +447,16 @@ pub acts_flushing : (job job' : Seen) (now now' : board.Seen) (held held' : List
 acts_flushing job job' now now' held held' wanted is copying over asks asked =
     let begun : now'.begun ≡ now.begun = ap (λ (b : board.Seen). b.begun) asks in
     acts_concludes job job' Flushing now now' held held' is phases_differ copying over (asks ∙ ap (λ (b : board.Seen). record now { flushing = b.flushing }) (sym asks)) (λ none no. absurd (false≢true (sym no ∙ wanted))) (λ parts. absurd (flushing_differs parts)) (stand_asked 1 (flush_of ticket.Flush 0) held held' asked)
-    (λ way had. destination_keeps job.terms.how job.terms.sides [] (flush_of ticket.Flush 0) now now' held held' (omega (arith, begun)) refl (record { told = ap (λ (b : board.Seen). b.told) asks; mapped = ap (λ (b : board.Seen). b.mapped) asks; short = ap (λ (b : board.Seen). b.short) asks })
+    (λ way calls had on. subst (λ (e : Bool). IsOn (record way { ended = e }) now' calls held') (had.parts ∙ ap is_parting copying)
+    (none_on job.terms.how job.terms.sides now now' held held' (destination_keeps job.terms.how job.terms.sides [] (flush_of ticket.Flush 0) now now' held held' (omega (arith, begun)) refl (record { told = ap (λ (b : board.Seen). b.told) asks; mapped = ap (λ (b : board.Seen). b.mapped) asks; short = ap (λ (b : board.Seen). b.short) asks })
     (λ slices count. flush_asks job.terms.how now now' slices asks (had.unflushed copying))
     (connection_of job.terms.sides 1) (binds_none false (connection_of job.terms.sides 1) ticket.Flush now now' flush_differs (ap (λ (b : board.Seen). b.rows) asks))
-    (record { index = 1; side = refl; here = refl; asked = asked }))
+    (record { index = 1; side = refl; here = refl; asked = asked })) way calls had.how had.sides on))
 
 -- A job begins.
 pub job_begins : (job : Seen) (way : Way) (now : board.Seen) → job.asked ≡ false → job.phase ≡ Copying → job.windows.plan.cells ≡ cells_of job.terms → job.windows.size ≡ job.terms.size → job.windows.grain ≡ job.terms.grain → ((blank : ℕ → Bool) → windows.IsPlanned job.windows blank []) →
-    way.size ≡ Some job.terms.size → now.how ≡ job.terms.how → way.how ≡ job.terms.how → way.sides ≡ job.terms.sides → way.slices ≡ [] → way.asked ≡ None → ((block p : ℕ) → way.whole block p ≡ false) → now.flushing ≡ false → IsHeardTo job.windows way.heard → IsJob job way now
-job_begins job way now none copying cells ends grain planned z w h s blank asked unknown unflushed heard = record {
+    way.size ≡ Some job.terms.size → now.how ≡ job.terms.how → way.how ≡ job.terms.how → way.sides ≡ job.terms.sides → way.slices ≡ [] → way.asked ≡ None → ((block p : ℕ) → way.whole block p ≡ false) → now.flushing ≡ false → IsHeardTo job.windows way.heard → IsToldTo job.windows way.reach → way.ended ≡ false → way.flush ≡ job.terms.flush → IsJob job way now
+job_begins job way now none copying cells ends grain planned z w h s blank asked unknown unflushed heard reached unended wants = record {
   size = z;
   how = h;
   writes = w;
@@ -433,4 +473,7 @@ job_begins job way now none copying cells ends grain planned z w h s blank asked
   rests = λ other. absurd (other copying);
   flushed = λ parts. absurd (still_copying job.phase copying parts);
   heard = heard;
+  reached = reached;
+  parts = unended ∙ sym (ap is_parting copying);
+  wants = wants;
 }

@@ -24,8 +24,8 @@ use Rattle.lnbd_poll.specs.Lends.{with_handle}
 use Rattle.lnbd_poll.specs.Notices.{ReadsIf, ReadsOn, WritesIf, is_reading, is_waiting}
 use Rattle.lnbd_poll.specs.Seen.{Seen}
 use Rattle.lnbd_poll.specs.Seen as poll
-use Rattle.lnbd_poll.specs.Turned.{TurnsShort, TurnsWhole}
-use Rattle.lnbd_poll.specs.Turns.{All_took, Ending, Goes_on, Runs_short, Short, Stops, Takes, Turns, TurnsOne, Whole, WritesAll}
+use Rattle.lnbd_poll.specs.Turned.{TurnsCut, TurnsWhole}
+use Rattle.lnbd_poll.specs.Turns.{All_took, Ending, Goes_on, Runs_short, Breaks_off, Stops, Takes, Turns, TurnsOne, Whole, WritesAll}
 use Rattle.lnbd_poll.proofs.NumberLemmas.{same_number}
 use Rattle.lnbd_board.specs.Files.{Files}
 use Rattle.lnbd_board.specs.Files as board
@@ -401,6 +401,7 @@ module _ {K World : Type 0} (steps : World → List (callbacks.Call K) → World
   turns_move before world part after world' ending (Runs_short _ _ _ _ _ _ seen others here moved is one after_is end) =
       subst (λ (l : List (Seen K)). AreMoves (links_in l) part) (sym is)
       (one_moves steps (links_in (seen ∷ others)) _ seen world part here world' moved (first_times seen.link (links_in others)) one)
+  turns_move before world part after world' ending (Breaks_off _ _ _ _ _ _ none after_is world_is end) = subst (AreMoves (links_in before)) (sym none) tt
 
 at_links : (held : List (Held Ticket)) (seens : List (Seen Ticket)) → AreAt held seens → links_of held ≡ links_in seens
 at_links [] [] at = refl
@@ -451,11 +452,11 @@ links_turned a b f g turn now now' held held' goes s =
     let went = goes s.seens s.at in
     turned a b now now' held held' s.seens went.after went.calls (Whole went.leads.moved) s.at went.at went.leads.turns went.grown
 
-pub links_cut_short : (a b : Option (List Call)) (f g : ℕ) (now now' : board.Seen) (held held' : List (Held Ticket))
-    → poll.Goes a b (λ seens. AreAt held seens) (λ seens. AreAt held' seens) (λ before calls after. TurnsShort (OneByOne Files) f g before now calls after now') → Stand held → LinksGo [] held a held' b
-links_cut_short a b f g now now' held held' goes s =
+pub links_cut : (a b : Option (List Call)) (f g : ℕ) (now now' : board.Seen) (held held' : List (Held Ticket))
+    → poll.Goes a b (λ seens. AreAt held seens) (λ seens. AreAt held' seens) (λ before calls after. TurnsCut (OneByOne Files) f g before now calls after now') → Stand held → LinksGo [] held a held' b
+links_cut a b f g now now' held held' goes s =
     let went = goes s.seens s.at in
-    turned a b now now' held held' s.seens went.after went.calls Short s.at went.at went.leads.turns went.grown
+    turned a b now now' held held' s.seens went.after went.calls went.leads.ending s.at went.at went.leads.turns went.grown
 
 -- The link of a handle that is held is open.
 

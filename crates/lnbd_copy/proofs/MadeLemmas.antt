@@ -11,7 +11,8 @@ use Rattle.lnbd_course.specs.Driven.{AreDriven}
 use Rattle.lnbd_course.specs.Flushes.{FlushesLast, IsUnflushed}
 use Rattle.lnbd_copy.specs.Connected.{AllConnected}
 use Rattle.lnbd_copy.specs.Connects.{ConnectsAsTold}
-use Rattle.lnbd_copy.specs.Driven.{AreDrivenBy, AreLeft}
+use Rattle.lnbd_copy.specs.Driven.{AreLeft}
+use Rattle.lnbd_copy.specs.DrivenAs.{AreDrivenBy}
 use Rattle.lnbd_copy.specs.Links.{LinksAreKept}
 use Rattle.lnbd_copy.specs.Made.{IsMade}
 use Rattle.lnbd_copy.specs.Paused.{PausesAreFull}
@@ -24,13 +25,13 @@ use Rattle.lnbd_copy.specs.Waits.{WaitsWell}
 use Rattle.lnbd_copy.specs.Wanted.{WantsSome}
 
 pub is_made : {F : Type 0} (options : CopyOptions) (from to : Place) (a b : Option (List wire.Call)) (r : Result Summary F)
-    → OnOk r (GrewBy (HasAskedOnce options.allocated from to) a b) → OnOk r (GrewBy (WereAllDone from to) a b) → IfOk r (λ summary. GrewBy (Summarizes from to summary) a b)
+    → OnOk r (GrewBy (HasAskedOnce options.allocated options.destination_is_zero from to) a b) → OnOk r (GrewBy (WereAllDone from to) a b) → IfOk r (λ summary. GrewBy (Summarizes from to summary) a b)
     → OnOk r (GrewBy (SparesTold from to) a b) → OnOk r (GrewBy (SparesFound options from to) a b) → GrewBy (ReadsAreAnswered options.extents from) a b
     → IfOk r (λ summary. GrewBy (FlushesLast from to summary) a b) → OnOk r (GrewBy (FlushesWanted options from to) a b) → (options.flush ≡ false → GrewBy (IsUnflushed to) a b)
     → OnOk r (GrewBy AreDriven a b) → GrewBy (PausesAreFull options from to) a b → GrewBy (IsAlwaysShared options from to) a b → GrewBy (AtEachPause WantsOnlyFull) a b → GrewBy (AtEachPause WaitsWell) a b → GrewBy LinksAreKept a b → OnOk r (GrewBy (ConnectsAsTold options from to) a b)
     → GrewBy (AtEachPause WantsOnlyEmpty) a b
     → GrewBy (AtEachPause WantsSome) a b
-    → OnOk r (GrewBy AllConnected a b) → GrewBy (AreDrivenBy options.extents from to) a b → OnOk r (GrewBy (AreLeft options.extents from to) a b)
+    → OnOk r (GrewBy AllConnected a b) → GrewBy (AreDrivenBy options from to) a b → OnOk r (GrewBy (AreLeft options.extents from to) a b)
     → IfOk r (λ summary. GrewBy (IsMade options from to summary) a b)
 is_made options from to a b (Ok summary) asks done sums spares dense answered flushes flushed unflushed driven pauses shares writes waits links connects reads wanted connected drives left = λ all part is grown. record {
   asks = asks all part is grown;

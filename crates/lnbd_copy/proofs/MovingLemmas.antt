@@ -18,7 +18,7 @@ use Rattle.lnbd_poll.specs.Notices.{Hears, ReadsIf, ReadsOn, Sends, WritesIf, is
 use Rattle.lnbd_poll.specs.Seen.{Seen}
 use Rattle.lnbd_poll.specs.Seen as poll
 use Rattle.lnbd_poll.specs.Turned.{TurnsWhole}
-use Rattle.lnbd_poll.specs.Turns.{All_took, Ending, Goes_on, Runs_short, Short, Stops, Takes, Told, Turns, TurnsOne, Whole, WritesAll, is_lost, is_short, moved_by, together, turn_of, with_moved}
+use Rattle.lnbd_poll.specs.Turns.{AllTook, All_took, Ending, Goes_on, Runs_short, Breaks_off, Short, Stops, Takes, Told, Turns, TurnsOne, Whole, WritesAll, is_lost, is_short, moved_by, together, turn_of, with_moved}
 use Rattle.lnbd_board.specs.declared.ask.Ask.{Ask}
 use Rattle.lnbd_board.specs.declared.ask.Change.{Change}
 use Rattle.lnbd_board.specs.declared.how.How.{How}
@@ -127,6 +127,7 @@ module _ {K World : Type 0} (steps : World → List (Call K) → World → Type 
       let quiet = with_none moved rest (sym end ∙ still) in
       turns_none others half other there world' rest more quiet.1 ∙ one_none notice seen world own here half moved one enough quiet.0
   turns_none before world calls after world' ending (Runs_short _ _ _ _ _ _ seen others here moved is one after_is end) still = whole_short None (sym still ∙ end)
+  turns_none before world calls after world' ending (Breaks_off _ _ _ _ _ _ none after_is world_is end) still = world_is
 
   -- Where nothing happened in its calls, and all that was read had arrived, none of it moved.
 
@@ -165,12 +166,12 @@ module _ {K World : Type 0} (steps : World → List (Call K) → World → Type 
       let sent = writes_still before.link before.history world t.written t.middle t.half t.sent t.writes none.0 in
       t.moved_is ∙ ap (λ (m : Option ℕ). together m (moved_by notice)) sent ∙ reads_still (is_reading t.middle) notice middle after t.half world' t.read t.reads none.1 read
 
-  turns_still : (before : List (Seen K)) (world : World) (calls : List wire.Call) (after : List (Seen K)) (world' : World) (ending : Ending) → Turns steps before world calls after world' ending → list_any has_happened calls ≡ false → AreRead before → (m : Option ℕ) → ending ≡ Whole m → m ≡ None
-  turns_still before world calls after world' ending (All_took _ _ _ _ _ _ is none after_is world_is end) nothing read m whole = whole_same m None (sym whole ∙ end)
-  turns_still before world calls after world' ending (Takes _ _ _ _ _ _ seen others notice own here half moved other there rest is one enough more calls_are after_is end) nothing read m whole =
+  turns_still : (before : List (Seen K)) (world : World) (calls : List wire.Call) (after : List (Seen K)) (world' : World) (ending : Ending) (turns : Turns steps before world calls after world' ending) → AllTook turns → list_any has_happened calls ≡ false → AreRead before → (m : Option ℕ) → ending ≡ Whole m → m ≡ None
+  turns_still before world calls after world' ending (All_took _ _ _ _ _ _ is none after_is world_is end) took nothing read m whole = whole_same m None (sym whole ∙ end)
+  turns_still before world calls after world' ending (Takes _ _ _ _ _ _ seen others notice own here half moved other there rest is one enough more calls_are after_is end) took nothing read m whole =
       let none = none_of_both has_happened calls own other calls_are nothing in
       let all : AreRead (seen ∷ others) = subst AreRead is read in
-      go rest (turns_still others half other there world' rest more none.1 all.1) (sym whole ∙ end)
+      go rest (turns_still others half other there world' rest more took none.1 all.1) (sym whole ∙ end)
     where
       go : (rest : Ending) → ((m : Option ℕ) → rest ≡ Whole m → m ≡ None) → Whole m ≡ with_moved moved rest → m ≡ None
       go (Whole r) still same =
@@ -178,7 +179,8 @@ module _ {K World : Type 0} (steps : World → List (Call K) → World → Type 
           let all : AreRead (seen ∷ others) = subst AreRead is read in
           whole_same m (together moved r) same ∙ ap (λ (o : Option ℕ). together o r) (one_still notice seen world own here half moved one none.0 all.0) ∙ still r refl
       go Short still same = whole_short m same
-  turns_still before world calls after world' ending (Runs_short _ _ _ _ _ _ seen others here moved is one after_is end) nothing read m whole = whole_short m (sym whole ∙ end)
+  turns_still before world calls after world' ending (Runs_short _ _ _ _ _ _ seen others here moved is one after_is end) took nothing read m whole = whole_short m (sym whole ∙ end)
+  turns_still before world calls after world' ending (Breaks_off _ _ _ _ _ _ none after_is world_is end) took nothing read m whole = absurd took
 
 -- A turn, where it is told.
 
@@ -206,7 +208,7 @@ turned_stirs a b f g told now now' held held' count goes moves s = record {
         was = grown.1;
         now = grown.2;
         are = λ nothing taken.
-            let none = turns_still steps s.seens now went.calls went.after now' (Whole went.leads.moved) went.leads.turns nothing (are_read held s.seens s.at taken) went.leads.moved refl in
+            let none = turns_still steps s.seens now went.calls went.after now' (Whole went.leads.moved) went.leads.turns went.leads.all nothing (are_read held s.seens s.at taken) went.leads.moved refl in
             moved_not_still (sym moves ∙ went.leads.tells ∙ ap turn_of none);
       };
 }

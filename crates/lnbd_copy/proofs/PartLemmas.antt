@@ -1,6 +1,5 @@
 -- The connections of a copy are asked to end, and are taken out.
 use Rattle.std.proofs.Common.{◌≡◌, ℕ, zero, suc, ◌+◌, Bool, true, false, List, [], ◌∷◌, ◌++◌, Option, None, Some, Result, Ok, Err, slice_get, take, drop, refl, ap, sym, subst, ◌∙◌}
-use Rattle.std.proofs.lemmas.List.{append-nil}
 use Rattle.std.specs.Option.{option_map}
 use Rattle.lnbd_history.specs.Events.{Disconnect, Event}
 use Rattle.lnbd_link.specs.Call as wire
@@ -14,17 +13,14 @@ use Rattle.lnbd_poll.specs.Held.{Held, AreAt}
 use Rattle.lnbd_poll.specs.Lends.{with_handle}
 use Rattle.lnbd_poll.specs.Seen.{Seen}
 use Rattle.lnbd_drives.specs.Driving.{with_event}
-use Rattle.lnbd_plan.specs.declared.grid.Slice.{Slice}
-use Rattle.lnbd_board.specs.declared.how.How.{How}
 use Rattle.lnbd_board.specs.declared.row.Row.{Row}
 use Rattle.lnbd_board.specs.declared.ticket.Ticket.{Ticket}
 use Rattle.lnbd_board.specs.Files as board
 use Rattle.lnbd_board.specs.Rows as rows
-use Rattle.lnbd_copy.specs.declared.sides.Sides.{Sides}
 use Rattle.lnbd_copy.specs.Driven.{HasParted}
 use Rattle.lnbd_copy.specs.Grounds.{Happens}
-use Rattle.lnbd_copy.specs.Leaving.{Leaves}
-use Rattle.lnbd_copy.specs.Way.{Filed, IsLeaving, IsOn, Keeps, Stands, Way}
+use Rattle.lnbd_copy.specs.Leaving.{Leaves, Parts}
+use Rattle.lnbd_copy.specs.Way.{Filed, IsLeaving, IsOn, Stands, Way, is_source}
 use Rattle.lnbd_copy.proofs.FiledLemmas.{filed_none, filed_then}
 use Rattle.lnbd_copy.proofs.FirstLemmas.{adds_none, gives_none, gives_then}
 use Rattle.lnbd_copy.proofs.LastLemmas.{lasts_adds, lasts_none, lasts_then}
@@ -33,16 +29,15 @@ use Rattle.lnbd_copy.proofs.BindingLemmas.{bound_event}
 use Rattle.lnbd_copy.proofs.BegunLemmas.{event_first}
 use Rattle.lnbd_copy.proofs.DrivenLemmas.{drive_event, drive_without}
 use Rattle.lnbd_copy.proofs.HeardLemmas.{hears_on, hears_parting}
+use Rattle.lnbd_copy.proofs.OrderLemmas.{in_order, ordered_event}
+use Rattle.lnbd_copy.proofs.UnendedLemmas.{ended_anyhow, ended_left}
 use Rattle.lnbd_copy.proofs.StepLemmas.{others_stand, taking_stands, unasked_moves_stand}
 use Rattle.lnbd_copy.proofs.TurnLemmas.{SameLinks, called, links_stay, none_some, placed_same, some_same, told_on}
 
--- Steps without slices.
+-- No handle is asked.
 
-pub keeps_none : (how : How) (sides : Sides) (now : board.Seen) (held : List (Held Ticket)) → Keeps how sides [] now now held held
-keeps_none how sides now held = record {
-  stand = λ s. s;
-  on = λ way calls is_how is_sides on. subst (λ (slices : List Slice). IsOn (record way { slices = slices }) now calls held) (sym (append-nil way.slices)) on;
-}
+pub parts_none : (now : board.Seen) (held : List (Held Ticket)) → Parts now held held
+parts_none now held = record { stand = λ s. s; on = λ way calls ended on. on }
 
 -- With what happened on a handle.
 
@@ -81,14 +76,14 @@ event_links zero event (seen ∷ others) = (refl, links_stay others)
 event_links (suc index) event (seen ∷ others) = (refl, event_links index event others)
 
 -- A handle that asks for the end changes nothing else.
-parts : (how : How) (sides : Sides) (now : board.Seen) (index : ℕ) (held : List (Held Ticket)) (handle handle' : Machine Ticket) → ForEach handle (histories.Adds Disconnect handle') → option_map (λ held. held.handle) (slice_get held index) ≡ Some handle
-    → Keeps how sides [] now now held (with_handle held index handle')
-parts how sides now index held handle handle' adds is = record {
+parts : (now : board.Seen) (index : ℕ) (held : List (Held Ticket)) (handle handle' : Machine Ticket) → ForEach handle (histories.Adds Disconnect handle') → option_map (λ held. held.handle) (slice_get held index) ≡ Some handle
+    → Parts now held (with_handle held index handle')
+parts now index held handle handle' adds is = record {
   stand = λ s. record { seens = with_event index Disconnect s.seens; at = (happens handle handle' Disconnect index held s.seens adds is s.at).at };
-  on = λ way calls is_how is_sides on.
+  on = λ way calls ended on.
       let did = happens handle handle' Disconnect index held on.seens adds is on.at in
       let after = with_event index Disconnect on.seens in
-      (keeps_none how sides now (with_handle held index handle')).on way calls is_how is_sides (record {
+      record {
         has = on.has;
         seens = after;
         at = did.at;
@@ -100,14 +95,16 @@ parts how sides now index held handle handle' adds is = record {
         hears = hears_on false way.extents way.from way.to way.heard now.error now.error (λ well. well) calls on.seens after (event_first index Disconnect on.seens) on.hears;
         bound = bound_event way.sides now index Disconnect on.seens refl on.bound;
         drives = drive_event way.extents way.from way.to on.has calls index Disconnect on.seens refl on.drives;
-      });
+        ends = ended_anyhow way.extents way.how.skip way.flush way.from way.to calls way.ended false false on.seens after ended on.ends;
+        order = ordered_event (is_source way.sides) on.has calls false index Disconnect on.seens on.order;
+      };
 }
 
-stays : (how : How) (sides : Sides) (now : board.Seen) (index : ℕ) (held : List (Held Ticket)) (handle handle' : Machine Ticket) → ForEach handle (histories.Stays handle') → option_map (λ held. held.handle) (slice_get held index) ≡ Some handle
-    → Keeps how sides [] now now held (with_handle held index handle')
-stays how sides now index held handle handle' same is = record {
+stays : (now : board.Seen) (index : ℕ) (held : List (Held Ticket)) (handle handle' : Machine Ticket) → ForEach handle (histories.Stays handle') → option_map (λ held. held.handle) (slice_get held index) ≡ Some handle
+    → Parts now held (with_handle held index handle')
+stays now index held handle handle' same is = record {
   stand = λ s. record { seens = s.seens; at = still handle handle' index held s.seens same is s.at };
-  on = λ way calls is_how is_sides on. (keeps_none how sides now (with_handle held index handle')).on way calls is_how is_sides (record {
+  on = λ way calls ended on. record {
     has = on.has;
     seens = on.seens;
     at = still handle handle' index held on.seens same is on.at;
@@ -119,23 +116,19 @@ stays how sides now index held handle handle' same is = record {
     hears = on.hears;
     bound = on.bound;
     drives = on.drives;
-  });
+    ends = on.ends;
+    order = on.order;
+  };
 }
 
 -- A handle was asked for the end, whether that was taken or not.
-pub parts_or_not : (how : How) (sides : Sides) (now : board.Seen) (index : ℕ) (held : List (Held Ticket)) (handle handle' : Machine Ticket) (result : Result (Unit {0}) Why) → option_map (λ held. held.handle) (slice_get held index) ≡ Some handle
-    → ForEach handle (AddsOnOk result Disconnect handle') → Keeps how sides [] now now held (with_handle held index handle')
-parts_or_not how sides now index held handle handle' (Ok done) is adds = parts how sides now index held handle handle' adds is
-parts_or_not how sides now index held handle handle' (Err why) is same = stays how sides now index held handle handle' same is
+pub parts_or_not : (now : board.Seen) (index : ℕ) (held : List (Held Ticket)) (handle handle' : Machine Ticket) (result : Result (Unit {0}) Why) → option_map (λ held. held.handle) (slice_get held index) ≡ Some handle
+    → ForEach handle (AddsOnOk result Disconnect handle') → Parts now held (with_handle held index handle')
+parts_or_not now index held handle handle' (Ok done) is adds = parts now index held handle handle' adds is
+parts_or_not now index held handle handle' (Err why) is same = stays now index held handle handle' same is
 
--- the slices that none were begun of are none
-pub keeps_on : (how : How) (sides : Sides) (a b c : board.Seen) (held held2 held3 : List (Held Ticket)) → Keeps how sides [] a b held held2 → Keeps how sides [] b c held2 held3 → Keeps how sides [] a c held held3
-keeps_on how sides a b c held held2 held3 one two = record {
-  stand = λ s. two.stand (one.stand s);
-  on = λ way calls is_how is_sides on.
-      let half = subst (λ (slices : List Slice). IsOn (record way { slices = slices }) b calls held2) (append-nil way.slices) (one.on way calls is_how is_sides on) in
-      two.on way calls is_how is_sides half;
-}
+pub parts_then : (now : board.Seen) (held held2 held3 : List (Held Ticket)) → Parts now held held2 → Parts now held2 held3 → Parts now held held3
+parts_then now held held2 held3 one two = record { stand = λ s. two.stand (one.stand s); on = λ way calls ended on. two.on way calls ended (one.on way calls ended on) }
 
 -- A handle is taken out.
 
@@ -205,6 +198,8 @@ hung_up way now now' calls held index taken parted is unasked filed unanswered n
       hears = hears_parting true way.extents way.from way.to way.heard now.error now'.error filed.error calls on.seens left on.hears;
       bound = tt;
       drives = drive_without way.extents way.from way.to on.has calls on.seens index one.seen one.there one.stands.lawful (subst (λ (s : Seen Ticket). HasParted s.history) (some_same has.seen one.seen (sym has.there ∙ one.there)) has.is) on.stands.between.course.drive on.stands.between.placed.address on.drives;
+      ends = ended_left way.extents way.how.skip way.flush way.from way.to calls way.ended on.seens left on.ends;
+      order = on.order;
     }
 
 -- A handle is taken out and closed, and its link is shut.
@@ -216,7 +211,7 @@ leaves_one a b now now' held held' index one is held_is filed unanswered adds pa
   on = λ way start unasked none told. told_on start a b (wire.Shut one.0) adds
       (λ calls on. called true way now' calls (wire.Shut one.0 ∷ []) (take index held ++ drop (index + 1) held) (λ n. refl) (λ n. refl) (hung_up way now now' calls held index one parted is unasked filed unanswered none on)) told;
   lasts = lasts_adds a b (wire.Shut one.0) adds;
-  gives = adds_none a b (wire.Shut one.0) (λ link. refl) adds;
+  gives = adds_none a b (wire.Shut one.0) (λ link. refl) refl adds;
 })
 
 pub leaves_none : (now : board.Seen) (held : List (Held Ticket)) (told : Option (List wire.Call)) → Leaves now held told now held told
@@ -231,6 +226,6 @@ leaves_then now now2 now3 held held2 held3 a b c one two = record {
   gives = gives_then a b c one.gives two.gives;
 }
 
--- A copy on its way may leave.
-pub on_leaving : (way : Way) (now : board.Seen) (calls : List wire.Call) (held : List (Held Ticket)) → IsOn way now calls held → IsLeaving way now calls held
-on_leaving way now calls held on = record { has = on.has; seens = on.seens; at = on.at; sided = tt; begun = on.begun; stands = on.stands; rest = on.rest; all = tt; hears = hears_parting false way.extents way.from way.to way.heard now.error now.error (λ well. well) calls on.seens on.seens on.hears; bound = tt; drives = on.drives }
+-- A copy on its way may leave once its connections were to end.
+pub on_leaving : (way : Way) (now : board.Seen) (calls : List wire.Call) (held : List (Held Ticket)) → way.ended ≡ true → IsOn way now calls held → IsLeaving way now calls held
+on_leaving way now calls held ended on = record { has = on.has; seens = on.seens; at = on.at; sided = tt; begun = on.begun; stands = on.stands; rest = on.rest; all = tt; hears = hears_parting false way.extents way.from way.to way.heard now.error now.error (λ well. well) calls on.seens on.seens on.hears; bound = tt; drives = on.drives; ends = ended_anyhow way.extents way.how.skip way.flush way.from way.to calls way.ended false true on.seens on.seens ended on.ends; order = in_order false way.sides on.has calls on.seens on.sided on.order }

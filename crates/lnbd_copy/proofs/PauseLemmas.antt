@@ -14,17 +14,17 @@ use Rattle.lnbd_copy.proofs.TurnLemmas.{since_on, told_begins}
 
 -- Among calls.
 
-none_cons : {A : Type 0} (before after : List A) (one : A) → [] ≡ before ++ one ∷ after → ⊥
+pub none_cons : {A : Type 0} (before after : List A) (one : A) → [] ≡ before ++ one ∷ after → ⊥
 none_cons [] after one e = cc
 none_cons (first ∷ before) after one e = cc
 
-head_same : {A : Type 0} (x y : A) (xs ys : List A) → x ∷ xs ≡ y ∷ ys → x ≡ y
+pub head_same : {A : Type 0} (x y : A) (xs ys : List A) → x ∷ xs ≡ y ∷ ys → x ≡ y
 head_same x y xs ys e = cc
 
-tail_same : {A : Type 0} (x y : A) (xs ys : List A) → x ∷ xs ≡ y ∷ ys → xs ≡ ys
+pub tail_same : {A : Type 0} (x y : A) (xs ys : List A) → x ∷ xs ≡ y ∷ ys → xs ≡ ys
 tail_same x y xs ys e = cc
 
-has_pause : (before after : List wire.Call) (wants : List Want) → list_any is_pause (before ++ Pause wants ∷ after) ≡ true
+pub has_pause : (before after : List wire.Call) (wants : List Want) → list_any is_pause (before ++ Pause wants ∷ after) ≡ true
 has_pause [] after wants = refl
 has_pause (call ∷ before) after wants = or_true (is_pause call) (list_any is_pause (before ++ Pause wants ∷ after)) (has_pause before after wants)
   where
@@ -75,7 +75,7 @@ module _ (Is : (before : List wire.Call) → List Want → Type 0) where
 
 -- Steps.
 
-no_pause_then : (calls more : List wire.Call) → HasNoPause calls → HasNoPause more → HasNoPause (calls ++ more)
+pub no_pause_then : (calls more : List wire.Call) → HasNoPause calls → HasNoPause more → HasNoPause (calls ++ more)
 no_pause_then calls more one two = list_any-append is_pause calls more ∙ ap (λ (b : Bool). b || list_any is_pause more) one ∙ two
 
 pub unpaused_none : (told : Option (List wire.Call)) → Unpaused told told

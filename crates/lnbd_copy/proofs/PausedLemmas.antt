@@ -36,7 +36,7 @@ use Rattle.lnbd_copy.specs.Paused.{IsFullPause, PausesAreFull}
 use Rattle.lnbd_copy.specs.Pauses.{AtEachPause, Unpaused}
 use Rattle.lnbd_copy.specs.Unanswered.{HasAllAsked, NoneForWriting}
 use Rattle.lnbd_copy.specs.Unready.{IsEarlyPause, IsLoud, IsOpeningPause, IsNegotiating, StaysUnready}
-use Rattle.lnbd_copy.specs.Waits.{WaitsWell}
+use Rattle.lnbd_copy.specs.Waits.{AreUnparted, WaitsWell}
 use Rattle.lnbd_copy.specs.Way.{Goes, IsOn, Stand, Told, Way}
 use Rattle.lnbd_copy.proofs.CopierLemmas.{first_on, kept_then, no_handles, second_on, told_as, with_held}
 use Rattle.lnbd_copy.proofs.EndLemmas.{told_part}
@@ -104,10 +104,10 @@ unready_none now held told = record { on = λ way start s on links pauses. pause
 pub unready_unpaused : (now : board.Seen) (held : List (Held Ticket)) (a b : Option (List wire.Call)) → (Stand held → Unpaused a b) → StaysUnready now held a b
 unready_unpaused now held a b unpaused = record { on = λ way start s on links pauses. told_stays start a b (unpaused s) pauses }
 
-pub unready_rests : (now : board.Seen) (held : List (Held Ticket)) (a b : Option (List wire.Call)) → IsLoud held → Adds a b (wire.Pause (wants_now held)) → StaysUnready now held a b
-unready_rests now held a b loud adds = record {
+pub unready_rests : (now : board.Seen) (held : List (Held Ticket)) (a b : Option (List wire.Call)) → IsLoud held → AreUnparted held → Adds a b (wire.Pause (wants_now held)) → StaysUnready now held a b
+unready_rests now held a b loud unparted adds = record {
   on = λ way start s on links pauses. told_rests start a b (wants_now held) adds
-      (told_as start a (λ calls both. ((λ none. unready_at way now calls held loud none both.0 both.1), waits_well false way now calls held both.0)) (told_both start a on links)) pauses;
+      (told_as start a (λ calls both. ((λ none. unready_at way now calls held loud none both.0 both.1), waits_well false way now calls held unparted both.0)) (told_both start a on links)) pauses;
 }
 
 pub unready_turn : (a b : Option (List wire.Call)) (f g : ℕ) (turn : Turn) (now now' : board.Seen) (held held' : List (Held Ticket))
@@ -236,5 +236,5 @@ done_pauses copy new a b c kept unpaused two fine =
     told_part a c (fine_unpaused copy a b c unpaused fine' two)
 
 -- A pause of a copy on its way.
-pub waits_rest : (copy : copier.Seen) (start a b : Option (List wire.Call)) → Adds a b (wire.Pause (wants_now copy.held)) → IsOnItsWay start a copy → Told start a (AtEachPause WaitsWell) → Told start b (AtEachPause WaitsWell)
-waits_rest copy start a b adds on told = told_rests start a b (wants_now copy.held) adds (way_waits copy start a on) told
+pub waits_rest : (copy : copier.Seen) (start a b : Option (List wire.Call)) → AreUnparted copy.held → Adds a b (wire.Pause (wants_now copy.held)) → IsOnItsWay start a copy → Told start a (AtEachPause WaitsWell) → Told start b (AtEachPause WaitsWell)
+waits_rest copy start a b unparted adds on told = told_rests start a b (wants_now copy.held) adds (way_waits copy start a unparted on) told

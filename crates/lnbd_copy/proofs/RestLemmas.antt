@@ -49,4 +49,6 @@ at_rest way was now calls held on rest = record {
   hears = on.hears;
   bound = on.bound;
   drives = on.drives;
+  ends = on.ends;
+  order = on.order;
 }

@@ -134,7 +134,7 @@ module _ (told list list' : List Extent) (index left most n : ℕ) (item : Exten
   all_on joins joined = record { joins = joins; joined = joined; one = still_one; all = still_all }
 
 -- Where all that was told is passed, no position behind it is told, as far as positions are asked for.
-past_none : (told : List Extent) (index reached most p : ℕ) → Walks told index reached most → drop index told ≡ [] → reached ≤ p → p < most → flags_at told p ≡ None
+pub past_none : (told : List Extent) (index reached most p : ℕ) → Walks told index reached most → drop index told ≡ [] → reached ≤ p → p < most → flags_at told p ≡ None
 past_none told index reached most p walks none from low =
     ap (flags_at told) (let e : p ≡ reached + (p - reached) = omega arith in e) ∙ walks.rest (omega arith) (p - reached) ∙ ap (λ (l : List Extent). flags_at l (p - reached)) none
 

@@ -145,6 +145,9 @@ bound_job j bound way now is = record {
   rests = is.rests;
   flushed = is.flushed;
   heard = is.heard;
+  reached = is.reached;
+  parts = is.parts;
+  wants = is.wants;
 }
 
 pub acts_bound : (j j' : work.Seen) (bound : Bound) (now now' : board.Seen) (held held' : List (Held Ticket)) → work.Acts j j' now now' held held' → work.Acts j (record j' { bound = bound }) now now' held held'

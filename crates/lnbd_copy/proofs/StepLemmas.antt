@@ -20,7 +20,7 @@ use Rattle.lnbd_board.specs.Asks.{Keeps}
 use Rattle.lnbd_board.specs.Files as board
 use Rattle.lnbd_board.specs.Requests.{Request}
 use Rattle.lnbd_tracks.specs.Mapping.{HoldsZero, ToldAlike, asks_extents}
-use Rattle.lnbd_tracks.specs.Heeding.{ListensTo, holds_whole}
+use Rattle.lnbd_tracks.specs.Heeding.{ListensTo, holds_told, holds_whole}
 use Rattle.lnbd_course.specs.Between.{Between, IsSetting}
 use Rattle.lnbd_course.specs.Counted.{CountsSame, HasNotCounted}
 use Rattle.lnbd_course.specs.Told as course
@@ -105,20 +105,20 @@ module _ (way : Way) (has : ℕ → Bool) where
     told = others_tell way.how has way.slices now calls seens way.asked (known_of way) index seen event s.told there sets.inward sets.unasked sets.still sets.spelled sets.mode;
   }
 
-  pub hearing_stands : (now : board.Seen) (calls : List wire.Call) (seens : List (Seen Ticket)) (range : ℕ × ℕ) (known : ℕ → Bool) (whole : (block p : ℕ) → Bool) → way.asked ≡ Some range → Stands way has now calls seens → now.mapped ≡ true → now.short ≡ false →
+  pub hearing_stands : (now : board.Seen) (calls : List wire.Call) (seens : List (Seen Ticket)) (range : ℕ × ℕ) (known : ℕ → Bool) (whole : (block p : ℕ) → Bool) (reach : ℕ → Bool) → way.asked ≡ Some range → Stands way has now calls seens → now.mapped ≡ true → now.short ≡ false →
       ((p : ℕ) → known p ≡ true → (way.zero p ≡ true) ⊎ HoldsZero range now p) → ((block p : ℕ) → way.whole block p ≡ true → whole block p ≡ true) → ((block p : ℕ) → holds_whole range now block p ≡ true → whole block p ≡ true) →
-      Stands (record way { asked = None; zero = known; whole = whole }) has now calls seens
-  hearing_stands now calls seens range known whole asked s mapped short knows more holds = record {
+      ((p : ℕ) → way.reach p ≡ true → reach p ≡ true) → ((p : ℕ) → holds_told range now p ≡ true → reach p ≡ true) → Stands (record way { asked = None; zero = known; whole = whole; reach = reach }) has now calls seens
+  hearing_stands now calls seens range known whole reach asked s mapped short knows more holds further reaches = record {
     between = s.between;
-    told = hearing_tells way.how has way.slices now calls seens range (known_of way) (record { zero = known; whole = whole }) (subst (λ (o : Option (ℕ × ℕ)). course.Told way.how has way.slices now calls seens o (known_of way)) asked s.told) mapped short knows more holds;
+    told = hearing_tells way.how has way.slices now calls seens range (known_of way) (record { zero = known; whole = whole; reach = reach }) (subst (λ (o : Option (ℕ × ℕ)). course.Told way.how has way.slices now calls seens o (known_of way)) asked s.told) mapped short knows more holds further reaches;
   }
 
   -- Where no extents are waited for, fewer positions may be known.
-  pub unheard_stands : (now : board.Seen) (calls : List wire.Call) (seens : List (Seen Ticket)) (known : ℕ → Bool) (whole : (block p : ℕ) → Bool) → way.asked ≡ None → Stands way has now calls seens → ((p : ℕ) → known p ≡ true → way.zero p ≡ true) → ((block p : ℕ) → way.whole block p ≡ true → whole block p ≡ true) →
-      Stands (record way { zero = known; whole = whole; asked = None }) has now calls seens
-  unheard_stands now calls seens known whole none s fewer more = record {
+  pub unheard_stands : (now : board.Seen) (calls : List wire.Call) (seens : List (Seen Ticket)) (known : ℕ → Bool) (whole : (block p : ℕ) → Bool) (reach : ℕ → Bool) → way.asked ≡ None → Stands way has now calls seens → ((p : ℕ) → known p ≡ true → way.zero p ≡ true) → ((block p : ℕ) → way.whole block p ≡ true → whole block p ≡ true) →
+      ((p : ℕ) → way.reach p ≡ true → reach p ≡ true) → Stands (record way { zero = known; whole = whole; asked = None; reach = reach }) has now calls seens
+  unheard_stands now calls seens known whole reach none s fewer more further = record {
     between = s.between;
-    told = fewer_tell way.how has way.slices now calls seens None (known_of way) (record { zero = known; whole = whole }) (subst (λ (o : Option (ℕ × ℕ)). course.Told way.how has way.slices now calls seens o (known_of way)) none s.told) fewer more;
+    told = fewer_tell way.how has way.slices now calls seens None (known_of way) (record { zero = known; whole = whole; reach = reach }) (subst (λ (o : Option (ℕ × ℕ)). course.Told way.how has way.slices now calls seens o (known_of way)) none s.told) fewer more further;
   }
 
   pub taking_stands : (now : board.Seen) (calls : List wire.Call) (seens : List (Seen Ticket)) (index : ℕ) (seen : Seen Ticket) (limit : ℕ) (handle : Machine Ticket) → Stands way has now calls seens → slice_get seens index ≡ Some seen →

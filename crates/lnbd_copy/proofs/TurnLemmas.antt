@@ -20,7 +20,7 @@ use Rattle.lnbd_poll.specs.Notices.{Arrives, Hears, ReadsIf, ReadsOn, is_reading
 use Rattle.lnbd_poll.specs.Seen.{Follows, Seen}
 use Rattle.lnbd_poll.specs.Seen as poll
 use Rattle.lnbd_poll.specs.Turned.{TurnsWhole}
-use Rattle.lnbd_poll.specs.Turns.{All_took, Ending, Goes_on, Runs_short, Stops, Takes, Turns, TurnsOne, Whole, WritesAll, is_lost}
+use Rattle.lnbd_poll.specs.Turns.{All_took, Ending, Goes_on, Runs_short, Breaks_off, Stops, Takes, Turns, TurnsOne, Whole, WritesAll, is_lost}
 use Rattle.lnbd_poll.specs.Turns as turns
 use Rattle.lnbd_drives.specs.Driving.{with_event}
 use Rattle.lnbd_drives.proofs.Exports.{turns_give_none}
@@ -33,7 +33,7 @@ use Rattle.lnbd_board.specs.Files as board
 use Rattle.lnbd_course.specs.Taken.{without_buffer}
 use Rattle.lnbd_copy.specs.Asked.{IsAsked}
 use Rattle.lnbd_copy.specs.declared.sides.Sides.{Sides}
-use Rattle.lnbd_copy.specs.Way.{ArePlaced, Filed, Goes, HasRested, IsOn, IsUnderWay, Keeps, Since, Stand, Told, Way, with_slices}
+use Rattle.lnbd_copy.specs.Way.{ArePlaced, Filed, Goes, HasRested, IsOn, IsUnderWay, Keeps, Since, Stand, Told, Way, is_source, with_slices}
 use Rattle.lnbd_copy.specs.Statuses.{first_given, first_held, or_later}
 use Rattle.lnbd_copy.proofs.FiledLemmas.{filed_none, filed_then, plays_filed}
 use Rattle.lnbd_copy.proofs.LastLemmas.{lasts_adds, lasts_none, lasts_then}
@@ -43,6 +43,9 @@ use Rattle.lnbd_copy.proofs.BegunLemmas.{FirstGoes, first_stays, went_event, wen
 use Rattle.lnbd_copy.proofs.FirstLemmas.{AllGo, adds_none, all_stay, gives_none, gives_then, goes_knowing}
 use Rattle.lnbd_copy.specs.Driven.{beginning_on}
 use Rattle.lnbd_copy.proofs.DrivenLemmas.{drive_later}
+use Rattle.lnbd_copy.proofs.OrderLemmas.{ordered_called, ordered_turned}
+use Rattle.lnbd_copy.proofs.RefusalLemmas.{turns_connected}
+use Rattle.lnbd_copy.proofs.UnendedLemmas.{ended_called, ended_turned}
 use Rattle.lnbd_copy.proofs.DrivenTurns.{brought_apart, brought_on, turns_brought}
 use Rattle.lnbd_copy.proofs.HeardLemmas.{hears_later, no_more_given}
 use Rattle.lnbd_copy.proofs.BindingLemmas.{Was, turn_stays_bound}
@@ -181,6 +184,12 @@ turns_led before now part after now' ending (Runs_short _ _ _ _ _ _ seen others 
       filed = led.filed;
       all = subst (λ (l : List (Seen Ticket)). AllGo l after) (sym is) (subst (λ (l : List (Seen Ticket)). AllGo (seen ∷ others) l) (sym after_is) (led.went, all_stay others));
     }
+turns_led before now part after now' ending (Breaks_off _ _ _ _ _ _ none after_is world_is end) = record {
+  links = subst (λ (l : List (Seen Ticket)). SameLinks before l) (sym after_is) (links_stay before);
+  first = subst (λ (l : List (Seen Ticket)). FirstGoes before l) (sym after_is) (first_stays before);
+  filed = subst (Filed now) (sym world_is) (filed_none now);
+  all = subst (λ (l : List (Seen Ticket)). AllGo before l) (sym after_is) (all_stay before);
+}
 
 -- Calls that come later leave a copy at rest.
 pub rested_on : (from to : Place) (size : Option ℕ) (rested : Option board.Seen) (calls more : List wire.Call) → HasRested from to size rested calls → HasRested from to size rested (calls ++ more)
@@ -199,6 +208,7 @@ no_turns : (before after : List (Seen Ticket)) (now now' : board.Seen) (part : L
 no_turns before after now now' part ending (All_took _ _ _ _ _ _ is none after_is world_is end) empty = none
 no_turns before after now now' part ending (Takes _ _ _ _ _ _ seen others notice own here half moved other there rest is one enough more calls_are after_is end) empty = absurd (no_seen seen others (sym empty ∙ is))
 no_turns before after now now' part ending (Runs_short _ _ _ _ _ _ seen others here moved is one after_is end) empty = absurd (no_seen seen others (sym empty ∙ is))
+no_turns before after now now' part ending (Breaks_off _ _ _ _ _ _ none after_is world_is end) empty = none
 
 turned_first : (before after : List (Seen Ticket)) (now now' : board.Seen) (part : List wire.Call) (ending : Ending) → Turns steps before now part after now' ending → or_later (first_held before) (first_given part) ≡ first_held before
 turned_first [] after now now' part ending turns = ap first_given (no_turns [] after now now' part ending turns refl)
@@ -206,7 +216,7 @@ turned_first (seen ∷ others) after now now' part ending turns = refl
 
 -- A turn.
 
-turned : (parting : Bool) (way : Way) (now now' : board.Seen) (calls part : List wire.Call) (held held' : List (Held Ticket)) (after : List (Seen Ticket)) (moved : Option ℕ)
+pub turned : (parting : Bool) (way : Way) (now now' : board.Seen) (calls part : List wire.Call) (held held' : List (Held Ticket)) (after : List (Seen Ticket)) (moved : Option ℕ)
     → (on : IsUnderWay parting way now calls held) → Turns steps on.seens now part after now' (Whole moved) → AreAt held' after → IsUnderWay parting way now' (calls ++ part) held'
 turned parting way now now' calls part held held' after moved on turns at =
     let led = turns_led on.seens now part after now' (Whole moved) turns in
@@ -225,6 +235,8 @@ turned parting way now now' calls part held held' after moved on turns at =
           (λ index here is. was on.seens after index here led.links is) led.filed.error on.bound;
       drives = drive_later way.extents way.from way.to on.has calls part on.seens after (λ link. turns_give_none steps link part on.seens after now now' (Whole moved) turns) (λ link. brought_apart link on.seens after brought)
           (λ link apart. turns_pass_others steps link part on.seens after now now' (Whole moved) apart turns) (brought_on (beginning_on way.extents way.from way.to on.has calls) on.seens after brought) on.drives;
+      ends = ended_turned way.extents way.how.skip way.flush way.from way.to calls part way.ended parting on.seens after brought on.ends;
+      order = ordered_turned (is_source way.sides) on.has calls part parting on.seens after brought (λ link. turns_give_none steps link part on.seens after now now' (Whole moved) turns) on.order;
     }
 
 -- The calls since the start go on.
@@ -265,7 +277,14 @@ turned_goes a b f g turn now now' held held' goes = record {
     on = λ all is.
         let went = goes s.seens s.at in
         let grown = went.grown all is in
-        record { before = grown.0; more = went.calls; was = grown.1; are = grown.2; none = λ link. turns_give_none steps link went.calls s.seens went.after now now' (Whole went.leads.moved) went.leads.turns };
+        record {
+          before = grown.0;
+          more = went.calls;
+          was = grown.1;
+          are = grown.2;
+          none = λ link. turns_give_none steps link went.calls s.seens went.after now now' (Whole went.leads.moved) went.leads.turns;
+          connected = turns_connected steps s.seens now went.calls went.after now' (Whole went.leads.moved) went.leads.turns;
+        };
   };
 }
 
@@ -284,6 +303,8 @@ called parting way now calls more held none given on = record {
   hears = hears_later parting way.extents way.from way.to way.heard now.error now.error (λ well. well) calls on.seens on.seens (first_stays on.seens) on.hears more (no_more_given more on.seens given);
   bound = on.bound;
   drives = drive_later way.extents way.from way.to on.has calls more on.seens on.seens given (λ link apart. apart) (λ link apart. none link) (λ went. went) on.drives;
+  ends = ended_called way.extents way.how.skip way.flush way.from way.to calls more way.ended parting on.seens on.ends;
+  order = ordered_called (is_source way.sides) on.has calls parting more on.seens given on.order;
 }
 
 -- Where the transcript is told, what a call leads from leads on.
@@ -303,7 +324,7 @@ paused_goes a b wants now held held' same adds = subst (λ (l : List (Held Ticke
   on = λ parting way start s told. told_on start a b (wire.Pause wants) adds (λ calls on. called parting way now calls (wire.Pause wants ∷ []) held (λ link. refl) (λ link. refl) on) told;
   lasts = λ s. lasts_adds a b (wire.Pause wants) adds;
   know = λ source destination both. both;
-  gives = λ s. adds_none a b (wire.Pause wants) (λ link. refl) adds;
+  gives = λ s. adds_none a b (wire.Pause wants) (λ link. refl) refl adds;
 })
 
 -- Steps follow one another.

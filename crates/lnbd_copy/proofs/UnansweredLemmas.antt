@@ -1,5 +1,5 @@
 -- While slices are copied, and no handle has anything to write, as much is unanswered by the calls of a copy as may be.
-use Rattle.std.proofs.Common.{◌≡◌, ◌≢◌, ◌<◌, ◌⊎◌, inl, inr, ltb-true, ◌+◌, ◌-◌, ℕ, Bool, true, false, not, ◌||◌, ◌==◌, nat_lt, List, [], ◌∷◌, ◌++◌, length, min, Option, Some, None, is_some, if◌then◌else◌, refl, ap, sym, subst, ◌∙◌, arith}
+use Rattle.std.proofs.Common.{◌≡◌, ◌≢◌, ◌<◌, ◌≤◌, ◌⊎◌, inl, inr, ltb-true, ◌+◌, ◌-◌, ℕ, Bool, true, false, not, ◌||◌, ◌==◌, nat_lt, List, [], ◌∷◌, ◌++◌, length, min, Option, Some, None, is_some, if◌then◌else◌, refl, ap, sym, subst, ◌∙◌, arith}
 use Rattle.std.proofs.lemmas.Bool.{eq-eqb, false≢true}
 use Rattle.lnbd_model.specs.declared.target.Place.{Place}
 use Rattle.lnbd_link.specs.Call as wire
@@ -9,7 +9,7 @@ use Rattle.lnbd_model.specs.declared.state.State.{State}
 use Rattle.lnbd_poll.specs.Held.{Held, AreAt, is_on_its_way, is_wanting, want_of, wants_after, wants_now, with_want}
 use Rattle.lnbd_poll.proofs.HeldLemmas.{wants_same}
 use Rattle.lnbd_poll.specs.Seen.{Seen}
-use Rattle.lnbd_asked.specs.Transcript.{dealt_with}
+use Rattle.lnbd_asked.specs.Transcript.{dealt_with, is_of}
 use Rattle.lnbd_plan.specs.declared.cells.Cells.{Cells}
 use Rattle.lnbd_plan.specs.declared.grid.Slice.{Slice}
 use Rattle.lnbd_plan.specs.Laws.{windows_slices}
@@ -18,9 +18,11 @@ use Rattle.lnbd_board.specs.declared.ticket.Ticket.{Ticket}
 use Rattle.lnbd_board.specs.Files as board
 use Rattle.lnbd_course.specs.Told as course
 use Rattle.lnbd_course.specs.Between.{Between}
+use Rattle.lnbd_course.specs.Reached.{WasTold}
 use Rattle.lnbd_course.specs.Slices.{AreBegun, AsksExtentsOf}
 use Rattle.lnbd_course.specs.UnderWay.{AreUnderWay, NoneWrites}
 use Rattle.lnbd_course.proofs.Placed.{links_are_of_sides}
+use Rattle.lnbd_course.proofs.Reached.{told_are_known}
 use Rattle.lnbd_course.proofs.Slices.{ended_are_begun, quiet_are_begun}
 use Rattle.lnbd_course.proofs.Telling.{known_was_told, sides_are_of_source}
 use Rattle.lnbd_course.proofs.UnderWay.{quiet_asks, quiet_counts}
@@ -28,7 +30,7 @@ use Rattle.lnbd_copy.specs.declared.job.Phase.{Phase}
 use Rattle.lnbd_copy.specs.declared.job.Phase.TheVariants.{Copying, Flushing, Parting}
 use Rattle.lnbd_copy.specs.Copier.{IsOnItsWay}
 use Rattle.lnbd_copy.specs.Copier as copier
-use Rattle.lnbd_copy.specs.Full.{ArePlannedTo, IsFull, IsFullBy}
+use Rattle.lnbd_copy.specs.Full.{ArePlannedTo, IsFull, IsFullBy, IsUntold}
 use Rattle.lnbd_copy.specs.Job as work
 use Rattle.lnbd_copy.specs.Unanswered.{HasAllAsked, NoneForWriting}
 use Rattle.lnbd_copy.specs.UnderWay.{AreAwaited, IsBusy}
@@ -79,7 +81,7 @@ wanted_below planned some = ltb-true planned.at (windows.window_end planned) (is
     is_less false some = absurd (false≢true some)
 
 -- Of a copy that is under way, whatever it is at.
-module _ (j : work.Seen) (way : Way) (now : board.Seen) (calls : List wire.Call) (held : List (Held Ticket)) (parting : Bool) (is : work.IsJob j way now) (on : IsUnderWay parting way now calls held) (two : way.from ≢ way.to) where
+module _ (j : work.Seen) (way : Way) (now : board.Seen) (calls : List wire.Call) (held : List (Held Ticket)) (parting : Bool) (is : work.IsJob j way now) (on : IsUnderWay parting way now calls held) (well : now.error ≡ None) (two : way.from ≢ way.to) where
   -- what stands with all handles taken out
   abbrev alone : Stands way on.has now calls []
   alone = none_held way on.has now calls held on.seens on.at on.stands
@@ -87,7 +89,11 @@ module _ (j : work.Seen) (way : Way) (now : board.Seen) (calls : List wire.Call)
   abbrev between : Between way.from way.to (Some j.terms.size) way.how on.has way.slices now calls []
   between = between_sized way j.terms.size on.has now calls is.size alone
 
-  planned_to : ArePlannedTo j.windows.plan.end way.from j.terms.size (work.cells_of j.terms) (way.slices ++ j.windows.plan.slices) calls
+  -- links of the source's export are its own
+  of_source : (link : ℕ) → is_of way.from calls link ≡ true → on.has link ≡ true
+  of_source = (links_are_of_sides way.from way.to j.terms.size way.how on.has way.slices now calls between two).0.source
+
+  planned_to : ArePlannedTo way.extents j.windows.plan.end way.from j.terms.size (work.cells_of j.terms) (way.slices ++ j.windows.plan.slices) calls
   planned_to =
       let within = is.planned.within in
       let ends = is.ends in
@@ -100,11 +106,12 @@ module _ (j : work.Seen) (way : Way) (now : board.Seen) (calls : List wire.Call)
         within = omega (arith, within, ends);
         whole = subst (λ (s : ℕ). windows.AreFullWindows s 0 is.planned.parts) is.ends is.planned.whole;
         told = λ p zero. known_was_told way.from way.how on.has way.slices now calls way.asked (known_of way) alone.told source p (is.planned.told p zero);
+        answered = λ p low. on.hears.answered well two p (is.heard.before p (let ahead = is.heard.planned in omega (arith, low, ahead)));
       }
 
   -- Once all slices are over nothing is under way, and nothing is left.
-  full_over : now.error ≡ None → work.IsOver j now → IsFull j.terms way.from way.to calls
-  full_over well over =
+  full_over : work.IsOver j now → IsFull way.extents j.terms way.from way.to calls
+  full_over over =
       let ended = ended_are_begun way.from way.to j.terms.size way.how on.has way.slices now calls between over.rows well two in
       let none : length j.windows.plan.slices ≡ 0 = ap (λ (l : List Slice). length l) over.handed in
       let all = over.planned in
@@ -118,6 +125,7 @@ module _ (j : work.Seen) (way : Way) (now : board.Seen) (calls : List wire.Call)
         begins = omega (arith, none);
         requests = subst (λ (n : ℕ). AreUnderWay way.from way.to n calls) (omega (arith, none)) ended.1;
         extents = λ less left. absurd (omega (arith, left, all));
+        untold = λ left. absurd (omega (arith, left, all));
       }
 
 -- While slices are copied.
@@ -128,12 +136,40 @@ module _ (j : work.Seen) (way : Way) (now : board.Seen) (calls : List wire.Call)
       quiet_asks way.from way.to way.size way.how on.has way.slices now calls on.seens range (known_of way) on.stands.between
       (subst (λ (o : Option (ℕ × ℕ)). course.Told way.how on.has way.slices now calls on.seens o (known_of way)) e on.stands.told) well awaited.untold (all_stand held on.seens on.at) (none_writes held on.seens on.at written) on.all two
 
-  full_copying : IsFull j.terms way.from way.to calls
+  -- what is asked for was not told yet
+  asked_untold : is_some way.asked ≡ true → now.mapped ≡ false
+  asked_untold some = elim j.asked as (λ b. j.asked ≡ b → now.mapped ≡ false) [
+    | true ↦ λ asked. full.untold asked
+    | false ↦ λ none. absurd (false≢true (sym (ap (λ (o : Option (ℕ × ℕ)). is_some o) (is.asked ∙ ap (λ (b : Bool). if b then windows.wanted j.windows else None) none)) ∙ some))
+  ] refl
+
+  -- each position that was told of is known so
+  told_reached : (p : ℕ) → WasTold way.from p calls → way.reach p ≡ true
+  told_reached =
+      told_are_known way.from way.how on.has way.slices now calls on.seens way.asked (known_of way) on.stands.told well asked_untold (all_stand held on.seens on.at) on.all (of_source j way now calls held false is on well two)
+
+  window_untold : j.windows.plan.end < j.terms.size → IsUntold way.from (min (j.windows.plan.end + windows.window) j.terms.size - 1) calls
+  window_untold left told =
+      let ends = is.ends in
+      let p : ℕ = min (j.windows.plan.end + windows.window) j.terms.size - 1 in
+      let behind : j.windows.plan.end ≤ p = omega (arith, left) in
+      let more : p + 1 < windows.window_end j.windows = is.reached.inside p (told_reached p told) behind in
+      let same : windows.window_end j.windows ≡ min (j.windows.plan.end + windows.window) j.terms.size = ap (λ (s : ℕ). min (j.windows.plan.end + windows.window) s) ends in
+      omega (arith, more, same, left)
+
+  rest_untold : (p : ℕ) → j.windows.at + j.terms.grain ≤ p → IsUntold way.from p calls
+  rest_untold p far told =
+      let ahead = is.heard.planned in
+      let grain = is.grain in
+      let low = is.reached.near p (told_reached p told) (omega (arith, far, ahead)) in
+      omega (arith, far, low, grain)
+
+  full_copying : IsFull way.extents j.terms way.from way.to calls
   full_copying = record {
     begun = way.slices;
     left = j.windows.plan.slices;
     end = j.windows.plan.end;
-    planned = planned_to j way now calls held false is on two;
+    planned = planned_to j way now calls held false is on well two;
     unfinished = length now.rows;
     are = subst (λ (how : How). AreBegun how (dealt_with way.from calls) (dealt_with way.to calls) way.slices (length now.rows)) is.how
         (quiet_are_begun way.from way.to way.size way.how on.has way.slices now calls on.seens on.stands.between well (all_stand held on.seens on.at) (none_writes held on.seens on.at written) on.all two full.requests);
@@ -151,7 +187,9 @@ module _ (j : work.Seen) (way : Way) (now : board.Seen) (calls : List wire.Call)
           inside = subst (λ (size : ℕ). j.windows.at < min (j.windows.plan.end + windows.window) size) ends (wanted_below j.windows some);
           asks = subst (λ (size : ℕ). AsksExtentsOf (j.windows.at, min (j.windows.plan.end + windows.window) size - j.windows.at) way.from calls) ends
               (awaits (j.windows.at, windows.window_end j.windows - j.windows.at) (is.asked ∙ ap (λ (b : Bool). if b then windows.wanted j.windows else None) awaited.awaited ∙ wanted) awaited);
+          untold = rest_untold;
         };
+    untold = window_untold;
   }
 
 copies_or : (phase : Phase) → (phase ≡ Copying) ⊎ (phase ≢ Copying)
@@ -161,10 +199,10 @@ copies_or Parting = inr (λ e. cc e)
 
 -- Whatever the copy is at.
 is_full : (j : work.Seen) (way : Way) (now : board.Seen) (calls : List wire.Call) (held : List (Held Ticket)) → work.IsJob j way now → (j.phase ≡ Copying → state.IsFull j now) → now.error ≡ None → IsUnderWay (work.is_parting j.phase) way now calls held → NoneForWriting (wants_now held) →
-    way.from ≢ way.to → IsFull j.terms way.from way.to calls
+    way.from ≢ way.to → IsFull way.extents j.terms way.from way.to calls
 is_full j way now calls held is busy well on written two = elim (copies_or j.phase) [
   | inl copying ↦ full_copying j way now calls held is (busy copying) well (subst (λ (p : Bool). IsUnderWay p way now calls held) (ap work.is_parting copying) on) written two
-  | inr past ↦ full_over j way now calls held (work.is_parting j.phase) is on two well (is.over past)
+  | inr past ↦ full_over j way now calls held (work.is_parting j.phase) is on well two (is.over past)
 ]
 
 pub way_all_asked : (copy : copier.Seen) (start told : Option (List wire.Call)) → copy.board.error ≡ None → IsBusy copy.job copy.board → IsOnItsWay start told copy → copy.from ≢ copy.to → HasAllAsked start told copy
@@ -177,8 +215,9 @@ way_all_asked copy start told well busy on two = record {
         terms = on.job.terms;
         settled = on.settled.first.settled;
         limited = on.limited;
-        full = subst (λ (t : Place). IsFull on.job.terms copy.from t calls) on.to
-            (subst (λ (f : Place). IsFull on.job.terms f on.way.to calls) on.from (is_full on.job on.way copy.board calls copy.held on.is (busy.full on.job on.there) well is written apart));
+        full = subst (λ (e : Bool). IsFull e on.job.terms copy.from copy.to calls) on.extents
+            (subst (λ (t : Place). IsFull on.way.extents on.job.terms copy.from t calls) on.to
+            (subst (λ (f : Place). IsFull on.way.extents on.job.terms f on.way.to calls) on.from (is_full on.job on.way copy.board calls copy.held on.is (busy.full on.job on.there) well is written apart)));
       })
       on.on);
 }

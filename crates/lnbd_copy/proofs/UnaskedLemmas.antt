@@ -17,8 +17,8 @@ use Rattle.lnbd_poll.specs.Held.{Held, AreAt}
 use Rattle.lnbd_poll.specs.Seen.{Seen}
 use Rattle.lnbd_poll.specs.Seen as poll
 use Rattle.lnbd_poll.specs.declared.noticed.Turn.{Turn}
-use Rattle.lnbd_poll.specs.Turned.{TurnsShort, TurnsWhole}
-use Rattle.lnbd_poll.specs.Turns.{Short, Whole}
+use Rattle.lnbd_poll.specs.Turned.{TurnsCut, TurnsWhole}
+use Rattle.lnbd_poll.specs.Turns.{Whole}
 use Rattle.lnbd_plan.specs.declared.options.CopyOptions.{CopyOptions}
 use Rattle.lnbd_board.specs.declared.how.How.{How}
 use Rattle.lnbd_board.specs.declared.ticket.Ticket.{Ticket}
@@ -138,10 +138,10 @@ whole_fresh a b f g turn now now' held held' goes =
     turn_fresh now now' held held' a b (λ before calls after. TurnsWhole steps f g turn before now calls after now') (λ before calls after leads. record { ending = Whole leads.moved; turns = leads.turns }) goes
     (turned_goes a b f g turn now now' held held' goes)
 
-pub short_unasked : (a b : Option (List wire.Call)) (f g : ℕ) (now now' : board.Seen) (held held' : List (Held Ticket)) →
-    poll.Goes a b (λ seens. AreAt held seens) (λ seens. AreAt held' seens) (λ before calls after. TurnsShort steps f g before now calls after now') → AsksNone now held a b
-short_unasked a b f g now now' held held' goes =
-    turn_unasked now now' held held' a b (λ before calls after. TurnsShort steps f g before now calls after now') (λ before calls after leads. record { ending = Short; turns = leads.turns }) goes
+pub cut_unasked : (a b : Option (List wire.Call)) (f g : ℕ) (now now' : board.Seen) (held held' : List (Held Ticket)) →
+    poll.Goes a b (λ seens. AreAt held seens) (λ seens. AreAt held' seens) (λ before calls after. TurnsCut steps f g before now calls after now') → AsksNone now held a b
+cut_unasked a b f g now now' held held' goes =
+    turn_unasked now now' held held' a b (λ before calls after. TurnsCut steps f g before now calls after now') (λ before calls after leads. record { ending = leads.ending; turns = leads.turns }) goes
 
 -- Steps follow one another.
 
@@ -231,6 +231,7 @@ nothing_behaves options from to calls unasked = record {
   unflushed = λ unwanted link cookie command is. absurd (none_dealt to calls link cookie command unasked.none is);
   untouched = inl unasked.none;
   shared = always_nothing options from to calls unasked.none;
+  cut = inl unasked.none;
 }
 
 pub told_behaves : (options : CopyOptions) (from to : Place) (start told : Option (List wire.Call)) → Told start told (AsksNothing from to) → Told start told (Behaves options from to)

@@ -123,13 +123,14 @@ unasked j now enough wanted = record {
     | false ↦ λ is. absurd (let l = enough is in omega (arith, l, less))
   ] refl;
   left = wanted;
+  untold = λ untold. untold;
 }
 
 some_is : (range : Option (ℕ × ℕ)) → range ≡ None → is_some range ≡ true → ⊥
 some_is range none some = false≢true (sym (ap (λ (o : Option (ℕ × ℕ)). is_some o) none) ∙ some)
 
 pub unwanted : (j : work.Seen) (now : board.Seen) → windows.wanted j.windows ≡ None → IsWantedOf j.windows → HasAsked j j now now
-unwanted j now none wanted = record { job = refl; board = refl; extents = λ untold less left. absurd (some_is (windows.wanted j.windows) none left); left = wanted }
+unwanted j now none wanted = record { job = refl; board = refl; extents = λ untold less left. absurd (some_is (windows.wanted j.windows) none left); left = wanted; untold = λ untold. untold }
 
 -- They are asked for.
 pub has_asked : (j : work.Seen) (now now' : board.Seen) → now' ≡ record now { told = []; mapped = false } → IsWantedOf j.windows → HasAsked j (record j { asked = true }) now now'
@@ -138,6 +139,7 @@ has_asked j now now' is wanted = record {
   board = is ∙ ap (λ (s : board.Seen). record now { told = s.told; mapped = s.mapped }) (sym is);
   extents = λ untold less left. record { awaited = refl; untold = ap (λ (s : board.Seen). s.mapped) is };
   left = wanted;
+  untold = λ untold now_asked. ap (λ (s : board.Seen). s.mapped) is;
 }
 
 -- Slices are begun.
@@ -174,6 +176,7 @@ refilled j0 j2 j3 j4 b0 b1 b3 b4 looked terms untold asked filled quiet =
             let was = asked.extents untold (omega (arith, less, all, rows, slices, limit3, limit4)) (sym (ap (λ (w : windows.Seen). is_some (windows.wanted w)) same) ∙ sym (ap (λ (o : Option (ℕ × ℕ)). is_some o) filled.wanted) ∙ left) in
             record { awaited = ap (λ (j : work.Seen). j.asked) filled.job ∙ was.awaited; untold = filled.mapped ∙ was.untold };
         left = filled.left (subst IsWantedOf (sym same) asked.left);
+        untold = λ is. filled.mapped ∙ asked.untold untold (sym (ap (λ (j : work.Seen). j.asked) filled.job) ∙ is);
       };
     }
 

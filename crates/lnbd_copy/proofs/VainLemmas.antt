@@ -22,7 +22,7 @@ use Rattle.lnbd_poll.specs.Seen.{Seen, IsAt}
 use Rattle.lnbd_poll.specs.Seen as poll
 use Rattle.lnbd_poll.specs.Still.{WaitWhereFull, is_full}
 use Rattle.lnbd_poll.specs.Turned.{TurnsWhole}
-use Rattle.lnbd_poll.specs.Turns.{All_took, Ending, Goes_on, Runs_short, Stops, Takes, Turns, TurnsOne, Whole, WritesAll, is_short, moved_by}
+use Rattle.lnbd_poll.specs.Turns.{All_took, Ending, Goes_on, Runs_short, Breaks_off, Stops, Takes, Turns, TurnsOne, Whole, WritesAll, is_short, moved_by}
 use Rattle.lnbd_board.specs.declared.ticket.Ticket.{Ticket}
 use Rattle.lnbd_board.specs.Files as board
 use Rattle.lnbd_copy.specs.Moving.{AreTriedInVain, IsTriedInVain, TurnsInVain}
@@ -174,6 +174,7 @@ module _ {K World : Type 0} (steps : World → List (Call K) → World → Type 
       let quiet = with_none moved rest (sym end ∙ still) in
       none_then has_happened calls own other calls_are (took_in_vain notice seen world own here half moved one enough quiet.0).nothing (nothing_happens others half other there world' rest more quiet.1)
   nothing_happens before world calls after world' ending (Runs_short _ _ _ _ _ _ seen others here moved is one after_is end) still = absurd (cc (end, still))
+  nothing_happens before world calls after world' ending (Breaks_off _ _ _ _ _ _ none after_is world_is end) still = absurd (cc (end, still))
 
   all_read_in_vain : (before : List (Seen K)) (world : World) (calls : List wire.Call) (after : List (Seen K)) (world' : World) (ending : Ending) → Turns steps before world calls after world' ending → ending ≡ Whole None → AreReadInVain calls after
   all_read_in_vain before world calls after world' ending (All_took _ _ _ _ _ _ is none after_is world_is end) still = subst (AreReadInVain calls) (sym after_is) tt
@@ -184,6 +185,7 @@ module _ {K World : Type 0} (steps : World → List (Call K) → World → Type 
       let each : AreReadInVain (own ++ other) (here ∷ there) = (first, all_behind own other there (all_read_in_vain others half other there world' rest more quiet.1)) in
       subst (AreReadInVain calls) (sym after_is) (subst (λ (l : List wire.Call). AreReadInVain l (here ∷ there)) (sym calls_are) each)
   all_read_in_vain before world calls after world' ending (Runs_short _ _ _ _ _ _ seen others here moved is one after_is end) still = absurd (cc (end, still))
+  all_read_in_vain before world calls after world' ending (Breaks_off _ _ _ _ _ _ none after_is world_is end) still = absurd (cc (end, still))
 
 -- What is read in vain and written in vain, by each handle's direction.
 

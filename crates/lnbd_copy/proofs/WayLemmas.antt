@@ -27,6 +27,8 @@ use Rattle.lnbd_copy.proofs.HeldLemmas.{held_event}
 use Rattle.lnbd_copy.proofs.BindingLemmas.{Binds, SameBindings, asks_bound, rows_bound}
 use Rattle.lnbd_copy.proofs.BegunLemmas.{event_first, first_stays}
 use Rattle.lnbd_copy.proofs.DrivenLemmas.{drive_event}
+use Rattle.lnbd_copy.proofs.OrderLemmas.{ordered_event}
+use Rattle.lnbd_copy.proofs.UnendedLemmas.{ended_event}
 use Rattle.lnbd_copy.proofs.HeardLemmas.{hears_on}
 use Rattle.lnbd_copy.proofs.StepLemmas.{board_moves_stand, destination_asks_stand, source_asks_stand}
 
@@ -64,6 +66,8 @@ asked_on way calls more now now' held held' index command on begun was stands ea
   hears = hears_on false way.extents way.from way.to way.heard now.error now'.error earlier calls on.seens (with_event index (Issue (without_buffer command)) on.seens) (event_first index (Issue (without_buffer command)) on.seens) on.hears;
   bound = bound;
   drives = drive_event way.extents way.from way.to on.has calls index (Issue (without_buffer command)) on.seens refl on.drives;
+  ends = ended_event way.extents way.how.skip way.flush way.from way.to calls way.ended false index (Issue (without_buffer command)) on.seens refl on.ends;
+  order = ordered_event (is_source way.sides) on.has calls false index (Issue (without_buffer command)) on.seens on.order;
 }
 
 -- The board went on, and nothing was asked.
@@ -81,6 +85,8 @@ moved_on way calls now now' held on begun stands earlier bound = record {
   hears = hears_on false way.extents way.from way.to way.heard now.error now'.error earlier calls on.seens on.seens (first_stays on.seens) on.hears;
   bound = bound;
   drives = on.drives;
+  ends = on.ends;
+  order = on.order;
 }
 
 -- as far as with no slices more

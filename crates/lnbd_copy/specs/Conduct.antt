@@ -4,11 +4,12 @@ use Rattle.lnbd_model.specs.declared.target.Place.{Place}
 use Rattle.lnbd_link.specs.Call as wire
 use Rattle.lnbd_plan.specs.declared.options.CopyOptions.{CopyOptions}
 use Rattle.lnbd_copy.specs.Connects.{ConnectsWithin}
-use Rattle.lnbd_copy.specs.Driven.{AreDrivenBy}
+use Rattle.lnbd_copy.specs.DrivenAs.{AreDrivenBy}
 use Rattle.lnbd_copy.specs.Faults.{Behaves}
 use Rattle.lnbd_copy.specs.Links.{LinksAreKept}
 use Rattle.lnbd_copy.specs.Paused.{PausesAreFull}
 use Rattle.lnbd_copy.specs.Pauses.{AtEachPause, WantsOnlyFull}
+use Rattle.lnbd_copy.specs.Tried.{TriedBefore}
 use Rattle.lnbd_copy.specs.Vain.{WantsOnlyEmpty}
 use Rattle.lnbd_copy.specs.Waits.{WaitsWell}
 use Rattle.lnbd_copy.specs.Wanted.{WantsSome}
@@ -30,4 +31,6 @@ pub record Conducts (options : CopyOptions) (from to : Place) (calls : List wire
   -- and no pause waited for nothing
   pub wanted : AtEachPause WantsSome calls
   -- each link that it made was driven as a copy does, and no other was read or written
-  pub drives : AreDrivenBy options.extents from to calls
+  pub drives : AreDrivenBy options from to calls
+  -- and whatever a pause wanted was tried before the next
+  pub tries : AtEachPause TriedBefore calls

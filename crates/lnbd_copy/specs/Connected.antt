@@ -1,8 +1,7 @@
 -- Whether each connect of a copy gave a link.
-use Rattle.std.specs.Prelude.{◌≡◌, Bool, true, false, List, Option, Some, None}
+use Rattle.std.specs.Prelude.{◌≡◌, Bool, true, false, List, Some, None}
 use Rattle.std.specs.List.{list_any}
 use Rattle.lnbd_link.specs.Call.{Call, Connect, Listen, Accept, Read, Write, Pause, Shut}
-use Rattle.lnbd_copy.specs.Way.{Told}
 
 -- a connect that gave no link
 abbrev pub fails_to_connect : Call → Bool
@@ -18,7 +17,3 @@ fails_to_connect (Shut link) = false
 -- Each connect gave a link.
 abbrev pub AllConnected : List Call → Type 0
 AllConnected calls = list_any fails_to_connect calls ≡ false
-
--- A step keeps it so, from wherever the calls are counted.
-pub record StaysConnected (told told' : Option (List Call)) : Type 0 where
-  pub on : (start : Option (List Call)) → Told start told AllConnected → Told start told' AllConnected

@@ -14,6 +14,10 @@ use Rattle.lnbd_copy.specs.Settled.{HasTerms, IsToldFirst}
 use Rattle.lnbd_copy.specs.Terms as both
 use Rattle.lnbd_copy.specs.Way.{Told}
 
+-- A step keeps it so that each connect gave a link, from wherever the calls are counted.
+pub record StaysConnected (told told' : Option (List wire.Call)) : Type 0 where
+  pub on : (start : Option (List wire.Call)) → Told start told AllConnected → Told start told' AllConnected
+
 -- with so many connections to each side: the source's first, the destination's first, and behind them the others of the source, and then those of the destination
 abbrev pub connected_to : (from to : Place) → Sides → List Target
 connected_to from to sides = from.to ∷ to.to ∷ replicate (sides.source - 1) from.to ++ replicate (sides.destination - 1) to.to

@@ -20,6 +20,8 @@ use Rattle.lnbd_copy.specs.declared.counts.Counts.{Counts}
 use Rattle.lnbd_copy.specs.declared.sides.Sides.{Sides}
 use Rattle.lnbd_copy.specs.declared.terms.Terms.{Terms}
 use Rattle.lnbd_copy.specs.Agreed.{IsWished}
+use Rattle.lnbd_copy.specs.Connected.{AllConnected}
+use Rattle.lnbd_copy.specs.Connects.{StaysConnected}
 use Rattle.lnbd_copy.specs.Dealt.{HasDealt}
 use Rattle.lnbd_copy.specs.Job as work
 use Rattle.lnbd_copy.specs.Driven.{AreLeft}
@@ -53,7 +55,7 @@ pub record HasNotBegun (copy : Seen) : Type 0 where
 
 -- no slice is begun, of a copy that writes so
 abbrev pub beginning : Seen → (size : Option ℕ) → How → Sides → Way
-beginning copy size how sides = record { from = copy.from; to = copy.to; size = size; how = how; sides = sides; slices = []; zero = λ p. false; whole = λ block p. false; asked = None; rested = None; heard = λ p. false; extents = copy.options.extents }
+beginning copy size how sides = record { from = copy.from; to = copy.to; size = size; how = how; sides = sides; slices = []; zero = λ p. false; whole = λ block p. false; asked = None; rested = None; heard = λ p. false; extents = copy.options.extents; reach = λ p. false; ended = false; flush = true }
 
 -- No slice was begun, and no flush asked for.
 pub record IsBlank (now : board.Seen) : Type 0 where
@@ -70,6 +72,7 @@ pub record HasMet (copy : Seen) (start told : Option (List wire.Call)) (terms : 
   pub on : Told start told (λ calls. IsOn (beginning copy (Some terms.size) terms.how terms.sides) copy.board calls copy.held)
   pub settled : HasTerms copy.options copy.from copy.to start told terms
   pub know : KnowBoth settled.source settled.destination copy.held
+  pub connected : Told start told AllConnected
 
 -- Further connections are made, each to the side that its place says, where so many were made before.
 pub record GoesFurther (copy : Seen) (sides : Sides) (first : ℕ) (now : board.Seen) (held : List (Held Ticket)) (told : Option (List wire.Call)) (now' : board.Seen) (held' : List (Held Ticket)) (told' : Option (List wire.Call)) : Type 0 where
@@ -79,6 +82,7 @@ pub record GoesFurther (copy : Seen) (sides : Sides) (first : ℕ) (now : board.
       Told start told (λ calls. IsOn (beginning copy size how sides) now calls held) → Told start told' (λ calls. IsOn (beginning copy size how sides) now' calls held')
   pub lasts : Stand held → Lasts told told'
   pub know : (source destination : ExportInfo) → KnowBoth source destination held → KnowBoth source destination held'
+  pub connected : Stand held → StaysConnected told told'
 
 -- Turns.
 
@@ -101,6 +105,8 @@ pub record IsOnItsWay (start told : Option (List wire.Call)) (copy : Seen) : Typ
   pub settled : HasSettled copy.options copy.from copy.to start told job.terms
   -- the slices that are begun and not over are spread over its connections
   pub spread : HasDealt job copy.board
+  -- each connect gave a link
+  pub connected : Told start told AllConnected
 
 -- It has begun and goes on, where this transcript is told now.
 pub record IsGoing (told : Option (List wire.Call)) (copy : Seen) : Type 0 where
@@ -122,7 +128,7 @@ pub record IsParting (copy : Seen) : Type 0 where
 -- It is finished: each connection has parted, and its calls copied, asked nothing twice, and all of it was done, block statuses and flushes too, if it was from one place to another. Where its options want no flush none was asked for, and where one is wanted that the destination can make, it is done. One handle drove each link, and left it as a copy does.
 pub record IsDone (start told : Option (List wire.Call)) (copy : Seen) : Type 0 where
   pub parted : copy.held ≡ []
-  pub asked : copy.from ≢ copy.to → Told start told (HasAskedOnce copy.options.allocated copy.from copy.to)
+  pub asked : copy.from ≢ copy.to → Told start told (HasAskedOnce copy.options.allocated copy.options.destination_is_zero copy.from copy.to)
   pub done : copy.from ≢ copy.to → Told start told (WereAllDone copy.from copy.to)
   pub spares : copy.from ≢ copy.to → Told start told (SparesTold copy.from copy.to)
   pub copied : copy.from ≢ copy.to → Told start told (Copied copy.from copy.to copy.options.destination_is_zero)

@@ -1,9 +1,9 @@
 -- How a copy drives its links, whatever it comes to.
-use Rattle.std.specs.Prelude.{◌≡◌, ◌≢◌, ◌⊎◌, ℕ, Bool, true, false, ◌&&◌, List, [], ◌∷◌, ◌++◌, Some}
+use Rattle.std.specs.Prelude.{◌≡◌, ◌≢◌, ◌⊎◌, ℕ, Bool, true, false, ◌&&◌, List, [], ◌∷◌, ◌++◌, map, Option, Some, None, slice_get}
 use Rattle.lnbd_model.specs.declared.state.State.TheVariants as state
 use Rattle.lnbd_model.specs.declared.target.Place.{Place}
 use Rattle.lnbd_link.specs.Call.{Call}
-use Rattle.lnbd_link.specs.Numbers.{is_given, is_number}
+use Rattle.lnbd_link.specs.Numbers.{given_by, is_given, is_number}
 use Rattle.lnbd_link.specs.Traffic.{target_of}
 use Rattle.lnbd_handle.specs.Histories.{max_unretired}
 use Rattle.lnbd_history.specs.Answers.{direction_after, state_after}
@@ -13,7 +13,10 @@ use Rattle.lnbd_asked.specs.Driven.{AllSpell, Drives}
 use Rattle.lnbd_poll.specs.Alone.{AreApart, calls_on}
 use Rattle.lnbd_poll.specs.Seen.{Seen}
 use Rattle.lnbd_board.specs.declared.ticket.Ticket.{Ticket}
+use Rattle.lnbd_course.specs.AllDone.{WereAllDone}
 use Rattle.lnbd_course.specs.Between.{place_of}
+use Rattle.lnbd_course.specs.Copied.{Copied}
+use Rattle.lnbd_course.specs.Flushes.{IsFlushed}
 use Rattle.lnbd_copy.specs.Begun.{opened}
 use Rattle.lnbd_copy.specs.Statuses.{first_given}
 
@@ -55,11 +58,10 @@ pub record WentOn (first history : History Ticket) : Type 0 where
 abbrev pub asks_extents_on : (link : ℕ) → (extents : Bool) → List Call → Bool
 asks_extents_on link extents calls = is_number link (first_given calls) && extents
 
--- By these calls a handle drove this link, which is one to one of both places, and to the source if it was made first. It began by asking for that place's export, for extended headers and structured
+-- By these calls a handle drove this link, which is one to the source, or else to the destination, and to the source if it was made first. It began by asking for that place's export, for extended headers and structured
 -- replies, and for base:allocation on the first link where extents are wanted, and then it went on so. No rule refused one of its commands, and each fits its
 -- request. Of what was read some may not have arrived.
-pub record WasDriven (extents : Bool) (from to : Place) (link : ℕ) (calls : List Call) : Type 0 where
-  pub source : Bool
+pub record WasDriven (extents : Bool) (from to : Place) (source : Bool) (link : ℕ) (calls : List Call) : Type 0 where
   pub address : target_of link calls ≡ Some (place_of from to source).to
   pub history : History Ticket
   pub unread : List ℕ
@@ -69,10 +71,82 @@ pub record WasDriven (extents : Bool) (from to : Place) (link : ℕ) (calls : Li
   pub drives : Drives link calls history unread
   pub first : first_given calls ≡ Some link → source ≡ true
 
--- Each link that these calls gave was driven so, and no other was read or written.
-pub record AreDrivenBy (extents : Bool) (from to : Place) (calls : List Call) : Type 0 where
-  pub each : (link : ℕ) → is_given link calls ≡ true → WasDriven extents from to link calls
+-- All links.
+
+-- a handle is asked for the end of its connection
+abbrev pub is_disconnect : Event Ticket → Bool
+is_disconnect (Set setting) = false
+is_disconnect (StrictMode bits) = false
+is_disconnect Start = false
+is_disconnect (Opt option) = false
+is_disconnect Abort = false
+is_disconnect (Issue command) = false
+is_disconnect (Refuse command why) = false
+is_disconnect Disconnect = true
+is_disconnect (Wrote n) = false
+is_disconnect (Arrived bytes answers) = false
+is_disconnect (End answers) = false
+is_disconnect (LinkFailed answers) = false
+is_disconnect (Retire cookie) = false
+is_disconnect ClearLog = false
+is_disconnect Close = false
+
+-- It was not.
+abbrev pub IsUnended : History Ticket → Type 0
+IsUnended [] = Unit {0}
+IsUnended (event ∷ before) = (is_disconnect event ≡ false) × IsUnended before
+
+-- A link was driven so, by a handle that was not asked for the end of its connection.
+pub record WasUnended (extents : Bool) (from to : Place) (source : Bool) (link : ℕ) (calls : List Call) : Type 0 where
+  pub driven : WasDriven extents from to source link calls
+  pub unended : IsUnended driven.history
+
+-- So it was with each link that these calls gave.
+pub record AreUnended (extents : Bool) (from to : Place) (calls : List Call) : Type 0 where
+  -- the links of the source
+  pub has : ℕ → Bool
+  pub each : (link : ℕ) → is_given link calls ≡ true → WasUnended extents from to (has link) link calls
+
+-- By these calls all is copied, zeros too unless the destination is told to be zero, and none of their requests is unanswered or came to an error, no block status and no flush either.
+pub record IsAllDone (blank : Bool) (from to : Place) (calls : List Call) : Type 0 where
+  pub copied : Copied from to blank calls
+  pub done : WereAllDone from to calls
+
+-- By the first of these calls all was done, and the destination flushed where that is wanted; and by these no handle had been asked for the end of its connection. (The two exports are two.)
+pub record EndAfter (extents blank flush : Bool) (from to : Place) (calls : List Call) : Type 0 where
+  pub before : List Call
+  pub after : List Call
+  pub are : calls ≡ before ++ after
+  pub unended : AreUnended extents from to before
+  pub done : from ≢ to → IsAllDone blank from to before
+  pub flushed : flush ≡ true → from ≢ to → IsFlushed to before
+
+-- No handle was asked for the end of its connection before all was done.
+abbrev pub EndLast : (extents blank flush : Bool) → (from to : Place) → List Call → Type 0
+EndLast extents blank flush from to calls = AreUnended extents from to calls ⊎ EndAfter extents blank flush from to calls
+
+abbrev pub with_given : Option ℕ → List ℕ → List ℕ
+with_given None links = links
+with_given (Some link) links = link ∷ links
+
+-- the links that calls gave, one after another
+abbrev pub given_links : List Call → List ℕ
+given_links [] = []
+given_links (call ∷ calls) = with_given (given_by call) (given_links calls)
+
+-- Each link that was given is of the side that its place among them says.
+pub record AreInOrder (side has : ℕ → Bool) (calls : List Call) : Type 0 where
+  pub each : (index link : ℕ) → slice_get (given_links calls) index ≡ Some link → has link ≡ side index
+
+-- Each link that these calls gave was driven so, one after another to the side that its place among them says, and no other was read or written; and no connection was
+-- to end before all was done.
+pub record AreDrivenTo (side : ℕ → Bool) (extents blank flush : Bool) (from to : Place) (calls : List Call) : Type 0 where
+  -- the links of the source
+  pub has : ℕ → Bool
+  pub order : AreInOrder side has calls
+  pub each : (link : ℕ) → is_given link calls ≡ true → WasDriven extents from to (has link) link calls
   pub none : (link : ℕ) → is_given link calls ≡ false → calls_on link calls ≡ []
+  pub ends : EndLast extents blank flush from to calls
 
 -- The end.
 
@@ -81,14 +155,16 @@ abbrev pub HasParted : History Ticket → Type 0
 HasParted history = (state_after history ≡ state.Closed) ⊎ ((state_after history ≡ state.Closing) × (direction_after history ≢ 3))
 
 -- A link was driven so, by a handle that had parted in the end, and to which all had come that was read.
-pub record WasLeft (extents : Bool) (from to : Place) (link : ℕ) (calls : List Call) : Type 0 where
-  pub driven : WasDriven extents from to link calls
+pub record WasLeft (extents : Bool) (from to : Place) (source : Bool) (link : ℕ) (calls : List Call) : Type 0 where
+  pub driven : WasDriven extents from to source link calls
   pub parted : HasParted driven.history
   pub arrived : driven.unread ≡ []
 
 -- So it is with each link that these calls gave.
 pub record AreLeft (extents : Bool) (from to : Place) (calls : List Call) : Type 0 where
-  pub each : (link : ℕ) → is_given link calls ≡ true → WasLeft extents from to link calls
+  -- the links of the source
+  pub has : ℕ → Bool
+  pub each : (link : ℕ) → is_given link calls ≡ true → WasLeft extents from to (has link) link calls
 
 -- Between two turns.
 
@@ -104,5 +180,21 @@ AllWentOn first (seen ∷ others) = WentOn (first seen.link) seen.history × All
 -- So it is with each handle that is held, and each other link that was given was left so by the handle that it had. The link that was made first is the source's.
 pub record AllDriveOn (extents : Bool) (from to : Place) (has : ℕ → Bool) (calls : List Call) (seens : List (Seen Ticket)) : Type 0 where
   pub went : AllWentOn (beginning_on extents from to has calls) seens
-  pub left : (link : ℕ) → AreApart link seens → is_given link calls ≡ true → WasLeft extents from to link calls
+  pub left : (link : ℕ) → AreApart link seens → is_given link calls ≡ true → WasLeft extents from to (has link) link calls
   pub first : (link : ℕ) → first_given calls ≡ Some link → has link ≡ true
+
+-- None of the handles that are held was asked for the end of its connection.
+abbrev pub AllUnended : List (Seen Ticket) → Type 0
+AllUnended [] = Unit {0}
+AllUnended (seen ∷ others) = IsUnended seen.history × AllUnended others
+
+-- So it is until all is done, and no handle is taken out before.
+abbrev pub HasEnded : (ended parting extents blank flush : Bool) → (from to : Place) → List Call → List (Seen Ticket) → Type 0
+HasEnded true parting extents blank flush from to calls seens = EndAfter extents blank flush from to calls
+HasEnded false false extents blank flush from to calls seens = AllUnended seens
+HasEnded false true extents blank flush from to calls seens = ⊥
+
+-- Until a handle is taken out, the handles have the links that were given, one after another; and then each of these is of the side still that its place among them says.
+abbrev pub HasOrder : (parting : Bool) → (side has : ℕ → Bool) → List Call → List (Seen Ticket) → Type 0
+HasOrder false side has calls seens = given_links calls ≡ map (λ (seen : Seen Ticket). seen.link) seens
+HasOrder true side has calls seens = AreInOrder side has calls

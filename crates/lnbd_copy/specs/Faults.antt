@@ -11,6 +11,7 @@ use Rattle.lnbd_board.specs.Files as board
 use Rattle.lnbd_course.specs.Asks.{AreOwnLinks}
 use Rattle.lnbd_course.specs.Flushes.{IsUnflushed}
 use Rattle.lnbd_course.specs.Parts.{AsksAtMostOnce, FlushesAtMostOnce, NothingWasAsked}
+use Rattle.lnbd_copy.specs.Cells.{CutSoFar}
 use Rattle.lnbd_copy.specs.Settled.{SparesFound, SparesTold}
 use Rattle.lnbd_copy.specs.Sharing.{IsAlwaysShared}
 use Rattle.lnbd_copy.specs.Statuses.{ReadsAreAnswered}
@@ -25,15 +26,16 @@ abbrev pub UntouchedSoFar : (from to : Place) → List wire.Call → Type 0
 UntouchedSoFar from to calls = NothingWasAsked calls ⊎ SparesTold from to calls
 
 -- Nothing was asked twice, no flush among it, and none where the options want none; each READ was answered for before, and none is of a block that was told as
--- zero; no WRITE has a block of zeros that was found; and at every moment what was unanswered was shared.
+-- zero; no WRITE has a block of zeros that was found; at every moment what was unanswered was shared; and no request is larger than a cell.
 pub record Behaves (options : CopyOptions) (from to : Place) (calls : List wire.Call) : Type 0 where
-  pub asks : AsksAtMostOnce options.allocated from to calls
+  pub asks : AsksAtMostOnce options.allocated options.destination_is_zero from to calls
   pub answered : ReadsAreAnswered options.extents from calls
   pub dense : SparesSoFar options from to calls
   pub flushes : FlushesAtMostOnce to calls
   pub unflushed : options.flush ≡ false → IsUnflushed to calls
   pub untouched : UntouchedSoFar from to calls
   pub shared : IsAlwaysShared options from to calls
+  pub cut : CutSoFar options from to calls
 
 -- Nothing was asked yet, on links of the copy's own.
 pub record AsksNothing (from to : Place) (calls : List wire.Call) : Type 0 where

@@ -24,6 +24,7 @@ use Rattle.lnbd_board.specs.Files as board
 use Rattle.lnbd_course.specs.Between.{place_of}
 use Rattle.lnbd_course.specs.Failed.{SideFails}
 use Rattle.lnbd_copy.specs.declared.sides.Sides.{Sides}
+use Rattle.lnbd_copy.specs.Connected.{AllConnected}
 use Rattle.lnbd_copy.specs.DrivenBy.{DrivenBy}
 pub use Rattle.lnbd_copy.specs.Lasting.{AtSome, Lasts}
 use Rattle.lnbd_copy.specs.Links.{ConnectTo}
@@ -199,10 +200,6 @@ RefusesFault held (fault.Silent idles) = ⊥
 pub record IsRefused (held : List (Held Ticket)) (why : CopyFault) : Type 0 where
   pub found : RefusesFault held why
 
--- It is of a dead connection, or nothing is to be shown of it.
-pub record Blames (held : List (Held Ticket)) (why : CopyFault) : Type 0 where
-  pub on : (needs_no_ground why ≡ true) ⊎ FindsDead why held
-
 -- the fault that a command's error is; a command is lost only with its connection, whose death is told first
 abbrev pub fault_by : (error : ℕ) → CopyFault
 fault_by error = if error == EPROTO then fault.Broke broken.Content else if error == ENOTCONN then fault.NoMemory else fault.Peer None error
@@ -217,6 +214,6 @@ pub record IsOfError (now : board.Seen) (why : CopyFault) : Type 0 where
 pub record Answers (now : board.Seen) (why : CopyFault) : Type 0 where
   pub on : (needs_no_ground why ≡ true) ⊎ IsOfError now why
 
--- A step with calls on the wires fails on grounds, wherever on its way the copy was.
+-- A step with calls on the wires fails on grounds, wherever on its way the copy was, if each connect gave a link before.
 pub record FailsOn (parting : Bool) (now : board.Seen) (held : List (Held Ticket)) (told told' : Option (List wire.Call)) (why : CopyFault) : Type 0 where
-  pub on : (way : Way) (start : Option (List wire.Call)) → Stand held → Told start told (λ calls. IsUnderWay parting way now calls held) → IsGrounded start told' way.from way.to why
+  pub on : (way : Way) (start : Option (List wire.Call)) → Stand held → Told start told AllConnected → Told start told (λ calls. IsUnderWay parting way now calls held) → IsGrounded start told' way.from way.to why

@@ -12,6 +12,7 @@ use Rattle.lnbd_copy.specs.declared.sides.Sides.{Sides}
 use Rattle.lnbd_copy.specs.declared.terms.Terms.{Terms}
 use Rattle.lnbd_copy.specs.Bound.{Bound}
 use Rattle.lnbd_copy.specs.Heard.{IsHeardTo, has_position}
+use Rattle.lnbd_copy.specs.Reached.{IsToldTo, told_heard}
 use Rattle.lnbd_copy.specs.Spared.{IsSpared, whole_heard}
 use Rattle.lnbd_copy.specs.Way.{Way, IsOn, Stand}
 use Rattle.lnbd_copy.specs.Windows as windows
@@ -70,6 +71,9 @@ pub record IsJob (job : Seen) (way : Way) (now : board.Seen) : Type 0 where
   -- the connections part only once the flush that is wanted was answered
   pub flushed : job.phase ≡ Parting → job.terms.flush ≡ true → now.flushed ≡ true
   pub heard : IsHeardTo job.windows way.heard
+  pub reached : IsToldTo job.windows way.reach
+  pub parts : way.ended ≡ is_parting job.phase
+  pub wants : way.flush ≡ job.terms.flush
 
 -- What was settled of a copy holds of its windows and of the connections that slices are bound to.
 pub record IsSettled (terms : Terms) (planned : windows.Seen) (sides : Sides) : Type 0 where
@@ -99,7 +103,7 @@ pub record Acts (job job' : Seen) (now now' : board.Seen) (held held' : List (He
 
 -- the extents were heard that had been asked for
 abbrev pub with_heard : List Extent → Way → Way
-with_heard told way = record way { zero = λ p. way.zero p || windows.zero_heard way.asked told p; whole = λ block p. way.whole block p || whole_heard block way.asked told p; heard = λ p. way.heard p || has_position way.asked p; asked = None }
+with_heard told way = record way { zero = λ p. way.zero p || windows.zero_heard way.asked told p; whole = λ block p. way.whole block p || whole_heard block way.asked told p; heard = λ p. way.heard p || has_position way.asked p; asked = None; reach = λ p. way.reach p || told_heard way.asked told p }
 
 -- extents of this range are asked for
 abbrev pub with_asked : Option (ℕ × ℕ) → Way → Way

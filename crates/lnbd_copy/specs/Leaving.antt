@@ -1,12 +1,17 @@
 -- How the connections of a copy end.
-use Rattle.std.specs.Prelude.{◌≡◌, List, [], Option, None}
+use Rattle.std.specs.Prelude.{◌≡◌, true, List, [], Option, None}
 use Rattle.lnbd_link.specs.Call as wire
 use Rattle.lnbd_poll.specs.Held.{Held}
 use Rattle.lnbd_board.specs.declared.ticket.Ticket.{Ticket}
 use Rattle.lnbd_board.specs.Files as board
 use Rattle.lnbd_copy.specs.Giving.{GivesNone}
 use Rattle.lnbd_copy.specs.Lasting.{Lasts}
-use Rattle.lnbd_copy.specs.Way.{Filed, IsLeaving, Stand, Told, Way}
+use Rattle.lnbd_copy.specs.Way.{Filed, IsLeaving, IsOn, Stand, Told, Way}
+
+-- Handles are asked for the end of their connections: where these were to end, a copy stays on its way.
+pub record Parts (now : board.Seen) (held held' : List (Held Ticket)) : Type 0 where
+  pub stand : Stand held → Stand held'
+  pub on : (way : Way) (calls : List wire.Call) → way.ended ≡ true → IsOn way now calls held → IsOn way now calls held'
 
 -- Handles are taken out, closed, and their links shut: where no slice is under way and no extents are waited for, a copy stays on its way.
 pub record Leaves (now : board.Seen) (held : List (Held Ticket)) (told : Option (List wire.Call)) (now' : board.Seen) (held' : List (Held Ticket)) (told' : Option (List wire.Call)) : Type 0 where

@@ -17,6 +17,7 @@ pub mod Dealing
 pub mod Windows
 pub mod Heard
 pub mod Spared
+pub mod Reached
 pub mod Job
 pub mod UnderWay
 pub mod Spread
@@ -27,10 +28,13 @@ pub mod Agreed
 pub mod Grounds
 pub mod Alike
 pub mod Settled
+pub mod DrivenAs
 pub mod Connects
 pub mod Faults
 pub mod Copier
 pub mod Driving
+pub mod Decided
+pub mod Deciding
 pub mod Summed
 pub mod Ended
 pub mod Flushed
@@ -42,9 +46,11 @@ pub mod Moving
 pub mod Waits
 pub mod Wanted
 pub mod Unready
+pub mod Tried
 pub mod Paused
 pub mod Bounded
 pub mod Sharing
 pub mod Made
 pub mod Written
 pub mod Conduct
+pub mod Cells

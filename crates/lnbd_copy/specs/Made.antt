@@ -11,7 +11,8 @@ use Rattle.lnbd_course.specs.Driven.{AreDriven}
 use Rattle.lnbd_course.specs.Flushes.{FlushesLast, IsUnflushed}
 use Rattle.lnbd_copy.specs.Connected.{AllConnected}
 use Rattle.lnbd_copy.specs.Connects.{ConnectsAsTold}
-use Rattle.lnbd_copy.specs.Driven.{AreDrivenBy, AreLeft}
+use Rattle.lnbd_copy.specs.Driven.{AreLeft}
+use Rattle.lnbd_copy.specs.DrivenAs.{AreDrivenBy}
 use Rattle.lnbd_copy.specs.Links.{LinksAreKept}
 use Rattle.lnbd_copy.specs.Paused.{PausesAreFull}
 use Rattle.lnbd_copy.specs.Pauses.{AtEachPause, WantsOnlyFull}
@@ -25,7 +26,7 @@ use Rattle.lnbd_copy.specs.Wanted.{WantsSome}
 -- By these calls a copy was made from one place to another, as its options say, of which the summary tells.
 pub record IsMade (options : CopyOptions) (from to : Place) (summary : Summary) (calls : List wire.Call) : Type 0 where
   -- nothing was asked twice, and nothing past the source's end; and all of it was done: no request came to an error
-  pub asks : HasAskedOnce options.allocated from to calls
+  pub asks : HasAskedOnce options.allocated options.destination_is_zero from to calls
   pub done : WereAllDone from to calls
   -- how many bytes were read, written, zeroed and passed over
   pub sums : Summarizes from to summary calls
@@ -55,5 +56,5 @@ pub record IsMade (options : CopyOptions) (from to : Place) (summary : Summary) 
   -- each connect gave a link
   pub connected : AllConnected calls
   -- each link that it made was driven as a copy does, and left well
-  pub drives : AreDrivenBy options.extents from to calls
+  pub drives : AreDrivenBy options from to calls
   pub left : AreLeft options.extents from to calls

@@ -6,6 +6,7 @@ use Rattle.lnbd_link.specs.Call as wire
 use Rattle.lnbd_poll.specs.Held.{Held}
 use Rattle.lnbd_board.specs.declared.ticket.Ticket.{Ticket}
 use Rattle.lnbd_board.specs.Files as board
+use Rattle.lnbd_copy.specs.Connects.{StaysConnected}
 use Rattle.lnbd_copy.specs.Firsts.{KnowBoth}
 use Rattle.lnbd_copy.specs.Lasting.{Lasts}
 use Rattle.lnbd_copy.specs.Way.{IsOn, Stand, Told, Way, is_source}
@@ -23,3 +24,4 @@ pub record Dials (place : Place) (extents : Bool) (now : board.Seen) (held : Lis
       Told start told (λ calls. IsOn way now calls held) → Told start told' (λ calls. IsOn way now calls held')
   pub lasts : Lasts told told'
   pub know : (source destination : ExportInfo) → KnowBoth source destination held → KnowBoth source destination held'
+  pub connected : StaysConnected told told'

@@ -20,12 +20,14 @@ abbrev pub IsWantedOf : windows.Seen → Type 0
 IsWantedOf planned = planned.plan.end < planned.size → is_some (windows.wanted planned) ≡ true
 
 -- As many slices are begun and not over as may be, or all that are planned; each of them has a request unanswered. Where fewer are planned than may be under
--- way, and windows are left, extents are awaited; and where windows are left a range is wanted.
+-- way, and windows are left, extents are awaited; and where windows are left a range is wanted. Extents
+-- that are asked for were not told yet.
 pub record IsFull (job : work.Seen) (now : board.Seen) : Type 0 where
   pub slices : length now.rows ≡ min job.terms.limit (unfinished job.windows now)
   pub requests : busy now.rows ≡ length now.rows
   pub extents : unfinished job.windows now < job.terms.limit → is_some (windows.wanted job.windows) ≡ true → AreAwaited job.asked now
   pub left : IsWantedOf job.windows
+  pub untold : job.asked ≡ true → now.mapped ≡ false
 
 -- So it is while slices are copied.
 pub record IsBusy (job : Option work.Seen) (now : board.Seen) : Type 0 where
@@ -60,6 +62,7 @@ pub record HasAsked (old new : work.Seen) (now now' : board.Seen) : Type 0 where
   pub board : now' ≡ record now { told = now'.told; mapped = now'.mapped }
   pub extents : (old.asked ≡ true → now.mapped ≡ false) → unfinished old.windows now < old.terms.limit → is_some (windows.wanted old.windows) ≡ true → AreAwaited new.asked now'
   pub left : IsWantedOf old.windows
+  pub untold : (old.asked ≡ true → now.mapped ≡ false) → new.asked ≡ true → now'.mapped ≡ false
 
 -- A job filled up what may be under way.
 pub record HasFilled (old new : work.Seen) (now now' : board.Seen) : Type 0 where

@@ -18,7 +18,7 @@ use Rattle.lnbd_course.specs.Told as course
 use Rattle.lnbd_course.specs.UnderWay.{AllHeld}
 use Rattle.lnbd_copy.specs.declared.sides.Sides.{Sides}
 use Rattle.lnbd_copy.specs.Bound.{on_destination, on_source}
-use Rattle.lnbd_copy.specs.Driven.{AllDriveOn}
+use Rattle.lnbd_copy.specs.Driven.{AllDriveOn, HasEnded, HasOrder}
 use Rattle.lnbd_copy.specs.Firsts.{KnowBoth}
 use Rattle.lnbd_copy.specs.Giving.{GivesNone}
 use Rattle.lnbd_copy.specs.Lasting.{Lasts}
@@ -92,10 +92,16 @@ pub record Way : Type 0 where
   pub heard : ℕ → Bool
   -- extents are wanted
   pub extents : Bool
+  -- the positions of the source that were told of
+  pub reach : ℕ → Bool
+  -- its connections were asked to end
+  pub ended : Bool
+  -- a flush is wanted before, unless it is settled that none is
+  pub flush : Bool
 
--- what is known of the source's zeros
+-- what is known of the source's extents
 abbrev pub known_of : Way → course.Known
-known_of way = record { zero = way.zero; whole = way.whole }
+known_of way = record { zero = way.zero; whole = way.whole; reach = way.reach }
 
 -- By these calls of its own the handles of a copy did what it is so far, with these links of the source: what they were asked is what the board's rows say, each link is
 -- of its side's export, and the positions known as zero were told so.
@@ -122,6 +128,8 @@ pub record IsUnderWay (parting : Bool) (way : Way) (now : board.Seen) (calls : L
   pub hears : Hears parting way.extents way.from way.to way.heard now.error calls seens
   pub bound : StayBound parting way.sides now seens
   pub drives : AllDriveOn way.extents way.from way.to has calls seens
+  pub ends : HasEnded way.ended parting way.extents way.how.skip way.flush way.from way.to calls seens
+  pub order : HasOrder parting (is_source way.sides) has calls seens
 
 -- So it is while each connection that was made is held,
 abbrev pub IsOn : Way → board.Seen → List wire.Call → List (Held Ticket) → Type 0

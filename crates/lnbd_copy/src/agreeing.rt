@@ -1,11 +1,13 @@
 //! What the connections of a copy tell of their exports, and whether a copy can be made of it.
 
-ghost use Rattle.std.specs.Prelude.{◌≡◌, ◌<◌, ◌≤◌, ◌^◌, true, false, length, None, IfErr, IfOk, OnOk};
+ghost use Rattle.std.specs.Prelude.{◌≡◌, ◌≢◌, ◌<◌, ◌≤◌, ◌^◌, true, false, length, Some, None, IfErr, IfOk, OnOk};
+ghost use Rattle.lnbd_model.specs.declared.errors.TheConstants as errors;
 ghost use Rattle.lnbd_handle.specs.Histories.{ForEach};
 ghost use Rattle.lnbd_history.specs.Answers.{direction_after, state_after};
 ghost use Rattle.lnbd_model.specs.declared.state.State.TheVariants as state;
 ghost use Rattle.lnbd_copy.specs.Agreed.{AreAgreed, AreQuiet, Tells};
 ghost use Rattle.lnbd_copy.specs.Causes.{tells_no_count};
+ghost use Rattle.lnbd_copy.specs.Decided.{is_of_answer};
 ghost use Rattle.lnbd_copy.specs.Grounds.{AllSame, Answers, AreSame, Happens, IsFound, IsRefused, IsShown};
 ghost use Rattle.lnbd_copy.specs.Settled.{FindsTerms};
 ghost use Rattle.lnbd_copy.specs.Statuses.{HasNoContext};
@@ -15,7 +17,7 @@ use crate::sides::{FIRST_DESTINATION, FIRST_SOURCE};
 use crate::terms::{Terms, broken_rule, settled};
 use lnbd_board::{Board, Ticket};
 use lnbd_handle::Handle;
-use lnbd_model::{Broken, ExportInfo, NoMemory, State};
+use lnbd_model::{Broken, EPROTO, ExportInfo, NoMemory, State};
 use lnbd_plan::{CopyFault, CopyOptions};
 use lnbd_poll::Handles;
 
@@ -116,6 +118,28 @@ pub(crate) fn check_same(handles: &Handles<Ticket>, terms: Terms) -> Result<(), 
         }
     }
     Ok(())
+}
+
+/// Memory was there for all that was told.
+pub(crate) fn check_memory(board: &Board) -> Result<(), NoMemory> {
+    if board.is_short() {
+        return Err(NoMemory);
+    }
+    Ok(())
+}
+
+/// A command's content was faulty, if so.
+#[tactic(auto, using(crate::proofs::GroundLemmas::answers_error))]
+pub(crate) fn check_content(board: &Board) -> Result<(), CopyFault>
+    ensures whole { OnOk result (board.now.error ≢ Some errors.EPROTO) }
+    ensures free { IfErr result (λ told. tells_no_count told ≡ true) }
+    ensures answers { IfErr result (λ told. Answers board.now told) }
+    ensures other { IfErr result (λ told. is_of_answer told ≡ false) }
+{
+    match board.error() {
+        Some(EPROTO) => Err(of_failure(EPROTO)),
+        _ => Ok(()),
+    }
 }
 
 /// Why the copy ends by what its commands came to, if so.

@@ -16,12 +16,14 @@ ghost use Rattle.lnbd_course.specs.Parts.{AsksAtMostOnce, FlushesAtMostOnce};
 ghost use Rattle.lnbd_copy.specs.Agreed.{AreQuiet};
 ghost use Rattle.lnbd_copy.specs.Causes.{AreWell, GoesOn, HasCause, patience};
 ghost use Rattle.lnbd_copy.specs.Conduct.{Conducts};
-ghost use Rattle.lnbd_copy.specs.Connected.{AllConnected, StaysConnected};
-ghost use Rattle.lnbd_copy.specs.Connects.{ConnectsAsTold, ConnectsWithin, LinksGoAsTold, LinksGoWithin};
+ghost use Rattle.lnbd_copy.specs.Connected.{AllConnected};
+ghost use Rattle.lnbd_copy.specs.Connects.{ConnectsAsTold, ConnectsWithin, LinksGoAsTold, LinksGoWithin, StaysConnected, one_each};
 ghost use Rattle.lnbd_copy.specs.declared.copier.Progress.TheVariants as progress;
-ghost use Rattle.lnbd_copy.specs.declared.counts.Counts.{Counts as Counted};
 ghost use Rattle.lnbd_copy.specs.Copier.{GoesFurther, HasJob, HasMet, HasNotBegun, HasTurned, IsDone, IsGoing, IsOnItsWay, IsParting, Seen};
-ghost use Rattle.lnbd_copy.specs.Driven.{AreDrivenBy, AreLeft};
+ghost use Rattle.lnbd_copy.specs.Decided.{IsDecided};
+ghost use Rattle.lnbd_copy.specs.Deciding.{DecidesFurther, DecidesOn, GoesShut, IsCalm, WasUntroubled};
+ghost use Rattle.lnbd_copy.specs.Driven.{AreDrivenTo, AreLeft};
+ghost use Rattle.lnbd_copy.specs.DrivenAs.{AreDrivenBy};
 ghost use Rattle.lnbd_copy.specs.Ended.{EndsWell};
 ghost use Rattle.lnbd_copy.specs.Driving.{DrivesFurther, DrivesOn, DrivesOneMore};
 ghost use Rattle.lnbd_copy.specs.Faults.{AreUnissued, AsksNone, AsksNothing, Behaves, GoesIdly, SparesSoFar, StaysFresh, StaysUnasked, UntouchedSoFar};
@@ -39,22 +41,25 @@ ghost use Rattle.lnbd_copy.specs.Spread.{AreSpread};
 ghost use Rattle.lnbd_copy.specs.Sharing.{IsAlwaysShared, IsShared};
 ghost use Rattle.lnbd_copy.specs.Statuses.{ReadsAreAnswered};
 ghost use Rattle.lnbd_copy.specs.Summed.{HasSummed, IsTally};
+ghost use Rattle.lnbd_copy.specs.Tried.{AnyLeft, NoneLeft, TriedBefore, TriedBut, Tries, TriesAll};
 ghost use Rattle.lnbd_copy.specs.Unanswered.{HasAllAsked};
 ghost use Rattle.lnbd_copy.specs.UnderWay.{IsBusy};
 ghost use Rattle.lnbd_copy.specs.Unready.{IsEarlyPause, IsOpeningPause, StaysUnready};
 ghost use Rattle.lnbd_copy.specs.Vain.{WantsOnlyEmpty};
-ghost use Rattle.lnbd_copy.specs.Waits.{WaitsWell};
+ghost use Rattle.lnbd_copy.specs.Waits.{AreUnparted, WaitsWell};
 ghost use Rattle.lnbd_copy.specs.Wanted.{WantsSome};
-ghost use Rattle.lnbd_copy.specs.Way.{Goes, Stand, Told};
+ghost use Rattle.lnbd_copy.specs.Way.{Goes, Stand, Told, is_source};
 
-use crate::agreeing::{agree, check_answers, check_same, check_well, tells_extents};
+use crate::agreeing::{agree, check_same, check_well, tells_extents};
 use crate::counts::{Counts, check_counts};
-use crate::dialing::{MAX_TURNS, check, dial, settle, wait};
+use crate::dialing::{MAX_TURNS, dial, settle, wait};
 use crate::job::Job;
 use crate::parting::{shut_all, shut_parted};
 use crate::sides::Sides;
-use crate::terms::Terms;
-use lnbd_board::{Board, How, Ticket};
+use crate::telling::progress_of;
+use crate::terms::{Terms, UNKNOWN};
+use crate::turning::{check_calm, turn};
+use lnbd_board::{Board, Ticket};
 use lnbd_link::Wires;
 use lnbd_model::{NoMemory, Place};
 use lnbd_plan::{CopyFault, CopyOptions, Summary};
@@ -94,14 +99,6 @@ impl Model for Copier {
 
     ghost view = { λ c. record { options = c.options; from = c.from; to = c.to; start = c.start; held = c.handles; board = c.board; job = c.job } };
 }
-
-/// How a copy writes while nothing is known of the destination.
-const UNKNOWN: How = How {
-    block: 0,
-    skip: false,
-    zeroes: false,
-    allocated: false,
-};
 
 impl Copier {
     /// A copy that has not begun. It takes no memory.
@@ -145,11 +142,10 @@ impl Copier {
 
         // Nothing is asked in it, whatever it comes to.
         ensures unasked { Told (W.told wires.old) (W.told wires.new) (AsksNothing self.old.from self.old.to) }
-        // One handle drove each link that it made, as a copy does, and it read and wrote no other.
-        ensures drives { Told (W.told wires.old) (W.told wires.new) (AreDrivenBy self.old.options.extents self.old.from self.old.to) }
+        // One handle drove each link that it made, as a copy does, each side's as often as the options and what both told say, and it read and wrote no other.
+        ensures drives { Told (W.told wires.old) (W.told wires.new) (AreDrivenBy self.old.options self.old.from self.old.to) }
 
-        // Its links are kept, and it connected to its two places alone, as often as its options and what both sides told say, and each
-        // connect gave a link; or not that often where it failed.
+        // Its links are kept, and it connected to its two places alone, as often as its options and what both sides told say, and each connect gave a link; or not that often where it failed.
         ensures links { LinksGoWithin self.old.options self.old.from self.old.to self.old.held (W.told wires.old) self.new.held (W.told wires.new) }
         ensures connects { OnOk result (LinksGoAsTold self.old.options self.old.from self.old.to self.old.held (W.told wires.old) self.new.held (W.told wires.new)) }
 
@@ -159,14 +155,19 @@ impl Copier {
         ensures writes { Told (W.told wires.old) (W.told wires.new) (AtEachPause WantsOnlyFull) }
         // It was wanted for reading only where a read on it told that nothing is there yet, and nothing happened since on any link.
         ensures reads { Told (W.told wires.old) (W.told wires.new) (AtEachPause WantsOnlyEmpty) }
-        // It was wanted only where its handle negotiated, had commands in flight, had bytes to write, or had asked for the end of its
-        // connection, and in that handle's direction.
+        // It was wanted only where its handle negotiated, had commands in flight, had bytes to write, or had asked for the end of its connection, and in that handle's direction.
         ensures waits { Told (W.told wires.old) (W.told wires.new) (AtEachPause WaitsWell) }
         // At least one link was.
         ensures wanted { Told (W.told wires.old) (W.told wires.new) (AtEachPause WantsSome) }
+        // Each was tried before the next pause, and where all connections stand also since the last.
+        ensures tries { Told (W.told wires.old) (W.told wires.new) (AtEachPause TriedBefore) }
+        ensures tried { OnOk result (Told (W.told wires.old) (W.told wires.new) (TriedBut NoneLeft)) }
 
         // What the calls show of a fault.
         ensures grounds { IfErr result (λ told. IsGrounded (W.told wires.old) (W.told wires.new) self.old.from self.old.to told) }
+
+        // The first event decided it for which a copy ends: before that nothing of the kind had come.
+        ensures decides { IfErr result (λ told. IsDecided (W.told wires.old) (W.told wires.new) self.old.options.extents self.old.from self.old.to told) }
 
         // The counts, and what they show of a fault.
         ensures causes { IfErr result (λ told. HasCause self.new.start (W.faults wires.new) (W.idles wires.new) told) }
@@ -181,7 +182,7 @@ impl Copier {
     }
 
     /// Makes all connections, the source's first and then the destination's, and behind them all further ones.
-    #[tactic(auto, using(crate::proofs::CauseLemmas::goes_same, crate::proofs::CauseLemmas::goes_then, crate::proofs::CauseLemmas::cause_later, crate::proofs::CauseLemmas::cause_free, crate::proofs::GroundLemmas::none_grounded))]
+    #[tactic(auto, using(crate::proofs::CauseLemmas::goes_same, crate::proofs::CauseLemmas::goes_then, crate::proofs::CauseLemmas::cause_later, crate::proofs::CauseLemmas::cause_free, crate::proofs::GroundLemmas::none_grounded, crate::proofs::DecidingLemmas::memory_decided))]
     fn connect<W: Wires>(&mut self, wires: &mut W) -> Result<(), CopyFault>
         requires begun { HasNotBegun self.old }
         requires faults { self.old.start.faults ≤ W.faults wires.old }
@@ -192,12 +193,15 @@ impl Copier {
         ensures unready { Told (W.told wires.old) (W.told wires.new) (AtEachPause (IsEarlyPause self.old.from self.old.to)) }
         ensures vain { Pauses WantsInVain (W.told wires.old) (W.told wires.new) }
         ensures wanted { Pauses WantsSome (W.told wires.old) (W.told wires.new) }
+        ensures tries { Tries AnyLeft (W.told wires.old) (W.told wires.new) }
+        ensures tried { OnOk result (Tries NoneLeft (W.told wires.old) (W.told wires.new)) }
         ensures causes { IfErr result (λ told. HasCause self.old.start (W.faults wires.new) (W.idles wires.new) told) }
         ensures grounds { IfErr result (λ told. IsGrounded (W.told wires.old) (W.told wires.new) self.old.from self.old.to told) }
         ensures counts { GoesOn (W.faults wires.old) (W.faults wires.new) (W.idles wires.old) (W.idles wires.new) (W.contents wires.old) (W.contents wires.new) }
         ensures links { LinksGoWithin self.old.options self.old.from self.old.to self.old.held (W.told wires.old) self.new.held (W.told wires.new) }
         ensures connects { OnOk result (LinksGoAsTold self.old.options self.old.from self.old.to self.old.held (W.told wires.old) self.new.held (W.told wires.new)) }
-        ensures drives { Told (W.told wires.old) (W.told wires.new) (AreDrivenBy self.old.options.extents self.old.from self.old.to) }
+        ensures drives { Told (W.told wires.old) (W.told wires.new) (AreDrivenBy self.old.options self.old.from self.old.to) }
+        ensures decides { IfErr result (λ told. IsDecided (W.told wires.old) (W.told wires.new) self.old.options.extents self.old.from self.old.to told) }
     {
         let terms = self.meet(wires)?;
         self.dial_further(wires, terms.sides)?;
@@ -207,7 +211,7 @@ impl Copier {
     }
 
     /// Makes the first connection of each side, the source's first, and settles how the copy is made.
-    #[tactic(auto, using(crate::proofs::CauseLemmas::goes_same, crate::proofs::CauseLemmas::goes_then, crate::proofs::CauseLemmas::cause_later, crate::proofs::CauseLemmas::cause_free, crate::proofs::GroundLemmas::none_grounded))]
+    #[tactic(auto, using(crate::proofs::CauseLemmas::goes_same, crate::proofs::CauseLemmas::goes_then, crate::proofs::CauseLemmas::cause_later, crate::proofs::CauseLemmas::cause_free, crate::proofs::GroundLemmas::none_grounded, crate::proofs::DecidingLemmas::memory_decided))]
     fn meet<W: Wires>(&mut self, wires: &mut W) -> Result<Terms, CopyFault>
         requires begun { HasNotBegun self.old }
         requires faults { self.old.start.faults ≤ W.faults wires.old }
@@ -223,13 +227,16 @@ impl Copier {
         ensures unready { Told (W.told wires.old) (W.told wires.new) (AtEachPause (IsEarlyPause self.old.from self.old.to)) }
         ensures vain { Pauses WantsInVain (W.told wires.old) (W.told wires.new) }
         ensures wanted { Pauses WantsSome (W.told wires.old) (W.told wires.new) }
+        ensures tries { Tries AnyLeft (W.told wires.old) (W.told wires.new) }
+        ensures tried { OnOk result (Tries NoneLeft (W.told wires.old) (W.told wires.new)) }
         ensures causes { IfErr result (λ told. HasCause self.old.start (W.faults wires.new) (W.idles wires.new) told) }
         ensures grounds { IfErr result (λ told. IsGrounded (W.told wires.old) (W.told wires.new) self.old.from self.old.to told) }
         ensures counts { GoesOn (W.faults wires.old) (W.faults wires.new) (W.idles wires.old) (W.idles wires.new) (W.contents wires.old) (W.contents wires.new) }
         ensures links { LinksGoTo (self.old.from.to ∷ self.old.to.to ∷ []) self.old.held (W.told wires.old) self.new.held (W.told wires.new) }
         ensures connects { OnOk result (LinksGo (self.old.from.to ∷ self.old.to.to ∷ []) self.old.held (W.told wires.old) self.new.held (W.told wires.new)) }
         ensures connected { OnOk result (StaysConnected (W.told wires.old) (W.told wires.new)) }
-        ensures drives { Told (W.told wires.old) (W.told wires.new) (AreDrivenBy self.old.options.extents self.old.from self.old.to) }
+        ensures drives { Told (W.told wires.old) (W.told wires.new) (AreDrivenTo (is_source one_each) self.old.options.extents self.old.options.destination_is_zero true self.old.from self.old.to) }
+        ensures decides { IfErr result (λ told. IsDecided (W.told wires.old) (W.told wires.new) self.old.options.extents self.old.from self.old.to told) }
     {
         let extents = self.options.extents;
         self.dial_source(wires, extents)?;
@@ -273,6 +280,7 @@ impl Copier {
         ensures connects { OnOk result (LinksGo (self.old.from.to ∷ []) self.old.held (W.told wires.old) self.new.held (W.told wires.new)) }
         ensures connected { OnOk result (StaysConnected (W.told wires.old) (W.told wires.new)) }
         ensures drives { DrivesOneMore self.old.from extents self.old.board self.old.held (W.told wires.old) (W.told wires.new) }
+        ensures decides { IfErr result (λ told. DecidesOn false self.old.board self.old.held (W.told wires.old) (W.told wires.new) told) }
     {
         dial(
             self.alloc,
@@ -301,6 +309,7 @@ impl Copier {
         ensures connects { OnOk result (LinksGo (self.old.to.to ∷ []) self.old.held (W.told wires.old) self.new.held (W.told wires.new)) }
         ensures connected { OnOk result (StaysConnected (W.told wires.old) (W.told wires.new)) }
         ensures drives { DrivesOneMore self.old.to false self.old.board self.old.held (W.told wires.old) (W.told wires.new) }
+        ensures decides { IfErr result (λ told. DecidesOn false self.old.board self.old.held (W.told wires.old) (W.told wires.new) told) }
     {
         dial(
             self.alloc,
@@ -325,17 +334,21 @@ impl Copier {
         ensures unready { StaysUnready self.old.board self.old.held (W.told wires.old) (W.told wires.new) }
         ensures vain { Stand self.old.held → Pauses WantsInVain (W.told wires.old) (W.told wires.new) }
         ensures wanted { Stand self.old.held → Pauses WantsSome (W.told wires.old) (W.told wires.new) }
+        ensures tries { Stand self.old.held → Tries AnyLeft (W.told wires.old) (W.told wires.new) }
+        ensures tried { OnOk result (Stand self.old.held → Tries NoneLeft (W.told wires.old) (W.told wires.new)) }
         ensures causes { IfErr result (λ told. HasCause self.old.start (W.faults wires.new) (W.idles wires.new) told) }
         ensures fails { IfErr result (λ told. FailsOn false self.old.board self.old.held (W.told wires.old) (W.told wires.new) told) }
         ensures counts { GoesOn (W.faults wires.old) (W.faults wires.new) (W.idles wires.old) (W.idles wires.new) (W.contents wires.old) (W.contents wires.new) }
         ensures links { Stand self.old.held → LinksGo [] self.old.held (W.told wires.old) self.new.held (W.told wires.new) }
         ensures drives { DrivesOn self.old.board self.old.held (W.told wires.old) (W.told wires.new) }
+        ensures decides { IfErr result (λ told. DecidesOn false self.old.board self.old.held (W.told wires.old) (W.told wires.new) told) }
+        ensures calm { OnOk result (IsCalm self.new.board self.new.held) }
     {
         settle(&mut self.handles, &mut self.board, wires, self.start)
     }
 
     /// Makes the further connections, the source's first.
-    #[tactic(auto, using(crate::proofs::CauseLemmas::goes_same, crate::proofs::CauseLemmas::goes_then, crate::proofs::CauseLemmas::cause_later, crate::proofs::CauseLemmas::cause_free, crate::proofs::GroundLemmas::none_grounded))]
+    #[tactic(auto, using(crate::proofs::CauseLemmas::goes_same, crate::proofs::CauseLemmas::goes_then, crate::proofs::CauseLemmas::cause_later, crate::proofs::CauseLemmas::cause_free, crate::proofs::GroundLemmas::none_grounded, crate::proofs::DecidingLemmas::memory_decided))]
     fn dial_further<W: Wires>(&mut self, wires: &mut W, sides: Sides) -> Result<(), CopyFault>
         requires faults { self.old.start.faults ≤ W.faults wires.old }
         requires idles { self.old.start.idles ≤ W.idles wires.old }
@@ -347,13 +360,17 @@ impl Copier {
         ensures unready { (start : Option (List Call)) (terms : Settled) → HasMet self.old start (W.told wires.old) terms → sides ≡ terms.sides → length self.old.held ≡ 2 → Told start (W.told wires.old) (LinksStand self.old.held) → Told start (W.told wires.old) (AtEachPause (IsEarlyPause self.old.from self.old.to)) → Told start (W.told wires.new) (AtEachPause (IsEarlyPause self.old.from self.old.to)) }
         ensures vain { Stand self.old.held → Pauses WantsInVain (W.told wires.old) (W.told wires.new) }
         ensures wanted { Stand self.old.held → Pauses WantsSome (W.told wires.old) (W.told wires.new) }
+        ensures tries { Stand self.old.held → Tries AnyLeft (W.told wires.old) (W.told wires.new) }
+        ensures tried { OnOk result (Stand self.old.held → Tries NoneLeft (W.told wires.old) (W.told wires.new)) }
         ensures causes { IfErr result (λ told. HasCause self.old.start (W.faults wires.new) (W.idles wires.new) told) }
         ensures grounds { IfErr result (λ told. (start : Option (List Call)) (terms : Settled) → HasMet self.old start (W.told wires.old) terms → sides ≡ terms.sides → length self.old.held ≡ 2 → IsGrounded start (W.told wires.new) self.old.from self.old.to told) }
         ensures counts { GoesOn (W.faults wires.old) (W.faults wires.new) (W.idles wires.old) (W.idles wires.new) (W.contents wires.old) (W.contents wires.new) }
         ensures links { Stand self.old.held → LinksGoTo (replicate (sides.source - 1) self.old.from.to ++ replicate (sides.destination - 1) self.old.to.to) self.old.held (W.told wires.old) self.new.held (W.told wires.new) }
         ensures connects { OnOk result (Stand self.old.held → LinksGo (replicate (sides.source - 1) self.old.from.to ++ replicate (sides.destination - 1) self.old.to.to) self.old.held (W.told wires.old) self.new.held (W.told wires.new)) }
         ensures connected { OnOk result (Stand self.old.held → StaysConnected (W.told wires.old) (W.told wires.new)) }
-        ensures drives { (start : Option (List Call)) (terms : Settled) → HasMet self.old start (W.told wires.old) terms → sides ≡ terms.sides → length self.old.held ≡ 2 → Told start (W.told wires.new) (AreDrivenBy self.old.options.extents self.old.from self.old.to) }
+        ensures drives { (start : Option (List Call)) (terms : Settled) → HasMet self.old start (W.told wires.old) terms → sides ≡ terms.sides → length self.old.held ≡ 2 → Told start (W.told wires.new) (AreDrivenTo (is_source sides) self.old.options.extents self.old.options.destination_is_zero true self.old.from self.old.to) }
+        ensures calm { OnOk result (IsCalm self.new.board self.new.held) }
+        ensures decides { IfErr result (λ told. (start : Option (List Call)) (terms : Settled) → HasMet self.old start (W.told wires.old) terms → sides ≡ terms.sides → length self.old.held ≡ 2 → IsDecided start (W.told wires.new) self.old.options.extents self.old.from self.old.to told) }
     {
         self.dial_sources(wires, sides)?;
         self.dial_destinations(wires, sides)?;
@@ -377,6 +394,7 @@ impl Copier {
         ensures connects { OnOk result (LinksGo (replicate (sides.source - 1) self.old.from.to) self.old.held (W.told wires.old) self.new.held (W.told wires.new)) }
         ensures connected { OnOk result (StaysConnected (W.told wires.old) (W.told wires.new)) }
         ensures drives { DrivesFurther self.old sides 2 (W.told wires.old) (W.told wires.new) }
+        ensures decides { IfErr result (λ told. DecidesFurther self.old sides 2 (W.told wires.old) (W.told wires.new) told) }
     {
         'further: for connection in 1..sides.source {
             self.dial_source(wires, false)?;
@@ -399,6 +417,7 @@ impl Copier {
         ensures connects { OnOk result (LinksGo (replicate (sides.destination - 1) self.old.to.to) self.old.held (W.told wires.old) self.new.held (W.told wires.new)) }
         ensures connected { OnOk result (StaysConnected (W.told wires.old) (W.told wires.new)) }
         ensures drives { DrivesFurther self.old sides (sides.source + 1) (W.told wires.old) (W.told wires.new) }
+        ensures decides { IfErr result (λ told. DecidesFurther self.old sides (sides.source + 1) (W.told wires.old) (W.told wires.new) told) }
     {
         'further: for connection in 1..sides.destination {
             self.dial_destination(wires)?;
@@ -410,8 +429,7 @@ impl Copier {
     ///
     /// # Errors
     ///
-    /// Those of `begin` but `Rule`; `Broke` also where a peer told faulty content, and `Peer` where it answered a command by an
-    /// error. All links are then shut.
+    /// Those of `begin` but `Rule`; `Broke` also where a peer told faulty content, and `Peer` where it answered a command by an error. All links are then shut.
     #[tactic(auto, using(crate::proofs::CauseLemmas::goes_same, crate::proofs::CauseLemmas::goes_then, crate::proofs::CauseLemmas::cause_later, crate::proofs::CauseLemmas::cause_free, crate::proofs::LinkLemmas::links_none, crate::proofs::LinkLemmas::links_then))]
     pub fn turn<W: Wires>(&mut self, wires: &mut W) -> Result<Progress, CopyFault>
         requires going { IsGoing (W.told wires.old) self.old }
@@ -437,29 +455,32 @@ impl Copier {
         ensures shares { OnOk result ((start : Option (List Call)) → IsOnItsWay start (W.told wires.old) self.old → self.new.from ≢ self.new.to → Told start (W.told wires.new) (IsShared self.new.options self.new.from self.new.to)) }
 
         // Nothing was asked twice so far, and nothing past the source's end.
-        ensures asks { OnOk result ((start : Option (List Call)) → IsOnItsWay start (W.told wires.old) self.old → self.new.from ≢ self.new.to → Told start (W.told wires.new) (HasAskedOnce self.new.options.allocated self.new.from self.new.to)) }
+        ensures asks { OnOk result ((start : Option (List Call)) → IsOnItsWay start (W.told wires.old) self.old → self.new.from ≢ self.new.to → Told start (W.told wires.new) (HasAskedOnce self.new.options.allocated self.new.options.destination_is_zero self.new.from self.new.to)) }
         // Each position that was read so far was read after a block status had been answered for it, or the source's first
         // connection agreed no meta context, though base:allocation had been asked for where extents are wanted.
         ensures answered { OnOk result ((start : Option (List Call)) → IsOnItsWay start (W.told wires.old) self.old → self.new.from ≢ self.new.to → Told start (W.told wires.new) (ReadsAreAnswered self.new.options.extents self.new.from)) }
 
-        // It doesn't pause.
+        // It doesn't pause. Each link for which its handles waited was tried in it, unless it failed.
         ensures unpaused { Unpaused (W.told wires.old) (W.told wires.new) }
+        ensures tries { OnOk result ((start : Option (List Call)) → IsOnItsWay start (W.told wires.old) self.old → TriesAll self.old.held (W.told wires.old) (W.told wires.new)) }
         // `Still`: nothing happened on any link, though each was tried in its handle's direction.
         ensures still { IfOk result (λ told. told ≡ progress.Still → TurnsInVain self.new.held (W.told wires.old) (W.told wires.new)) }
-        // `Moved`: something happened on a link, or bytes arrived that had been read of one; or else its board is not as it was, or
-        // what is under way isn't.
+        // `Moved`: something happened on a link, or bytes arrived that had been read of one; or else its board is not as it was, or what is under way isn't.
         ensures moved { IfOk result (λ told. (count : ℕ) → told ≡ progress.Moved count → HasMoved self.old self.new (W.told wires.old) (W.told wires.new)) }
 
         // Its links are kept, whether it goes on or not.
         ensures links { LinksGo [] self.old.held (W.told wires.old) self.new.held (W.told wires.new) }
         // Whatever it comes to, one handle drove each link that the copy made so far, as a copy does, and it read and wrote no other.
-        ensures drives { (start : Option (List Call)) → IsOnItsWay start (W.told wires.old) self.old → Told start (W.told wires.new) (AreDrivenBy self.old.options.extents self.old.from self.old.to) }
+        ensures drives { (start : Option (List Call)) → IsOnItsWay start (W.told wires.old) self.old → Told start (W.told wires.new) (AreDrivenBy self.old.options self.old.from self.old.to) }
         // Whatever it comes to, nothing was asked twice in it, and each READ was answered for before.
         ensures fair { (start : Option (List Call)) → IsOnItsWay start (W.told wires.old) self.old → self.old.from ≢ self.old.to → Told start (W.told wires.old) (Behaves self.old.options self.old.from self.old.to) → Told start (W.told wires.new) (Behaves self.old.options self.old.from self.old.to) }
 
         // What the calls show of a fault.
         ensures grounds { IfErr result (λ told. (start : Option (List Call)) → IsOnItsWay start (W.told wires.old) self.old → IsGrounded start (W.told wires.new) self.old.from self.old.to told) }
-
+        // The first event decided it for which a copy ends: before that nothing of the kind had come.
+        ensures decides { IfErr result (λ told. (start : Option (List Call)) → IsOnItsWay start (W.told wires.old) self.old → IsDecided start (W.told wires.new) self.old.options.extents self.old.from self.old.to told) }
+        // Where it goes on nothing of the kind came yet.
+        ensures untroubled { OnOk result ((start : Option (List Call)) → IsOnItsWay start (W.told wires.old) self.old → Told start (W.told wires.new) (WasUntroubled self.old.options.extents self.old.from self.old.to)) }
         // The counts, and what they show of a fault; where it is finished they show none.
         ensures causes { IfErr result (λ told. HasCause self.old.start (W.faults wires.new) (W.idles wires.new) told) }
         ensures counts { GoesOn (W.faults wires.old) (W.faults wires.new) (W.idles wires.old) (W.idles wires.new) (W.contents wires.old) (W.contents wires.new) }
@@ -473,7 +494,7 @@ impl Copier {
     }
 
     /// One turn, after which nothing is shut.
-    #[tactic(auto, using(crate::proofs::CauseLemmas::goes_same, crate::proofs::CauseLemmas::goes_then, crate::proofs::CauseLemmas::cause_later, crate::proofs::CauseLemmas::cause_free, crate::proofs::GroundLemmas::none_grounded, crate::proofs::LinkLemmas::links_none, crate::proofs::LinkLemmas::links_then))]
+    #[tactic(auto, using(crate::proofs::CauseLemmas::goes_same, crate::proofs::CauseLemmas::goes_then, crate::proofs::CauseLemmas::cause_later, crate::proofs::CauseLemmas::cause_free, crate::proofs::GroundLemmas::none_grounded, crate::proofs::LinkLemmas::links_none, crate::proofs::LinkLemmas::links_then, crate::proofs::DecidingLemmas::memory_decided))]
     fn go_on<W: Wires>(&mut self, wires: &mut W) -> Result<Progress, CopyFault>
         requires going { IsGoing (W.told wires.old) self.old }
         requires faults { self.old.start.faults ≤ W.faults wires.old }
@@ -486,9 +507,10 @@ impl Copier {
         ensures under_way { OnOk result ((start : Option (List Call)) → IsOnItsWay start (W.told wires.old) self.old → self.new.from ≢ self.new.to → HasAllAsked start (W.told wires.new) self.new) }
         ensures shares { OnOk result ((start : Option (List Call)) → IsOnItsWay start (W.told wires.old) self.old → self.new.from ≢ self.new.to → Told start (W.told wires.new) (IsShared self.new.options self.new.from self.new.to)) }
         ensures flushes { IfOk result (λ told. (start : Option (List Call)) → IsOnItsWay start (W.told wires.old) self.old → HasFlushed start (W.told wires.new) self.new told) }
-        ensures asks { OnOk result ((start : Option (List Call)) → IsOnItsWay start (W.told wires.old) self.old → self.new.from ≢ self.new.to → Told start (W.told wires.new) (HasAskedOnce self.new.options.allocated self.new.from self.new.to)) }
+        ensures asks { OnOk result ((start : Option (List Call)) → IsOnItsWay start (W.told wires.old) self.old → self.new.from ≢ self.new.to → Told start (W.told wires.new) (HasAskedOnce self.new.options.allocated self.new.options.destination_is_zero self.new.from self.new.to)) }
         ensures answered { OnOk result ((start : Option (List Call)) → IsOnItsWay start (W.told wires.old) self.old → self.new.from ≢ self.new.to → Told start (W.told wires.new) (ReadsAreAnswered self.new.options.extents self.new.from)) }
         ensures unpaused { Unpaused (W.told wires.old) (W.told wires.new) }
+        ensures tries { OnOk result ((start : Option (List Call)) → IsOnItsWay start (W.told wires.old) self.old → TriesAll self.old.held (W.told wires.old) (W.told wires.new)) }
         ensures still { IfOk result (λ told. told ≡ progress.Still → TurnsInVain self.new.held (W.told wires.old) (W.told wires.new)) }
         ensures moved { IfOk result (λ told. (count : ℕ) → told ≡ progress.Moved count → HasMoved self.old self.new (W.told wires.old) (W.told wires.new)) }
         ensures fair { (start : Option (List Call)) → IsOnItsWay start (W.told wires.old) self.old → self.old.from ≢ self.old.to → Told start (W.told wires.old) (Behaves self.old.options self.old.from self.old.to) → Told start (W.told wires.new) (Behaves self.old.options self.old.from self.old.to) }
@@ -497,7 +519,9 @@ impl Copier {
         ensures counts { GoesOn (W.faults wires.old) (W.faults wires.new) (W.idles wires.old) (W.idles wires.new) (W.contents wires.old) (W.contents wires.new) }
         ensures links { LinksGo [] self.old.held (W.told wires.old) self.new.held (W.told wires.new) }
         ensures well { IfOk result (λ told. EndsWell self.old.start (W.faults wires.new) (W.idles wires.new) told) }
-        ensures drives { (start : Option (List Call)) → IsOnItsWay start (W.told wires.old) self.old → Told start (W.told wires.new) (AreDrivenBy self.old.options.extents self.old.from self.old.to) }
+        ensures drives { (start : Option (List Call)) → IsOnItsWay start (W.told wires.old) self.old → Told start (W.told wires.new) (AreDrivenBy self.old.options self.old.from self.old.to) }
+        ensures decides { IfErr result (λ told. (start : Option (List Call)) → IsOnItsWay start (W.told wires.old) self.old → IsDecided start (W.told wires.new) self.old.options.extents self.old.from self.old.to told) }
+        ensures untroubled { OnOk result ((start : Option (List Call)) → IsOnItsWay start (W.told wires.old) self.old → Told start (W.told wires.new) (WasUntroubled self.old.options.extents self.old.from self.old.to)) }
     {
         let moved = self.take_turn(wires)?;
         let acted = self.act()?;
@@ -511,12 +535,14 @@ impl Copier {
     }
 
     /// One turn of the connections.
-    #[tactic(auto, using(crate::proofs::CauseLemmas::goes_same, crate::proofs::CauseLemmas::goes_then, crate::proofs::CauseLemmas::cause_later, crate::proofs::CauseLemmas::cause_free, crate::proofs::GroundLemmas::none_grounded, crate::proofs::LinkLemmas::links_none, crate::proofs::LinkLemmas::links_then))]
+    #[tactic(auto, using(crate::proofs::CauseLemmas::goes_same, crate::proofs::CauseLemmas::goes_then, crate::proofs::CauseLemmas::cause_later, crate::proofs::CauseLemmas::cause_free, crate::proofs::GroundLemmas::none_grounded, crate::proofs::LinkLemmas::links_none, crate::proofs::LinkLemmas::links_then, crate::proofs::DecidingLemmas::memory_decided))]
     fn take_turn<W: Wires>(&mut self, wires: &mut W) -> Result<Turn, CopyFault>
         requires faults { self.old.start.faults ≤ W.faults wires.old }
         ensures kept { self.new ≡ record self.old { held = self.new.held; board = self.new.board } }
         ensures on { OnOk result ((start : Option (List Call)) → IsOnItsWay start (W.told wires.old) self.old → IsOnItsWay start (W.told wires.new) self.new) }
+        ensures well { OnOk result (self.new.board.error ≡ None) }
         ensures unpaused { Stand self.old.held → Unpaused (W.told wires.old) (W.told wires.new) }
+        ensures tries { OnOk result ((start : Option (List Call)) → IsOnItsWay start (W.told wires.old) self.old → TriesAll self.old.held (W.told wires.old) (W.told wires.new)) }
         ensures still { IfOk result (λ told. told ≡ turned.Still → Stand self.old.held → TurnsInVain self.new.held (W.told wires.old) (W.told wires.new)) }
         ensures same { IfOk result (λ told. told ≡ turned.Still → Stand self.old.held → self.new.board ≡ self.old.board) }
         ensures moved { IfOk result (λ told. (count : ℕ) → told ≡ turned.Moved count → Stand self.old.held → Stirs self.old.held (W.told wires.old) (W.told wires.new)) }
@@ -525,19 +551,20 @@ impl Copier {
         ensures grounds { IfErr result (λ told. (start : Option (List Call)) → IsOnItsWay start (W.told wires.old) self.old → IsGrounded start (W.told wires.new) self.old.from self.old.to told) }
         ensures counts { GoesOn (W.faults wires.old) (W.faults wires.new) (W.idles wires.old) (W.idles wires.new) (W.contents wires.old) (W.contents wires.new) }
         ensures links { Stand self.old.held → LinksGo [] self.old.held (W.told wires.old) self.new.held (W.told wires.new) }
-        ensures drives { (start : Option (List Call)) → IsOnItsWay start (W.told wires.old) self.old → Told start (W.told wires.new) (AreDrivenBy self.old.options.extents self.old.from self.old.to) }
+        ensures drives { (start : Option (List Call)) → IsOnItsWay start (W.told wires.old) self.old → Told start (W.told wires.new) (AreDrivenBy self.old.options self.old.from self.old.to) }
+        ensures decides { IfErr result (λ told. (start : Option (List Call)) → IsOnItsWay start (W.told wires.old) self.old → IsDecided start (W.told wires.new) self.old.options.extents self.old.from self.old.to told) }
+        ensures untroubled { OnOk result ((start : Option (List Call)) → IsOnItsWay start (W.told wires.old) self.old → Told start (W.told wires.new) (WasUntroubled self.old.options.extents self.old.from self.old.to)) }
     {
-        check_well(&self.board)?;
-        let moved = self.handles.turn(wires, &mut self.board)?;
-        check(&self.handles, wires, self.start)?;
-        check_answers(&self.board)?;
+        check_calm(&self.handles, &self.board)?;
+        let moved = turn(&mut self.handles, &mut self.board, wires, self.start)?;
         Ok(moved)
     }
 
     /// Asks for whatever can be asked for now. Whether anything was, or the copy went on in another way.
     #[tactic(auto, using(crate::proofs::LinkLemmas::same_none))]
     fn act(&mut self) -> Result<bool, NoMemory>
-        requires { HasJob self.old }
+        requires job { HasJob self.old }
+        requires well { self.old.board.error ≡ None }
         ensures kept { self.new ≡ record self.old { held = self.new.held; board = self.new.board; job = self.new.job } }
         ensures on { OnOk result ((start told : Option (List Call)) → IsOnItsWay start told self.old → IsOnItsWay start told self.new) }
         ensures busy { OnOk result ((start told : Option (List Call)) → IsOnItsWay start told self.old → IsBusy self.new.job self.new.board) }
@@ -562,7 +589,7 @@ impl Copier {
     }
 
     /// Hangs up where a connection has parted. How many did.
-    #[tactic(auto, using(crate::proofs::PauseLemmas::unpaused_none, crate::proofs::LinkLemmas::links_none, crate::proofs::LinkLemmas::links_then, crate::proofs::IdleLemmas::idly_none))]
+    #[tactic(auto, using(crate::proofs::PauseLemmas::unpaused_none, crate::proofs::LinkLemmas::links_none, crate::proofs::LinkLemmas::links_then, crate::proofs::IdleLemmas::idly_none, crate::proofs::DecidingLemmas::shut_none))]
     fn part<W: Wires>(&mut self, wires: &mut W) -> usize
         ensures kept { self.new ≡ record self.old { held = self.new.held; board = self.new.board } }
         ensures on { (start : Option (List Call)) → IsOnItsWay start (W.told wires.old) self.old → IsOnItsWay start (W.told wires.new) self.new }
@@ -573,6 +600,7 @@ impl Copier {
         ensures idly { GoesIdly (W.told wires.old) (W.told wires.new) }
         ensures counts { GoesOn (W.faults wires.old) (W.faults wires.new) (W.idles wires.old) (W.idles wires.new) (W.contents wires.old) (W.contents wires.new) }
         ensures links { LinksGo [] self.old.held (W.told wires.old) self.new.held (W.told wires.new) }
+        ensures shuts { GoesShut (W.told wires.old) (W.told wires.new) }
     {
         if !self.is_parting() {
             return 0;
@@ -610,18 +638,14 @@ impl Copier {
 
         // Over honest exports the destination then holds the source's bytes.
         ensures copies { self.from ≢ self.to → OnOk result (Copies self.from self.to self.options.destination_is_zero (W.told wires.old) (W.told wires.new)) }
-
         // Nothing was asked twice, and nothing past the source's end; and all of it was done: no request of any kind came to an error.
-        ensures asks { self.from ≢ self.to → OnOk result (GrewBy (HasAskedOnce self.options.allocated self.from self.to) (W.told wires.old) (W.told wires.new)) }
+        ensures asks { self.from ≢ self.to → OnOk result (GrewBy (HasAskedOnce self.options.allocated self.options.destination_is_zero self.from self.to) (W.told wires.old) (W.told wires.new)) }
         // Nor was it where the copy ends with a fault: nothing was asked yet, or the source had told its size and all was asked once.
-        ensures asked { self.from ≢ self.to → GrewBy (AsksAtMostOnce self.options.allocated self.from self.to) (W.told wires.old) (W.told wires.new) }
+        ensures asked { self.from ≢ self.to → GrewBy (AsksAtMostOnce self.options.allocated self.options.destination_is_zero self.from self.to) (W.told wires.old) (W.told wires.new) }
         ensures done { self.from ≢ self.to → OnOk result (GrewBy (WereAllDone self.from self.to) (W.told wires.old) (W.told wires.new)) }
-
         // The summary has the bytes that were asked to be read, written and zeroed, and those that nothing was asked for.
         ensures summary { self.from ≢ self.to → IfOk result (λ told. GrewBy (Summarizes self.from self.to told) (W.told wires.old) (W.told wires.new)) }
-
-        // For blocks of the size that both sides told: none was read of the source that one answer told as zero whole, and
-        // where zeros are looked for, no write had a whole block of them.
+        // For blocks of the size that both sides told: none was read of the source that one answer told as zero whole, and where zeros are looked for, no write had a whole block of them.
         ensures spares { self.from ≢ self.to → OnOk result (GrewBy (SparesTold self.from self.to) (W.told wires.old) (W.told wires.new)) }
         ensures dense { self.from ≢ self.to → OnOk result (GrewBy (SparesFound self.options self.from self.to) (W.told wires.old) (W.told wires.new)) }
         // So it is with each WRITE also where the copy ends with a fault, once anything was asked.
@@ -631,61 +655,52 @@ impl Copier {
         // Whatever it comes to, each position that was read was read after a block status had been answered for it, or the source's
         // first connection agreed no meta context, though base:allocation had been asked for where extents are wanted.
         ensures answered { self.from ≢ self.to → GrewBy (ReadsAreAnswered self.options.extents self.from) (W.told wires.old) (W.told wires.new) }
-
-        // The destination was asked to flush once at most, and only when all else was asked and done: it was, and that is done,
-        // where it is wanted and the destination told that it can be flushed. Whatever it comes to, it was once at most, and not
-        // at all where it is not wanted.
+        // The destination was asked to flush once at most, and only when all else was asked and done: it was, and that is done, where it is wanted and the destination told that it can be flushed.
+        // Whatever it comes to, it was once at most, and not at all where it is not wanted.
         ensures flushes { self.from ≢ self.to → IfOk result (λ told. GrewBy (FlushesLast self.from self.to told) (W.told wires.old) (W.told wires.new)) }
         ensures flushed { self.from ≢ self.to → OnOk result (GrewBy (FlushesWanted self.options self.from self.to) (W.told wires.old) (W.told wires.new)) }
         ensures at_most_once { self.from ≢ self.to → GrewBy (FlushesAtMostOnce self.to) (W.told wires.old) (W.told wires.new) }
         ensures unflushed { self.options.flush ≡ false → self.from ≢ self.to → GrewBy (IsUnflushed self.to) (W.told wires.old) (W.told wires.new) }
-
-        // Whatever came of it, at each pause that wants no link for writing a connection negotiates still, or just as many READ, WRITE
-        // and WRITE_ZEROES are unanswered as planned slices are not finished, up to the limit, and one BLOCK_STATUS where that is
-        // not reached.
+        // Whatever came of it, at each pause that wants no link for writing a connection negotiates still, or just as many READ, WRITE and WRITE_ZEROES are unanswered as planned slices are not
+        // finished, up to the limit, and one BLOCK_STATUS where that is not reached.
         ensures pauses { self.from ≢ self.to → GrewBy (PausesAreFull self.options self.from self.to) (W.told wires.old) (W.told wires.new) }
-        // At no moment, not even in the middle of a turn, are more unanswered on a connection than that limit divided by the number of
-        // its side's connections, rounded up.
+        // At no moment, not even in the middle of a turn, are more unanswered on a connection than that limit divided by the number of its side's connections, rounded up.
         ensures shares { self.from ≢ self.to → GrewBy (IsAlwaysShared self.options self.from self.to) (W.told wires.old) (W.told wires.new) }
-
         // One handle drove each link, if any did.
         ensures driven { OnOk result (GrewBy AreDriven (W.told wires.old) (W.told wires.new)) }
-        // Whatever came of it, each link that it made was driven by one handle, as a copy does: it asked for its side's export, on the first
-        // link for base:allocation too where extents are wanted, and then for nothing but commands that no rule refuses, and for the end;
-        // and no other link was read or written.
-        ensures drives { GrewBy (AreDrivenBy self.options.extents self.from self.to) (W.told wires.old) (W.told wires.new) }
+        // Whatever came of it, each link that it made was driven by one handle, as a copy does: it asked for its side's export, on the first link for base:allocation too where extents are wanted, and
+        // then for nothing but commands that no rule refuses, and for the end, but that only when all was done, and the destination flushed where it is to be. The links were given to both sides in
+        // turn, to each as many as its options and what both sides told say; and no other link was read or written.
+        ensures drives { GrewBy (AreDrivenBy self.options self.from self.to) (W.told wires.old) (W.told wires.new) }
         // On success each was left well: its handle had asked for the end, and that was written or the peer ended the connection then.
         ensures left { OnOk result (GrewBy (AreLeft self.options.extents self.from self.to) (W.told wires.old) (W.told wires.new)) }
-
-        // Whatever came of it: each link that it read, wrote or shut was one that it had made and not shut, in the end it had shut
-        // each, and it listened for no peer.
+        // Whatever came of it: each link that it read, wrote or shut was one that it had made and not shut, in the end it had shut each, and it listened for no peer.
         ensures links { GrewBy LinksAreKept (W.told wires.old) (W.told wires.new) }
-        // It connected to the source and to the destination, and then again to the source and again to the destination, to each as
-        // often as its options and what both sides told say. Where it failed it may not have come to all of these, and to none of the
-        // further ones unless both had told.
+        // It connected to the source and to the destination, and then again to the source and again to the destination, to each as often as its options and what both sides told say. Where it failed
+        // it may not have come to all of these, and to none of the further ones unless both had told.
         ensures within { GrewBy (ConnectsWithin self.options self.from self.to) (W.told wires.old) (W.told wires.new) }
         ensures connects { OnOk result (GrewBy (ConnectsAsTold self.options self.from self.to) (W.told wires.old) (W.told wires.new)) }
         // Where the copy is made, each of them gave a link.
         ensures connected { OnOk result (GrewBy AllConnected (W.told wires.old) (W.told wires.new)) }
-
-        // Whatever came of it, at each pause a link was wanted for writing only where a write on it took nothing, and nothing happened
-        // since on any link.
+        // Whatever came of it, at each pause a link was wanted for writing only where a write on it took nothing, and nothing happened since on any link.
         ensures writes { GrewBy (AtEachPause WantsOnlyFull) (W.told wires.old) (W.told wires.new) }
         // It was wanted for reading only where a read on it told that nothing is there yet, and nothing happened since on any link.
         ensures reads { GrewBy (AtEachPause WantsOnlyEmpty) (W.told wires.old) (W.told wires.new) }
         // It was wanted only where its handle negotiated, had commands in flight, had bytes to write, or had asked for the end of its
-        // connection, and in that handle's direction.
+        // connection, and in that handle's direction; where that end was asked for never to read alone.
         ensures waits { GrewBy (AtEachPause WaitsWell) (W.told wires.old) (W.told wires.new) }
         // At least one link was, so that no pause waits for nothing.
         ensures wanted { GrewBy (AtEachPause WantsSome) (W.told wires.old) (W.told wires.new) }
-
+        // Whatever a pause wanted was tried before the next: a link that it wanted to read alone was read, and one that it wanted for writing was written.
+        ensures tries { GrewBy (AtEachPause TriedBefore) (W.told wires.old) (W.told wires.new) }
         // All of this together, where the copy is made.
         ensures made { self.from ≢ self.to → IfOk result (λ told. GrewBy (IsMade self.options self.from self.to told) (W.told wires.old) (W.told wires.new)) }
         // And all of it that is so whatever came of it.
         ensures conducts { GrewBy (Conducts self.options self.from self.to) (W.told wires.old) (W.told wires.new) }
-
         // What the calls show of a fault.
         ensures grounds { IfErr result (λ told. IsGrounded (W.told wires.old) (W.told wires.new) self.from self.to told) }
+        // The first event decided it for which a copy ends: before that nothing of the kind had come.
+        ensures decides { IfErr result (λ told. IsDecided (W.told wires.old) (W.told wires.new) self.options.extents self.from self.to told) }
         // The counts, and what they show of a fault.
         ensures causes { IfErr result (λ told. HasCause (record { faults = W.faults wires.old; idles = W.idles wires.old }) (W.faults wires.new) (W.idles wires.new) told) }
         ensures counts { GoesOn (W.faults wires.old) (W.faults wires.new) (W.idles wires.old) (W.idles wires.new) (W.contents wires.old) (W.contents wires.new) }
@@ -700,7 +715,7 @@ impl Copier {
     }
 
     /// Begins, and takes turns until the copy is finished, with a pause after each in which nothing happened.
-    #[tactic(auto, using(crate::proofs::CauseLemmas::goes_same, crate::proofs::CauseLemmas::goes_then, crate::proofs::CauseLemmas::cause_later, crate::proofs::CauseLemmas::cause_free, crate::proofs::GroundLemmas::none_grounded))]
+    #[tactic(auto, using(crate::proofs::CauseLemmas::goes_same, crate::proofs::CauseLemmas::goes_then, crate::proofs::CauseLemmas::cause_later, crate::proofs::CauseLemmas::cause_free, crate::proofs::GroundLemmas::none_grounded, crate::proofs::DecidingLemmas::memory_decided))]
     fn copy<W: Wires>(&mut self, wires: &mut W) -> Result<Summary, CopyFault>
         requires { HasNotBegun self.old }
         ensures kept { self.new ≡ record self.old { start = self.new.start; held = self.new.held; board = self.new.board; job = self.new.job } }
@@ -713,13 +728,15 @@ impl Copier {
         ensures reads { Told (W.told wires.old) (W.told wires.new) (AtEachPause WantsOnlyEmpty) }
         ensures waits { Told (W.told wires.old) (W.told wires.new) (AtEachPause WaitsWell) }
         ensures wanted { Told (W.told wires.old) (W.told wires.new) (AtEachPause WantsSome) }
+        ensures tries { Told (W.told wires.old) (W.told wires.new) (AtEachPause TriedBefore) }
         ensures causes { IfErr result (λ told. HasCause (record { faults = W.faults wires.old; idles = W.idles wires.old }) (W.faults wires.new) (W.idles wires.new) told) }
         ensures grounds { IfErr result (λ told. IsGrounded (W.told wires.old) (W.told wires.new) self.old.from self.old.to told) }
         ensures counts { GoesOn (W.faults wires.old) (W.faults wires.new) (W.idles wires.old) (W.idles wires.new) (W.contents wires.old) (W.contents wires.new) }
         ensures links { LinksGoWithin self.old.options self.old.from self.old.to self.old.held (W.told wires.old) self.new.held (W.told wires.new) }
         ensures connects { OnOk result (LinksGoAsTold self.old.options self.old.from self.old.to self.old.held (W.told wires.old) self.new.held (W.told wires.new)) }
         ensures well { OnOk result (AreWell (record { faults = W.faults wires.old; idles = W.idles wires.old }) (W.faults wires.new) (W.idles wires.new)) }
-        ensures drives { Told (W.told wires.old) (W.told wires.new) (AreDrivenBy self.old.options.extents self.old.from self.old.to) }
+        ensures drives { Told (W.told wires.old) (W.told wires.new) (AreDrivenBy self.old.options self.old.from self.old.to) }
+        ensures decides { IfErr result (λ told. IsDecided (W.told wires.old) (W.told wires.new) self.old.options.extents self.old.from self.old.to told) }
     {
         self.begin(wires)?;
         'turns: for _ in 0..MAX_TURNS {
@@ -738,6 +755,8 @@ impl Copier {
         ensures kept { self.new ≡ record self.old { held = self.new.held } }
         ensures on { OnOk result ((start : Option (List Call)) → IsOnItsWay start (W.told wires.old) self.old → IsOnItsWay start (W.told wires.new) self.new) }
         ensures pauses { OnOk result (Adds (W.told wires.old) (W.told wires.new) (Pause (wants_now self.old.held))) }
+        ensures unparted { OnOk result (AreUnparted self.old.held) }
+        ensures same { self.new.held ≡ self.old.held }
         ensures wanted { Pauses WantsSome (W.told wires.old) (W.told wires.new) }
         ensures idly { GoesIdly (W.told wires.old) (W.told wires.new) }
         ensures still { OnErr result (W.told wires.new ≡ W.told wires.old) }
@@ -757,6 +776,7 @@ impl Copier {
         ensures idly { GoesIdly (W.told wires.old) (W.told wires.new) }
         ensures unpaused { Unpaused (W.told wires.old) (W.told wires.new) }
         ensures counts { GoesOn (W.faults wires.old) (W.faults wires.new) (W.idles wires.old) (W.idles wires.new) (W.contents wires.old) (W.contents wires.new) }
+        ensures shuts { GoesShut (W.told wires.old) (W.told wires.new) }
     {
         let Copier {
             alloc: _,
@@ -773,27 +793,5 @@ impl Copier {
         shut_all(&mut handles, &mut board, wires);
         let _ = handles.close(&mut board);
         board.end();
-    }
-}
-
-/// What a turn did, where so much moved and it went on or not in another way.
-fn progress_of(moved: Turn, acted: bool) -> Progress
-    ensures on { (start told : Option (List Call)) (copy : Seen) → IsOnItsWay start told copy → HasTurned start told copy result }
-    ensures sums { (start told : Option (List Call)) (copy : Seen) → HasSummed start told copy result }
-    ensures flushes { (start told : Option (List Call)) (copy : Seen) → HasFlushed start told copy result }
-    ensures well { (start : Counted) (faults idles : ℕ) → EndsWell start faults idles result }
-    ensures moved { result ≡ progress.Still → moved ≡ turned.Still }
-    ensures acted { result ≡ progress.Still → acted ≡ false }
-    ensures went { (count : ℕ) → result ≡ progress.Moved count → moved ≡ turned.Still → acted ≡ true }
-{
-    match moved {
-        Turn::Moved(count) => Progress::Moved(count),
-        Turn::Still => {
-            if acted {
-                Progress::Moved(0)
-            } else {
-                Progress::Still
-            }
-        }
     }
 }

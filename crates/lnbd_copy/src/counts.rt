@@ -3,6 +3,7 @@
 ghost use Rattle.std.specs.Prelude.{◌≡◌, ◌≤◌, ◌<◌, true, false, IfErr, OnOk};
 ghost use Rattle.lnbd_link.specs.Count.{Rises};
 ghost use Rattle.lnbd_copy.specs.Causes.{AreWell, HasCause, patience, tells_no_count};
+ghost use Rattle.lnbd_copy.specs.Decided.{is_of_link};
 ghost use Rattle.lnbd_copy.specs.Grounds.{fault_by, fault_of, needs_no_ground};
 
 use lnbd_link::Wires;
@@ -47,6 +48,7 @@ pub(crate) fn check_faults<W: Wires>(wires: &W, start: Counts) -> Result<(), Cop
     ensures well { OnOk result (¬ Rises 1 start.faults (W.faults wires.now)) }
     ensures causes { IfErr result (λ told. HasCause start (W.faults wires.now) (W.idles wires.now) told) }
     ensures free { IfErr result (λ told. needs_no_ground told ≡ true) }
+    ensures link { IfErr result (λ told. is_of_link told ≡ true) }
 {
     let after = wires.faults();
     if rose(start.faults, after) {

@@ -8,27 +8,31 @@ ghost use Rattle.lnbd_model.specs.declared.target.Place.{Place as At};
 ghost use Rattle.lnbd_poll.specs.declared.noticed.Turn.TheVariants as turned;
 ghost use Rattle.lnbd_board.specs.Files.{Seen};
 ghost use Rattle.lnbd_copy.specs.Agreed.{AreQuiet};
-ghost use Rattle.lnbd_copy.specs.Causes.{GoesOn, HasCause, tells_no_count};
-ghost use Rattle.lnbd_copy.specs.Connected.{StaysConnected};
+ghost use Rattle.lnbd_copy.specs.Causes.{GoesOn, HasCause};
+ghost use Rattle.lnbd_copy.specs.Connects.{StaysConnected};
+ghost use Rattle.lnbd_copy.specs.Deciding.{DecidesOn, IsCalm};
 ghost use Rattle.lnbd_copy.specs.Driving.{DrivesOn, DrivesOneMore};
 ghost use Rattle.lnbd_copy.specs.Faults.{AreUnissued, AsksNone, GoesIdly, StaysFresh, StaysUnasked};
-ghost use Rattle.lnbd_copy.specs.Grounds.{Blames, FailsOn, FindsDead, needs_no_ground};
+ghost use Rattle.lnbd_copy.specs.Grounds.{FailsOn, needs_no_ground};
 ghost use Rattle.lnbd_copy.specs.Links.{LinksGo, LinksGoTo};
 ghost use Rattle.lnbd_copy.specs.Moving.{TurnsInVain};
 ghost use Rattle.lnbd_copy.specs.Opening.{Dials};
 ghost use Rattle.lnbd_copy.specs.Pauses.{Pauses, Unpaused, WantsInVain};
+ghost use Rattle.lnbd_copy.specs.Tried.{AnyLeft, NoneLeft, RestsEarly, Tries};
 ghost use Rattle.lnbd_copy.specs.Unready.{StaysUnready};
+ghost use Rattle.lnbd_copy.specs.Waits.{AreUnparted};
 ghost use Rattle.lnbd_copy.specs.Wanted.{WantsSome};
 ghost use Rattle.lnbd_copy.specs.Way.{Goes, Stand};
 
 use crate::agreeing::are_quiet;
-use crate::counts::{Counts, check_faults, check_idles, of_death};
+use crate::counts::{Counts, check_idles};
 use crate::opening::open;
-use crate::wanting::{check_loud, check_wanted};
+use crate::turning::{check_calm, turn};
+use crate::wanting::{check_loud, check_unparted, check_wanted};
 use lnbd_board::{Board, Ticket};
 use lnbd_handle::Handle;
 use lnbd_link::Wires;
-use lnbd_model::{NoMemory, Place, State};
+use lnbd_model::{NoMemory, Place};
 use lnbd_plan::CopyFault;
 use lnbd_poll::{Handles, Turn};
 use std::alloc::Global;
@@ -72,7 +76,7 @@ fn hold<W: Wires>(
 }
 
 /// Connects to this place, and has one handle more ask there.
-#[tactic(auto, using(crate::proofs::DialLemmas::dials, crate::proofs::PauseLemmas::unpaused_none, crate::proofs::ConnectLemmas::goes_nowhere))]
+#[tactic(auto, using(crate::proofs::DialLemmas::dials, crate::proofs::PauseLemmas::unpaused_none, crate::proofs::ConnectLemmas::goes_nowhere, crate::proofs::DecidingLemmas::decides_memory))]
 pub(crate) fn dial<W: Wires>(
     alloc: Global,
     handles: &mut Handles<Ticket>,
@@ -95,7 +99,9 @@ pub(crate) fn dial<W: Wires>(
     ensures unissued { OnOk result (AreUnissued handles.old → AreUnissued handles.new) }
     ensures connected { OnOk result (StaysConnected (W.told wires.old) (W.told wires.new)) }
     ensures drives { DrivesOneMore place.now extents board.old handles.old (W.told wires.old) (W.told wires.new) }
+    ensures decides { IfErr result (λ told. DecidesOn false board.old handles.old (W.told wires.old) (W.told wires.new) told) }
 {
+    check_calm(handles, board)?;
     let handle = open(alloc, &place.name, extents, board)?;
     match wires.connect(&place.to) {
         Ok(link) => Ok(hold(handles, board, wires, link, handle)?),
@@ -107,34 +113,6 @@ pub(crate) fn dial<W: Wires>(
             })
         }
     }
-}
-
-/// Why the copy ends where one of its connections is dead, if so: the first of them.
-fn check_states(handles: &Handles<Ticket>) -> Result<(), CopyFault>
-    ensures free { IfErr result (λ told. tells_no_count told ≡ true) }
-    ensures dead { IfErr result (λ told. FindsDead told handles.now) }
-{
-    'handles: for index in 0..handles.len() {
-        if let State::Dead(death) = handles.get(index).state() {
-            return Err(of_death(death));
-        }
-    }
-    Ok(())
-}
-
-/// Why the copy ends by its links and connections, if so.
-#[tactic(auto, using(crate::proofs::CauseLemmas::cause_free, crate::proofs::GroundLemmas::blames_free, crate::proofs::GroundLemmas::blames_dead))]
-pub(crate) fn check<W: Wires>(
-    handles: &Handles<Ticket>,
-    wires: &W,
-    start: Counts,
-) -> Result<(), CopyFault>
-    requires counted { start.faults ≤ W.faults wires.now }
-    ensures causes { IfErr result (λ told. HasCause start (W.faults wires.now) (W.idles wires.now) told) }
-    ensures blames { IfErr result (λ told. Blames handles.now told) }
-{
-    check_faults(wires, start)?;
-    check_states(handles)
 }
 
 /// Waits, unless that was borne for as long as it is.
@@ -155,9 +133,11 @@ pub(crate) fn wait<W: Wires>(
     ensures idly { GoesIdly (W.told wires.old) (W.told wires.new) }
     ensures same { handles.new ≡ handles.old }
     ensures wanted { Pauses WantsSome (W.told wires.old) (W.told wires.new) }
+    ensures unparted { OnOk result (AreUnparted handles.old) }
 {
     check_idles(wires, start)?;
     check_wanted(handles)?;
+    check_unparted(handles)?;
     handles.pause(wires);
     Ok(())
 }
@@ -181,6 +161,8 @@ fn rest<W: Wires>(
     ensures idly { GoesIdly (W.told wires.old) (W.told wires.new) }
     ensures same { handles.new ≡ handles.old }
     ensures wanted { Pauses WantsSome (W.told wires.old) (W.told wires.new) }
+    ensures rests { OnOk result (RestsEarly handles.old (told ≡ turned.Still) (W.told wires.old) (W.told wires.new)) }
+    ensures still { OnErr result (W.told wires.new ≡ W.told wires.old) }
 {
     match told {
         Turn::Still => {
@@ -195,7 +177,7 @@ fn rest<W: Wires>(
 }
 
 /// Takes turns until all handles have negotiated and written all that they did, with a pause after each in which nothing happened.
-#[tactic(auto, using(crate::proofs::CauseLemmas::goes_same, crate::proofs::CauseLemmas::goes_then, crate::proofs::CauseLemmas::cause_later, crate::proofs::CauseLemmas::cause_free, crate::proofs::TurnLemmas::goes_none, crate::proofs::GroundLemmas::fails_free, crate::proofs::UnaskedLemmas::fresh_none, crate::proofs::UnaskedLemmas::fresh_asks_none, crate::proofs::PauseLemmas::pauses_none, crate::proofs::LinkLemmas::links_none, crate::proofs::LinkLemmas::links_then))]
+#[tactic(auto, using(crate::proofs::CauseLemmas::goes_same, crate::proofs::CauseLemmas::goes_then, crate::proofs::CauseLemmas::cause_later, crate::proofs::CauseLemmas::cause_free, crate::proofs::TurnLemmas::goes_none, crate::proofs::GroundLemmas::fails_free, crate::proofs::UnaskedLemmas::fresh_none, crate::proofs::UnaskedLemmas::fresh_asks_none, crate::proofs::PauseLemmas::pauses_none, crate::proofs::LinkLemmas::links_none, crate::proofs::LinkLemmas::links_then, crate::proofs::DecidingLemmas::decides_memory))]
 pub(crate) fn settle<W: Wires>(
     handles: &mut Handles<Ticket>,
     board: &mut Board,
@@ -216,13 +198,17 @@ pub(crate) fn settle<W: Wires>(
     ensures fresh { OnOk result (StaysFresh board.old handles.old (W.told wires.old) board.new handles.new (W.told wires.new)) }
     ensures wanted { Stand handles.old → Pauses WantsSome (W.told wires.old) (W.told wires.new) }
     ensures drives { DrivesOn board.old handles.old (W.told wires.old) (W.told wires.new) }
+    ensures decides { IfErr result (λ told. DecidesOn false board.old handles.old (W.told wires.old) (W.told wires.new) told) }
+    ensures calm { OnOk result (IsCalm board.new handles.new) }
+    ensures tries { Stand handles.old → Tries AnyLeft (W.told wires.old) (W.told wires.new) }
+    ensures tried { OnOk result (Stand handles.old → Tries NoneLeft (W.told wires.old) (W.told wires.new)) }
 {
     'turns: for _ in 0..MAX_TURNS {
+        check_calm(handles, board)?;
         if are_quiet(handles) {
             return Ok(());
         }
-        let told = handles.turn(wires, board)?;
-        check(handles, wires, start)?;
+        let told = turn(handles, board, wires, start)?;
         rest(handles, wires, start, told)?;
     }
     Err(CopyFault::NoMemory)

@@ -8,12 +8,14 @@ ghost use Rattle.lnbd_board.specs.Files.{Seen as Kept};
 ghost use Rattle.lnbd_board.specs.Rows.{busy};
 ghost use Rattle.lnbd_copy.specs.Dealt.{AreDealt, Spreads};
 ghost use Rattle.lnbd_copy.specs.Heard.{IsHeardTo};
+ghost use Rattle.lnbd_copy.specs.Reached.{IsToldTo};
 ghost use Rattle.lnbd_copy.specs.Job.{cells_of};
 ghost use Rattle.lnbd_copy.specs.UnderWay.{HasAsked, HasFilled, HaveLooked, IsPast, IsWantedOf, Refills, unfinished};
 ghost use Rattle.lnbd_copy.specs.Dealing.{HasGoneOn};
+ghost use Rattle.lnbd_copy.specs.Leaving.{Parts};
 ghost use Rattle.lnbd_copy.specs.Links.{HaveSameLinks};
 ghost use Rattle.lnbd_copy.specs.Moving.{AsksFor, HasChanged, HasHeard};
-ghost use Rattle.lnbd_copy.specs.Way.{Keeps, Way};
+ghost use Rattle.lnbd_copy.specs.Way.{Way};
 ghost use Rattle.lnbd_copy.specs.Windows.{IsPlanned};
 
 use crate::dealing::{Bindings, ask_extents, ask_flush};
@@ -70,7 +72,7 @@ impl Job {
         ensures terms { IfOk result (λ job. job.terms ≡ terms) }
         ensures begins { IfOk result (λ job. job.phase ≡ phase.Copying) }
         ensures dealt { IfOk result (λ job. AreDealt terms.limit terms.sides job.bound []) }
-        ensures job { IfOk result (λ job. (way : Way) (now : Kept) → way.size ≡ Some terms.size → now.how ≡ terms.how → way.how ≡ terms.how → way.sides ≡ terms.sides → way.slices ≡ [] → way.asked ≡ None → ((block p : ℕ) → way.whole block p ≡ false) → now.flushing ≡ false → (extents ≡ false → (p : ℕ) → way.heard p ≡ true) → IsJob job way now) }
+        ensures job { IfOk result (λ job. (way : Way) (now : Kept) → way.size ≡ Some terms.size → now.how ≡ terms.how → way.how ≡ terms.how → way.sides ≡ terms.sides → way.slices ≡ [] → way.asked ≡ None → ((block p : ℕ) → way.whole block p ≡ false) → now.flushing ≡ false → (extents ≡ false → (p : ℕ) → way.heard p ≡ true) → ((p : ℕ) → way.reach p ≡ false) → way.ended ≡ false → way.flush ≡ terms.flush → IsJob job way now) }
     {
         let bindings = Bindings::new(alloc, terms)?;
         let windows = first_windows(alloc, terms, extents)?;
@@ -108,7 +110,8 @@ impl Job {
         handles: &mut Handles<Ticket>,
         board: &mut Board,
     ) -> Result<bool, NoMemory>
-        requires { board.old.how ≡ self.old.terms.how }
+        requires how { board.old.how ≡ self.old.terms.how }
+        requires well { board.old.error ≡ None }
         ensures acts { OnOk result (Acts self.old self.new board.old board.new handles.old handles.new) }
         ensures terms { self.new.terms ≡ self.old.terms }
         ensures onward { self.old.phase ≢ phase.Copying → self.new.phase ≢ phase.Copying }
@@ -135,6 +138,7 @@ impl Job {
         board: &mut Board,
     ) -> Result<bool, NoMemory>
         requires how { board.old.how ≡ self.old.terms.how }
+        requires well { board.old.error ≡ None }
         requires copying { self.old.phase ≡ phase.Copying }
         ensures acts { OnOk result (Acts self.old self.new board.old board.new handles.old handles.new) }
         ensures terms { self.new.terms ≡ self.old.terms }
@@ -217,6 +221,7 @@ impl Job {
         ensures how { OnOk result (board.new.how ≡ board.old.how) }
         ensures terms { self.new.terms ≡ self.old.terms }
         ensures phase { self.new.phase ≡ self.old.phase }
+        ensures well { OnOk result (board.new.error ≡ board.old.error) }
         ensures asks { OnOk result (HasAsked self.old self.new board.old board.new) }
         ensures asked { IfOk result (λ asked. AsksFor asked self.old self.new board.new) }
         ensures still { IfOk result (λ asked. asked ≡ false → handles.new ≡ handles.old) }
@@ -257,6 +262,7 @@ impl Job {
         requires copying { self.old.phase ≡ phase.Copying }
         ensures acts { OnOk result (Acts self.old self.new board.old board.new handles.old handles.new) }
         ensures terms { self.new.terms ≡ self.old.terms }
+        ensures well { OnOk result (board.new.error ≡ board.old.error) }
         ensures fills { OnOk result (HasFilled self.old self.new board.old board.new) }
         ensures begun { IfOk result (λ done. board.new.begun ≡ board.old.begun → done ≡ 0) }
         ensures still { IfOk result (λ done. done ≡ 0 → handles.new ≡ handles.old) }
@@ -283,6 +289,7 @@ impl Job {
     #[tactic(auto, using(crate::proofs::LinkLemmas::same_none))]
     fn conclude(&mut self, handles: &mut Handles<Ticket>, board: &mut Board) -> Result<(), NoMemory>
         requires over { IsOver self.old board.old }
+        requires well { board.old.error ≡ None }
         requires copying { self.old.phase ≡ phase.Copying }
         ensures acts { OnOk result (Acts self.old self.new board.old board.new handles.old handles.new) }
         ensures terms { self.new.terms ≡ self.old.terms }
@@ -302,7 +309,8 @@ impl Job {
     /// Asks for the end, where the flush was answered.
     #[tactic(auto, using(crate::proofs::JobLemmas::acts_none, crate::proofs::LinkLemmas::same_none))]
     fn flushed(&mut self, handles: &mut Handles<Ticket>, board: &Board) -> bool
-        requires { self.old.phase ≡ phase.Flushing }
+        requires flushing { self.old.phase ≡ phase.Flushing }
+        requires well { board.now.error ≡ None }
         ensures acts { Acts self.old self.new board.now board.now handles.old handles.new }
         ensures terms { self.new.terms ≡ self.old.terms }
         ensures phase { self.new.phase ≢ phase.Copying }
@@ -320,7 +328,7 @@ impl Job {
 
     /// Asks for the end.
     fn leave(&mut self, handles: &mut Handles<Ticket>)
-        ensures keeps { (now : Kept) → Keeps self.old.terms.how self.old.terms.sides [] now now handles.old handles.new }
+        ensures parts { (now : Kept) → Parts now handles.old handles.new }
         ensures others { self.new ≡ record self.old { phase = phase.Parting } }
         ensures links { HaveSameLinks handles.old handles.new }
     {
@@ -338,6 +346,7 @@ fn first_windows(alloc: Global, terms: Terms, extents: bool) -> Result<Windows, 
     ensures grain { IfOk result (λ windows. windows.grain ≡ terms.grain) }
     ensures cells { IfOk result (λ windows. windows.plan.cells ≡ cells_of terms) }
     ensures heard { IfOk result (λ windows. (heard : ℕ → Bool) → (extents ≡ false → (p : ℕ) → heard p ≡ true) → IsHeardTo windows heard) }
+    ensures reached { IfOk result (λ windows. (reach : ℕ → Bool) → ((p : ℕ) → reach p ≡ false) → IsToldTo windows reach) }
 {
     let mut windows = Windows::new(alloc, terms);
     if extents {

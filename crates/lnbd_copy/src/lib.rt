@@ -13,7 +13,9 @@ mod laws;
 mod opening;
 mod parting;
 mod sides;
+mod telling;
 mod terms;
+mod turning;
 mod wanting;
 mod windows;
 

@@ -14,6 +14,14 @@ use lnbd_board::How;
 use lnbd_model::{Blocks, ExportInfo};
 use lnbd_plan::{CopyOptions, Rule};
 
+/// How a copy writes while nothing is known of the destination.
+pub(crate) const UNKNOWN: How = How {
+    block: 0,
+    skip: false,
+    zeroes: false,
+    allocated: false,
+};
+
 /// Flags of an export (NBD protocol, "Transmission flags").
 const READ_ONLY: u16 = 2;
 

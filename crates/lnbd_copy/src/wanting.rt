@@ -6,6 +6,7 @@ ghost use Rattle.lnbd_history.specs.Answers.{direction_after, state_after};
 ghost use Rattle.lnbd_model.specs.declared.state.State.TheVariants as state;
 ghost use Rattle.lnbd_poll.specs.Held.{is_on_its_way, wants_now};
 ghost use Rattle.lnbd_copy.specs.Unready.{IsLoud};
+ghost use Rattle.lnbd_copy.specs.Waits.{AreUnparted};
 ghost use Rattle.lnbd_copy.specs.Wanted.{IsWanting};
 
 use lnbd_board::Ticket;
@@ -58,4 +59,26 @@ pub(crate) fn check_loud(handles: &Handles<Ticket>) -> Result<(), NoMemory>
         }
     }
     Err(NoMemory)
+}
+
+/// Whether a connection may be read, and was not asked for its end, or has that to write still.
+fn is_unparted(handle: &Handle<Ticket>) -> bool
+    ensures reads { result ≡ true → ForEach handle.now.machine (λ history. direction_after history ≢ 0) }
+    ensures parts { result ≡ true → ForEach handle.now.machine (λ history. direction_after history ≡ 1 → state_after history ≢ state.Closing) }
+{
+    handle.is_reading() && (handle.is_waiting() || !matches!(handle.state(), State::Closing))
+}
+
+/// Each connection may be read, and none has written that it ends: its link is shut then, and no more is waited for. That one has
+/// would count as want of memory.
+#[tactic(auto, using(crate::proofs::UnpartedLemmas::all_unparted, crate::proofs::UnpartedLemmas::none_unparted))]
+pub(crate) fn check_unparted(handles: &Handles<Ticket>) -> Result<(), NoMemory>
+    ensures { OnOk result (AreUnparted handles.now) }
+{
+    'handles: for index in 0..handles.len() {
+        if !is_unparted(handles.get(index)) {
+            return Err(NoMemory);
+        }
+    }
+    Ok(())
 }

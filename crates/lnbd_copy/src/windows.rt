@@ -1,11 +1,12 @@
 //! The windows of a copy: how far the source's extents were asked for and told, and the slices that are planned of it.
 //! One window after another is asked for; which connection is asked, and when, is not known here.
 
-ghost use Rattle.std.specs.Prelude.{◌≡◌, ◌<◌, ◌≤◌, ◌+◌, ◌-◌, ◌*◌, ◌/◌, ◌^◌, ℕ, Bool, true, not, ◌&&◌, ◌||◌, ◌==◌, ◌↔◌, nat_lt, min, length, List, [], ◌++◌, IfSome, IsSome, is_some, IfOk, OnOk, OnErr, None, option_to_list};
+ghost use Rattle.std.specs.Prelude.{◌≡◌, ◌<◌, ◌≤◌, ◌+◌, ◌-◌, ◌*◌, ◌/◌, ◌^◌, ℕ, Bool, true, false, not, ◌&&◌, ◌||◌, ◌==◌, ◌↔◌, nat_lt, min, length, List, [], ◌++◌, IfSome, IsSome, is_some, IfOk, OnOk, OnErr, None, option_to_list};
 ghost use Rattle.std.specs.Option.{option_map};
 ghost use Rattle.lnbd_extents.specs.Positions.{within, holds};
 ghost use Rattle.lnbd_extents.specs.Lists.{flags_at, AreJoined};
 ghost use Rattle.lnbd_asked.specs.Transcript.{is_zero};
+ghost use Rattle.lnbd_tracks.specs.Saying.{is_told};
 ghost use Rattle.lnbd_copy.specs.Spared.{HaveOneFlag, IsInside, whole_within};
 ghost use Rattle.lnbd_copy.specs.Windows.{zero_within};
 
@@ -55,6 +56,7 @@ impl Model for Windows {
 impl Windows {
     ghost use Rattle.lnbd_plan.specs.declared.grid.Slice.{Slice};
     ghost use Rattle.lnbd_copy.specs.Heard.{IsHeardTo, has_position};
+    ghost use Rattle.lnbd_copy.specs.Reached.{IsToldTo, told_heard};
     ghost use Rattle.lnbd_copy.specs.Spared.{IsSpared, whole_heard};
     ghost use Rattle.lnbd_copy.specs.Windows.{wanted, zero_heard, IsPlanned};
 
@@ -65,6 +67,7 @@ impl Windows {
         ensures value { result ≡ record { plan = record { end = 0; slices = []; cells = record { cell = terms.cell; zero_cell = terms.zero_cell; zeros = not terms.how.skip } }; size = terms.size; grain = terms.grain; at = 0; zero = [] } }
         ensures planned { (zero : ℕ → Bool) → IsPlanned result zero [] }
         ensures heard { (heard : ℕ → Bool) → IsHeardTo result heard }
+        ensures reached { (reach : ℕ → Bool) → ((p : ℕ) → reach p ≡ false) → IsToldTo result reach }
     {
         Windows {
             alloc,
@@ -81,6 +84,7 @@ impl Windows {
     pub(crate) fn plan_rest(&mut self) -> Result<(), NoMemory>
         ensures planned { OnOk result ((zero : ℕ → Bool) (slices : List Slice) → IsPlanned self.old zero slices → IsPlanned self.new zero slices) }
         ensures heard { OnOk result ((heard : ℕ → Bool) → ((p : ℕ) → heard p ≡ true) → IsHeardTo self.new heard) }
+        ensures reached { OnOk result ((reach : ℕ → Bool) → ((p : ℕ) → reach p ≡ false) → IsToldTo self.new reach) }
         ensures whole { OnOk result (self.new.plan.end ≡ self.old.size) }
         ensures cells { self.new.plan.cells ≡ self.old.plan.cells }
         ensures size { self.new.size ≡ self.old.size }
@@ -114,6 +118,7 @@ impl Windows {
         ensures spared { OnOk result ((whole : ℕ → Bool) (slices : List Slice) → IsSpared self.old whole slices
             → IsSpared self.new (λ p. whole p || whole_heard self.old.grain (wanted self.old) told.now p) slices) }
         ensures heard { OnOk result ((heard : ℕ → Bool) → IsHeardTo self.old heard → IsHeardTo self.new (λ p. heard p || has_position (wanted self.old) p)) }
+        ensures reached { OnOk result ((reach : ℕ → Bool) → IsToldTo self.old reach → IsToldTo self.new (λ p. reach p || told_heard (wanted self.old) told.now p)) }
         ensures cells { self.new.plan.cells ≡ self.old.plan.cells }
         ensures size { self.new.size ≡ self.old.size }
         ensures grain { self.new.grain ≡ self.old.grain }
@@ -186,6 +191,7 @@ fn joined(alloc: Global, told: &[Extent], most: u64) -> Result<Vec<Extent>, NoMe
     requires { most ≤ 2 ^ 63 }
     ensures told { IfOk result (λ list. (p : ℕ) → is_zero (flags_at list.items p) ≡ true → is_zero (flags_at told.now p) ≡ true) }
     ensures all { IfOk result (λ list. (p : ℕ) → p < most → is_zero (flags_at told.now p) ≡ true → is_zero (flags_at list.items p) ≡ true) }
+    ensures reach { IfOk result (λ list. (p : ℕ) → p < most → is_told (flags_at told.now p) ≡ true → is_told (flags_at list.items p) ≡ true) }
     ensures joined { IfOk result (λ list. AreJoined list.items) }
     ensures one { IfOk result (λ list. HaveOneFlag list.items) }
 {
@@ -218,6 +224,7 @@ fn hold_zeroes(
     requires joined { AreJoined told.now }
     requires one { HaveOneFlag told.now }
     ensures reached { IfOk result (λ reached. reached ≤ most) }
+    ensures far { IfOk result (λ reached. (p : ℕ) → p < most → is_told (flags_at told.now p) ≡ true → p < reached) }
     ensures held { OnOk result ((p : ℕ) → holds zero.new p ≡ true → holds zero.old p || zero_within (from, most) told.now p ≡ true) }
     ensures kept { OnOk result ((p : ℕ) → holds zero.old p ≡ true → holds zero.new p ≡ true) }
     ensures whole { OnOk result ((p : ℕ) → whole_within grain (from, most) told.now p ≡ true → holds zero.new p ≡ true) }
@@ -272,14 +279,21 @@ fn last_block(end: u64, grain: u64) -> u64
     end - end % grain
 }
 
-/// How far asking goes on where so many bytes were told: to the last multiple of the grain, but by a block at least.
+/// How far asking goes on where so many bytes were told: to the end where all were, else to the last multiple of the grain, but
+/// by a block at least.
 fn passed(reached: u64, grain: u64, most: u64) -> u64
-    requires { 0 < grain }
-    ensures { result ≤ most }
+    requires grain { 0 < grain }
+    requires inside { reached ≤ most }
+    ensures inside { result ≤ most }
+    ensures whole { reached ≡ most → result ≡ most }
+    ensures near { reached < result + grain }
 {
+    if reached == most {
+        return most;
+    }
     let whole = reached - reached % grain;
     if whole == 0 {
         return grain.min(most);
     }
-    whole.min(most)
+    whole
 }

@@ -44,10 +44,10 @@ destination_asks : (how : How) (slices : List Slice) (by : Ticket) (command : Co
 destination_asks how slices (ticket.Slice n) command asks = inl (change asks.0)
   where
     change : IsChange how command → moves_bytes command.kind ≡ true
-    change (inl write) = ap moves_bytes write
+    change (inl write) = ap moves_bytes write.0
     change (inr zero) = ap moves_bytes zero.0
 destination_asks how slices ticket.Extents command asks = absurd asks
-destination_asks how slices ticket.Flush command asks = inr (ap is_flush asks)
+destination_asks how slices ticket.Flush command asks = inr (ap is_flush asks.0)
 
 -- With no extents waited for, what the source was asked is done where that is so of each of its reads.
 module _ (from : Place) (how : How) (has : ℕ → Bool) (slices : List Slice) (now : board.Seen) (calls : List wire.Call) (known : Known) (t : Told how has slices now calls [] None known) (well : now.error ≡ None)

@@ -18,7 +18,7 @@ use Rattle.lnbd_asked.specs.Transcript.{bare}
 use Rattle.lnbd_board.specs.declared.ticket.Ticket.{Ticket}
 use Rattle.lnbd_board.specs.declared.ticket.Ticket.TheVariants as ticket
 use Rattle.lnbd_board.specs.Board.{risen}
-use Rattle.lnbd_board.specs.Files.{Files, Hears, came_with, filed_done, is_map, is_unfit, or_error, rows_with}
+use Rattle.lnbd_board.specs.Files.{Files, Hears, came_with, filed_done, is_map, is_unfit, or_error, content_first, rows_with}
 use Rattle.lnbd_board.specs.Files as board
 use Rattle.lnbd_board.specs.Requests.{Request, Each, asking}
 use Rattle.lnbd_board.specs.declared.how.How.{How}
@@ -223,7 +223,7 @@ done_same (ticket.Slice n) buf old = slice_same (is_unfit (value_at n old.rows) 
 done_same ticket.Extents buf old = record { read = refl; written = refl; zeroed = refl; flushing = refl }
 done_same ticket.Flush buf old = record { read = refl; written = refl; zeroed = refl; flushing = refl }
 
-completed_same : (well : Bool) (by : Ticket) (error : ℕ) (buf : List ℕ) (old : board.Seen) → CountsAlike old (if well then filed_done by buf old else record old { error = or_error old.error error })
+completed_same : (well : Bool) (by : Ticket) (error : ℕ) (buf : List ℕ) (old : board.Seen) → CountsAlike old (if well then filed_done by buf old else record old { error = content_first old.error error })
 completed_same true by error buf old = done_same by buf old
 completed_same false by error buf old = record { read = refl; written = refl; zeroed = refl; flushing = refl }
 
@@ -309,13 +309,13 @@ none_begun n l = omega (arith, l)
 
 look_counts_none : (by : Ticket) (command : Command Nobody) → AsksOfSource [] by command → is_read command.kind ≡ false
 look_counts_none (ticket.Slice n) command asks = absurd (none_begun n asks.1.begun)
-look_counts_none ticket.Extents command asks = ap is_read asks
+look_counts_none ticket.Extents command asks = ap is_read asks.0
 look_counts_none ticket.Flush command asks = absurd asks
 
 store_counts_none : (counts : Kind → Bool) (how : How) (by : Ticket) (command : Command Nobody) → counts Flush ≡ false → AsksOfDestination how [] by command → counts command.kind ≡ false
 store_counts_none counts how (ticket.Slice n) command not asks = absurd (none_begun n asks.1.begun)
 store_counts_none counts how ticket.Extents command not asks = absurd asks
-store_counts_none counts how ticket.Flush command not asks = ap counts asks ∙ not
+store_counts_none counts how ticket.Flush command not asks = ap counts asks.0 ∙ not
 
 pub nothing_counted : (how : How) (rows : List (ℕ × Row)) (now : board.Seen) (source destination : List Request) → Stands how [] rows source destination → flushes_of destination ≡ 0 → HasNotCounted now → IsCounted now source destination
 nothing_counted how rows now source destination stands unflushed none = record {

@@ -18,7 +18,7 @@ use Rattle.lnbd_poll.specs.declared.noticed.Noticed.TheVariants as noticed
 use Rattle.lnbd_poll.specs.Alone.{AreApart, HaveOwnLinks, calls_on, link_of}
 use Rattle.lnbd_poll.specs.Seen.{Seen}
 use Rattle.lnbd_poll.specs.Notices.{Hears, ReadsIf, ReadsOn, Sends, WritesIf, is_reading, is_waiting, room_after}
-use Rattle.lnbd_poll.specs.Turns.{Told, WritesAll, Stops, Goes_on, TurnsOne, Turns, All_took, Takes, Runs_short, Ending, is_lost}
+use Rattle.lnbd_poll.specs.Turns.{Told, WritesAll, Stops, Goes_on, TurnsOne, Turns, All_took, Takes, Runs_short, Breaks_off, Ending, is_lost}
 use Rattle.lnbd_drives.proofs.Modes.{mode, arrived_mode, end_mode, fault_mode}
 use Rattle.lnbd_drives.proofs.Passing.{passes}
 use Rattle.lnbd_drives.proofs.Taking.{part_off}
@@ -300,6 +300,10 @@ all_past : (calls more : List wire.Call) (link : ℕ) (others : List (Seen Ticke
 all_past calls more link [] off apart fit = tt
 all_past calls more link (seen ∷ others) off apart fit = (fit_past calls more seen (off seen.link (λ is. apart.0 (sym is))) fit.0, all_past calls more link others off apart.1 fit.1)
 
+front_none : (front back : List wire.Call) → [] ≡ front ++ back → front ≡ []
+front_none [] back e = refl
+front_none (call ∷ front) back e = absurd (cc e)
+
 pub turns_cut : (calls : List wire.Call) (before : List (Seen Ticket)) (now : board.Seen) (part front back : List wire.Call) (after : List (Seen Ticket)) (now' : board.Seen) (ending : Ending) → Turns steps before now part after now' ending →
     part ≡ front ++ back → HaveOwnLinks before → AllFit calls before → AllCut (calls ++ front) before
 turns_cut calls before now part front back after now' ending (All_took _ _ _ _ _ _ is none after_is world_is end) e own fit = subst (AllCut (calls ++ front)) (sym is) tt
@@ -338,3 +342,5 @@ turns_cut calls before now part front back after now' ending (Runs_short _ _ _ _
       fit_cut (calls ++ front) others
           (all_past calls front seen.link others (λ n differ. front_off n front back (sym (ap (calls_on n) e) ∙ part_off steps n noticed.NoMemory seen now part here now' moved differ turns)) links.0 fit'.1),
     )
+turns_cut calls before now part front back after now' ending (Breaks_off _ _ _ _ _ _ none after_is world_is end) e own fit =
+    subst (λ (l : List wire.Call). AllCut l before) (sym (ap (λ (l : List wire.Call). calls ++ l) (front_none front back (sym none ∙ e)) ∙ append-nil calls)) (fit_cut calls before fit)

@@ -23,7 +23,7 @@ no_write kind one other = let e = sym one ∙ other in absurd (cc e)
 pub dense_of : (how : How) (slices : List Slice) (by : Ticket) (command : Command Nobody) → AsksOfDestination how slices by command → IsDense how command
 dense_of how slices (ticket.Slice n) command asks = asks.2
 dense_of how slices ticket.Extents command asks = absurd asks
-dense_of how slices ticket.Flush command asks = λ finds writes. absurd (no_write command.kind asks writes)
+dense_of how slices ticket.Flush command asks = λ finds writes. absurd (no_write command.kind asks.0 writes)
 
 pub ended_are_dense : EndedAreDense
 ended_are_dense from to size how has slices now calls b well two link cookie command asks =

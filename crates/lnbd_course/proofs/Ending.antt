@@ -149,7 +149,7 @@ read_out slices ticket.Extents said asks slice = absurd (false≢true slice)
 read_out slices ticket.Flush said asks slice = absurd (false≢true slice)
 
 change_moves : (how : How) (command : Command Nobody) → IsChange how command → moves_bytes command.kind ≡ true
-change_moves how command (inl e) = ap moves_bytes e
+change_moves how command (inl e) = ap moves_bytes e.0
 change_moves how command (inr e) = ap moves_bytes e.0
 
 write_out : (how : How) (slices : List Slice) (by : Ticket) (said : Said) → AsksOfDestination how slices by said.command → is_slice by ≡ true → moves_bytes said.command.kind ≡ true

@@ -13,7 +13,7 @@ use Rattle.lnbd_plan.specs.declared.grid.Slice.{Slice}
 use Rattle.lnbd_board.specs.declared.how.How.{How}
 use Rattle.lnbd_board.specs.declared.ticket.Ticket.{Ticket}
 use Rattle.lnbd_board.specs.declared.ticket.Ticket.TheVariants as ticket
-use Rattle.lnbd_board.specs.Files.{Files, Hears, Seen, came_with, filed, filed_done, is_map, is_unfit, or_error, rows_with}
+use Rattle.lnbd_board.specs.Files.{Files, Hears, Seen, came_with, filed, filed_done, is_map, is_unfit, or_error, content_first, rows_with}
 use Rattle.lnbd_board.specs.Requests.{Answers, Each, IsIn, Request, asking, done_with, request, waiting}
 use Rattle.lnbd_board.specs.Rows.{AsksOfDestination, AsksOfSource, Stands}
 use Rattle.lnbd_board.specs.Turns.{IsAnswered, TellAll, Tells}
@@ -102,7 +102,7 @@ never_of_source slices ticket.Flush command asks = absurd asks
 flush_of_destination : (how : How) (slices : List Slice) (by : Ticket) (command : Command Nobody) → AsksOfDestination how slices by command → Flushes by command
 flush_of_destination how slices (ticket.Slice n) command asks = λ e. absurd (slice_differs n e)
 flush_of_destination how slices ticket.Extents command asks = absurd asks
-flush_of_destination how slices ticket.Flush command asks = λ e. ap is_flush asks
+flush_of_destination how slices ticket.Flush command asks = λ e. ap is_flush asks.0
 
 -- What is answered.
 
@@ -187,14 +187,18 @@ done_knows ticket.Flush buf now source destination source2 destination2 h k = re
   flushed = λ told. flush_comes buf source destination source2 destination2 h k.never k.only;
 }
 
-some_error : (o : Option ℕ) (error : ℕ) → or_error o error ≡ None → ⊥
+some_error : (o : Option ℕ) (error : ℕ) → content_first o error ≡ None → ⊥
 some_error None error h = absurd (cc)
-some_error (Some first) error h = absurd (cc)
+some_error (Some first) error h = go (error == 71) h
+  where
+    go : (b : Bool) → cond b (Some error) (Some first) ≡ None → ⊥
+    go true h = absurd (cc)
+    go false h = absurd (cc)
 
 -- a completion that leaves no error told none
 told_none : (by : Ticket) (error : ℕ) (buf : List ℕ) (now : Seen) → (filed by error buf now).error ≡ None → error ≡ 0
 told_none by error buf now h =
-    elim (error == 0) as (λ b. (error == 0) ≡ b → (cond b (filed_done by buf now) (record now { error = or_error now.error error })).error ≡ None → error ≡ 0) [
+    elim (error == 0) as (λ b. (error == 0) ≡ b → (cond b (filed_done by buf now) (record now { error = content_first now.error error })).error ≡ None → error ≡ 0) [
       | true ↦ λ e k. eq_true 0 error e
       | false ↦ λ e k. absurd (some_error now.error error k)
     ] refl h

@@ -15,7 +15,7 @@ use Rattle.lnbd_poll.specs.declared.noticed.Noticed.TheVariants as noticed
 use Rattle.lnbd_poll.specs.Notices as notices
 use Rattle.lnbd_poll.specs.Notices.{ReadsIf, ReadsOn}
 use Rattle.lnbd_poll.specs.Seen.{Seen}
-use Rattle.lnbd_poll.specs.Turns.{All_took, Ending, Runs_short, Takes, Turns, TurnsOne}
+use Rattle.lnbd_poll.specs.Turns.{All_took, Ending, Runs_short, Breaks_off, Takes, Turns, TurnsOne}
 use Rattle.lnbd_board.specs.declared.ticket.Ticket.{Ticket}
 use Rattle.lnbd_board.specs.Files as board
 use Rattle.lnbd_tracks.specs.Mapping.{is_over}
@@ -144,3 +144,4 @@ all_read before now part after now' ending (Takes _ _ _ _ _ _ seen others notice
 all_read before now part after now' ending (Runs_short _ _ _ _ _ _ seen others here moved is turns after_is end) unread =
     let unread' = subst NoneUnread is unread in
     subst AllRead (sym after_is) (one_read noticed.NoMemory seen here part now now' moved turns unread'.0, none_left others unread'.1)
+all_read before now part after now' ending (Breaks_off _ _ _ _ _ _ none after_is world_is end) unread = subst AllRead (sym after_is) (none_left before unread)

@@ -38,3 +38,7 @@ pub mod Quiet
 pub mod Cuts
 pub mod Fronts
 pub mod Unasked
+pub mod Unfailed
+pub mod Plain
+pub mod Cells
+pub mod Reached

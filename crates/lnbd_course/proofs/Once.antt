@@ -1,8 +1,8 @@
 -- What a copy asked of both sides was asked once.
-use Rattle.std.proofs.Common.{◌≡◌, ◌⊎◌, inl, inr, ℕ, ◌≤◌, Bool, true, false, List, [], ◌∷◌, ◌++◌, cond, length, refl, ap, sym, subst, ◌∙◌, arith, Option, Some}
+use Rattle.std.proofs.Common.{◌≡◌, ◌≢◌, ◌⊎◌, inl, inr, ℕ, ◌≤◌, Bool, true, false, List, [], ◌∷◌, ◌++◌, cond, length, refl, ap, sym, subst, ◌∙◌, arith, Option, Some}
 use Rattle.std.proofs.lemmas.Bool.{cases_lt, false≢true}
 use Rattle.lnbd_model.specs.declared.kind.Kind.{Kind}
-use Rattle.lnbd_model.specs.declared.kind.Kind.TheVariants.{Flush, Write, Zero}
+use Rattle.lnbd_model.specs.declared.kind.Kind.TheVariants.{BlockStatus, Flush, Write, Zero}
 use Rattle.lnbd_model.specs.declared.target.Place.{Place}
 use Rattle.lnbd_model.specs.declared.target.Target.{Target}
 use Rattle.lnbd_link.specs.Call.{Call}
@@ -21,17 +21,18 @@ use Rattle.lnbd_board.specs.declared.ticket.Ticket.TheVariants as ticket
 use Rattle.lnbd_board.specs.Files as board
 use Rattle.lnbd_board.specs.Pieces.{zero_flags}
 use Rattle.lnbd_board.specs.Requests.{Request, Said, Each, IsDealt, IsIn, Under, reads, reads_over, over}
-use Rattle.lnbd_board.specs.Rows.{Stands, AsksOfSource, AsksOfDestination, IsChange}
+use Rattle.lnbd_board.specs.Rows.{Stands, AsksOfSource, AsksOfDestination, IsChange, max_extents}
 use Rattle.lnbd_board.proofs.Lists.{in_each}
 use Rattle.lnbd_board.proofs.Once.{once}
 use Rattle.lnbd_tracks.specs.Laws.{IsDone, moves_bytes}
 use Rattle.lnbd_tracks.specs.Tracks.{Histories}
 use Rattle.lnbd_tracks.proofs.Finished.{finished_are_done}
-use Rattle.lnbd_course.specs.Asks.{AreAskedOnce, AreDone, AreOwnLinks, EachAsked, EndedAreDone, EndedAsksOnce, EndsBy, NoneMeet, is_look, is_store}
+use Rattle.lnbd_course.specs.Asks.{AreAskedOnce, AreDone, AreOwnLinks, EachAsked, EndedAreDone, EndedAsksOnce, EndsBy, IsPlain, NoneMeet, is_look, is_store}
 use Rattle.lnbd_course.specs.Between.{Between, place_of}
 use Rattle.lnbd_course.specs.Course.{beside, on_side}
 use Rattle.lnbd_course.proofs.Ending.{destination_dealt, gone_out, out_in, source_dealt}
 use Rattle.lnbd_course.proofs.Placed.{links_are_of_sides}
+use Rattle.lnbd_course.proofs.Plain.{few_extents, no_zeroes, plain_look, plain_store}
 
 -- each request that was asked is in the list
 abbrev pub AreListed : List Request → Dealt → Type 0
@@ -88,17 +89,17 @@ ends_by touches end size asked fits none r there p here =
 
 look_of : (slices : List Slice) (by : Ticket) (command : Command Nobody) → AsksOfSource slices by command → is_look command.kind ≡ true
 look_of slices (ticket.Slice n) command asks = ap is_look asks.0
-look_of slices ticket.Extents command asks = ap is_look asks
+look_of slices ticket.Extents command asks = ap is_look asks.0
 look_of slices ticket.Flush command asks = absurd asks
 
 change_store : (how : How) (command : Command Nobody) → IsChange how command → is_store command.kind ≡ true
-change_store how command (inl is) = ap is_store is
+change_store how command (inl is) = ap is_store is.0
 change_store how command (inr is) = ap is_store is.0
 
 store_of : (how : How) (slices : List Slice) (by : Ticket) (command : Command Nobody) → AsksOfDestination how slices by command → is_store command.kind ≡ true
 store_of how slices (ticket.Slice n) command asks = change_store how command asks.0
 store_of how slices ticket.Extents command asks = absurd asks
-store_of how slices ticket.Flush command asks = ap is_store asks
+store_of how slices ticket.Flush command asks = ap is_store asks.0
 
 -- Which flags a change to zeros has.
 
@@ -106,7 +107,7 @@ no_zero : (kind : Kind) → kind ≡ Write → kind ≡ Zero → ⊥
 no_zero kind one other = let e = sym one ∙ other in absurd (cc e)
 
 change_flags : (how : How) (command : Command Nobody) → IsChange how command → command.kind ≡ Zero → command.flags ≡ zero_flags how.allocated
-change_flags how command (inl is) zeroes = absurd (no_zero command.kind is zeroes)
+change_flags how command (inl is) zeroes = absurd (no_zero command.kind is.0 zeroes)
 change_flags how command (inr is) zeroes = is.1
 
 no_flush : (kind : Kind) → kind ≡ Flush → kind ≡ Zero → ⊥
@@ -115,7 +116,7 @@ no_flush kind one other = let e = sym one ∙ other in absurd (cc e)
 flags_of : (how : How) (slices : List Slice) (by : Ticket) (command : Command Nobody) → AsksOfDestination how slices by command → command.kind ≡ Zero → command.flags ≡ zero_flags how.allocated
 flags_of how slices (ticket.Slice n) command asks zeroes = change_flags how command asks.0 zeroes
 flags_of how slices ticket.Extents command asks zeroes = absurd asks
-flags_of how slices ticket.Flush command asks zeroes = absurd (no_flush command.kind asks zeroes)
+flags_of how slices ticket.Flush command asks zeroes = absurd (no_flush command.kind asks.0 zeroes)
 
 -- The same lists as the board's.
 
@@ -134,7 +135,7 @@ is_none : (said : List Said) → said ≡ [] → length said ≤ 0
 is_none said none = subst (λ (l : List Said). length l ≤ 0) (sym none) (omega arith)
 
 pub asked_once : (how : How) (cells : Cells) (told : ℕ → Bool) (end size : ℕ) (slices rest : List Slice) (rows : List (ℕ × Row)) (source destination : List Request) (dealt dealt' : Dealt) →
-    Stands how slices rows source destination → ((p : ℕ) → IsPlannedOnce cells told 0 end p (slices ++ rest)) → end ≤ size → AreListed source dealt → AreListed destination dealt' → AreAskedOnce how.allocated size dealt dealt'
+    Stands how slices rows source destination → ((p : ℕ) → IsPlannedOnce cells told 0 end p (slices ++ rest)) → end ≤ size → AreListed source dealt → AreListed destination dealt' → AreAskedOnce how.allocated how.skip size dealt dealt'
 asked_once how cells told end size slices rest rows source destination dealt dealt' stands planned fits listed listed' =
     let law = once how cells told end slices rest rows source destination stands planned in
     record {
@@ -150,6 +151,14 @@ asked_once how cells told end size slices rest rows source destination dealt dea
           (ends_by covers end size destination fits (λ p l. at_most 0 (over p destination) (touching covers p destination) (over_same p destination) (is_none (over p destination) (law.1.changes p l))));
       holes = each_asked (λ (c : Command Nobody). c.kind ≡ Zero → c.flags ≡ zero_flags how.allocated) destination dealt' listed'
           (λ r there. flags_of how slices r.ticket r.said.command (in_each (λ (x : Request). AsksOfDestination how slices x.ticket x.said.command) r destination there stands.changes));
+      looks_plain = each_asked IsPlain source dealt listed
+          (λ r there other. plain_look slices r.ticket r.said.command (in_each (λ (x : Request). AsksOfSource slices x.ticket x.said.command) r source there stands.reads));
+      stores_plain = each_asked IsPlain destination dealt' listed'
+          (λ r there. plain_store how slices r.ticket r.said.command (in_each (λ (x : Request). AsksOfDestination how slices x.ticket x.said.command) r destination there stands.changes));
+      skips = λ skip. each_asked (λ (c : Command Nobody). c.kind ≢ Zero) destination dealt' listed'
+          (λ r there. no_zeroes how slices r.ticket r.said.command skip (in_each (λ (x : Request). AsksOfDestination how slices x.ticket x.said.command) r destination there stands.changes));
+      extents = each_asked (λ (c : Command Nobody). c.kind ≡ BlockStatus → c.length ≤ max_extents) source dealt listed
+          (λ r there. few_extents slices r.ticket r.said.command (in_each (λ (x : Request). AsksOfSource slices x.ticket x.said.command) r source there stands.reads));
     }
 
 -- What went out of a list is in it.

@@ -1,5 +1,5 @@
 -- What the calls of a part of a turn show as asked, handles were asked before the turn.
-use Rattle.std.proofs.Common.{◌≡◌, ◌≢◌, ◌⊎◌, inl, inr, ℕ, zero, suc, ◌≤◌, Bool, true, false, not, ◌&&◌, List, [], ◌∷◌, ◌++◌, cond, Option, Some, None, slice_get, nat_le, refl, ap, sym, subst, ◌∙◌, append_assoc, arith, if◌then◌else◌}
+use Rattle.std.proofs.Common.{◌≡◌, ◌≢◌, ◌⊎◌, inl, inr, ℕ, zero, suc, ◌≤◌, Bool, true, false, not, ◌&&◌, List, [], ◌∷◌, ◌++◌, cond, Option, Some, None, slice_get, nat_le, refl, ap, sym, subst, ◌∙◌, append_assoc, append-nil, arith, if◌then◌else◌}
 use Rattle.std.proofs.lemmas.Bool.{cases_eq, false≢true}
 use Rattle.std.specs.Option.{option_map}
 use Rattle.lnbd_model.specs.declared.target.Place.{Place}
@@ -17,7 +17,7 @@ use Rattle.lnbd_asked.specs.Link.{Nobody}
 use Rattle.lnbd_asked.specs.Transcript.{asked_on, bare, dealt_with, is_name, is_of, is_target, name_asked, on_link, only_if, size_told}
 use Rattle.lnbd_poll.specs.Alone.{AreApart, HaveOwnLinks, calls_on}
 use Rattle.lnbd_poll.specs.Seen.{Seen}
-use Rattle.lnbd_poll.specs.Turns.{Turns, All_took, Takes, Runs_short, Ending}
+use Rattle.lnbd_poll.specs.Turns.{Turns, All_took, Takes, Runs_short, Breaks_off, Ending}
 use Rattle.lnbd_drives.specs.Driving.{AllDrive, AllPlain, AllPass}
 use Rattle.lnbd_drives.proofs.Exports.{turns_give_none}
 use Rattle.lnbd_drives.proofs.Passing.{both_off, said_stays}
@@ -113,6 +113,8 @@ turn_runs calls before now part after now' ending (Runs_short _ _ _ _ _ _ seen o
     let ran = part_ran steps calls _ seen now part here now' moved turns unread'.0 (subst (Runs seen.link calls seen.history) unread'.0 run'.0) in
     let past = all_past calls part others run'.1 (others_pass seen.link part others (λ n d. part_off steps n _ seen now part here now' moved d turns) links.0) in
     subst (AllRun (calls ++ part)) (sym after_is) (subst (λ (n : ℕ). Runs n (calls ++ part) here.history here.unread) (sym ran.same) ran.runs, past)
+turn_runs calls before now part after now' ending (Breaks_off _ _ _ _ _ _ none after_is world_is end) run unread own =
+    subst (AllRun (calls ++ part)) (sym after_is) (subst (λ (cs : List wire.Call). AllRun cs before) (sym (ap (λ (l : List wire.Call). calls ++ l) none ∙ append-nil calls)) run)
 
 pub run_of : (calls : List wire.Call) (seens : List (Seen Ticket)) (index : ℕ) (seen : Seen Ticket) → slice_get seens index ≡ Some seen → AllRun calls seens → Runs seen.link calls seen.history seen.unread
 run_of calls [] index seen there run = absurd (none_some seen there)
@@ -322,7 +324,7 @@ module _ (from to : Place) (size : Option ℕ) (how : How) (has : ℕ → Bool) 
       let c = only_if_some (is_of from all link) (asked_on (on_link link all) cookie) command e in
       listed_here has old b.course.stood.source link cookie command b.course.stood.reads (source_here two link c.0) (asked_before link cookie command c.1)
 
-  destination_listed : from ≢ to → AreListed b.course.stood.destination (dealt_with to all)
+  pub destination_listed : from ≢ to → AreListed b.course.stood.destination (dealt_with to all)
   destination_listed two link cookie command e =
       let c = only_if_some (is_of to all link) (asked_on (on_link link all) cookie) command e in
       listed_here (beside has) old b.course.stood.destination link cookie command b.course.stood.changes (destination_here two link c.0) (asked_before link cookie command c.1)

@@ -43,8 +43,8 @@ module _ (calls more : List wire.Call) (quiet : (link : ℕ) → calls_on link m
     used = λ link free. both_off link calls more (own.used link (not_before link calls more free)) (quiet link);
   }
 
-  once_stays : (allocated : Bool) (from to : Place) → HasAskedOnce allocated from to calls → HasAskedOnce allocated from to (calls ++ more)
-  once_stays allocated from to once =
+  once_stays : (allocated skip : Bool) (from to : Place) → HasAskedOnce allocated skip from to calls → HasAskedOnce allocated skip from to (calls ++ more)
+  once_stays allocated skip from to once =
       let same = dealt_stays from in
       let same' = dealt_stays to in
       record {
@@ -54,12 +54,12 @@ module _ (calls more : List wire.Call) (quiet : (link : ℕ) → calls_on link m
         asked = rw same (rw same' once.asked);
       }
 
-  pub at_most_stays : (allocated : Bool) (from to : Place) → AsksAtMostOnce allocated from to calls → AsksAtMostOnce allocated from to (calls ++ more)
-  at_most_stays allocated from to a = record {
+  pub at_most_stays : (allocated skip : Bool) (from to : Place) → AsksAtMostOnce allocated skip from to calls → AsksAtMostOnce allocated skip from to (calls ++ more)
+  at_most_stays allocated skip from to a = record {
     links = links_stay from to a.links;
     asked = elim a.asked [
       | inl nothing ↦ inl (nothing_stays calls more quiet nothing)
-      | inr once ↦ inr (once_stays allocated from to once)
+      | inr once ↦ inr (once_stays allocated skip from to once)
     ];
   }
 

@@ -65,7 +65,7 @@ module _ (how : How) (source destination : Dealt) where
   -- how far a slice is, by its row
   abbrev pub IsBegun : Slice → Option Row → Type 0
   IsBegun slice None = IsFinished how slice source destination
-  IsBegun slice (Some row) = IsAwaited slice source destination
+  IsBegun slice (Some row) = IsAwaited how slice source destination
 
   -- those from a number on
   abbrev pub AreEach : ℕ → List Slice → List (ℕ × Row) → Type 0

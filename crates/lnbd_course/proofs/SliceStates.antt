@@ -1,25 +1,27 @@
 -- What was said for a slice, by what was dealt: a slice that is over is finished, and one whose row has a request under way is awaited.
 use Rattle.std.proofs.Common.{◌≡◌, ◌⊎◌, inl, inr, ℕ, ◌+◌, ◌-◌, ◌≤◌, Bool, true, false, ◌&&◌, List, [], ◌∷◌, ◌++◌, cond, length, take, get_or, Some, refl, ap, sym, subst, ◌∙◌, arith, length-append, length-take}
 use Rattle.std.proofs.lemmas.Bool.{false≢true}
+use Rattle.std.proofs.Math.ListN.{length-replicate}
+use Rattle.lnbd_model.specs.declared.kind.Kind.TheVariants.{Read}
 use Rattle.lnbd_model.specs.Kind.{is_read}
 use Rattle.lnbd_extents.specs.Positions.{within}
 use Rattle.lnbd_outcome.specs.Outcome as outcome
 use Rattle.lnbd_outcome.specs.Outcome.{Outcome}
 use Rattle.lnbd_history.specs.Commands.{Command}
-use Rattle.lnbd_asked.specs.Honest.{covers, has}
+use Rattle.lnbd_asked.specs.Honest.{changes, covers, has}
 use Rattle.lnbd_asked.specs.Link.{Nobody}
 use Rattle.lnbd_asked.specs.Transcript.{Dealt}
 use Rattle.lnbd_plan.specs.declared.grid.Slice.{Slice}
 use Rattle.lnbd_board.specs.declared.how.How.{How}
 use Rattle.lnbd_board.specs.declared.row.Stage.{Stage}
 use Rattle.lnbd_board.specs.declared.row.Stage.TheVariants.{Reading, Last, Came, Writing, Holding, Finished}
-use Rattle.lnbd_board.specs.Pieces.{Bytes, Piece, Zeros, ask_of, spell, spell1, wrote}
+use Rattle.lnbd_board.specs.Pieces.{Bytes, Piece, Zeros, ask_of, is_passed, kind_of, spell, spell1, wrote, zeroing_kind}
 use Rattle.lnbd_board.specs.Requests.{IsIn, Request, Said, done, is_of, over_said, own, reads, waiting}
-use Rattle.lnbd_board.specs.Rows.{IsOver, IsRead, KnownBy, StandsAt, is_busy, lies_in}
+use Rattle.lnbd_board.specs.Rows.{IsOnePiece, IsOver, IsRead, Known, KnownBy, StandsAt, is_busy, lies_in}
 use Rattle.lnbd_board.proofs.Lists.{own_first}
-use Rattle.lnbd_board.proofs.Spelling.{Covered, Never, Once, covered, covers_piece, has_piece, within_at, within_true}
-use Rattle.lnbd_tracks.specs.Laws.{IsDone, moves_bytes}
-use Rattle.lnbd_course.specs.Slices.{IsAwaited, IsFinished, Touched, Waits, WasReadZero}
+use Rattle.lnbd_board.proofs.Spelling.{ask_kind, Covered, Never, Once, covered, covers_piece, has_piece, within_at, within_true}
+use Rattle.lnbd_tracks.specs.Laws.{IsDone}
+use Rattle.lnbd_course.specs.Slices.{IsAskedWhole, IsAwaited, IsFinished, IsUnfinished, WaitsToChange, WasChanged, WasRead, WasReadZero}
 
 -- a request of a list that said this
 abbrev pub IsSaid : Said → List Request → Type 0
@@ -104,15 +106,66 @@ both_true false b e f = absurd (false≢true e)
 reads_here : (s : Slice) (came : Outcome) (read : List Said) (known : IsRead s came read) (p : ℕ) → lies_in s p ≡ true → reads known.command p ≡ true
 reads_here s came read known p here = both_true (is_read known.command.kind) (has known.command p) (ap is_read known.kind) (read_here s came read known p ∙ here)
 
+-- so it is one request for all of it
+read_whole : (i : ℕ) (s : Slice) (bytes : List ℕ) (source : List Request) (reads_of : Dealt) → SaysDone source reads_of → IsRead s (outcome.Done bytes) (own i source) → IsAskedWhole Read s IsDone reads_of
+read_whole i s bytes source reads_of says known =
+    let r = done_shown (record { command = known.command; outcome = outcome.Done bytes }) bytes source reads_of says (own_first i (record { command = known.command; outcome = outcome.Done bytes }) source known.one) refl in
+    record { link = r.link; cookie = r.cookie; command = known.command; asked = r.asked; is = known.kind; start = known.start; size = known.size; came = record { bytes = bytes; is = r.outcome } }
+
+was_read : (i : ℕ) (s : Slice) (bytes : List ℕ) (source : List Request) (reads_of : Dealt) → SaysDone source reads_of → Known s bytes (own i source) → WasRead s reads_of
+was_read i s bytes source reads_of says known data_ = read_whole i s bytes source reads_of says (subst (λ (b : Bool). KnownBy b s bytes (own i source)) data_ known.by)
+
+-- A piece of a slice.
+
+ask_start : (how : How) (at : ℕ) (piece : Piece) → (ask_of how at piece).offset ≡ at
+ask_start how at (Bytes bytes) = refl
+ask_start how at (Zeros n) = refl
+
+ask_size : (how : How) (at : ℕ) (piece : Piece) → (ask_of how at piece).length ≡ length (spell1 piece)
+ask_size how at (Bytes bytes) = refl
+ask_size how at (Zeros n) = sym (length-replicate {A = ℕ} n 0)
+
+-- this was said
+abbrev Among : Said → List Said → Type 0
+Among x [] = ⊥
+Among x (y ∷ ys) = (y ≡ x) ⊎ Among x ys
+
+over_among : (p : ℕ) (x : Said) (xs : List Said) → over_said p xs ≡ x ∷ [] → Among x xs
+over_among p x [] h = absurd (cc)
+over_among p x (y ∷ ys) h =
+    let more = over_among p x ys in
+    elim (covers y.command p) as (λ b. cond b (y ∷ over_said p ys) (over_said p ys) ≡ x ∷ [] → Among x (y ∷ ys)) [
+      | true ↦ λ e. inl (cc)
+      | false ↦ λ e. inr (more e)
+    ] h
+
+-- what is said of pieces that are written lies among their bytes
+wrote_inside : (how : How) (at : ℕ) (pieces : List Piece) (x : Said) → Among x (wrote how at pieces) → (q : ℕ) → has x.command q ≡ true → within (at, length (spell pieces)) q ≡ true
+wrote_inside how at [] x among q here = absurd among
+wrote_inside how at (piece ∷ pieces) x among q here = go (λ m. wrote_inside how (at + length (spell1 piece)) pieces x m q here) (is_passed how piece) among
+  where
+    rest : within (at + length (spell1 piece), length (spell pieces)) q ≡ true → within (at, length (spell1 piece ++ spell pieces)) q ≡ true
+    rest inside =
+        let w = within_true (at + length (spell1 piece)) (length (spell pieces)) q inside in
+        let len = length-append (spell1 piece) (spell pieces) in
+        within_at at (length (spell1 piece ++ spell pieces)) q (omega (arith, w.0)) (omega (arith, w.1, len))
+
+    first : done (ask_of how at piece) ≡ x → within (at, length (spell1 piece ++ spell pieces)) q ≡ true
+    first same =
+        let w = within_true at (length (spell1 piece)) q (sym (has_piece how q at piece) ∙ ap (λ (y : Said). has y.command q) same ∙ here) in
+        let len = length-append (spell1 piece) (spell pieces) in
+        within_at at (length (spell1 piece ++ spell pieces)) q w.0 (omega (arith, w.1, len))
+
+    go : (Among x (wrote how (at + length (spell1 piece)) pieces) → within (at + length (spell1 piece), length (spell pieces)) q ≡ true) → (b : Bool) →
+        Among x (cond b (wrote how (at + length (spell1 piece)) pieces) (done (ask_of how at piece) ∷ wrote how (at + length (spell1 piece)) pieces)) → within (at, length (spell1 piece ++ spell pieces)) q ≡ true
+    go more true m = rest (more m)
+    go more false (inl same) = first same
+    go more false (inr m) = rest (more m)
+
 -- The slice of a number.
 module _ (how : How) (i : ℕ) (s : Slice) (source destination : List Request) (reads_of changes_of : Dealt) (says : SaysDone source reads_of) (says' : SaysDone destination changes_of) where
   read_done : (bytes : List ℕ) (known : IsRead s (outcome.Done bytes) (own i source)) → Shown known.command (outcome.Done bytes) reads_of
   read_done bytes known = done_shown (record { command = known.command; outcome = outcome.Done bytes }) bytes source reads_of says (own_first i (record { command = known.command; outcome = outcome.Done bytes }) source known.one) refl
-
-  touched : (bytes : List ℕ) (p : ℕ) → IsRead s (outcome.Done bytes) (own i source) → lies_in s p ≡ true → Touched reads p IsDone reads_of
-  touched bytes p known here =
-      let r = read_done bytes known in
-      record { link = r.link; cookie = r.cookie; command = known.command; asked = r.asked; here = reads_here s (outcome.Done bytes) (own i source) known p here; came = record { bytes = bytes; is = r.outcome } }
 
   -- A zero of it is known: it was told so or read.
   known_zero : (zero : Bool) (bytes : List ℕ) (p : ℕ) → KnownBy zero s bytes (own i source) → lies_in s p ≡ true → get_or bytes (p - s.start) 0 ≡ 0 → (zero ≡ true) ⊎ WasReadZero p reads_of
@@ -131,12 +184,20 @@ module _ (how : How) (i : ℕ) (s : Slice) (source destination : List Request) (
       })
 
   -- A position of it that was covered by what was written is changed, or it is a zero that was passed over.
-  changed : (zero : Bool) (bytes : List ℕ) (p : ℕ) → KnownBy zero s bytes (own i source) → lies_in s p ≡ true → Covered how p (get_or bytes (p - s.start) 0) (own i destination) →
-      Touched covers p IsDone changes_of ⊎ ((how.skip ≡ true) × ((zero ≡ true) ⊎ WasReadZero p reads_of))
-  changed zero bytes p known here (Once at piece one within_it byte) =
+  changed : (zero : Bool) (bytes : List ℕ) (p : ℕ) → KnownBy zero s bytes (own i source) → lies_in s p ≡ true → ((x : Said) → Among x (own i destination) → (q : ℕ) → has x.command q ≡ true → lies_in s q ≡ true) →
+      Covered how p (get_or bytes (p - s.start) 0) (own i destination) → WasChanged s p changes_of ⊎ ((how.skip ≡ true) × ((zero ≡ true) ⊎ WasReadZero p reads_of))
+  changed zero bytes p known here inside (Once at piece one within_it byte) =
       let r = done_shown (done (ask_of how at piece)) (ask_of how at piece).payload destination changes_of says' (own_over p i (done (ask_of how at piece)) destination one) refl in
-      inl (record { link = r.link; cookie = r.cookie; command = ask_of how at piece; asked = r.asked; here = covers_piece how p at piece ∙ within_it; came = record { bytes = (ask_of how at piece).payload; is = r.outcome } })
-  changed zero bytes p known here (Never skips none is) = inr (skips, known_zero zero bytes p known here is)
+      inl (record {
+        link = r.link;
+        cookie = r.cookie;
+        command = ask_of how at piece;
+        asked = r.asked;
+        here = covers_piece how p at piece ∙ within_it;
+        inside = inside (done (ask_of how at piece)) (over_among p (done (ask_of how at piece)) (own i destination) one);
+        done = record { bytes = (ask_of how at piece).payload; is = r.outcome };
+      })
+  changed zero bytes p known here inside (Never skips none is) = inr (skips, known_zero zero bytes p known here is)
 
   is_covered : (over : IsOver how s (own i source) (own i destination)) (p : ℕ) → lies_in s p ≡ true → Covered how p (get_or over.bytes (p - s.start) 0) (own i destination)
   is_covered over p here =
@@ -145,30 +206,48 @@ module _ (how : How) (i : ℕ) (s : Slice) (source destination : List Request) (
       let c = covered how p s.start over.did w.0 (omega (arith, len, w.1)) in
       subst (λ (l : List Said). Covered how p (get_or over.bytes (p - s.start) 0) l) (sym over.asked) (subst (λ (b : List ℕ). Covered how p (get_or b (p - s.start) 0) (wrote how s.start over.did)) over.spelt c)
 
-  pub is_finished : IsOver how s (own i source) (own i destination) → IsFinished how s reads_of changes_of
-  is_finished over = record {
-    read = λ data_ p here. touched over.bytes p (subst (λ (b : Bool). KnownBy b s over.bytes (own i source)) data_ over.known.by) here;
-    changed = λ p here. changed s.zero over.bytes p over.known.by here (is_covered over p here);
-  }
+  is_inside : (over : IsOver how s (own i source) (own i destination)) (x : Said) → Among x (own i destination) → (q : ℕ) → has x.command q ≡ true → lies_in s q ≡ true
+  is_inside over x among q here =
+      let len : length (spell over.did) ≡ s.length = ap length over.spelt ∙ over.known.size in
+      subst (λ (n : ℕ). within (s.start, n) q ≡ true) len (wrote_inside how s.start over.did x (subst (Among x) over.asked among) q here)
 
--- A request of it that waits.
-module _ (how : How) (i : ℕ) (s : Slice) (source destination : List Request) (reads_of changes_of : Dealt) (says : SaysWaiting source reads_of) (says' : SaysWaiting destination changes_of) where
-  read_waits : IsRead s outcome.Unfinished (own i source) → Waits s reads_of
-  read_waits known =
-      let r = waiting_shown (record { command = known.command; outcome = outcome.Unfinished }) source reads_of says (own_first i (record { command = known.command; outcome = outcome.Unfinished }) source known.one) refl in
+  -- A zero slice was changed by one request.
+  zeroed : (over : IsOver how s (own i source) (own i destination)) → IsOnePiece how over.did → IsAskedWhole (zeroing_kind how) s IsDone changes_of
+  zeroed over one =
+      let asks : Command Nobody = ask_of how s.start one.piece in
+      let alone : own i destination ≡ done asks ∷ [] =
+      over.asked ∙ ap (wrote how s.start) one.is ∙ ap (λ (b : Bool). cond b (wrote how (s.start + length (spell1 one.piece)) []) (done asks ∷ wrote how (s.start + length (spell1 one.piece)) [])) one.kept in
+      let r = done_shown (done asks) asks.payload destination changes_of says' (own_first i (done asks) destination alone) refl in
+      let len : length (spell1 one.piece ++ []) ≡ s.length = ap (λ (d : List Piece). length (spell d)) (sym one.is) ∙ ap length over.spelt ∙ over.known.size in
+      let more = length-append (spell1 one.piece) [] in
       record {
         link = r.link;
         cookie = r.cookie;
-        command = known.command;
+        command = asks;
         asked = r.asked;
-        kind = ap moves_bytes known.kind;
-        inside = λ p here. sym (read_here s outcome.Unfinished (own i source) known p) ∙ here;
-        waits = r.outcome;
+        is = ask_kind how s.start one.piece ∙ one.kind;
+        start = ask_start how s.start one.piece;
+        size = ask_size how s.start one.piece ∙ omega (arith, len, more);
+        came = record { bytes = asks.payload; is = r.outcome };
       }
 
-  piece_moves : (at : ℕ) (piece : Piece) → moves_bytes (ask_of how at piece).kind ≡ true
-  piece_moves at (Bytes bytes) = refl
-  piece_moves at (Zeros n) = refl
+  pub is_finished : IsOver how s (own i source) (own i destination) → IsFinished how s reads_of changes_of
+  is_finished over = record {
+    read = was_read i s over.bytes source reads_of says over.known;
+    changed = λ p here. changed s.zero over.bytes p over.known.by here (is_inside over) (is_covered over p here);
+    zeroed = λ zero. zeroed over (over.one zero);
+  }
+
+-- A request of it that waits.
+module _ (how : How) (i : ℕ) (s : Slice) (source destination : List Request) (reads_of changes_of : Dealt) (came : SaysDone source reads_of) (says : SaysWaiting source reads_of) (says' : SaysWaiting destination changes_of) where
+  read_waits : IsRead s outcome.Unfinished (own i source) → IsAskedWhole Read s IsUnfinished reads_of
+  read_waits known =
+      let r = waiting_shown (record { command = known.command; outcome = outcome.Unfinished }) source reads_of says (own_first i (record { command = known.command; outcome = outcome.Unfinished }) source known.one) refl in
+      record { link = r.link; cookie = r.cookie; command = known.command; asked = r.asked; is = known.kind; start = known.start; size = known.size; came = r.outcome }
+
+  piece_changes : (at : ℕ) (piece : Piece) → changes (ask_of how at piece).kind ≡ true
+  piece_changes at (Bytes bytes) = refl
+  piece_changes at (Zeros n) = refl
 
   -- a piece lies in the slice, where it ends before its end
   piece_inside : (past : ℕ) (piece : Piece) (p : ℕ) → past + length (spell1 piece) ≤ s.length → has (ask_of how (s.start + past) piece) p ≡ true → lies_in s p ≡ true
@@ -176,31 +255,46 @@ module _ (how : How) (i : ℕ) (s : Slice) (source destination : List Request) (
       let w = within_true (s.start + past) (length (spell1 piece)) p (sym (has_piece how p (s.start + past) piece) ∙ here) in
       within_at s.start s.length p (omega (arith, w.0)) (omega (arith, w.1, fits))
 
-  piece_waits : (did : List Piece) (piece : Piece) → own i destination ≡ wrote how s.start did ++ waiting (ask_of how (s.start + length (spell did)) piece) ∷ [] → length (spell did ++ spell1 piece) ≤ s.length → Waits s changes_of
-  piece_waits did piece asked fits =
+  piece_waits : (bytes : List ℕ) (did : List Piece) (piece : Piece) → Known s bytes (own i source) → own i destination ≡ wrote how s.start did ++ waiting (ask_of how (s.start + length (spell did)) piece) ∷ [] → length (spell did ++ spell1 piece) ≤ s.length →
+      (s.zero ≡ true → (did ≡ []) × (kind_of piece ≡ zeroing_kind how)) → (s.zero ≡ true → length (spell did ++ spell1 piece) ≡ s.length) → WaitsToChange how s reads_of changes_of
+  piece_waits bytes did piece known asked fits alone all =
       let command : Command Nobody = ask_of how (s.start + length (spell did)) piece in
       let r = waiting_shown (waiting command) destination changes_of says' (own_last i (wrote how s.start did) (waiting command) destination asked) refl in
       let parts = length-append (spell did) (spell1 piece) in
       record {
+        read = was_read i s bytes source reads_of came known;
         link = r.link;
         cookie = r.cookie;
         command = command;
         asked = r.asked;
-        kind = piece_moves (s.start + length (spell did)) piece;
+        kind = piece_changes (s.start + length (spell did)) piece;
         inside = λ p here. piece_inside (length (spell did)) piece p (omega (arith, parts, fits)) here;
         waits = r.outcome;
+        zeroes = λ zero.
+            let none : length (spell did) ≡ 0 = ap (λ (d : List Piece). length (spell d)) (alone zero).0 in
+            let whole = all zero in
+            record {
+              link = r.link;
+              cookie = r.cookie;
+              command = command;
+              asked = r.asked;
+              is = ask_kind how (s.start + length (spell did)) piece ∙ (alone zero).1;
+              start = ask_start how (s.start + length (spell did)) piece ∙ omega (arith, none);
+              size = ask_size how (s.start + length (spell did)) piece ∙ omega (arith, none, whole, parts);
+              came = r.outcome;
+            };
       }
 
-  pub is_awaited : (stage : Stage) → is_busy stage ≡ true → StandsAt how s stage (own i source) (own i destination) → IsAwaited s reads_of changes_of
-  is_awaited Reading on at = inl (read_waits at.asked)
+  pub is_awaited : (stage : Stage) → is_busy stage ≡ true → StandsAt how s stage (own i source) (own i destination) → IsAwaited how s reads_of changes_of
+  is_awaited Reading on at = inl (record { data_ = at.data_; read = read_waits at.asked })
   is_awaited Last on at =
       let len : length (spell at.did ++ spell1 at.now) ≡ s.length = ap length at.spelt ∙ at.known.size in
-      inr (piece_waits at.did at.now at.asked (omega (arith, len)))
+      inr (piece_waits at.bytes at.did at.now at.known at.asked (omega (arith, len)) at.alone (λ zero. len))
   is_awaited (Came bytes) on at = absurd (false≢true on)
   is_awaited (Writing bytes left) on at =
       let len : length (spell at.did ++ spell1 at.now) ≡ length (take at.to bytes) = ap length at.next in
       let front = length-take at.to bytes in
       let size = at.known.size in
-      inr (piece_waits at.did at.now at.asked (omega (arith, len, front, size)))
+      inr (piece_waits bytes at.did at.now at.known at.asked (omega (arith, len, front, size)) (λ zero. absurd (false≢true (sym at.data_ ∙ zero))) (λ zero. absurd (false≢true (sym at.data_ ∙ zero))))
   is_awaited (Holding bytes left) on at = absurd (false≢true on)
   is_awaited (Finished bytes) on at = absurd (false≢true on)

@@ -51,7 +51,7 @@ module _ (how : How) (slices : List Slice) (rows : List (ℕ × Row)) (source de
     (says : SaysDone source reads_of) (says' : SaysDone destination changes_of) where
   -- each slice that has a row is awaited
   abbrev RowsAreAwaited : Type 0
-  RowsAreAwaited = (i : ℕ) (row : Row) → value_at i rows ≡ Some row → StandsAt how (slice_at slices i) row.stage (own i source) (own i destination) → IsAwaited (slice_at slices i) reads_of changes_of
+  RowsAreAwaited = (i : ℕ) (row : Row) → value_at i rows ≡ Some row → StandsAt how (slice_at slices i) row.stage (own i source) (own i destination) → IsAwaited how (slice_at slices i) reads_of changes_of
 
   one : RowsAreAwaited → (i : ℕ) → i < length slices → IsBegun how reads_of changes_of (slice_at slices i) (value_at i rows)
   one awaited i l = go (value_at i rows) refl (stands.each i l)
@@ -87,6 +87,7 @@ module _ (from to : Place) (size : Option ℕ) (how : How) (has : ℕ → Bool) 
       (says_done (on_side has b.course.histories) source (dealt_with from calls) b.course.stood.reads (dealt from calls (on_side has b.course.histories) source b.course.stood.reads sources))
       (says_done (on_side (beside has) b.course.histories) destination (dealt_with to calls) b.course.stood.changes (dealt to calls (on_side (beside has) b.course.histories) destination b.course.stood.changes destinations))
       (λ i row is at. is_awaited how i (slice_at slices i) source destination (dealt_with from calls) (dealt_with to calls)
+      (says_done (on_side has b.course.histories) source (dealt_with from calls) b.course.stood.reads (dealt from calls (on_side has b.course.histories) source b.course.stood.reads sources))
       (says_waiting from calls (on_side has b.course.histories) source b.course.stood.reads sources)
       (says_waiting to calls (on_side (beside has) b.course.histories) destination b.course.stood.changes destinations)
       row.stage (each_busy i row now.rows busy_all is) at)

@@ -184,7 +184,7 @@ module _ (from to : Place) (size : Option ℕ) (how : How) (sides : ℕ → Bool
     was_asked = sym (s.frozen.requests w.cookie) ∙ a.is
 
     -- one that was over before tells nothing else since
-    heard_known : IsHeard (old w.link) known.whole w.cookie a.asks → known.whole block p ≡ true
+    heard_known : IsHeard (old w.link) known.whole known.reach w.cookie a.asks → known.whole block p ≡ true
     heard_known heard =
         let same = s.frozen.same w.cookie heard.over in
         let done : outcome_after (old w.link) w.cookie ≡ Done w.bytes =
@@ -212,7 +212,7 @@ module _ (from to : Place) (size : Option ℕ) (how : How) (sides : ℕ → Bool
     past : (range : ℕ × ℕ) → end ≤ range.0 → range.0 ≤ p → p < end → told p ≡ true
     past range ahead low lower = absurd (omega (arith, ahead, low, lower))
 
-    heeded : (range : Option (ℕ × ℕ)) → IsBehind end range → Heeds old range known.whole now → p < end → told p ≡ true
+    heeded : (range : Option (ℕ × ℕ)) → IsBehind end range → Heeds old range known.whole known.reach now → p < end → told p ≡ true
     heeded None ahead heeds = zeros p (heard_known (heeds w.link w.cookie a.asks was_asked (tells w.link w.cookie a.asks here was_asked (ap (λ (c : Command Nobody). c.kind) a.same ∙ w.kind))))
     heeded (Some range) ahead heeds = elim (heeds.others w.link w.cookie a.asks was_asked (tells w.link w.cookie a.asks here was_asked (ap (λ (c : Command Nobody). c.kind) a.same ∙ w.kind))) [
       | inl same ↦

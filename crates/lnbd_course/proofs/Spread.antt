@@ -188,13 +188,13 @@ pub record IsOfSlice (slices : List Slice) (by : Ticket) : Type 0 where
 
 pub source_slice : (slices : List Slice) (by : Ticket) (command : Command Nobody) → AsksOfSource slices by command → moves_bytes command.kind ≡ true → IsOfSlice slices by
 source_slice slices (ticket.Slice n) command asks moves = record { n = n; is = refl; begun = asks.1.begun }
-source_slice slices ticket.Extents command asks moves = absurd (false≢true (sym (ap moves_bytes asks) ∙ moves))
+source_slice slices ticket.Extents command asks moves = absurd (false≢true (sym (ap moves_bytes asks.0) ∙ moves))
 source_slice slices ticket.Flush command asks moves = absurd asks
 
 pub destination_slice : (how : How) (slices : List Slice) (by : Ticket) (command : Command Nobody) → AsksOfDestination how slices by command → moves_bytes command.kind ≡ true → IsOfSlice slices by
 destination_slice how slices (ticket.Slice n) command asks moves = record { n = n; is = refl; begun = asks.1.begun }
 destination_slice how slices ticket.Extents command asks moves = absurd asks
-destination_slice how slices ticket.Flush command asks moves = absurd (false≢true (sym (ap moves_bytes asks) ∙ moves))
+destination_slice how slices ticket.Flush command asks moves = absurd (false≢true (sym (ap moves_bytes asks.0) ∙ moves))
 
 -- a slice has this row, and one request of it waits
 pub record WaitsAlone (rows : List (ℕ × Row)) (n : ℕ) (said : List Said) : Type 0 where

@@ -117,10 +117,10 @@ store_weight : (how : How) (slices : List Slice) (by : Ticket) (command : Comman
 store_weight how slices (ticket.Slice n) command asks = change_weight asks.0
   where
     change_weight : IsChange how command → cond (changes command.kind) command.length 0 ≡ cond (is_write command.kind) command.length 0 + cond (is_zero command.kind) command.length 0
-    change_weight (inl is) = subst (λ (kind : Kind). cond (changes kind) command.length 0 ≡ cond (is_write kind) command.length 0 + cond (is_zero kind) command.length 0) (sym is) (omega arith)
+    change_weight (inl is) = subst (λ (kind : Kind). cond (changes kind) command.length 0 ≡ cond (is_write kind) command.length 0 + cond (is_zero kind) command.length 0) (sym is.0) (omega arith)
     change_weight (inr is) = subst (λ (kind : Kind). cond (changes kind) command.length 0 ≡ cond (is_write kind) command.length 0 + cond (is_zero kind) command.length 0) (sym is.0) (omega arith)
 store_weight how slices ticket.Extents command asks = absurd asks
-store_weight how slices ticket.Flush command asks = subst (λ (kind : Kind). cond (changes kind) command.length 0 ≡ cond (is_write kind) command.length 0 + cond (is_zero kind) command.length 0) (sym asks) (omega arith)
+store_weight how slices ticket.Flush command asks = subst (λ (kind : Kind). cond (changes kind) command.length 0 ≡ cond (is_write kind) command.length 0 + cond (is_zero kind) command.length 0) (sym asks.0) (omega arith)
 
 both_bytes : (how : How) (slices : List Slice) (xs : List Request) → Each (λ r. AsksOfDestination how slices r.ticket r.said.command) xs → bytes_of changes xs ≡ bytes_of is_write xs + bytes_of is_zero xs
 both_bytes how slices [] each = omega arith

@@ -29,9 +29,12 @@ use Rattle.lnbd_tracks.specs.Laws.{is_coming}
 use Rattle.lnbd_tracks.specs.Mapping.{IsWanted, Maps, IsToldZero, ToldAlike, is_extents}
 use Rattle.lnbd_tracks.specs.Tracks.{NoneFails, Histories, Happens, is_issue}
 use Rattle.lnbd_tracks.specs.Heeding.{Heeds}
+use Rattle.lnbd_tracks.specs.Saying.{said_in}
+use Rattle.lnbd_tracks.specs.Unfailed.{IsUnfailed}
 use Rattle.lnbd_tracks.proofs.Awaiting.{asking_awaits, coming_awaits, others_await}
 use Rattle.lnbd_tracks.proofs.Heeding.{asking_heeds, coming_heeds, hearing_heeds, heeds_more, nothing_heeds, others_heed}
 use Rattle.lnbd_tracks.proofs.Mapped.{nothing_maps, not_issued, coming_maps, others_map, asking_maps, hearing_maps, zeroes_stay}
+use Rattle.lnbd_tracks.proofs.Unfailed.{coming_unfailed, none_unfailed, others_unfailed}
 use Rattle.lnbd_tracks.proofs.Written.{done_is_written}
 use Rattle.lnbd_course.specs.Counted.{CountsSame}
 use Rattle.lnbd_course.specs.Course.{Stood, beside, with_link}
@@ -96,11 +99,12 @@ module _ (how : How) (has : ℕ → Bool) (slices : List Slice) (wanted : Option
     pub stood : Stood how has slices now histories
     pub maps : Maps has histories wanted now
     pub knows : (p : ℕ) → known.zero p ≡ true → IsToldZero has histories p
-    pub heeds : Heeds histories wanted known.whole now
+    pub heeds : Heeds histories wanted known.whole known.reach now
     pub awaits : Awaits has histories wanted now
+    pub unfailed : IsUnfailed histories now
 
   -- no callback answered an error
-  none_fails : (now : board.Seen) (histories : Histories) (link : ℕ) → Stood how has slices now histories → NoneFails (reading (histories link)).known.entries
+  pub none_fails : (now : board.Seen) (histories : Histories) (link : ℕ) → Stood how has slices now histories → NoneFails (reading (histories link)).known.entries
   none_fails now histories link s = go (has link) refl
     where
       go : (b : Bool) → has link ≡ b → NoneFails (reading (histories link)).known.entries
@@ -113,8 +117,9 @@ module _ (how : How) (has : ℕ → Bool) (slices : List Slice) (wanted : Option
       stood = event_stood how has slices link event before after happens now now' b.stood other plays;
       maps = coming_maps has link event before after wanted plays.calls now now' b.maps (none_fails now before link b.stood) other happens plays.told plays.world;
       knows = λ p k. zeroes_stay has link event before after p happens (b.knows p k);
-      heeds = coming_heeds link event before after wanted known.whole plays.calls now now' b.heeds other happens plays.told plays.world;
+      heeds = coming_heeds link event before after wanted known.whole known.reach plays.calls now now' b.heeds other happens plays.told plays.world;
       awaits = coming_awaits has link event before after wanted plays.calls now now' b.awaits other happens plays.told plays.world;
+      unfailed = coming_unfailed link event before after plays.calls now now' b.unfailed (none_fails now before link b.stood) other happens plays.told plays.world;
     }
 
     quiet_both : (now : board.Seen) → Both now before → is_issue event ≡ false → is_coming event ≡ false → Both now after
@@ -122,8 +127,9 @@ module _ (how : How) (has : ℕ → Bool) (slices : List Slice) (wanted : Option
       stood = quiet_stood how has slices link event before after happens now b.stood other none;
       maps = others_map has link event before after wanted now now b.maps (not_issued event other) happens (record { told = refl; mapped = refl; short = refl });
       knows = λ p k. zeroes_stay has link event before after p happens (b.knows p k);
-      heeds = others_heed link event before after wanted known.whole now now b.heeds (not_issued event other) none happens (record { told = refl; mapped = refl; short = refl });
+      heeds = others_heed link event before after wanted known.whole known.reach now now b.heeds (not_issued event other) none happens (record { told = refl; mapped = refl; short = refl });
       awaits = others_await has link event before after wanted now now b.awaits none happens (record { error = λ e. e; mapped = λ e. e });
+      unfailed = others_unfailed link event before after now now b.unfailed none happens (λ e. e);
     }
 
 -- The beginning.
@@ -134,8 +140,9 @@ nothing_is_told how has now known none uncounted unknown = record {
   course = nothing_is_on_course how has now none uncounted;
   maps = nothing_maps has now;
   knows = λ p k. absurd (false≢true (sym (unknown p) ∙ k));
-  heeds = nothing_heeds known.whole now;
+  heeds = nothing_heeds known.whole known.reach now;
   awaits = none_awaits has (λ link. []) now;
+  unfailed = none_unfailed now;
 }
 
 pub opening_tells : OpeningTells
@@ -146,6 +153,7 @@ opening_tells how has slices now calls seens wanted known to link source t new =
   knows = λ p k. sides_zero has (with_link link source has) t.course.histories same p (t.knows p k);
   heeds = t.heeds;
   awaits = sides_awaits has (with_link link source has) t.course.histories same wanted now t.awaits;
+  unfailed = t.unfailed;
 }
   where
     none_some : (asks : Request Ticket) → None ≡ Some asks → ⊥
@@ -161,7 +169,7 @@ opening_tells how has slices now calls seens wanted known to link source t new =
 pub settling_tells : SettlingTells
 unfolding settling_keeps
 settling_tells how how' has now now' calls seens known t none well unflushed none' uncounted =
-    record { course = settling_keeps how how' has now now' calls seens t.course none well unflushed none' uncounted; maps = t.maps; knows = t.knows; heeds = t.heeds; awaits = none_awaits has t.course.histories now' }
+    record { course = settling_keeps how how' has now now' calls seens t.course none well unflushed none' uncounted; maps = t.maps; knows = t.knows; heeds = t.heeds; awaits = none_awaits has t.course.histories now'; unfailed = record { on = λ none. t.unfailed.on well } }
 
 -- Turns.
 
@@ -170,18 +178,19 @@ unfolding turned_keeps
 turns_tell how has slices now now' calls part before after wanted known moved t turns =
     let S : board.Seen → Histories → Type 0 = Both how has slices wanted known in
     let u = turns_all S (event_both how has slices wanted known) (quiet_both how has slices wanted known) before now part after now' (Whole moved) t.course.histories turns t.course.drive.own t.course.held
-    (record { stood = t.course.stood; maps = t.maps; knows = t.knows; heeds = t.heeds; awaits = t.awaits }) in
+    (record { stood = t.course.stood; maps = t.maps; knows = t.knows; heeds = t.heeds; awaits = t.awaits; unfailed = t.unfailed }) in
     record {
       course = turned_keeps how has slices now now' calls part before after moved t.course turns S u (λ histories b. b.stood);
       maps = u.stood.maps;
       knows = u.stood.knows;
       heeds = u.stood.heeds;
       awaits = u.stood.awaits;
+      unfailed = u.stood.unfailed;
     }
 
 pub calls_tell : CallsTell
 unfolding calls_keep
-calls_tell how has slices now calls more seens wanted known t none = record { course = calls_keep how has slices now calls more seens t.course none; maps = t.maps; knows = t.knows; heeds = t.heeds; awaits = t.awaits }
+calls_tell how has slices now calls more seens wanted known t none = record { course = calls_keep how has slices now calls more seens t.course none; maps = t.maps; knows = t.knows; heeds = t.heeds; awaits = t.awaits; unfailed = t.unfailed }
 
 -- Asking.
 
@@ -195,8 +204,9 @@ source_asks_tell how has slices slices' now now' calls seens wanted known index 
   course = source_asks_keep how has slices slices' now now' calls seens index seen command t.course there is spells asks;
   maps = others_map has seen.link (Issue command) t.course.histories ((then) (Issue command) t.course.histories seen.link) wanted now now' t.maps none (with_happens seen.link (Issue command) t.course.histories) alike;
   knows = then_knows has t.course.histories seen.link (Issue command) known.zero t.knows;
-  heeds = others_heed seen.link (Issue command) t.course.histories ((then) (Issue command) t.course.histories seen.link) wanted known.whole now now' t.heeds none refl (with_happens seen.link (Issue command) t.course.histories) alike;
+  heeds = others_heed seen.link (Issue command) t.course.histories ((then) (Issue command) t.course.histories seen.link) wanted known.whole known.reach now now' t.heeds none refl (with_happens seen.link (Issue command) t.course.histories) alike;
   awaits = others_await has seen.link (Issue command) t.course.histories ((then) (Issue command) t.course.histories seen.link) wanted now now' t.awaits refl (with_happens seen.link (Issue command) t.course.histories) (record { error = asks.earlier; mapped = λ e. sym alike.mapped ∙ e });
+  unfailed = others_unfailed seen.link (Issue command) t.course.histories ((then) (Issue command) t.course.histories seen.link) now now' t.unfailed refl (with_happens seen.link (Issue command) t.course.histories) asks.earlier;
 }
 
 pub destination_asks_tell : DestinationAsksTell
@@ -205,8 +215,9 @@ destination_asks_tell how has slices slices' now now' calls seens wanted known i
   course = destination_asks_keep how has slices slices' now now' calls seens index seen command t.course there is spells asks;
   maps = others_map has seen.link (Issue command) t.course.histories ((then) (Issue command) t.course.histories seen.link) wanted now now' t.maps none (with_happens seen.link (Issue command) t.course.histories) alike;
   knows = then_knows has t.course.histories seen.link (Issue command) known.zero t.knows;
-  heeds = others_heed seen.link (Issue command) t.course.histories ((then) (Issue command) t.course.histories seen.link) wanted known.whole now now' t.heeds none refl (with_happens seen.link (Issue command) t.course.histories) alike;
+  heeds = others_heed seen.link (Issue command) t.course.histories ((then) (Issue command) t.course.histories seen.link) wanted known.whole known.reach now now' t.heeds none refl (with_happens seen.link (Issue command) t.course.histories) alike;
   awaits = others_await has seen.link (Issue command) t.course.histories ((then) (Issue command) t.course.histories seen.link) wanted now now' t.awaits refl (with_happens seen.link (Issue command) t.course.histories) (record { error = asks.earlier; mapped = λ e. sym alike.mapped ∙ e });
+  unfailed = others_unfailed seen.link (Issue command) t.course.histories ((then) (Issue command) t.course.histories seen.link) now now' t.unfailed refl (with_happens seen.link (Issue command) t.course.histories) asks.earlier;
 }
 
 pub extents_ask_tell : ExtentsAskTell
@@ -215,8 +226,9 @@ extents_ask_tell how has slices slices' now now' calls seens range known index s
   course = source_asks_keep how has slices slices' now now' calls seens index seen command t.course there is spells asks;
   maps = asking_maps has seen.link command range t.course.histories ((then) (Issue command) t.course.histories seen.link) now now' t.maps is wants.asks (with_happens seen.link (Issue command) t.course.histories) forgotten unmapped;
   knows = then_knows has t.course.histories seen.link (Issue command) known.zero t.knows;
-  heeds = asking_heeds seen.link command range t.course.histories ((then) (Issue command) t.course.histories seen.link) known.whole now now' t.heeds wants (with_happens seen.link (Issue command) t.course.histories);
+  heeds = asking_heeds seen.link command range t.course.histories ((then) (Issue command) t.course.histories seen.link) known.whole known.reach now now' t.heeds wants (with_happens seen.link (Issue command) t.course.histories);
   awaits = asking_awaits has seen.link command (Some range) t.course.histories ((then) (Issue command) t.course.histories seen.link) now' is wants.asks.kind (ap (λ (by : Ticket). is_extents by) wants.done) (with_happens seen.link (Issue command) t.course.histories);
+  unfailed = others_unfailed seen.link (Issue command) t.course.histories ((then) (Issue command) t.course.histories seen.link) now now' t.unfailed refl (with_happens seen.link (Issue command) t.course.histories) asks.earlier;
 }
 
 -- the same of another board, which was told the same
@@ -236,9 +248,9 @@ alike_maps has histories (Some range) now now' alike m = record {
   answered = λ e. m.answered (sym alike.mapped ∙ e);
 }
 
-alike_heeds : (histories : Histories) (wanted : Option (ℕ × ℕ)) (known : (block p : ℕ) → Bool) (now now' : board.Seen) → ToldAlike now now' → Heeds histories wanted known now → Heeds histories wanted known now'
-alike_heeds histories None known now now' alike m = m
-alike_heeds histories (Some range) known now now' alike m = record {
+alike_heeds : (histories : Histories) (wanted : Option (ℕ × ℕ)) (known : (block p : ℕ) → Bool) (reach : ℕ → Bool) (now now' : board.Seen) → ToldAlike now now' → Heeds histories wanted known reach now → Heeds histories wanted known reach now'
+alike_heeds histories None known reach now now' alike m = m
+alike_heeds histories (Some range) known reach now now' alike m = record {
   link = m.link;
   cookie = m.cookie;
   asks = m.asks;
@@ -247,20 +259,20 @@ alike_heeds histories (Some range) known now now' alike m = record {
   offset = m.offset;
   length_ = m.length_;
   others = m.others;
-  held = λ short none p z. ap (λ (l : List Extent). zero_in range.0 l p) alike.told ∙ m.held (sym alike.short ∙ short) none p z;
+  held = λ short none test blank p z. ap (λ (l : List Extent). said_in test range.0 l p) alike.told ∙ m.held (sym alike.short ∙ short) none test blank p z;
 }
 
 pub board_moves_tell : BoardMovesTell
 unfolding board_moves_keep
 board_moves_tell how has slices now now' calls seens wanted known t earlier same keeps alike =
-    record { course = board_moves_keep how has slices now now' calls seens t.course earlier same keeps; maps = alike_maps has t.course.histories wanted now now' alike t.maps; knows = t.knows; heeds = alike_heeds t.course.histories wanted known.whole now now' alike t.heeds; awaits = record { on = λ some none unmapped. t.awaits.on some (earlier none) (sym alike.mapped ∙ unmapped) } }
+    record { course = board_moves_keep how has slices now now' calls seens t.course earlier same keeps; maps = alike_maps has t.course.histories wanted now now' alike t.maps; knows = t.knows; heeds = alike_heeds t.course.histories wanted known.whole known.reach now now' alike t.heeds; awaits = record { on = λ some none unmapped. t.awaits.on some (earlier none) (sym alike.mapped ∙ unmapped) }; unfailed = record { on = λ none. t.unfailed.on (earlier none) } }
 
 -- Where no extents are waited for, it does not matter what the board was told of them.
 pub unasked_moves_tell : (how : How) (has : ℕ → Bool) (slices : List Slice) (now now' : board.Seen) (calls : List wire.Call) (seens : List (Seen Ticket)) (known : Known) → Told how has slices now calls seens None known → (now'.error ≡ None → now.error ≡ None) → CountsSame now now' →
     ((source destination : List sides.Request) → Keeps how now.rows source destination now'.rows source destination) → Told how has slices now' calls seens None known
 unfolding board_moves_keep
 unasked_moves_tell how has slices now now' calls seens known t earlier same keeps =
-    record { course = board_moves_keep how has slices now now' calls seens t.course earlier same keeps; maps = t.maps; knows = t.knows; heeds = t.heeds; awaits = none_awaits has t.course.histories now' }
+    record { course = board_moves_keep how has slices now now' calls seens t.course earlier same keeps; maps = t.maps; knows = t.knows; heeds = t.heeds; awaits = none_awaits has t.course.histories now'; unfailed = record { on = λ none. t.unfailed.on (earlier none) } }
 
 pub others_tell : OthersTell
 unfolding others_keep goes_on
@@ -268,26 +280,28 @@ others_tell how has slices now calls seens wanted known index seen event t there
   course = others_keep how has slices now calls seens index seen event t.course there inward other none spells off;
   maps = others_map has seen.link event t.course.histories ((then) event t.course.histories seen.link) wanted now now t.maps (not_issued event other) (with_happens seen.link event t.course.histories) (record { told = refl; mapped = refl; short = refl });
   knows = then_knows has t.course.histories seen.link event known.zero t.knows;
-  heeds = others_heed seen.link event t.course.histories ((then) event t.course.histories seen.link) wanted known.whole now now t.heeds (not_issued event other) none (with_happens seen.link event t.course.histories) (record { told = refl; mapped = refl; short = refl });
+  heeds = others_heed seen.link event t.course.histories ((then) event t.course.histories seen.link) wanted known.whole known.reach now now t.heeds (not_issued event other) none (with_happens seen.link event t.course.histories) (record { told = refl; mapped = refl; short = refl });
   awaits = others_await has seen.link event t.course.histories ((then) event t.course.histories seen.link) wanted now now t.awaits none (with_happens seen.link event t.course.histories) (record { error = λ e. e; mapped = λ e. e });
+  unfailed = others_unfailed seen.link event t.course.histories ((then) event t.course.histories seen.link) now now t.unfailed none (with_happens seen.link event t.course.histories) (λ e. e);
 }
 
 -- Hearing.
 
 pub hearing_tells : HearingTells
-hearing_tells how has slices now calls seens range known known' t answered short more whole holds =
+hearing_tells how has slices now calls seens range known known' t answered short more whole holds further reaches =
     let h = hearing_maps has t.course.histories range now t.maps answered in
     record {
       course = t.course;
       maps = h.0;
       knows = λ p k. elim (more p k) [ inl was ↦ t.knows p was | inr here ↦ h.1 p here ];
-      heeds = hearing_heeds has t.course.histories range known.whole known'.whole now t.heeds t.maps (λ link. none_fails how has slices (Some range) known now t.course.histories link t.course.stood) answered short whole holds;
+      heeds = hearing_heeds has t.course.histories range known.whole known'.whole known.reach known'.reach now t.heeds t.maps (λ link. none_fails how has slices (Some range) known now t.course.histories link t.course.stood) answered short whole holds further reaches;
       awaits = none_awaits has t.course.histories now;
+      unfailed = t.unfailed;
     }
 
 pub fewer_tell : FewerTell
-fewer_tell how has slices now calls seens wanted known known' t fewer more =
-    record { course = t.course; maps = t.maps; knows = λ p k. t.knows p (fewer p k); heeds = heeds_more t.course.histories wanted known.whole known'.whole now more t.heeds; awaits = t.awaits }
+fewer_tell how has slices now calls seens wanted known known' t fewer more further =
+    record { course = t.course; maps = t.maps; knows = λ p k. t.knows p (fewer p k); heeds = heeds_more t.course.histories wanted known.whole known'.whole known.reach known'.reach now more further t.heeds; awaits = t.awaits; unfailed = t.unfailed }
 
 pub windows_tell : WindowsTell
 windows_tell start [] window p e = go (nat_lt p (start + window.count)) e
@@ -315,7 +329,7 @@ removed_tells : (how : How) (has : ℕ → Bool) (slices : List Slice) (now : bo
     Told how has slices now calls seens wanted known → slice_get seens index ≡ Some seen → StandsFor limit seen.history handle → Told how has slices now calls (removed index seens) wanted known
 unfolding removed_keeps
 removed_tells how has slices now calls seens wanted known index seen limit handle t there stands =
-    record { course = removed_keeps how has slices now calls seens index seen limit handle t.course there stands; maps = t.maps; knows = t.knows; heeds = t.heeds; awaits = t.awaits }
+    record { course = removed_keeps how has slices now calls seens index seen limit handle t.course there stands; maps = t.maps; knows = t.knows; heeds = t.heeds; awaits = t.awaits; unfailed = t.unfailed }
 
 pub taking_tells : TakingTells
 taking_tells how has slices now calls seens wanted known index seen limit handle t there stands =

@@ -11,7 +11,7 @@ use Rattle.lnbd_poll.specs.declared.noticed.Noticed.TheVariants as noticed
 use Rattle.lnbd_poll.specs.Alone.{AreApart, HaveOwnLinks}
 use Rattle.lnbd_poll.specs.Seen.{Seen, Follows}
 use Rattle.lnbd_poll.specs.Notices.{Arrives, Hears, ReadsIf, ReadsOn, Sends, WritesIf, is_reading, is_waiting}
-use Rattle.lnbd_poll.specs.Turns.{Told, WritesAll, WritesTold, Stops, Goes_on, TurnsOne, Turns, All_took, Takes, Runs_short, Ending, is_lost}
+use Rattle.lnbd_poll.specs.Turns.{Told, WritesAll, WritesTold, Stops, Goes_on, TurnsOne, Turns, All_took, Takes, Runs_short, Breaks_off, Ending, is_lost}
 use Rattle.lnbd_board.specs.declared.ticket.Ticket.{Ticket}
 use Rattle.lnbd_board.specs.Files as board
 use Rattle.lnbd_asked.specs.Exports.{is_naming}
@@ -181,3 +181,5 @@ module _ (S : board.Seen → Histories → Type 0) where
         let t = turns_one noticed.NoMemory seen here part now now' moved old turns have'.0 s in
         let r = none_turned others now' t.past.after (still_have seen.link old t.past.after others t.past.others links.0 have'.1) t.past.stood in
         subst (λ l. Turned l after now' old) (sym is) (subst (λ l. Turned (seen ∷ others) l now' old) (sym after_is) (one_turned seen here others others now' now' old t links.0 r))
+    turns_all before now part after now' ending old (Breaks_off _ _ _ _ _ _ none after_is world_is end) own have s =
+        subst (λ w. Turned before after w old) (sym world_is) (subst (λ l. Turned before l now old) (sym after_is) (none_turned before now old have s))

@@ -58,17 +58,17 @@ some_same one other e = cc
 
 source_moves : (slices : List Slice) (by : Ticket) (command : Command Nobody) → AsksOfSource slices by command → moves_bytes command.kind ≡ is_slice by
 source_moves slices (ticket.Slice n) command asks = ap moves_bytes asks.0
-source_moves slices ticket.Extents command asks = ap moves_bytes asks
+source_moves slices ticket.Extents command asks = ap moves_bytes asks.0
 source_moves slices ticket.Flush command asks = absurd asks
 
 change_moves : (how : How) (command : Command Nobody) → IsChange how command → moves_bytes command.kind ≡ true
-change_moves how command (inl is) = ap moves_bytes is
+change_moves how command (inl is) = ap moves_bytes is.0
 change_moves how command (inr is) = ap moves_bytes is.0
 
 destination_moves : (how : How) (slices : List Slice) (by : Ticket) (command : Command Nobody) → AsksOfDestination how slices by command → moves_bytes command.kind ≡ is_slice by
 destination_moves how slices (ticket.Slice n) command asks = change_moves how command asks.0
 destination_moves how slices ticket.Extents command asks = absurd asks
-destination_moves how slices ticket.Flush command asks = ap moves_bytes asks
+destination_moves how slices ticket.Flush command asks = ap moves_bytes asks.0
 
 same_count : (requests : List sides.Request) → Each (λ (r : sides.Request). moves_bytes r.said.command.kind ≡ is_slice r.ticket) requests → unanswered_of moves_bytes requests ≡ unanswered requests
 same_count [] each = refl

@@ -20,6 +20,7 @@ use Rattle.lnbd_board.specs.Files as board
 use Rattle.lnbd_board.specs.Holds.{WasToldSize}
 use Rattle.lnbd_board.specs.Pieces.{zero_flags}
 use Rattle.lnbd_board.specs.Requests.{reads}
+use Rattle.lnbd_board.specs.Rows.{max_extents}
 use Rattle.lnbd_tracks.specs.Laws.{IsDone, moves_bytes}
 use Rattle.lnbd_course.specs.Between.{Between}
 
@@ -56,8 +57,13 @@ NoneMeet touches dealt = (link cookie link' cookie' p : ℕ) (one other : Comman
 abbrev pub EndsBy : (touches : Command Nobody → ℕ → Bool) → (end : ℕ) → Command Nobody → Type 0
 EndsBy touches end command = (p : ℕ) → touches command p ≡ true → p < end
 
--- What is asked of a source of so many bytes, and of the destination, where zeros are to be allocated or not.
-pub record AreAskedOnce (allocated : Bool) (size : ℕ) (source destination : Dealt) : Type 0 where
+-- only WRITE_ZEROES has flags
+abbrev pub IsPlain : Command Nobody → Type 0
+IsPlain command = command.kind ≢ Zero → command.flags ≡ 0
+
+-- What is asked of a source of so many bytes, and of the destination, where zeros are to be allocated or not, and passed over or not, as where the destination is known
+-- to be zero.
+pub record AreAskedOnce (allocated skip : Bool) (size : ℕ) (source destination : Dealt) : Type 0 where
   -- Of the source only READ and BLOCK_STATUS are asked, and of the destination only WRITE, WRITE_ZEROES and FLUSH.
   pub looks : EachAsked (λ command. is_look command.kind ≡ true) source
   pub stores : EachAsked (λ command. is_store command.kind ≡ true) destination
@@ -69,6 +75,13 @@ pub record AreAskedOnce (allocated : Bool) (size : ℕ) (source destination : De
   pub changes_within : EachAsked (EndsBy covers size) destination
   -- WRITE_ZEROES has NO_HOLE exactly where zeros are to be allocated.
   pub holes : EachAsked (λ command. command.kind ≡ Zero → command.flags ≡ zero_flags allocated) destination
+  -- No other command has flags.
+  pub looks_plain : EachAsked IsPlain source
+  pub stores_plain : EachAsked IsPlain destination
+  -- No WRITE_ZEROES is asked where zeros are passed over.
+  pub skips : skip ≡ true → EachAsked (λ command. command.kind ≢ Zero) destination
+  -- BLOCK_STATUS asks for 134,217,728 bytes at most.
+  pub extents : EachAsked (λ command. command.kind ≡ BlockStatus → command.length ≤ max_extents) source
 
 -- Each number that a call gave is that of a link that was connected to one of both places, and no other link was read or written.
 pub record AreOwnLinks (from to : Place) (calls : List Call) : Type 0 where
@@ -76,11 +89,11 @@ pub record AreOwnLinks (from to : Place) (calls : List Call) : Type 0 where
   pub used : (link : ℕ) → is_given link calls ≡ false → calls_on link calls ≡ []
 
 -- What these calls asked of both places, on links of their own, where the source told this size.
-pub record HasAskedOnce (allocated : Bool) (from to : Place) (calls : List Call) : Type 0 where
+pub record HasAskedOnce (allocated skip : Bool) (from to : Place) (calls : List Call) : Type 0 where
   pub links : AreOwnLinks from to calls
   pub size : ℕ
   pub told : WasToldSize (dealt_with from calls) size
-  pub asked : AreAskedOnce allocated size (dealt_with from calls) (dealt_with to calls)
+  pub asked : AreAskedOnce allocated skip size (dealt_with from calls) (dealt_with to calls)
 
 -- each READ, WRITE and WRITE_ZEROES that was asked of an export is done
 abbrev pub AreDone : Dealt → Type 0
@@ -99,7 +112,7 @@ GrewBy Is told told' = (all part : List Call) → told' ≡ Some all → Grows t
 -- another asked was asked once.
 abbrev pub EndedAsksOnce : Type 0
 EndedAsksOnce = (from to : Place) (size : ℕ) (how : How) (has : ℕ → Bool) (slices rest : List Slice) (now : board.Seen) (calls : List Call) (cells : Cells) (told : ℕ → Bool) (end : ℕ) →
-    Between from to (Some size) how has slices now calls [] → now.error ≡ None → ((p : ℕ) → IsPlannedOnce cells told 0 end p (slices ++ rest)) → end ≤ size → from ≢ to → HasAskedOnce how.allocated from to calls
+    Between from to (Some size) how has slices now calls [] → now.error ≡ None → ((p : ℕ) → IsPlannedOnce cells told 0 end p (slices ++ rest)) → end ≤ size → from ≢ to → HasAskedOnce how.allocated how.skip from to calls
 
 -- So all of it is done, where nothing is begun and not over.
 abbrev pub EndedAreDone : Type 0

@@ -22,3 +22,6 @@ pub mod Spread
 pub mod Parts
 pub mod Spared
 pub mod Fronts
+pub mod Unfailed
+pub mod Cells
+pub mod Reached

@@ -24,9 +24,9 @@ abbrev pub NothingWasAsked : List wire.Call → Type 0
 NothingWasAsked calls = (link cookie : ℕ) → asked_on (on_link link calls) cookie ≡ None
 
 -- On links of their own these calls asked nothing yet, or what they asked of both places was asked once.
-pub record AsksAtMostOnce (allocated : Bool) (from to : Place) (calls : List wire.Call) : Type 0 where
+pub record AsksAtMostOnce (allocated skip : Bool) (from to : Place) (calls : List wire.Call) : Type 0 where
   pub links : AreOwnLinks from to calls
-  pub asked : NothingWasAsked calls ⊎ HasAskedOnce allocated from to calls
+  pub asked : NothingWasAsked calls ⊎ HasAskedOnce allocated skip from to calls
 
 -- The export was asked to flush once at most.
 abbrev pub FlushesAtMostOnce : Place → List wire.Call → Type 0
@@ -39,7 +39,7 @@ FlushesAtMostOnce place calls = OneFlushes (dealt_with place calls)
 pub record PartAsksOnce (how : How) (flushing : Bool) (from to : Place) (size end : ℕ) (calls : List wire.Call) : Type 0 where
   pub links : AreOwnLinks from to calls
   pub told : WasToldSize (dealt_with from calls) size
-  pub asked : AreAskedOnce how.allocated end (dealt_with from calls) (dealt_with to calls)
+  pub asked : AreAskedOnce how.allocated how.skip end (dealt_with from calls) (dealt_with to calls)
   pub dense : WritesNoZeros how (dealt_with to calls)
   pub flushes : FlushesAtMostOnce to calls
   pub unflushed : flushing ≡ false → IsUnflushed to calls

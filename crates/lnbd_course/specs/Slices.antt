@@ -1,10 +1,12 @@
 -- How far the slices of a copy are, by its calls.
 use Rattle.std.specs.Prelude.{◌≡◌, ◌≢◌, ◌⊎◌, ℕ, ◌+◌, ◌-◌, Bool, true, false, List, [], ◌∷◌, length, get_or, Option, Some, None}
+use Rattle.lnbd_model.specs.declared.kind.Kind.{Kind}
+use Rattle.lnbd_model.specs.declared.kind.Kind.TheVariants.{Read}
 use Rattle.lnbd_model.specs.declared.target.Place.{Place}
 use Rattle.lnbd_outcome.specs.Outcome.{Outcome, Unfinished}
 use Rattle.lnbd_link.specs.Call as wire
 use Rattle.lnbd_history.specs.Commands.{Command}
-use Rattle.lnbd_asked.specs.Honest.{Done, covers, has}
+use Rattle.lnbd_asked.specs.Honest.{Done, changes, covers, has}
 use Rattle.lnbd_asked.specs.Link.{Nobody}
 use Rattle.lnbd_asked.specs.Transcript.{Dealt, dealt_with}
 use Rattle.lnbd_poll.specs.Seen.{Seen}
@@ -12,23 +14,36 @@ use Rattle.lnbd_plan.specs.declared.grid.Slice.{Slice}
 use Rattle.lnbd_board.specs.declared.how.How.{How}
 use Rattle.lnbd_board.specs.declared.ticket.Ticket.{Ticket}
 use Rattle.lnbd_board.specs.Files as board
+use Rattle.lnbd_board.specs.Pieces.{zeroing_kind}
 use Rattle.lnbd_board.specs.Requests.{reads}
 use Rattle.lnbd_board.specs.Rows.{busy, lies_in}
-use Rattle.lnbd_tracks.specs.Laws.{IsDone, moves_bytes}
+use Rattle.lnbd_tracks.specs.Laws.{IsDone}
 use Rattle.lnbd_tracks.specs.Unanswered.{AreUnanswered}
 use Rattle.lnbd_course.specs.Between.{Between}
 use Rattle.lnbd_course.specs.Failed.{AllStand}
 use Rattle.lnbd_course.specs.Told.{Known, Told}
 use Rattle.lnbd_course.specs.UnderWay.{AllHeld, AreUnderWay, NoneWrites, is_block_status}
 
--- A request that was asked of an export touches this position, and came to something of this kind.
-pub record Touched (touches : Command Nobody → ℕ → Bool) (p : ℕ) (Came : Outcome → Type 0) (dealt : Dealt) : Type 0 where
+-- One request of an export, of this kind, asks for all of a slice and no more; and it came to something of this kind.
+pub record IsAskedWhole (kind : Kind) (slice : Slice) (Came : Outcome → Type 0) (dealt : Dealt) : Type 0 where
   pub link : ℕ
   pub cookie : ℕ
   pub command : Command Nobody
   pub asked : dealt.asked link cookie ≡ Some command
-  pub here : touches command p ≡ true
+  pub is : command.kind ≡ kind
+  pub start : command.offset ≡ slice.start
+  pub size : command.length ≡ slice.length
   pub came : Came (dealt.outcome link cookie)
+
+-- A change that lies within a slice has this position, and is done.
+pub record WasChanged (slice : Slice) (p : ℕ) (destination : Dealt) : Type 0 where
+  pub link : ℕ
+  pub cookie : ℕ
+  pub command : Command Nobody
+  pub asked : destination.asked link cookie ≡ Some command
+  pub here : covers command p ≡ true
+  pub inside : (q : ℕ) → has command q ≡ true → lies_in slice q ≡ true
+  pub done : IsDone (destination.outcome link cookie)
 
 -- A READ of this position is done, and told its byte as zero.
 pub record WasReadZero (p : ℕ) (source : Dealt) : Type 0 where
@@ -45,32 +60,48 @@ pub record WasReadZero (p : ℕ) (source : Dealt) : Type 0 where
 abbrev pub IsKnownZero : Slice → ℕ → (source : Dealt) → Type 0
 IsKnownZero slice p source = (slice.zero ≡ true) ⊎ WasReadZero p source
 
--- A slice is finished: all of it was read, unless it was told as zero, and all of it was written or zeroed, but for zeros where the destination is known to be
--- zero; each of these requests is done.
-pub record IsFinished (how : How) (slice : Slice) (source destination : Dealt) : Type 0 where
-  pub read : slice.zero ≡ false → (p : ℕ) → lies_in slice p ≡ true → Touched reads p IsDone source
-  pub changed : (p : ℕ) → lies_in slice p ≡ true → Touched covers p IsDone destination ⊎ ((how.skip ≡ true) × IsKnownZero slice p source)
+-- All of a slice was read by one READ, which is done, unless it was told as zero.
+abbrev pub WasRead : Slice → (source : Dealt) → Type 0
+WasRead slice source = slice.zero ≡ false → IsAskedWhole Read slice IsDone source
 
--- One request of a slice is unanswered: it moves bytes, all of them within the slice.
-pub record Waits (slice : Slice) (dealt : Dealt) : Type 0 where
+-- A slice is finished: it was read, and all of it was written or zeroed by requests within it, but for zeros where the destination is known to be zero; each of
+-- these requests is done. One that was told as zero was zeroed by one request.
+pub record IsFinished (how : How) (slice : Slice) (source destination : Dealt) : Type 0 where
+  pub read : WasRead slice source
+  pub changed : (p : ℕ) → lies_in slice p ≡ true → WasChanged slice p destination ⊎ ((how.skip ≡ true) × IsKnownZero slice p source)
+  pub zeroed : slice.zero ≡ true → IsAskedWhole (zeroing_kind how) slice IsDone destination
+
+-- nothing came of a request
+abbrev pub IsUnfinished : Outcome → Type 0
+IsUnfinished outcome = outcome ≡ Unfinished
+
+-- The READ of a slice is unanswered, which was not told as zero.
+pub record WaitsToRead (slice : Slice) (source : Dealt) : Type 0 where
+  pub data_ : slice.zero ≡ false
+  pub read : IsAskedWhole Read slice IsUnfinished source
+
+-- A slice was read, and one change of it is unanswered, all of which lies within the slice. That of a slice which was told as zero is all of it.
+pub record WaitsToChange (how : How) (slice : Slice) (source destination : Dealt) : Type 0 where
+  pub read : WasRead slice source
   pub link : ℕ
   pub cookie : ℕ
   pub command : Command Nobody
-  pub asked : dealt.asked link cookie ≡ Some command
-  pub kind : moves_bytes command.kind ≡ true
+  pub asked : destination.asked link cookie ≡ Some command
+  pub kind : changes command.kind ≡ true
   pub inside : (p : ℕ) → has command p ≡ true → lies_in slice p ≡ true
-  pub waits : dealt.outcome link cookie ≡ Unfinished
+  pub waits : IsUnfinished (destination.outcome link cookie)
+  pub zeroes : slice.zero ≡ true → IsAskedWhole (zeroing_kind how) slice IsUnfinished destination
 
--- of the source or of the destination
-abbrev pub IsAwaited : Slice → (source destination : Dealt) → Type 0
-IsAwaited slice source destination = Waits slice source ⊎ Waits slice destination
+-- One request of a slice is unanswered, of the source or of the destination.
+abbrev pub IsAwaited : How → Slice → (source destination : Dealt) → Type 0
+IsAwaited how slice source destination = WaitsToRead slice source ⊎ WaitsToChange how slice source destination
 
 -- Of these slices each is finished, or one request of it is unanswered, which so many are.
 abbrev pub AreBegun : How → (source destination : Dealt) → List Slice → ℕ → Type 0
 AreBegun how source destination [] n = n ≡ 0
 AreBegun how source destination (slice ∷ slices) n =
     (IsFinished how slice source destination × AreBegun how source destination slices n)
-    ⊎ (IsAwaited slice source destination × ((m : ℕ) × ((n ≡ m + 1) × AreBegun how source destination slices m)))
+    ⊎ (IsAwaited how slice source destination × ((m : ℕ) × ((n ≡ m + 1) × AreBegun how source destination slices m)))
 
 -- Where no handle has anything to write, no error was told and each row of the board has a request under way, the slices that were begun are finished, but for
 -- as many as there are rows, of each of which one request is unanswered.

@@ -27,26 +27,31 @@ use Rattle.lnbd_board.specs.Requests.{Request}
 use Rattle.lnbd_tracks.specs.Awaiting.{Awaits}
 use Rattle.lnbd_tracks.specs.Laws.{is_coming}
 use Rattle.lnbd_tracks.specs.Mapping.{Maps, IsToldZero, HoldsZero, ToldAlike, asks_extents}
-use Rattle.lnbd_tracks.specs.Heeding.{Heeds, ListensTo, holds_whole}
+use Rattle.lnbd_tracks.specs.Heeding.{Heeds, ListensTo, holds_told, holds_whole}
 use Rattle.lnbd_tracks.specs.Tracks.{is_issue}
+use Rattle.lnbd_tracks.specs.Unfailed.{IsUnfailed}
 use Rattle.lnbd_course.specs.Counted.{CountsSame, HasNotCounted}
 use Rattle.lnbd_course.specs.Course.{Course, AreOfSides, with_link}
 use Rattle.lnbd_course.specs.Laws.{AsksSource, AsksDestination}
 
--- What is known of the source's zeros: the positions that were told as zero, and those of the blocks of each size that one answer told as zero whole.
+-- What is known of the source's extents: the positions that were told as zero, those of the blocks of each size that one answer told as zero whole, and those
+-- that were told of at all.
 pub record Known : Type 0 where
   pub zero : ℕ → Bool
   pub whole : (block p : ℕ) → Bool
+  pub reach : ℕ → Bool
 
 -- Between two turns: the copy is on its course; of the range whose extents are asked for and not heard yet, if there is one, the board holds what the one block
 -- status for it told; and each position that is known as zero was told so by a block status of the source that is done; and
--- each block that one of those told as zero whole is known, or the board holds it; and the block status for that range is unanswered until the board is told.
+-- each block that one of those told as zero whole is known, and each position that it told of, or the board holds it; and the block status for that range is unanswered until the board is told.
+-- While the board was told of no error, no command came to one.
 pub record Told (how : How) (has : ℕ → Bool) (slices : List Slice) (now : board.Seen) (calls : List wire.Call) (seens : List (Seen Ticket)) (wanted : Option (ℕ × ℕ)) (known : Known) : Type 0 where
   pub course : Course how has slices now calls seens
   pub maps : Maps has course.histories wanted now
   pub knows : (p : ℕ) → known.zero p ≡ true → IsToldZero has course.histories p
-  pub heeds : Heeds course.histories wanted known.whole now
+  pub heeds : Heeds course.histories wanted known.whole known.reach now
   pub awaits : Awaits has course.histories wanted now
+  pub unfailed : IsUnfailed course.histories now
 
 -- The beginning.
 
@@ -111,16 +116,17 @@ OthersTell = (how : How) (has : ℕ → Bool) (slices : List Slice) (now : board
 -- Hearing.
 
 -- Where the range that is waited for was answered, a position of it that the board holds as told as zero may be known as zero, and each block that it
--- holds so whole is to be, if there was memory for all that was told. Then none is waited for.
+-- holds so whole is to be, and each position of it that the board holds at all, if there was memory for all that was told. Then none is waited for.
 abbrev pub HearingTells : Type 0
 HearingTells = (how : How) (has : ℕ → Bool) (slices : List Slice) (now : board.Seen) (calls : List wire.Call) (seens : List (Seen Ticket)) (range : ℕ × ℕ) (known known' : Known) →
     Told how has slices now calls seens (Some range) known → now.mapped ≡ true → now.short ≡ false → ((p : ℕ) → known'.zero p ≡ true → (known.zero p ≡ true) ⊎ HoldsZero range now p) →
-    ((block p : ℕ) → known.whole block p ≡ true → known'.whole block p ≡ true) → ((block p : ℕ) → holds_whole range now block p ≡ true → known'.whole block p ≡ true) → Told how has slices now calls seens None known'
+    ((block p : ℕ) → known.whole block p ≡ true → known'.whole block p ≡ true) → ((block p : ℕ) → holds_whole range now block p ≡ true → known'.whole block p ≡ true) →
+    ((p : ℕ) → known.reach p ≡ true → known'.reach p ≡ true) → ((p : ℕ) → holds_told range now p ≡ true → known'.reach p ≡ true) → Told how has slices now calls seens None known'
 
--- Fewer positions may be known as zero, and more blocks.
+-- Fewer positions may be known as zero, and more blocks, and more positions at all.
 abbrev pub FewerTell : Type 0
 FewerTell = (how : How) (has : ℕ → Bool) (slices : List Slice) (now : board.Seen) (calls : List wire.Call) (seens : List (Seen Ticket)) (wanted : Option (ℕ × ℕ)) (known known' : Known) →
-    Told how has slices now calls seens wanted known → ((p : ℕ) → known'.zero p ≡ true → known.zero p ≡ true) → ((block p : ℕ) → known.whole block p ≡ true → known'.whole block p ≡ true) → Told how has slices now calls seens wanted known'
+    Told how has slices now calls seens wanted known → ((p : ℕ) → known'.zero p ≡ true → known.zero p ≡ true) → ((block p : ℕ) → known.whole block p ≡ true → known'.whole block p ≡ true) → ((p : ℕ) → known.reach p ≡ true → known'.reach p ≡ true) → Told how has slices now calls seens wanted known'
 
 -- With a window more a position is told zero by it or by those before it.
 abbrev pub WindowsTell : Type 0

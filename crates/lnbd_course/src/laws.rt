@@ -3,6 +3,7 @@
 ghost use Rattle.lnbd_course.specs.Answered.{AnswersStay, NothingIsReadBehind, RangesWereAnswered};
 ghost use Rattle.lnbd_course.specs.AllDone.{EndedAreAllDone};
 ghost use Rattle.lnbd_course.specs.Asks.{EndedAreDone, EndedAsksOnce};
+ghost use Rattle.lnbd_course.specs.Cells.{PartsAreInCells};
 ghost use Rattle.lnbd_course.specs.Counts.{EndedSums};
 ghost use Rattle.lnbd_course.specs.Driven.{EndedAreDriven};
 ghost use Rattle.lnbd_course.specs.Failed.{TurnsFail};
@@ -12,12 +13,14 @@ ghost use Rattle.lnbd_course.specs.Betweens.{NothingIsBetween, OpensBetween, Set
 ghost use Rattle.lnbd_course.specs.Slices.{EndedAreBegun, QuietAreBegun, QuietAsks};
 ghost use Rattle.lnbd_course.specs.Fronts.{FrontsHaveFew, FrontsHaveNone, NothingWasBefore};
 ghost use Rattle.lnbd_course.specs.Parts.{PartsAskOnce};
+ghost use Rattle.lnbd_course.specs.Reached.{ToldAreKnown};
 ghost use Rattle.lnbd_course.specs.Spared.{PartsSpare};
 ghost use Rattle.lnbd_course.specs.Spares.{EndedAreDense, EndedSpares};
 ghost use Rattle.lnbd_course.specs.Orders.{BeginningAsks, GoingAsks, OverAsksNothing};
 ghost use Rattle.lnbd_course.specs.Taken.{BuffersAreNoMatter, TakenAreSpelled};
 ghost use Rattle.lnbd_course.specs.Told.{NothingIsTold, OpeningTells, SettlingTells, TurnsTell, CallsTell, SourceAsksTell, DestinationAsksTell, ExtentsAskTell, BoardMovesTell, OthersTell, HearingTells, FewerTell, WindowsTell, TakingTells, KnownWasTold, SidesAreOfSource};
 ghost use Rattle.lnbd_course.specs.Spread.{HandlesHaveFew, LinksHaveFew, OthersHaveNone, OverHasNone};
+ghost use Rattle.lnbd_course.specs.Unfailed.{TurnsTellContent, UnfailedShows};
 ghost use Rattle.lnbd_course.specs.UnderWay.{QuietAwaits, QuietCounts};
 
 /// A copy is on its course before it has a handle, with each one that begins on a link which was just
@@ -243,6 +246,11 @@ pub fn parts_ask_once()
     ensures { PartsAskOnce }
 {}
 
+/// In a turn, whole or short, what is asked is no larger than the cells at whose multiples slices are cut.
+pub fn parts_are_in_cells()
+    ensures { PartsAreInCells }
+{}
+
 /// In a turn, whole or short, what is read stays what handles had been asked to read, and of block statuses only one more
 /// can be done: that behind all which is planned. So no READ covers a block that one answer told as zero whole.
 pub fn parts_spare()
@@ -255,4 +263,19 @@ pub fn fronts_have_few()
     ensures handles { FrontsHaveFew }
     ensures others { FrontsHaveNone }
     ensures nothing { NothingWasBefore }
+{}
+
+/// While a copy's board was told of no error, no command failed by its calls.
+pub fn unfailed_shows()
+    ensures { UnfailedShows }
+{}
+
+/// Faulty content that a command came to in a turn, by the calls, is the error of the copy's board, whatever else it was told.
+pub fn turns_tell_content()
+    ensures { TurnsTellContent }
+{}
+
+/// Each position that a block status of the source told of is known so, while the extents that are waited for are not answered.
+pub fn told_are_known()
+    ensures { ToldAreKnown }
 {}

@@ -23,7 +23,7 @@ use Rattle.lnbd_asked.proofs.Naming.{driven_are_of, driven_tell}
 use Rattle.lnbd_poll.specs.declared.noticed.Noticed.{Noticed}
 use Rattle.lnbd_poll.specs.Notices.{ReadsIf, ReadsOn, WritesIf, is_reading, is_waiting}
 use Rattle.lnbd_poll.specs.Seen.{Seen}
-use Rattle.lnbd_poll.specs.Turns.{WritesAll, Stops, Goes_on, TurnsOne, Turns, All_took, Takes, Runs_short, Ending}
+use Rattle.lnbd_poll.specs.Turns.{WritesAll, Stops, Goes_on, TurnsOne, Turns, All_took, Takes, Runs_short, Breaks_off, Ending}
 use Rattle.lnbd_drives.specs.Exports.{HandlesAreOf, HandlesTell, ExportWasTold, InfoWasTold, TurnsGiveNone, export_in}
 use Rattle.lnbd_drives.proofs.Saying.{one_of}
 use Rattle.lnbd_drives.proofs.Waiting.{AreSome, counted, one_none}
@@ -109,6 +109,7 @@ module _ {K World : Type 0} (steps : World → List (Call K) → World → Type 
   turn_none before world part after world' ending (Takes _ _ _ _ _ _ seen others notice own here half moved other there rest is turns enough more calls_are after_is end) =
       ap (is_given link) calls_are ∙ both_none link own other (part_none notice seen here world half own moved turns) (turn_none others half other there world' rest more)
   turn_none before world part after world' ending (Runs_short _ _ _ _ _ _ seen others here moved is turns after_is end) = part_none _ seen here world world' part moved turns
+  turn_none before world part after world' ending (Breaks_off _ _ _ _ _ _ none after_is world_is end) = ap (is_given link) none
 
 pub turns_give_none : {K World : Type 0} (steps : World → List (Call K) → World → Type 0) → TurnsGiveNone steps
 turns_give_none steps link part before after world world' ending turns = turn_none steps link before world part after world' ending turns

@@ -1,11 +1,11 @@
 -- Handles after a turn.
-use Rattle.std.proofs.Common.{◌≡◌, ◌≢◌, ℕ, Bool, true, false, List, [], ◌∷◌, ◌++◌, Option, refl, ap, sym, subst, ◌∙◌, append_assoc}
+use Rattle.std.proofs.Common.{◌≡◌, ◌≢◌, ℕ, Bool, true, false, List, [], ◌∷◌, ◌++◌, Option, refl, ap, sym, subst, ◌∙◌, append_assoc, append-nil}
 use Rattle.std.proofs.lemmas.Bool.{false≢true}
 use Rattle.lnbd_callbacks.specs.Calls.{Call}
 use Rattle.lnbd_link.specs.Call as wire
 use Rattle.lnbd_poll.specs.Alone.{AreApart, HaveOwnLinks, calls_on}
 use Rattle.lnbd_poll.specs.Seen.{Seen}
-use Rattle.lnbd_poll.specs.Turns.{Ending, Whole, Short, Turns, All_took, Takes, Runs_short, with_moved}
+use Rattle.lnbd_poll.specs.Turns.{Ending, Whole, Short, Turns, All_took, Takes, Runs_short, Breaks_off, with_moved}
 use Rattle.lnbd_drives.specs.Driving.{AllDrive, AllPlain, AllPass}
 use Rattle.lnbd_drives.specs.Laws.{TurnsDrive, ShortTurnsDrive, TurnsPassOthers, PassingCallsDrive, OtherCallsPass}
 use Rattle.lnbd_drives.proofs.Passing.{both_off}
@@ -71,6 +71,7 @@ module _ {K : Type 0} where
     none_of link before world calls after world' ending (Runs_short _ _ _ _ _ _ seen others here moved is turns after_is end) differ =
         let apart = subst (AreApart link) is differ in
         part_off steps link _ seen world calls here world' moved apart.0 turns
+    none_of link before world calls after world' ending (Breaks_off _ _ _ _ _ _ none after_is world_is end) differ = ap (calls_on link) none
 
     -- a part passes the links of the others
     others_pass : (link : ℕ) (own : List wire.Call) (others : List (Seen K)) → ((n : ℕ) → link ≢ n → calls_on n own ≡ []) → AreApart link others → AllPass own others
@@ -99,6 +100,7 @@ module _ {K : Type 0} where
         let apart = subst (AreApart link) is differ in
         let here_ran = part_ran steps calls _ seen world part here world' moved turns unread'.0 (subst (Runs seen.link calls seen.history) unread'.0 run'.0) in
         subst (AreApart link) (sym after_is) (here_apart link here.link seen.link here_ran.same apart.0, apart.1)
+    still_apart link calls before world part after world' ending (Breaks_off _ _ _ _ _ _ none after_is world_is end) run unread own_links differ = subst (AreApart link) (sym after_is) differ
 
     -- after a turn: all run, their links are their own, and nothing is unread where memory did not run out
     record Turned (calls : List wire.Call) (whole : Bool) (after : List (Seen K)) : Type 0 where
@@ -136,6 +138,9 @@ module _ {K : Type 0} where
           own = (subst (λ (n : ℕ). AreApart n others) (sym here_ran.same) links.0, links.1);
           arrived = λ e. absurd (false≢true (sym (ap is_whole end) ∙ e));
         })
+    turn_runs calls before world part after world' ending (Breaks_off _ _ _ _ _ _ none after_is world_is end) run unread own_links =
+        subst (Turned (calls ++ part) (is_whole ending)) (sym after_is) (subst (λ (cs : List wire.Call). Turned cs (is_whole ending) before) (sym (ap (λ (cs : List wire.Call). calls ++ cs) none ∙ append-nil calls))
+        (record { run = run; own = own_links; arrived = λ e. unread }))
 
 module _ {K World : Type 0} (steps : World → List (Call K) → World → Type 0) where
   pub turns_drive : TurnsDrive steps

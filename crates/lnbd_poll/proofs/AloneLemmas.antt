@@ -1,7 +1,6 @@
 -- In a turn each handle takes its part by the calls on its own link.
-use Rattle.std.proofs.Common.{◌≡◌, ◌≢◌, ◌⊎◌, inl, inr, ℕ, Bool, true, false, List, [], ◌∷◌, ◌++◌, Option, Some, None, filter, if◌then◌else◌, refl, sym, ◌∙◌, ap, subst}
+use Rattle.std.proofs.Common.{◌≡◌, ◌≢◌, ◌⊎◌, inl, inr, ℕ, Bool, true, false, List, [], ◌∷◌, ◌++◌, Option, Some, if◌then◌else◌, refl, sym, ◌∙◌, ap, subst}
 use Rattle.std.proofs.lemmas.List.{append-nil}
-use Rattle.std.proofs.lemmas.Bool.{false≢true}
 use Rattle.lnbd_callbacks.specs.Calls.{Call}
 use Rattle.lnbd_history.specs.Events.{History}
 use Rattle.lnbd_link.specs.Call as wire
@@ -12,7 +11,7 @@ use Rattle.lnbd_poll.specs.Alone.{AreApart, EachTook, HaveOwnLinks, Took, calls_
 use Rattle.lnbd_poll.specs.Seen.{Seen}
 use Rattle.lnbd_poll.specs.Notices.{ReadsIf, ReadsOn, WritesIf, is_reading, is_waiting}
 use Rattle.lnbd_poll.proofs.NumberLemmas.{other_number, same_number}
-use Rattle.lnbd_poll.specs.Turns.{Ending, Turns, All_took, Takes, Runs_short, TurnsOne, WritesAll, Stops, Goes_on}
+use Rattle.lnbd_poll.specs.Turns.{Ending, Turns, All_took, Takes, Runs_short, Breaks_off, TurnsOne, WritesAll, Stops, Goes_on}
 
 -- all calls are reads and writes of this link
 abbrev AreOn : ℕ → List wire.Call → Type 0
@@ -78,6 +77,7 @@ module _ {K World : Type 0} (steps : World → List (Call K) → World → Type 
   none_of link before world calls after world' ending (Runs_short _ _ _ _ _ _ seen others here moved is turns after_is end) differ =
       let apart = subst (AreApart link) is differ in
       ap (calls_on link) (sym (append-nil calls)) ∙ other_calls link seen.link calls [] (part_on _ seen world calls here world' moved turns) apart.0
+  none_of link before world calls after world' ending (Breaks_off _ _ _ _ _ _ none after_is world_is end) differ = ap (calls_on link) none
 
   -- Calls on another link change nothing for the others.
   each_more : (n : ℕ) (own other : List wire.Call) (before after : List (Seen K)) → AreOn n own → AreApart n before → EachTook steps other before after → EachTook steps (own ++ other) before after
@@ -93,6 +93,10 @@ module _ {K World : Type 0} (steps : World → List (Call K) → World → Type 
   untried : (calls : List wire.Call) (n : ℕ) (all : List (Seen K)) → AreOn n calls → AreApart n all → EachTook steps calls all all
   untried calls n [] on differ = tt
   untried calls n (s ∷ ss) on differ = (inr (ap (calls_on s.link) (sym (append-nil calls)) ∙ other_calls s.link n calls [] on (λ is. differ.0 (sym is)), refl), untried calls n ss on differ.1)
+
+  none_tried : (all : List (Seen K)) → EachTook steps [] all all
+  none_tried [] = tt
+  none_tried (s ∷ ss) = (inr (refl, refl), none_tried ss)
 
   pub each_took : (before : List (Seen K)) (world : World) (calls : List wire.Call) (after : List (Seen K)) (world' : World) (ending : Ending) → Turns steps before world calls after world' ending → HaveOwnLinks before → EachTook steps calls before after
   each_took before world calls after world' ending (All_took _ _ _ _ _ _ is none after_is world_is end) own_links =
@@ -111,3 +115,5 @@ module _ {K World : Type 0} (steps : World → List (Call K) → World → Type 
       let first : Took steps seen calls here = record { notice = _; world = world; world' = world'; moved = moved; turns = turns } in
       let both_of : EachTook steps calls (seen ∷ others) (here ∷ others) = (inl (subst (λ (l : List wire.Call). Took steps seen l here) (sym mine) first), untried calls seen.link others on apart.0) in
       subst (λ (b : List (Seen K)). EachTook steps calls b after) (sym is) (subst (λ (a : List (Seen K)). EachTook steps calls (seen ∷ others) a) (sym after_is) both_of)
+  each_took before world calls after world' ending (Breaks_off _ _ _ _ _ _ none after_is world_is end) own_links =
+      subst (λ (a : List (Seen K)). EachTook steps calls before a) (sym after_is) (subst (λ (l : List wire.Call). EachTook steps l before before) (sym none) (none_tried before))

@@ -1,15 +1,14 @@
 -- Definitions by worked values.
-use Rattle.std.proofs.Common.{◌≡◌, ◌<◌, ℕ, true, false, List, [], ◌∷◌, length, Some, None, refl, arith}
+use Rattle.std.proofs.Common.{◌≡◌, ℕ, true, List, [], ◌∷◌, Some, refl}
 use Rattle.lnbd_callbacks.specs.Calls.{Call}
-use Rattle.lnbd_history.specs.Events.{History, Start, LinkFailed}
-use Rattle.lnbd_handle.specs.Histories.{Plays}
+use Rattle.lnbd_history.specs.Events.{Start}
 use Rattle.lnbd_handle.specs.Placing.{data_to_come, place_size}
 use Rattle.lnbd_link.specs.Call.{Read, Write, Moved, Unready, Sent}
 use Rattle.lnbd_poll.specs.declared.noticed.Noticed.TheVariants as noticed
 use Rattle.lnbd_poll.specs.declared.noticed.Turn.TheVariants as turn
 use Rattle.lnbd_poll.specs.Alone.{calls_on}
 use Rattle.lnbd_poll.specs.Seen.{Seen}
-use Rattle.lnbd_poll.specs.Notices.{ReadsOnce, WritesOnce, is_reading, is_waiting}
+use Rattle.lnbd_poll.specs.Notices.{ReadsOnce, WritesOnce, is_reading}
 use Rattle.lnbd_poll.specs.Turns.{moved_by, together, turn_of}
 
 -- no callbacks, and a world that never changes

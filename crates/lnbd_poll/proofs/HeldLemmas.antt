@@ -1,12 +1,11 @@
 -- Handles that are held: what a pause waits for, and how they are closed.
-use Rattle.std.proofs.Common.{arith, ◌≡◌, ◌==◌, ◌<◌, ◌≤◌, ◌+◌, ℕ, zero, suc, add-one, List, [], ◌∷◌, ◌++◌, All, length, take, drop, get_or, slice_set, Option, Some, None, refl, sym, ◌∙◌, ap, subst, append_assoc}
+use Rattle.std.proofs.Common.{arith, ◌≡◌, ◌≢◌, ◌<◌, ◌+◌, ℕ, zero, suc, add-one, List, [], ◌∷◌, ◌++◌, length, take, drop, get_or, slice_set, Option, Some, None, refl, sym, ◌∙◌, ap, subst, append_assoc}
 use Rattle.std.specs.Prelude.{◌↔◌, IsSome, slice_get}
 use Rattle.std.proofs.lemmas.Bool.{false≢true}
 use Rattle.std.proofs.lemmas.List.{append-nil}
 use Rattle.lnbd_callbacks.specs.Calls.{Call}
 use Rattle.lnbd_model.specs.declared.state.State.{State}
 use Rattle.lnbd_history.specs.Answers.{state_after, in_flight_after, direction_after}
-use Rattle.lnbd_machine.specs.Machine.{Machine}
 use Rattle.lnbd_machine.specs.Now.{state_now, in_flight_now, direction_now}
 use Rattle.lnbd_standing.proofs.Standing.{stands_right}
 use Rattle.lnbd_commands.specs.declared.close.Closed.{Closed}
@@ -55,6 +54,13 @@ module _ {K : Type 0} where
 
 -- Indices.
 
+get_other : {A : Type 0} (xs : List A) (i j : ℕ) (y : A) → j ≢ i → slice_get (slice_set xs i y) j ≡ slice_get xs j
+get_other [] i j y differ = refl
+get_other (x ∷ xs) zero zero y differ = absurd (differ refl)
+get_other (x ∷ xs) zero (suc j) y differ = refl
+get_other (x ∷ xs) (suc i) zero y differ = refl
+get_other (x ∷ xs) (suc i) (suc j) y differ = get_other xs i j y (λ is. differ (ap suc is))
+
 module _ {K : Type 0} where
   pub set_handle : (i : ℕ) (xs : List (Kept K)) (x : Kept K) (handle : Handled K) → i < length xs → x ≡ get_or xs i x → all_held (slice_set xs i (record x { handle = handle })) ≡ with_handle (all_held xs) i handle.machine
   set_handle i [] x handle within is = absurd (omega (arith, within))
@@ -65,6 +71,9 @@ module _ {K : Type 0} where
   set_held i [] x = refl
   set_held zero (y ∷ ys) x = refl
   set_held (suc i) (y ∷ ys) x = ap (λ (l : List (Held K)). seen_held y ∷ l) (set_held i ys x)
+
+  pub other_held : (xs : List (Kept K)) (i other : ℕ) (x : Kept K) → other ≢ i → slice_get (all_held (slice_set xs i x)) other ≡ slice_get (all_held xs) other
+  other_held xs i other x differ = ap (λ (l : List (Held K)). slice_get l other) (set_held i xs x) ∙ get_other (all_held xs) i other (seen_held x) differ
 
   pub held_length : (xs : List (Kept K)) → length (all_held xs) ≡ length xs
   held_length [] = refl

@@ -14,7 +14,7 @@ use Rattle.lnbd_poll.specs.Seen.{Seen}
 use Rattle.lnbd_poll.specs.Notices.{Arrives, Hears, ReadsIf, ReadsOn, Sends, WritesIf, is_reading, is_waiting}
 use Rattle.lnbd_poll.specs.Still.{WaitWhereFull, is_full}
 use Rattle.lnbd_poll.proofs.NumberLemmas.{same_number}
-use Rattle.lnbd_poll.specs.Turns.{Ending, Whole, Short, Told, Turns, All_took, Takes, Runs_short, TurnsOne, WritesAll, Stops, Goes_on, is_lost, is_moved, is_short, moved_by, together, with_moved}
+use Rattle.lnbd_poll.specs.Turns.{Ending, Whole, Short, Told, Turns, All_took, Takes, Runs_short, Breaks_off, TurnsOne, WritesAll, Stops, Goes_on, is_lost, is_moved, is_short, moved_by, together, with_moved}
 
 some_is_none : {A : Type 0} (n : ℕ) → Some n ≡ None → A
 some_is_none n is = absurd (false≢true (sym (ap is_some is)))
@@ -138,3 +138,4 @@ module _ {K World : Type 0} (steps : World → List (Call K) → World → Type 
       let both_of : WaitWhereFull (own ++ other) (here ∷ there) = (first, all_later own other there (waits_where_full others half other there world' rest more quiet.1)) in
       subst (WaitWhereFull calls) (sym after_is) (subst (λ (l : List wire.Call). WaitWhereFull l (here ∷ there)) (sym calls_are) both_of)
   waits_where_full before world calls after world' ending (Runs_short _ _ _ _ _ _ seen others here moved is turns after_is end) still = absurd (cc (end, still))
+  waits_where_full before world calls after world' ending (Breaks_off _ _ _ _ _ _ none after_is world_is end) still = absurd (cc (end, still))

@@ -1,11 +1,12 @@
 -- Turns: one write after another, and one handle after another.
-use Rattle.std.proofs.Common.{arith, ◌≡◌, ◌==◌, ◌<◌, ◌≤◌, ◌+◌, ◌||◌, ℕ, Bool, true, false, min, List, [], ◌∷◌, ◌++◌, length, get_or, slice_set, Option, Some, None, refl, sym, ◌∙◌, ap, subst, append_assoc}
+use Rattle.std.proofs.Common.{arith, ◌≡◌, ◌<◌, ◌≤◌, ◌+◌, ◌||◌, ℕ, zero, suc, Bool, true, false, List, [], ◌∷◌, ◌++◌, length, get_or, slice_set, Option, Some, None, refl, sym, ◌∙◌, ap, subst, append_assoc}
 use Rattle.std.proofs.lemmas.Bool.{false≢true}
 use Rattle.std.proofs.lemmas.List.{append-nil, length-append}
 use Rattle.std.proofs.lemmas.List.Folds.{list_any-append}
 use Rattle.std.specs.List.{list_any}
+use Rattle.std.specs.Prelude.{Result, Ok, Err, IfOk, OnErr, slice_get}
 use Rattle.lnbd_callbacks.specs.Calls.{Call}
-use Rattle.lnbd_history.specs.Events.{Answer, Event, History, LinkFailed}
+use Rattle.lnbd_history.specs.Events.{History, LinkFailed}
 use Rattle.lnbd_history.specs.Answers.{out_after}
 use Rattle.lnbd_machine.specs.Machine.{Machine}
 use Rattle.lnbd_standing.specs.Standing.{StandsFor}
@@ -22,8 +23,8 @@ use Rattle.lnbd_poll.specs.declared.noticed.Turn.{Turn}
 use Rattle.lnbd_poll.specs.declared.noticed.Turn.TheVariants as turn
 use Rattle.lnbd_poll.specs.Seen.{Seen, IsAt, Went, Goes}
 use Rattle.lnbd_poll.specs.Notices.{Sends, room_after, Hears, ReadsIf, ReadsOn, ReadsOnce, WritesIf, WritesOnce, is_reading, is_waiting}
-use Rattle.lnbd_poll.specs.Turns.{Blames, Ending, Whole, Short, Told, Turns, All_took, Takes, Runs_short, TurnsOne, WritesAll, Stops, Goes_on, WritesTold, is_lost, is_moved, is_short, moved_by, together, turn_of, with_moved}
-use Rattle.lnbd_poll.specs.Turned.{TurnsShort, TurnsWhole}
+use Rattle.lnbd_poll.specs.Turns.{AllTook, Blames, Ending, Whole, Short, Told, Turns, All_took, Takes, Runs_short, Breaks_off, TurnsOne, WritesAll, Stops, Goes_on, WritesTold, is_lost, is_moved, is_short, moved_by, together, turn_of, with_moved}
+use Rattle.lnbd_poll.specs.Turned.{TakesPart, TurnsCut, TurnsShort, TurnsWhole}
 use Rattle.lnbd_poll.specs.Held.{Held, AreAt}
 use Rattle.lnbd_poll.proofs.AloneLemmas.{each_took}
 use Rattle.lnbd_poll.proofs.StillLemmas.{waits_where_full}
@@ -45,6 +46,11 @@ together_assoc (Some n) (Some m) (Some k) = ap Some (omega arith)
 together_none : (a : Option ℕ) → together a None ≡ a
 together_none None = refl
 together_none (Some n) = refl
+
+-- In a turn that is broken off something happened.
+some_so_far : (moved : Option ℕ) → (n : ℕ) × (together moved (Some 0) ≡ Some n)
+some_so_far None = (0, refl)
+some_so_far (Some n) = (n + 0, refl)
 
 still_is : (moved : Option ℕ) → turn_of moved ≡ turn.Still → moved ≡ None
 still_is None is = refl
@@ -244,6 +250,24 @@ module _ {K World : Type 0} (steps : World → List (Call K) → World → Type 
 
 -- One handle after another.
 
+front_is : {A : Type 0} (done left : List A) (x : A) → slice_get (done ++ left) (length done) ≡ Some x → (rest : List A) × (left ≡ x ∷ rest)
+front_is [] [] x is = absurd (cc is)
+front_is [] (y ∷ ys) x is = (ys, ap (λ z. z ∷ ys) (cc is))
+front_is (d ∷ ds) left x is = front_is ds left x is
+
+front_set : {A : Type 0} (done rest : List A) (x y : A) → slice_set (done ++ x ∷ rest) (length done) y ≡ done ++ y ∷ rest
+front_set [] rest x y = refl
+front_set (d ∷ ds) rest x y = ap (λ l. d ∷ l) (front_set ds rest x y)
+
+-- What holds of a value that is Ok, or of an error, gives another.
+pub if_ok : {A E : Type 0} {P Q : A → Type 0} (result : Result A E) → ((a : A) → P a → Q a) → IfOk result P → IfOk result Q
+if_ok (Ok a) f p = f a p
+if_ok (Err e) f p = p
+
+pub on_err : {A E P Q : Type 0} (result : Result A E) → (P → Q) → OnErr result P → OnErr result Q
+on_err (Ok a) f p = p
+on_err (Err e) f p = f p
+
 module _ {K : Type 0} where
   abbrev pub IsHere : Held K → Seen K → Type 0
   IsHere held seen = IsAt held.link held.handle held.inbox seen
@@ -254,19 +278,48 @@ module _ {K : Type 0} where
   at_length (x ∷ xs) [] at = absurd at
   at_length (x ∷ xs) (s ∷ ss) at = let same = at_length xs ss at.1 in omega (arith, same)
 
-  at_here : (done : List (Seen K)) (s : Seen K) (ss : List (Seen K)) (all : List (Held K)) (x : Held K) → AreAt all (done ++ s ∷ ss) → x ≡ get_or all (length done) x → IsHere x s
-  at_here [] s ss [] x at is = absurd at
-  at_here [] s ss (y ∷ ys) x at is = subst (λ (h : Held K). IsHere h s) (sym is) at.0
-  at_here (d ∷ ds) s ss [] x at is = absurd at
-  at_here (d ∷ ds) s ss (y ∷ ys) x at is = at_here ds s ss ys x at.1 is
+  at_here : (i : ℕ) (all : List (Held K)) (seen : List (Seen K)) (x : Held K) → AreAt all seen → i < length all → x ≡ get_or all i x → (s : Seen K) × (slice_get seen i ≡ Some s) × IsHere x s
+  at_here i [] seen x at within is = absurd (omega (arith, within))
+  at_here i (y ∷ ys) [] x at within is = absurd at
+  at_here zero (y ∷ ys) (s ∷ ss) x at within is = (s, refl, subst (λ (h : Held K). IsHere h s) (sym is) at.0)
+  at_here (suc i) (y ∷ ys) (s ∷ ss) x at within is = at_here i ys ss x at.1 (omega (arith, within)) is
 
-  at_set : (done : List (Seen K)) (s here : Seen K) (ss : List (Seen K)) (all : List (Held K)) (x : Held K) → AreAt all (done ++ s ∷ ss) → IsHere x here → AreAt (slice_set all (length done) x) (done ++ here ∷ ss)
-  at_set [] s here ss [] x at is = absurd at
-  at_set [] s here ss (y ∷ ys) x at is = (is, at.1)
-  at_set (d ∷ ds) s here ss [] x at is = absurd at
-  at_set (d ∷ ds) s here ss (y ∷ ys) x at is = (at.0, at_set ds s here ss ys x at.1 is)
+  at_set : (i : ℕ) (all : List (Held K)) (seen : List (Seen K)) (y : Held K) (here : Seen K) → AreAt all seen → IsHere y here → AreAt (slice_set all i y) (slice_set seen i here)
+  at_set i [] [] y here at is = tt
+  at_set i [] (s ∷ ss) y here at is = absurd at
+  at_set i (x ∷ xs) [] y here at is = absurd at
+  at_set zero (x ∷ xs) (s ∷ ss) y here at is = (is, at.1)
+  at_set (suc i) (x ∷ xs) (s ∷ ss) y here at is = (at.0, at_set i xs ss y here at.1 is)
+
+  -- One handle of several takes its part.
+  pub part_here : {World : Type 0} (Part : Seen K → World → List wire.Call → Seen K → World → Type 0) (a b : Option (List wire.Call)) (world world' : World) (all now : List (Held K)) (i : ℕ) (x y : Held K) → i < length all → x ≡ get_or all i x → now ≡ slice_set all i y
+      → Goes a b (λ seen. IsHere x seen) (λ seen. IsHere y seen) (λ before calls after. Part before world calls after world')
+      → Goes a b (λ seen. AreAt all seen) (λ seen. AreAt now seen) (λ before calls after. TakesPart Part i before world calls after world')
+  part_here Part a b world world' all now i x y within x_is now_is goes seen at =
+      let s = at_here i all seen x at within x_is in
+      let w = goes s.0 s.2 in
+      record {
+        calls = w.calls;
+        after = slice_set seen i w.after;
+        grown = w.grown;
+        leads = record { seen = s.0; here = w.after; was = s.1; is = refl; part = w.leads };
+        at = subst (λ (l : List (Held K)). AreAt l (slice_set seen i w.after)) (sym now_is) (at_set i all seen y w.after at w.at);
+      }
 
 module _ {K World : Type 0} (steps : World → List (Call K) → World → Type 0) where
+  -- Handles take their parts, and where it is said so no handle is left without its part.
+  abbrev pub TurnsIf : (full : Bool) → List (Seen K) → World → List wire.Call → List (Seen K) → World → Ending → Type 0
+  TurnsIf false before world calls after world' ending = Turns steps before world calls after world' ending
+  TurnsIf true before world calls after world' ending = (turns : Turns steps before world calls after world' ending) × AllTook turns
+
+  takes_if : (full : Bool) (seen : Seen K) (others : List (Seen K)) (notice : Noticed) (world half world' : World) (own other : List wire.Call) (here : Seen K) (there : List (Seen K)) (moved : Option ℕ) (rest : Ending)
+      → TurnsOne steps notice seen world own here half moved → is_short notice ≡ false → TurnsIf full others half other there world' rest
+      → TurnsIf full (seen ∷ others) world (own ++ other) (here ∷ there) world' (with_moved moved rest)
+  takes_if false seen others notice world half world' own other here there moved rest turns enough more =
+      Takes (seen ∷ others) world (own ++ other) (here ∷ there) world' (with_moved moved rest) seen others notice own here half moved other there rest refl turns enough more refl refl refl
+  takes_if true seen others notice world half world' own other here there moved rest turns enough more =
+      (Takes (seen ∷ others) world (own ++ other) (here ∷ there) world' (with_moved moved rest) seen others notice own here half moved other there rest refl turns enough more.0 refl refl refl, more.1)
+
   -- The handles of a turn so far: whatever the others do goes on from here.
   pub record Passing (a b : Option (List wire.Call)) (f g : ℕ) (told : Turn) (before : List (Seen K)) (world : World) (all : List (Held K)) (i : ℕ) (world' : World) : Type 0 where
     pub calls : List wire.Call
@@ -278,7 +331,7 @@ module _ {K World : Type 0} (steps : World → List (Call K) → World → Type 
     pub at : AreAt all (done ++ left)
     pub tells : told ≡ turn_of moved
     pub blames : Blames calls f g
-    pub goes_on : (c : List wire.Call) (after : List (Seen K)) (w : World) (ending : Ending) → Turns steps left world' c after w ending → Turns steps before world (calls ++ c) (done ++ after) w (with_moved moved ending)
+    pub goes_on : (full : Bool) (c : List wire.Call) (after : List (Seen K)) (w : World) (ending : Ending) → TurnsIf full left world' c after w ending → TurnsIf full before world (calls ++ c) (done ++ after) w (with_moved moved ending)
 
   pub passing_none : (a : Option (List wire.Call)) (f : ℕ) (before : List (Seen K)) (world : World) (all : List (Held K)) → AreAt all before → Passing a a f f turn.Still before world all 0 world
   passing_none a f before world all at = record {
@@ -291,83 +344,97 @@ module _ {K World : Type 0} (steps : World → List (Call K) → World → Type 
     at = at;
     tells = refl;
     blames = blames_none f f;
-    goes_on = λ c after w ending r. subst (λ (e : Ending). Turns steps before world c after w e) (sym (with_none ending)) r;
+    goes_on = λ full c after w ending r. subst (λ (e : Ending). TurnsIf full before world c after w e) (sym (with_none ending)) r;
   }
 
-  module _ (a b c : Option (List wire.Call)) (f g h : ℕ) (told : Turn) (before : List (Seen K)) (world half world' : World) (all : List (Held K)) (i : ℕ) (x y : Held K) (p : Passing a b f g told before world all i half)
-      (within : i < length all) (x_is : x ≡ get_or all i x) (l : f ≤ g) (m : g ≤ h) where
-    passing_set : (part both_of : Turn) → both_of ≡ both told part → Goes b c (λ seen. IsHere x seen) (λ seen. IsHere y seen) (λ before calls after. TookEnough steps g h part before half calls after world')
-        → Passing a c f h both_of before world (slice_set all i y) (i + 1) world'
-    passing_set part both_of is goes = go p.left refl
-      where
-        go : (left : List (Seen K)) → p.left ≡ left → Passing a c f h both_of before world (slice_set all i y) (i + 1) world'
-        go [] none =
-            let long = at_length all (p.done ++ p.left) p.at in
-            let short : length (p.done ++ p.left) ≡ length p.done = ap (λ (q : List (Seen K)). length (p.done ++ q)) none ∙ ap length (append-nil p.done) in
-            absurd (omega (arith, long, short, p.count, within))
-        go (s ∷ ss) is_left =
-            let at = subst (λ (q : List (Seen K)). AreAt all (p.done ++ q)) is_left p.at in
-            let here = at_here p.done s ss all x at (subst (λ (n : ℕ). x ≡ get_or all n x) (sym p.count) x_is) in
-            let w = goes s here in
-            let notice = w.leads.0 in
-            let enough = w.leads.1 in
-            let t = w.leads.2 in
-            record {
-              calls = p.calls ++ w.calls;
-              done = p.done ++ w.after ∷ [];
-              left = ss;
-              moved = together p.moved t.moved;
-              grown = grows_on a b c p.calls w.calls p.grown w.grown;
-              count = let long = length-append p.done (w.after ∷ []) in omega (arith, long, p.count);
-              at = subst (λ (q : List (Seen K)). AreAt (slice_set all i y) q) (sym (append_assoc p.done (w.after ∷ []) ss))
-                  (subst (λ (n : ℕ). AreAt (slice_set all n y) (p.done ++ w.after ∷ ss)) p.count (at_set p.done s w.after ss all y at w.at));
-              tells = both_told told part both_of p.moved t.moved is p.tells t.tells;
-              blames = blames_on p.calls w.calls f g h p.blames t.blames l m;
-              goes_on = λ d after v ending r.
-                  let mine = Takes (s ∷ ss) half (w.calls ++ d) (w.after ∷ after) v (with_moved t.moved ending) s ss notice w.calls w.after world' t.moved d after ending refl t.turns enough r refl refl refl in
-                  let all_of = p.goes_on (w.calls ++ d) (w.after ∷ after) v (with_moved t.moved ending) (subst (λ (q : List (Seen K)). Turns steps q half (w.calls ++ d) (w.after ∷ after) v (with_moved t.moved ending)) (sym is_left) mine) in
-                  let one = subst (λ (k : List wire.Call). Turns steps before world k (p.done ++ w.after ∷ after) v (with_moved p.moved (with_moved t.moved ending))) (sym (append_assoc p.calls w.calls d)) all_of in
-                  let two = subst (λ (q : List (Seen K)). Turns steps before world ((p.calls ++ w.calls) ++ d) q v (with_moved p.moved (with_moved t.moved ending))) (sym (append_assoc p.done (w.after ∷ []) after)) one in
-                  subst (λ (e : Ending). Turns steps before world ((p.calls ++ w.calls) ++ d) ((p.done ++ w.after ∷ []) ++ after) v e) (with_assoc p.moved t.moved ending) two;
-            }
+  module _ (a b c : Option (List wire.Call)) (f g h : ℕ) (told : Turn) (before : List (Seen K)) (world half world' : World) (all now : List (Held K)) (i : ℕ) (p : Passing a b f g told before world all i half) (l : f ≤ g) (m : g ≤ h) where
+    -- The handle of the next index is the first of those that are left.
+    next_is : (seen : Seen K) → slice_get (p.done ++ p.left) i ≡ Some seen → (rest : List (Seen K)) × (p.left ≡ seen ∷ rest)
+    next_is seen was = front_is p.done p.left seen (subst (λ (n : ℕ). slice_get (p.done ++ p.left) n ≡ Some seen) (sym p.count) was)
 
-    short_set : Goes b c (λ seen. IsHere x seen) (λ seen. IsHere y seen) (λ before calls after. TookShort steps g h before half calls after world')
-        → Went a c (λ seen. AreAt (slice_set all i y) seen) (λ calls after. TurnsShort steps f h before world calls after world')
-    short_set goes = go p.left refl
-      where
-        go : (left : List (Seen K)) → p.left ≡ left → Went a c (λ seen. AreAt (slice_set all i y) seen) (λ calls after. TurnsShort steps f h before world calls after world')
-        go [] none =
-            let long = at_length all (p.done ++ p.left) p.at in
-            let short : length (p.done ++ p.left) ≡ length p.done = ap (λ (q : List (Seen K)). length (p.done ++ q)) none ∙ ap length (append-nil p.done) in
-            absurd (omega (arith, long, short, p.count, within))
-        go (s ∷ ss) is_left =
-            let at = subst (λ (q : List (Seen K)). AreAt all (p.done ++ q)) is_left p.at in
-            let here = at_here p.done s ss all x at (subst (λ (n : ℕ). x ≡ get_or all n x) (sym p.count) x_is) in
-            let w = goes s here in
-            let t = w.leads.1 in
-            let mine = Runs_short (s ∷ ss) half w.calls (w.after ∷ ss) world' Short s ss w.after t.moved refl t.turns refl refl in
-            let all_of = p.goes_on w.calls (w.after ∷ ss) world' Short (subst (λ (q : List (Seen K)). Turns steps q half w.calls (w.after ∷ ss) world' Short) (sym is_left) mine) in
-            record {
-              calls = p.calls ++ w.calls;
-              after = p.done ++ w.after ∷ ss;
-              grown = grows_on a b c p.calls w.calls p.grown w.grown;
-              leads = record {
-                turns = all_of;
-                alone = each_took steps before world (p.calls ++ w.calls) (p.done ++ w.after ∷ ss) world' Short all_of;
-                blames = blames_on p.calls w.calls f g h p.blames t.blames l m;
-              };
-              at = subst (λ (n : ℕ). AreAt (slice_set all n y) (p.done ++ w.after ∷ ss)) p.count (at_set p.done s w.after ss all y at w.at);
-            }
+    next_set : (seen here : Seen K) (rest after : List (Seen K)) → p.left ≡ seen ∷ rest → after ≡ slice_set (p.done ++ p.left) i here → after ≡ p.done ++ here ∷ rest
+    next_set seen here rest after left_is is =
+        is
+        ∙ ap (λ (n : ℕ). slice_set (p.done ++ p.left) n here) (sym p.count)
+        ∙ ap (λ (q : List (Seen K)). slice_set (p.done ++ q) (length p.done) here) left_is
+        ∙ front_set p.done rest seen here
 
-    -- the handles as they are then
-    module _ (now : List (Held K)) (now_is : now ≡ slice_set all i y) where
-      pub passing_on : (part both_of : Turn) → both_of ≡ both told part → Goes b c (λ seen. IsHere x seen) (λ seen. IsHere y seen) (λ before calls after. TookEnough steps g h part before half calls after world')
-          → Passing a c f h both_of before world now (i + 1) world'
-      passing_on part both_of is goes = subst (λ (l : List (Held K)). Passing a c f h both_of before world l (i + 1) world') (sym now_is) (passing_set part both_of is goes)
+    pub passing_on : (part both_of : Turn) → both_of ≡ both told part
+        → Goes b c (λ seen. AreAt all seen) (λ seen. AreAt now seen) (λ before calls after. TakesPart (TookEnough steps g h part) i before half calls after world')
+        → Passing a c f h both_of before world now (i + 1) world'
+    passing_on part both_of is goes =
+        let w = goes (p.done ++ p.left) p.at in
+        let next = next_is w.leads.seen w.leads.was in
+        let ss = next.0 in
+        let here = w.leads.here in
+        let after_is = next_set w.leads.seen here ss w.after next.1 w.leads.is in
+        let t = w.leads.part.2 in
+        record {
+          calls = p.calls ++ w.calls;
+          done = p.done ++ here ∷ [];
+          left = ss;
+          moved = together p.moved t.moved;
+          grown = grows_on a b c p.calls w.calls p.grown w.grown;
+          count = let long = length-append p.done (here ∷ []) in omega (arith, long, p.count);
+          at = subst (λ (q : List (Seen K)). AreAt now q) (after_is ∙ sym (append_assoc p.done (here ∷ []) ss)) w.at;
+          tells = both_told told part both_of p.moved t.moved is p.tells t.tells;
+          blames = blames_on p.calls w.calls f g h p.blames t.blames l m;
+          goes_on = λ full d after v ending r.
+              let mine = takes_if full w.leads.seen ss w.leads.part.0 half world' v w.calls d here after t.moved ending t.turns w.leads.part.1 r in
+              let all_of = p.goes_on full (w.calls ++ d) (here ∷ after) v (with_moved t.moved ending) (subst (λ (q : List (Seen K)). TurnsIf full q half (w.calls ++ d) (here ∷ after) v (with_moved t.moved ending)) (sym next.1) mine) in
+              let one = subst (λ (k : List wire.Call). TurnsIf full before world k (p.done ++ here ∷ after) v (with_moved p.moved (with_moved t.moved ending))) (sym (append_assoc p.calls w.calls d)) all_of in
+              let two = subst (λ (q : List (Seen K)). TurnsIf full before world ((p.calls ++ w.calls) ++ d) q v (with_moved p.moved (with_moved t.moved ending))) (sym (append_assoc p.done (here ∷ []) after)) one in
+              subst (λ (e : Ending). TurnsIf full before world ((p.calls ++ w.calls) ++ d) ((p.done ++ here ∷ []) ++ after) v e) (with_assoc p.moved t.moved ending) two;
+        }
 
-      pub passing_short : Goes b c (λ seen. IsHere x seen) (λ seen. IsHere y seen) (λ before calls after. TookShort steps g h before half calls after world')
-          → Went a c (λ seen. AreAt now seen) (λ calls after. TurnsShort steps f h before world calls after world')
-      passing_short goes = subst (λ (l : List (Held K)). Went a c (λ seen. AreAt l seen) (λ calls after. TurnsShort steps f h before world calls after world')) (sym now_is) (short_set goes)
+    pub passing_short : Goes b c (λ seen. AreAt all seen) (λ seen. AreAt now seen) (λ before calls after. TakesPart (TookShort steps g h) i before half calls after world')
+        → Went a c (λ seen. AreAt now seen) (λ calls after. TurnsShort steps f h before world calls after world')
+    passing_short goes =
+        let w = goes (p.done ++ p.left) p.at in
+        let s = w.leads.seen in
+        let next = next_is s w.leads.was in
+        let ss = next.0 in
+        let here = w.leads.here in
+        let t = w.leads.part.1 in
+        let mine = Runs_short (s ∷ ss) half w.calls (here ∷ ss) world' Short s ss here t.moved refl t.turns refl refl in
+        let all_of = p.goes_on false w.calls (here ∷ ss) world' Short (subst (λ (q : List (Seen K)). Turns steps q half w.calls (here ∷ ss) world' Short) (sym next.1) mine) in
+        record {
+          calls = p.calls ++ w.calls;
+          after = p.done ++ here ∷ ss;
+          grown = grows_on a b c p.calls w.calls p.grown w.grown;
+          leads = record {
+            turns = all_of;
+            alone = each_took steps before world (p.calls ++ w.calls) (p.done ++ here ∷ ss) world' Short all_of;
+            blames = blames_on p.calls w.calls f g h p.blames t.blames l m;
+          };
+          at = subst (λ (q : List (Seen K)). AreAt now q) (next_set s here ss w.after next.1 w.leads.is) w.at;
+        }
+
+  module _ (a b : Option (List wire.Call)) (f g : ℕ) (told : Turn) (before : List (Seen K)) (world world' : World) (all : List (Held K)) (i : ℕ) (p : Passing a b f g told before world all i world') where
+    -- The turn is broken off here: it isn't one that ran out of memory, nor one in which nothing happened.
+    pub passing_breaks : Went a b (λ seen. AreAt all seen) (λ calls after. (n : ℕ) × Turns steps before world calls after world' (Whole (Some n)) × Blames calls f g)
+    passing_breaks =
+        let more = some_so_far p.moved in
+        let last = p.goes_on false [] p.left world' (Whole (Some 0)) (Breaks_off p.left world' [] p.left world' (Whole (Some 0)) refl refl refl refl) in
+        let cut = subst (λ (e : Option ℕ). Turns steps before world (p.calls ++ []) (p.done ++ p.left) world' (Whole e)) more.1 last in
+        record {
+          calls = p.calls;
+          after = p.done ++ p.left;
+          grown = p.grown;
+          leads = (more.0, subst (λ (k : List wire.Call). Turns steps before world k (p.done ++ p.left) world' (Whole (Some more.0))) (append-nil p.calls) cut, p.blames);
+          at = p.at;
+        }
+
+    pub passing_cut : Went a b (λ seen. AreAt all seen) (λ calls after. TurnsCut steps f g before world calls after world')
+    passing_cut =
+        let w = passing_breaks in
+        record { calls = w.calls; after = w.after; grown = w.grown; leads = record { ending = Whole (Some w.leads.0); turns = w.leads.1; blames = w.leads.2 }; at = w.at }
+
+  -- A turn for which memory ran out is cut.
+  pub short_cut : (a b : Option (List wire.Call)) (f g : ℕ) (before : List (Seen K)) (world world' : World) (all : List (Held K)) → Went a b (λ seen. AreAt all seen) (λ calls after. TurnsShort steps f g before world calls after world')
+      → Went a b (λ seen. AreAt all seen) (λ calls after. TurnsCut steps f g before world calls after world')
+  short_cut a b f g before world world' all w =
+      record { calls = w.calls; after = w.after; grown = w.grown; leads = record { ending = Short; turns = w.leads.turns; blames = w.leads.blames }; at = w.at }
 
   pub passing_end : (a b : Option (List wire.Call)) (f g : ℕ) (told : Turn) (before : List (Seen K)) (world world' : World) (all : List (Held K)) (i : ℕ) → length all ≤ i → Passing a b f g told before world all i world'
       → Went a b (λ seen. AreAt all seen) (λ calls after. TurnsWhole steps f g told before world calls after world')
@@ -380,9 +447,10 @@ module _ {K World : Type 0} (steps : World → List (Call K) → World → Type 
           let sum = length-append p.done (s ∷ ss) in
           absurd (omega (arith, long, longer, sum, p.count, past))
       go [] none =
-          let last = p.goes_on [] [] world' (Whole None) (All_took p.left world' [] [] world' (Whole None) none refl refl refl refl) in
+          let last = p.goes_on true [] [] world' (Whole None) (All_took p.left world' [] [] world' (Whole None) none refl refl refl refl, tt) in
           let tells : told ≡ turn_of (together p.moved None) = p.tells ∙ ap turn_of (sym (together_none p.moved)) in
-          let one = subst (λ (k : List wire.Call). Turns steps before world k (p.done ++ []) world' (Whole (together p.moved None))) (append-nil p.calls) last in
+          let whole = subst (λ (k : List wire.Call). TurnsIf true before world k (p.done ++ []) world' (Whole (together p.moved None))) (append-nil p.calls) last in
+          let one = whole.0 in
           record {
             calls = p.calls;
             after = p.done ++ [];
@@ -394,6 +462,7 @@ module _ {K World : Type 0} (steps : World → List (Call K) → World → Type 
               still = λ is. waits_where_full steps before world p.calls (p.done ++ []) world' (Whole (together p.moved None)) one (ap Whole (still_is (together p.moved None) (sym tells ∙ is)));
               tells = tells;
               blames = p.blames;
+              all = whole.1;
             };
             at = subst (λ (q : List (Seen K)). AreAt all (p.done ++ q)) none p.at;
           }

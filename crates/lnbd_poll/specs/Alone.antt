@@ -1,5 +1,5 @@
 -- What a turn is to each handle alone.
-use Rattle.std.specs.Prelude.{◌≡◌, ◌≢◌, ◌⊎◌, ℕ, Bool, false, List, [], ◌∷◌, filter, Option, Some, None}
+use Rattle.std.specs.Prelude.{◌≡◌, ◌≢◌, ◌⊎◌, ℕ, List, [], ◌∷◌, filter, Option, Some, None}
 use Rattle.lnbd_callbacks.specs.Calls.{Call}
 use Rattle.lnbd_link.specs.Call as wire
 use Rattle.lnbd_link.specs.Call.{Connect, Listen, Accept, Read, Write, Pause, Shut}

@@ -3,7 +3,6 @@ use Rattle.std.specs.Prelude.{◌≡◌, ◌||◌, ◌==◌, not, ℕ, Bool, tru
 use Rattle.lnbd_callbacks.specs.Calls.{Call}
 use Rattle.lnbd_model.specs.declared.state.State.{State}
 use Rattle.lnbd_model.specs.declared.state.State.TheVariants as state
-use Rattle.lnbd_history.specs.Events.{History}
 use Rattle.lnbd_history.specs.Answers.{state_after, in_flight_after, direction_after}
 use Rattle.lnbd_machine.specs.Machine.{Machine}
 use Rattle.lnbd_machine.specs.Now.{state_now, in_flight_now, direction_now}

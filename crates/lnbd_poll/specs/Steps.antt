@@ -1,5 +1,5 @@
 -- Words on the code's own steps.
-use Rattle.std.specs.Prelude.{◌≡◌, ◌≤◌, ◌+◌, ℕ, min, false, List, Option, vec_len, vec_capacity}
+use Rattle.std.specs.Prelude.{◌≡◌, ◌+◌, ℕ, min, false, List, Option}
 use Rattle.lnbd_callbacks.specs.Calls.{Call}
 use Rattle.lnbd_history.specs.Events.{History}
 use Rattle.lnbd_link.specs.Call as wire

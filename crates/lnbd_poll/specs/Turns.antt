@@ -88,7 +88,7 @@ pub record TurnsOne {K World : Type 0} (steps : World → List (Call K) → Worl
   pub calls_are : calls ≡ written ++ read
   pub moved_is : moved ≡ together sent (moved_by notice)
 
--- how a turn over handles ends: each took its part, and so much moved in all; or memory ran out at a read
+-- how a turn over handles ends: memory was there for all that was tried, and so much moved in all; or memory ran out at a read
 pub data Ending : Type 0 where
   Whole : (moved : Option ℕ) → Ending
   Short : Ending
@@ -97,7 +97,8 @@ abbrev pub with_moved : Option ℕ → Ending → Ending
 with_moved moved (Whole rest) = Whole (together moved rest)
 with_moved moved Short = Short
 
--- One handle after another takes its part. Where memory runs out, those after it are as they were.
+-- One handle after another takes its part. Where memory runs out, those after it are as they were. Where the turn is broken off, those that are left are
+-- as they were; something has then happened, so nobody takes it for a turn in which each was tried and nothing happened.
 pub data Turns {K World : Type 0} (steps : World → List (Call K) → World → Type 0) : List (Seen K) → World → List wire.Call → List (Seen K) → World → Ending → Type 0 where
   All_took : (before : List (Seen K)) (world : World) (calls : List wire.Call) (after : List (Seen K)) (world' : World) (ending : Ending)
       → before ≡ [] → calls ≡ [] → after ≡ [] → world' ≡ world → ending ≡ Whole None
@@ -112,6 +113,17 @@ pub data Turns {K World : Type 0} (steps : World → List (Call K) → World →
       → before ≡ seen ∷ others → TurnsOne steps noticed.NoMemory seen world calls here world' moved
       → after ≡ here ∷ others → ending ≡ Short
       → Turns steps before world calls after world' ending
+  Breaks_off : (before : List (Seen K)) (world : World) (calls : List wire.Call) (after : List (Seen K)) (world' : World) (ending : Ending)
+      → calls ≡ [] → after ≡ before → world' ≡ world → ending ≡ Whole (Some 0)
+      → Turns steps before world calls after world' ending
+
+module _ {K World : Type 0} {steps : World → List (Call K) → World → Type 0} where
+  -- The turn was not broken off: each handle took its part, or memory ran out at one.
+  abbrev pub AllTook : {before : List (Seen K)} {world : World} {calls : List wire.Call} {after : List (Seen K)} {world' : World} {ending : Ending} → Turns steps before world calls after world' ending → Type 0
+  AllTook (All_took before world calls after world' ending is none after_is world_is end) = Unit {0}
+  AllTook (Takes before world calls after world' ending seen others notice own here half moved other there rest is turns enough more calls_are after_is end) = AllTook more
+  AllTook (Runs_short before world calls after world' ending seen others here moved is turns after_is end) = Unit {0}
+  AllTook (Breaks_off before world calls after world' ending none after_is world_is end) = ⊥
 
 -- the answer of a turn: the bytes moved in all, or the greatest usize where they are more; Still where nothing happened on any link
 abbrev pub turn_of : Option ℕ → Turn

@@ -1,6 +1,6 @@
 //! Several handles with their links, in turns.
 
-ghost use Rattle.std.specs.Prelude.{◌≡◌, ◌<◌, ◌≤◌, ◌+◌, ◌++◌, ◌∷◌, ℕ, List, [], Some, IfOk, IfErr, OnErr, OnOk, ◌==◌, All, length, take, drop, slice_get, vec_len, vec_capacity};
+ghost use Rattle.std.specs.Prelude.{◌≡◌, ◌≢◌, ◌<◌, ◌≤◌, ◌+◌, ◌++◌, ◌∷◌, ℕ, List, [], Some, IfOk, IfErr, OnErr, OnOk, ◌==◌, All, length, take, drop, slice_get, vec_len, vec_capacity};
 ghost use Rattle.std.specs.Option.{option_map};
 ghost use Rattle.std.specs.Borrow.{sem};
 ghost use Rattle.lnbd_machine.specs.Machine.{Machine};
@@ -9,10 +9,11 @@ ghost use Rattle.lnbd_link.specs.Contents.{Keeps};
 ghost use Rattle.lnbd_link.specs.Count.{Rises};
 ghost use Rattle.lnbd_link.specs.Part.{Adds};
 ghost use Rattle.lnbd_poll.specs.Seen.{Goes, Seen};
-ghost use Rattle.lnbd_poll.specs.Turned.{TurnsShort, TurnsWhole};
+ghost use Rattle.lnbd_poll.specs.Turned.{TakesPart, TurnsShort, TurnsWhole};
+ghost use Rattle.lnbd_poll.specs.Steps.{TookEnough, TookShort};
 ghost use Rattle.lnbd_poll.specs.Held.{AllClose, AreAt, max_held, wants_after, wants_now};
 
-use crate::held::{Held, close_all, turn_all, want_all};
+use crate::held::{Held, close_all, take_part, turn_all, want_all};
 use crate::inbox::Inbox;
 use crate::noticed::Turn;
 use lnbd_callbacks::Caller;
@@ -183,6 +184,28 @@ impl<K: Caller> Handles<K> {
         ensures idles { W.idles wires.old ≤ W.idles wires.new }
     {
         turn_all(&mut self.all, wires, world)
+    }
+
+    /// The part of a turn of the handle of this index: it writes until nothing waits or a write takes nothing, and then reads
+    /// once. The others are left alone. So a caller who looks after each part can break a turn off.
+    ///
+    /// `Still`: nothing happened on its link. `NoMemory`: it took the first of what was read.
+    pub fn take_part<W: Wires>(
+        &mut self,
+        index: usize,
+        wires: &mut W,
+        world: &mut K::World,
+    ) -> Result<Turn, NoMemory>
+        requires { index < length self.old }
+        ensures ok { IfOk result (λ told. Goes (W.told wires.old) (W.told wires.new) (λ seen. AreAt self.old seen) (λ seen. AreAt self.new seen) (λ before calls after. TakesPart (TookEnough K.steps (W.faults wires.old) (W.faults wires.new) told) index before world.old calls after world.new)) }
+        ensures short { OnErr result (Goes (W.told wires.old) (W.told wires.new) (λ seen. AreAt self.old seen) (λ seen. AreAt self.new seen) (λ before calls after. TakesPart (TookShort K.steps (W.faults wires.old) (W.faults wires.new)) index before world.old calls after world.new)) }
+        ensures len { length self.new ≡ length self.old }
+        ensures others { (other : ℕ) → other ≢ index → slice_get self.new other ≡ slice_get self.old other }
+        ensures contents { Keeps (W.contents wires.old) (W.contents wires.new) }
+        ensures faults { W.faults wires.old ≤ W.faults wires.new }
+        ensures idles { W.idles wires.old ≤ W.idles wires.new }
+    {
+        take_part(&mut self.all, index, wires, world)
     }
 
     /// Closes each handle in order. It takes no memory.

@@ -1,6 +1,6 @@
 //! One handle with its link: its part of a turn, and what it waits for.
 
-ghost use Rattle.std.specs.Prelude.{◌≡◌, ◌≤◌, ◌<◌, ◌+◌, ◌++◌, List, [], All, IfOk, OnErr, true, vec_len, vec_capacity};
+ghost use Rattle.std.specs.Prelude.{◌≡◌, ◌≢◌, ◌≤◌, ◌<◌, ◌+◌, ◌++◌, ℕ, List, [], All, IfOk, OnErr, true, slice_get, vec_len, vec_capacity};
 ghost use Rattle.lnbd_history.specs.Events.{History};
 ghost use Rattle.lnbd_history.specs.Outgoing.{total};
 ghost use Rattle.lnbd_standing.specs.Standing.{StandsFor};
@@ -8,7 +8,7 @@ ghost use Rattle.lnbd_handle.specs.Histories.{max_unretired};
 ghost use Rattle.lnbd_link.specs.Contents.{Keeps};
 ghost use Rattle.lnbd_poll.specs.Seen.{Goes, IsAt, Seen};
 ghost use Rattle.lnbd_poll.specs.Turns.{Blames, Told, WritesTold, is_lost, is_moved};
-ghost use Rattle.lnbd_poll.specs.Turned.{TurnsShort, TurnsWhole};
+ghost use Rattle.lnbd_poll.specs.Turned.{TakesPart, TurnsShort, TurnsWhole};
 ghost use Rattle.lnbd_poll.specs.Held.{AllClose, AreAt, all_held, is_on_its_way, seen_held, want_now, wants_now, with_want};
 ghost use Rattle.lnbd_poll.specs.Steps.{HasWritten, TookEnough, TookShort};
 
@@ -100,6 +100,25 @@ impl<K: Caller> Held<K> {
     }
 }
 
+/// The part of a turn of the handle of this index.
+pub(crate) fn take_part<K: Caller, W: Wires>(
+    all: &mut Vec<Held<K>>,
+    index: usize,
+    wires: &mut W,
+    world: &mut K::World,
+) -> Result<Turn, NoMemory>
+    requires { index < vec_len all.old }
+    ensures ok { IfOk result (λ told. Goes (W.told wires.old) (W.told wires.new) (λ seen. AreAt (all_held all.old.items) seen) (λ seen. AreAt (all_held all.new.items) seen) (λ before calls after. TakesPart (TookEnough K.steps (W.faults wires.old) (W.faults wires.new) told) index before world.old calls after world.new)) }
+    ensures short { OnErr result (Goes (W.told wires.old) (W.told wires.new) (λ seen. AreAt (all_held all.old.items) seen) (λ seen. AreAt (all_held all.new.items) seen) (λ before calls after. TakesPart (TookShort K.steps (W.faults wires.old) (W.faults wires.new)) index before world.old calls after world.new)) }
+    ensures len { vec_len all.new ≡ vec_len all.old }
+    ensures others { (other : ℕ) → other ≢ index → slice_get (all_held all.new.items) other ≡ slice_get (all_held all.old.items) other }
+    ensures contents { Keeps (W.contents wires.old) (W.contents wires.new) }
+    ensures faults { W.faults wires.old ≤ W.faults wires.new }
+    ensures idles { W.idles wires.old ≤ W.idles wires.new }
+{
+    all[index].turn(wires, world)
+}
+
 /// One handle after another takes its part of a turn.
 pub(crate) fn turn_all<K: Caller, W: Wires>(
     all: &mut Vec<Held<K>>,
@@ -115,8 +134,7 @@ pub(crate) fn turn_all<K: Caller, W: Wires>(
 {
     let mut turn = Turn::Still;
     'handles: for i in 0..all.len() {
-        let held = &mut all[i];
-        match held.turn(wires, world) {
+        match take_part(all, i, wires, world) {
             Ok(part) => turn = turn.and(part),
             Err(_) => return Err(NoMemory),
         }

@@ -67,7 +67,7 @@ pub enum Turn {
 
 impl Turn {
     /// What happened in two parts of a turn.
-    pub(crate) fn and(self, other: Turn) -> Turn
+    pub fn and(self, other: Turn) -> Turn
         ensures { result ≡ both self other }
     {
         match (self, other) {

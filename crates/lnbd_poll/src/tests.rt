@@ -114,6 +114,15 @@ impl Party {
         self.handles.turn(&mut self.wires, &mut self.world).ok()
     }
 
+    fn part(&mut self, index: usize) -> Option<Turn> {
+        if index >= self.handles.len() {
+            return None;
+        }
+        self.handles
+            .take_part(index, &mut self.wires, &mut self.world)
+            .ok()
+    }
+
     /// Issues a read of the first byte. 0 where it is refused or there is no memory.
     fn pread(&mut self, index: usize) -> u64 {
         if index >= self.handles.len() {
@@ -218,7 +227,8 @@ fn each_handle_takes_the_bytes_of_its_own_link(rt: HostRuntime) -> Result<(), Fa
     assert_eq!(rt; party.state(1), Some(State::Ready));
     // Nothing has come; then link 1 ends.
     assert_eq!(rt; party.turn(), Some(Turn::Still));
-    assert_eq!(rt; party.turn(), Some(Turn::Moved(0)));
+    assert_eq!(rt; party.part(0), Some(Turn::Still));
+    assert_eq!(rt; party.part(1), Some(Turn::Moved(0)));
     assert_eq!(rt; party.state(1), Some(State::Dead(Cause::Ended)));
     assert_eq!(rt; party.close(), (2, 2));
     Ok(())

@@ -1,3 +1,6 @@
 pub mod EqualLemmas
 pub mod RehearsedLemmas
 pub mod SumLemmas
+pub mod Cutting
+pub mod Sending
+pub mod CarryLemmas

@@ -1,5 +1,5 @@
 -- What stands behind the wires once a rehearsal is over.
-use Rattle.std.proofs.Common.{◌≡◌, ◌≢◌, ℕ, Bool, false, if◌then◌else◌, ◌==◌, List, [], ◌∷◌, get_or, length, map, Option, Some, None, refl, sym, ap, subst, ◌∙◌, arith}
+use Rattle.std.proofs.Common.{◌≡◌, ◌≢◌, ℕ, zero, suc, Bool, false, if◌then◌else◌, ◌==◌, List, [], ◌∷◌, get_or, length, map, Option, Some, None, refl, sym, ap, subst, ◌∙◌, arith}
 use Rattle.std.proofs.lemmas.List.{length-replicate}
 use Rattle.lnbd_link.specs.Call.{Call}
 use Rattle.lnbd_link.specs.Contents.{Keeps, Origin, Stored, origin_of}
@@ -9,18 +9,23 @@ use Rattle.lnbd_model.specs.declared.target.Target.TheVariants.{Unix}
 use Rattle.lnbd_export.specs.Generated.{IsGenerated}
 use Rattle.lnbd_memnet.specs.declared.hosted.Hosted.{Hosted}
 use Rattle.lnbd_memnet.specs.declared.hosted.Served.{Served as Handed}
-use Rattle.lnbd_memnet.specs.Network.{export_in, hosted_of, stored_of}
+use Rattle.lnbd_memnet.specs.Log.{AreKept}
+use Rattle.lnbd_memnet.specs.Network.{Network, export_in, hosted_of, stored_of}
+use Rattle.lnbd_memnet.specs.Schedule.{Moves}
 use Rattle.lnbd_memnet.specs.Wires.{Came, Served, contents_of, told_by}
 use Rattle.lnbd_memnet.specs.declared.schedule.Schedule.TheVariants.{Seeded}
 use Rattle.lnbd_plan.specs.declared.options.CopyOptions.{CopyOptions}
 use Rattle.lnbd_plan.specs.declared.summary.Summary.{Summary}
 use Rattle.lnbd_course.specs.Asks.{GrewBy}
 use Rattle.lnbd_course.specs.Copied.{Copied, Copies}
+use Rattle.lnbd_copy.specs.Conduct.{Conducts}
 use Rattle.lnbd_copy.specs.Made.{IsMade}
 use Rattle.lnbd_served.specs.Served.{IsServable}
 use Rattle.lnbd_served.specs.Served as served
+use Rattle.lnbd_lively.specs.Lively.{AreServable}
 use Rattle.lnbd_rehearsal.specs.Rehearsed.{HasRehearsed, IsDestination, IsNoise, IsSource, destination_name, place_of, source_name, usual}
 use Rattle.lnbd_rehearsal.specs.Sums.{sums_of}
+use Rattle.lnbd_rehearsal.proofs.CarryLemmas.{copies_move_bytes}
 use Rattle.lnbd_rehearsal.proofs.EqualLemmas.{AreEqual, are_equal}
 
 -- What both are at first.
@@ -67,6 +72,13 @@ made_between options from to summary a b o f t made =
     let three : GrewBy (IsMade options (place_of source_name) (place_of destination_name) summary) a b = subst (λ (p : Place). GrewBy (IsMade options (place_of source_name) p summary) a b) t two in
     subst (λ (x : CopyOptions). GrewBy (IsMade x (place_of source_name) (place_of destination_name) summary) a b) o three
 
+pub conducts_between : (options : CopyOptions) (from to : Place) (a b : Option (List Call)) → options ≡ usual → from ≡ place_of source_name → to ≡ place_of destination_name → GrewBy (Conducts options from to) a b
+    → GrewBy (Conducts usual (place_of source_name) (place_of destination_name)) a b
+conducts_between options from to a b o f t conducts =
+    let two : GrewBy (Conducts options (place_of source_name) to) a b = subst (λ (p : Place). GrewBy (Conducts options p to) a b) f conducts in
+    let three : GrewBy (Conducts options (place_of source_name) (place_of destination_name)) a b = subst (λ (p : Place). GrewBy (Conducts options (place_of source_name) p) a b) t two in
+    subst (λ (x : CopyOptions). GrewBy (Conducts x (place_of source_name) (place_of destination_name)) a b) o three
+
 -- From no calls on, all that is told is so.
 grown : {Is : List Call → Type 0} (before after : Option (List Call)) (calls : List Call) → before ≡ Some [] → after ≡ Some calls → GrewBy Is before after → Is calls
 grown before after calls none told so = so calls calls told (λ ys is. ([], none, cc (is, told)))
@@ -78,6 +90,11 @@ both_there [] count = absurd (omega (arith, count))
 both_there (x ∷ []) count = absurd (omega (arith, count))
 both_there (x ∷ y ∷ []) count = refl
 both_there (x ∷ y ∷ z ∷ more) count = absurd (omega (arith, count))
+
+two_servable : (network : Network) → length network.exports ≡ 2 → IsServable (export_in network.exports 0).export → IsServable (export_in network.exports 1).export → AreServable network
+two_servable network count fits fits' zero there = fits
+two_servable network count fits fits' (suc zero) there = fits'
+two_servable network count fits fits' (suc (suc place)) there = absurd (omega (arith, there, count))
 
 place_at : (hosted : Hosted) (name : List ℕ) → hosted.at ≡ Unix name → hosted.export.name ≡ name → served.place_of hosted ≡ place_of name
 place_at hosted name at called = ap (λ (t : Target). record { to = t; name = hosted.export.name }) at ∙ ap (λ (x : List ℕ). record { to = Unix name; name = x }) called
@@ -93,6 +110,8 @@ module _ (seed n : ℕ) (source destination : Handed) (at : source.at ≡ Unix s
     pub copied : Copied (place_of source_name) (place_of destination_name) false wires.calls
     pub made : IsMade usual (place_of source_name) (place_of destination_name) summary wires.calls
     pub equal : AreEqual wires.network
+    pub conducts : Conducts usual (place_of source_name) (place_of destination_name) wires.calls
+    pub servable : AreServable wires.network
     -- how many bytes the first holds
     pub long : length (export_in wires.network.exports 0).export.bytes ≡ n
 
@@ -100,8 +119,8 @@ module _ (seed n : ℕ) (source destination : Handed) (at : source.at ≡ Unix s
       → contents_of before ≡ Some (map stored_of (map hosted_of exports)) → Keeps (contents_of before) (contents_of after)
       → after.shorts ≡ 0 → length after.network.exports ≡ 2 → Came after.calls after.network → IsServable (export_in after.network.exports 0).export → IsServable (export_in after.network.exports 1).export
       → told_by before ≡ Some [] → Copies (place_of source_name) (place_of destination_name) false (told_by before) (told_by after)
-      → GrewBy (IsMade usual (place_of source_name) (place_of destination_name) summary) (told_by before) (told_by after) → Ended after summary
-  ended exports before after summary are held keeps shorts count came fits fits' none copies makes =
+      → GrewBy (IsMade usual (place_of source_name) (place_of destination_name) summary) (told_by before) (told_by after) → GrewBy (Conducts usual (place_of source_name) (place_of destination_name)) (told_by before) (told_by after) → Ended after summary
+  ended exports before after summary are held keeps shorts count came fits fits' none copies makes conducts =
       let both = both_there after.network.exports count in
       let told : contents_of after ≡ Some (map stored_of after.network.exports) = ap (λ (s : ℕ). if s == 0 then Some (map stored_of after.network.exports) else None) shorts in
       let calls : told_by after ≡ Some after.calls = ap (λ (s : ℕ). if s == 0 then Some after.calls else None) shorts in
@@ -115,10 +134,12 @@ module _ (seed n : ℕ) (source destination : Handed) (at : source.at ≡ Unix s
       let into = destination_is n destination (stored_of (export_in after.network.exports 1)) to noise second in
       let copied = grown {Is = Copied (place_of source_name) (place_of destination_name) false} (told_by before) (told_by after) after.calls none calls copies in
       let made = grown {Is = IsMade usual (place_of source_name) (place_of destination_name) summary} (told_by before) (told_by after) after.calls none calls makes in
+      let conducted = grown {Is = Conducts usual (place_of source_name) (place_of destination_name)} (told_by before) (told_by after) after.calls none calls conducts in
       let equal =
       are_equal (place_of source_name) (place_of destination_name) after.calls after.network came made.driven count fits fits'
       (place_at (export_in after.network.exports 0) source_name from.at from.name) (place_at (export_in after.network.exports 1) destination_name into.at into.name)
       (ap (λ (b : List ℕ). length b) into.bytes ∙ length-replicate {A = ℕ} n 255 ∙ sym from.size) copied made.asks.asked.looks in
+      let long : length (export_in after.network.exports 0).export.bytes ≡ n = ap (λ (b : List ℕ). length b) equal.kept ∙ from.size in
       record {
         told = told ∙ ap (λ (es : List Hosted). Some (map stored_of es)) both;
         first = first;
@@ -126,11 +147,13 @@ module _ (seed n : ℕ) (source destination : Handed) (at : source.at ≡ Unix s
         copied = copied;
         made = made;
         equal = equal;
-        long = ap (λ (b : List ℕ). length b) equal.kept ∙ from.size;
+        conducts = conducted;
+        servable = two_servable after.network count fits fits';
+        long = long;
       }
 
-  pub rehearsed : (wires : Served) (summary : Summary) → wires.shorts ≡ 0 → wires.network.schedule ≡ Seeded seed → Came wires.calls wires.network → summary ≡ sums_of seed (export_in wires.network.exports 0).export.bytes → Ended wires summary → HasRehearsed seed n summary wires
-  rehearsed wires summary shorts seeded came right e = record {
+  pub rehearsed : (wires : Served) (summary : Summary) → wires.shorts ≡ 0 → wires.network.schedule ≡ Seeded seed → Came wires.calls wires.network → AreKept wires.calls → summary ≡ sums_of seed (export_in wires.network.exports 0).export.bytes → Ended wires summary → HasRehearsed seed n summary wires
+  rehearsed wires summary shorts seeded came few right e = record {
     source = stored_of (export_in wires.network.exports 0);
     destination = stored_of (export_in wires.network.exports 1);
     contents = e.told;
@@ -144,4 +167,5 @@ module _ (seed n : ℕ) (source destination : Handed) (at : source.at ≡ Unix s
     kept = e.equal.kept;
     equal = e.equal.equal;
     sums = right ∙ ap (λ (b : List ℕ). sums_of seed b) e.equal.kept;
+    moved = copies_move_bytes usual (place_of source_name) (place_of destination_name) wires.calls wires.network came few (subst Moves (sym seeded) tt) e.servable e.conducts;
   }

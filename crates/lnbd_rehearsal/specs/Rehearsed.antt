@@ -11,6 +11,7 @@ use Rattle.lnbd_export.specs.Export.{Export}
 use Rattle.lnbd_export.specs.Generated.{byte_at}
 use Rattle.lnbd_memnet.specs.Wires.{Came, Served, contents_of}
 use Rattle.lnbd_memnet.specs.declared.schedule.Schedule.TheVariants.{Seeded}
+use Rattle.lnbd_rehearsal.specs.Carrying.{BytesAreMoved}
 use Rattle.lnbd_rehearsal.specs.Sums.{sums_of}
 
 abbrev pub source_name : List ℕ
@@ -41,7 +42,7 @@ abbrev pub usual : CopyOptions
 usual = record { connections = 4; requests = 64; request_size = 262144; sparse = 4096; extents = true; allocated = false; destination_is_zero = false; flush = false }
 
 -- These two stand behind the wires, which tell all that was called, and by that nbdcopy copied from one to the other as it does where no option is given; the source is as it was, the
--- destination holds the same, and the sums are those of the source's blocks.
+-- destination holds the same, and the sums are those of the source's blocks. Between two pauses bytes were moved.
 pub record HasRehearsed (seed n : ℕ) (summary : Summary) (wires : Served) : Type 0 where
   pub source : Stored
   pub destination : Stored
@@ -57,6 +58,7 @@ pub record HasRehearsed (seed n : ℕ) (summary : Summary) (wires : Served) : Ty
   pub kept : source.now ≡ source.start
   pub equal : destination.now ≡ source.start
   pub sums : summary ≡ sums_of seed source.start
+  pub moved : BytesAreMoved wires.calls
 
 -- An export that holds so many bytes 0xff.
 pub record IsNoise (n : ℕ) (export : Export) : Type 0 where

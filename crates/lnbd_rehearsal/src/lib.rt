@@ -3,7 +3,9 @@
 #![tactic(auto)]
 
 mod exports;
+mod laws;
 mod rehearsing;
 mod sums;
 
+pub use laws::copies_move_bytes;
 pub use rehearsing::{MOST, Rehearsed, rehearse};

@@ -4,6 +4,7 @@ ghost use Rattle.std.specs.Prelude.{◌≡◌, ◌≤◌, IfOk, OnOk, false, len
 ghost use Rattle.lnbd_link.specs.Contents.{Keeps};
 ghost use Rattle.lnbd_course.specs.Asks.{GrewBy};
 ghost use Rattle.lnbd_course.specs.Copied.{Copies};
+ghost use Rattle.lnbd_copy.specs.Conduct.{Conducts};
 ghost use Rattle.lnbd_copy.specs.Made.{IsMade};
 ghost use Rattle.lnbd_memnet.specs.Wires.{contents_of, told_by};
 ghost use Rattle.lnbd_memnet.specs.declared.schedule.Schedule.TheVariants.{Seeded};
@@ -46,6 +47,7 @@ fn copy(alloc: Global, wires: &mut ServedWires) -> Result<Summary, NoMemory>
     ensures kept { OnOk result (Keeps (contents_of wires.old) (contents_of wires.new)) }
     ensures copies { OnOk result (Copies (place_of source_name) (place_of destination_name) false (told_by wires.old) (told_by wires.new)) }
     ensures made { IfOk result (λ summary. GrewBy (IsMade usual (place_of source_name) (place_of destination_name) summary) (told_by wires.old) (told_by wires.new)) }
+    ensures conducts { OnOk result (GrewBy (Conducts usual (place_of source_name) (place_of destination_name)) (told_by wires.old) (told_by wires.new)) }
 {
     let from = from(alloc)?;
     let to = to(alloc)?;
@@ -84,6 +86,7 @@ pub fn rehearse(alloc: Global, seed: u64, size: u64) -> Result<Rehearsed, NoMemo
         return Err(NoMemory);
     }
     wires.came();
+    wires.keeps();
     wires.fits(0);
     wires.fits(1);
     if !is_same(summary, sums_of(seed, wires.bytes(0))) {

@@ -413,6 +413,8 @@ static NOT_COPIED: [Session<'static>; 5] = [
             Told::Nothing,
             Told::Nothing,
             EXTENTS,
+            // (the destination is written to before the answer comes, since nothing is once it has)
+            Told::Nothing,
             FAILED,
         ],
         second: &[

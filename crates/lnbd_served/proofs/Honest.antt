@@ -146,9 +146,9 @@ set_start (x ∷ exports) (suc k) hosted e zero = refl
 set_start (x ∷ exports) (suc k) hosted e (suc q) = set_start exports k hosted e q
 
 -- the bytes at the start stay
-record SameStart (before after_ : List Hosted) : Type 0 where
-  count : length after_ ≡ length before
-  start : (q : ℕ) → (export_in after_ q).start ≡ (export_in before q).start
+pub record SameStart (before after_ : List Hosted) : Type 0 where
+  pub count : length after_ ≡ length before
+  pub start : (q : ℕ) → (export_in after_ q).start ≡ (export_in before q).start
 
 same_start : (before after_ : List Hosted) → after_ ≡ before → SameStart before after_
 same_start before after_ e = record { count = ap length e; start = λ q. ap (λ (es : List Hosted). (export_in es q).start) e }
@@ -171,16 +171,16 @@ plays_start before after_ (Pause wants) p = same_start before.exports after_.exp
 plays_start before after_ (Shut l) p = same_start before.exports after_.exports (ap (λ (n : Network). n.exports) p)
 
 module _ (first : Network) (begins : Begins first) (place : ℕ) (there : place < length first.exports) (servable : IsServable (export_in first.exports place).export) where
-  abbrev start : Export
+  abbrev pub start : Export
   start = (export_in first.exports place).export
 
-  abbrev WorldAt : List Call → Network → Type 0
+  abbrev pub WorldAt : List Call → Network → Type 0
   WorldAt calls network = World place (export_in first.exports place).export servable (begins.truly place) calls network
 
-  record Now (calls : List Call) (network : Network) : Type 0 where
-    world : WorldAt calls network
-    targets : Targets calls network
-    same : SameStart first.exports network.exports
+  pub record Now (calls : List Call) (network : Network) : Type 0 where
+    pub world : WorldAt calls network
+    pub targets : Targets calls network
+    pub same : SameStart first.exports network.exports
 
   first_now : Now [] first
   first_now = record {
@@ -204,7 +204,7 @@ module _ (first : Network) (begins : Begins first) (place : ℕ) (there : place 
         same = record { count = s.count ∙ n.same.count; start = λ q. s.start q ∙ n.same.start q };
       }
 
-  all_now : (calls : List Call) (network : Network) → Played first calls network → ((l : ℕ) → SpeaksWell l calls) → Now calls network
+  pub all_now : (calls : List Call) (network : Network) → Played first calls network → ((l : ℕ) → SpeaksWell l calls) → Now calls network
   all_now calls network (None_yet _ _ none is) speaks = subst (λ (cs : List Call). Now cs network) (sym none) (subst (λ (n : Network). Now [] n) (sym is) first_now)
   all_now calls network (Then earlier _ before _ call played plays is) speaks =
       let split : (l : ℕ) → SpeaksWell l earlier × SaysWell l (after_calls l untold earlier) call = λ l. speaks_split l untold earlier call (subst (λ (cs : List Call). SpeaksWell l cs) is (speaks l)) in
@@ -277,9 +277,14 @@ module _ (first : Network) (begins : Begins first) (place : ℕ) (there : place 
         (subst (λ (e : Export). Honest (export_in first.exports place).export.bytes (dealt_with (place_of (export_in network.exports place)) calls) e.bytes) (sym n.world.is)
         (servers_are_honest (export_in first.exports place).export (dealt_with (place_of (export_in network.exports place)) calls) n.world.all (begins.truly place) n.world.right follows))
 
-played_count : (first : Network) (calls : List Call) (network : Network) → Played first calls network → length network.exports ≡ length first.exports
+pub played_count : (first : Network) (calls : List Call) (network : Network) → Played first calls network → length network.exports ≡ length first.exports
 played_count first calls network (None_yet _ _ none is) = ap (λ (n : Network). length n.exports) is
 played_count first calls network (Then earlier _ before _ call played plays is) = (plays_start before network call plays).count ∙ played_count first earlier before played
+
+-- an export that fits the wire did so at the start
+pub servable_first : (first : Network) (calls : List Call) (network : Network) (place : ℕ) → Played first calls network → IsServable (export_in network.exports place).export → IsServable (export_in first.exports place).export
+servable_first first calls network place played servable = same_servable (export_in first.exports place).export (export_in network.exports place).export
+    (face_back (export_in network.exports place).export (export_in first.exports place).export (played_face first calls network played place)) servable
 
 pub served_is_honest : ServedIsHonest
 served_is_honest calls network place came there servable speaks =
@@ -289,8 +294,7 @@ served_is_honest calls network place came there servable speaks =
     less = let n = played_count came.first calls network came.played in omega (arith, there, n)
 
     at_first : IsServable (export_in came.first.exports place).export
-    at_first = same_servable (export_in came.first.exports place).export (export_in network.exports place).export
-        (face_back (export_in network.exports place).export (export_in came.first.exports place).export (played_face came.first calls network came.played place)) servable
+    at_first = servable_first came.first calls network place came.played servable
 
 pub driven_served_is_honest : {K : Type 0} → DrivenServedIsHonest K
 driven_served_is_honest calls network place came there servable driven = served_is_honest calls network place came there servable (λ link. driven_speak_well link calls (driven link))

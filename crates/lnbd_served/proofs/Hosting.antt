@@ -146,16 +146,16 @@ module _ (name : List ℕ) (size : ℕ) (link : ℕ) where
   made_more all (Answers option reply ∷ rest) replies request given m one = m
   made_more all (Names n flags ∷ rest) replies request given m one = m
 
-  flat_more : (rest : List Said) (one : Said) → flat_map encode (rest ++ one ∷ []) ≡ flat_map encode rest ++ encode one
+  pub flat_more : (rest : List Said) (one : Said) → flat_map encode (rest ++ one ∷ []) ≡ flat_map encode rest ++ encode one
   flat_more [] one = append-nil (encode one)
   flat_more (first ∷ rest) one = ap (λ (xs : List ℕ). encode first ++ xs) (flat_more rest one) ∙ sym (append_assoc (encode first) (flat_map encode rest) (encode one))
 
-  part_more : (read : List ℕ) (rest : List Said) (one : Said) → IsPart encode read rest → IsPart encode read (rest ++ one ∷ [])
+  pub part_more : (read : List ℕ) (rest : List Said) (one : Said) → IsPart encode read rest → IsPart encode read (rest ++ one ∷ [])
   part_more read [] one part = subst (λ (xs : List ℕ). length xs < length (encode one)) (sym part) (full_said one)
   part_more read (first ∷ rest) one part = part
 
   -- one of those that wait, and the others
-  picked_waits : (all : List Step) (agreed : Agreed) (waiting : List Request) (pick : ℕ) (request : Request) → pick < length waiting → slice_index_or waiting pick request ≡ request → AllWait all link agreed waiting → OneWaits all link agreed request
+  pub picked_waits : (all : List Step) (agreed : Agreed) (waiting : List Request) (pick : ℕ) (request : Request) → pick < length waiting → slice_index_or waiting pick request ≡ request → AllWait all link agreed waiting → OneWaits all link agreed request
   picked_waits all agreed [] pick request less e w = absurd (omega (arith, less))
   picked_waits all agreed (first ∷ waiting) zero request less e w = subst (λ (r : Request). OneWaits all link agreed r) e w.0
   picked_waits all agreed (first ∷ waiting) (suc pick) request less e w = picked_waits all agreed waiting pick request (omega (arith, less)) e w.1

@@ -118,6 +118,12 @@ acknowledges [] = false
 acknowledges (Answers option reply ∷ more) = (reply.type == rep_ack) || acknowledges more
 acknowledges (other ∷ more) = acknowledges more
 
+-- a reply that ends the answer is to come
+abbrev pub ends_answer : List Said → Bool
+ends_answer [] = false
+ends_answer (Answers option reply ∷ more) = is_last reply || ends_answer more
+ends_answer (other ∷ more) = ends_answer more
+
 -- The numbers of a reply fit theirs, and it is one that the request can have.
 abbrev pub FitsRequest : Request → Reply → Type 0
 FitsRequest request (Refused error) = (error < 2 ^ 32) × ((error == 0) ≡ false) × ((error_of error == 0) ≡ false)

@@ -61,7 +61,7 @@ opted size (ByName n flags ∷ before) f = opted size before f.1
 opted size (Set one ∷ before) f = subst (λ (ts : List Turn). Opts (Set one ∷ ts)) (sym f.1) (subst (λ (o : event.Setting). Opts (Set o ∷ [])) (sym f.0) (refl, refl, refl))
 opted size (Opted option ∷ before) f = opted size before f
 
-greeted_phase : (size : ℕ) (turns : List Turn) → AreFair size turns → phase (Hello ∷ turns) ≡ phase.OptMode
+pub greeted_phase : (size : ℕ) (turns : List Turn) → AreFair size turns → phase (Hello ∷ turns) ≡ phase.OptMode
 greeted_phase size turns f =
     let o = opted size turns f in
     ap (λ b. if b then phase.Asked opt_extended_headers else after_extended (asks_structured turns) (opt_mode turns) (contexts_now turns) false) o.2
@@ -71,7 +71,7 @@ greeted_phase size turns f =
 abbrev settled : Bool → Bool → Bool → End → Phase
 settled a b c end = if a then phase.OptMode else if b then phase.OptMode else if c then after_go true end else phase.OptMode
 
-data Leads (option : ℕ) (end : End) : Phase → Type 0 where
+pub data Leads (option : ℕ) (end : End) : Phase → Type 0 where
   Goes : end ≡ Acknowledged → option ≡ opt_go → Leads option end phase.Ready
   Stays : Leads option end phase.OptMode
 
@@ -98,7 +98,7 @@ answer_leads wanted option end =
       | inr other ↦ absurd (let nay : true ≡ false = sym e ∙ ne_eqb option opt_go other in cc)
     ]
 
-replied_leads : (size : ℕ) (turns : List Turn) (option : ℕ) (told : Told) (end : End) → AreFair size turns → phase turns ≡ phase.Asked option → end_of told ≡ Some end → Leads option end (phase (Replied told ∷ turns))
+pub replied_leads : (size : ℕ) (turns : List Turn) (option : ℕ) (told : Told) (end : End) → AreFair size turns → phase turns ≡ phase.Asked option → end_of told ≡ Some end → Leads option end (phase (Replied told ∷ turns))
 replied_leads size turns option told end f at e =
     let o = opted size turns f in
     subst (λ (p : Phase). Leads option end p)
@@ -107,7 +107,7 @@ replied_leads size turns option told end f at e =
     ∙ ap (λ b. after_answer b (opt_mode turns) (contexts_now turns) option end) o.1 ∙ ap (λ b. after_answer false b (contexts_now turns) option end) o.0))
     (answer_leads (contexts_now turns) option end)
 
-replied_stays : (turns : List Turn) (told : Told) → end_of told ≡ None → phase (Replied told ∷ turns) ≡ phase turns
+pub replied_stays : (turns : List Turn) (told : Told) → end_of told ≡ None → phase (Replied told ∷ turns) ≡ phase turns
 replied_stays turns told e = ap (λ (v : Option End). after_reply (asks_structured turns) (opt_mode turns) (contexts_now turns) v (phase turns)) e ∙ go (phase turns)
   where
     go : (p : Phase) → after_reply (asks_structured turns) (opt_mode turns) (contexts_now turns) None p ≡ p
@@ -121,10 +121,10 @@ replied_stays turns told e = ap (λ (v : Option End). after_reply (asks_structur
 -- A reply ends its answer where its type says so.
 
 -- how a type of replies ends an answer
-abbrev EndsIf : (last acks : Bool) → Told → Type 0
+abbrev pub EndsIf : (last acks : Bool) → Told → Type 0
 EndsIf last acks told = ((last ≡ true) × (end : End) × (end_of told ≡ Some end) × (end ≡ Acknowledged → acks ≡ true)) ⊎ ((last ≡ false) × (end_of told ≡ None))
 
-abbrev EndsBy : ℕ → Told → Type 0
+abbrev pub EndsBy : ℕ → Told → Type 0
 EndsBy type told = EndsIf (nat_le first_rep_error type || (type == rep_ack)) (type == rep_ack) told
 
 pub of_fits : (test : Bool) (one : Told) (body : Body) → fits test one ≡ Some body → body.told ≡ one
@@ -160,7 +160,7 @@ context_none bytes body e = of_none (nat_le 4 (length bytes)) (told.Context (rec
 end_is : (test : Bool) (one : Told) (end : End) (body : Body) → end_of one ≡ Some end → fits test one ≡ Some body → end_of body.told ≡ Some end
 end_is test one end body ends e = subst (λ (t : Told). end_of t ≡ Some end) (sym (of_fits test one body e)) ends
 
-body_ends : (type : ℕ) (bytes : List ℕ) (body : Body) → body_of type bytes ≡ Some body → EndsBy type body.told
+pub body_ends : (type : ℕ) (bytes : List ℕ) (body : Body) → body_of type bytes ≡ Some body → EndsBy type body.told
 unfolding body_of
 body_ends type bytes body e = go (nat_le first_rep_error type) (type == rep_ack) (type == rep_server) (type == rep_info) (type == rep_meta_context) e
   where
@@ -190,7 +190,7 @@ abbrev request_of : Link → ℕ → Option (Request Nobody)
 request_of known cookie = request known.requests cookie
 
 -- the link with this heard
-abbrev hearing : Link → Known Nobody → Link
+abbrev pub hearing : Link → Known Nobody → Link
 hearing known heard = record known { heard = heard }
 
 -- what was filed under another cookie, or nothing
@@ -312,10 +312,10 @@ carries_error offset error some = record {
 }
 
 -- the command that waits is this request's
-record Matches (command : Waiting) (request : asks.Request) : Type 0 where
-  kind : Some command.kind ≡ request.kind
-  offset : command.offset ≡ request.offset
-  length_ : command.length ≡ request.length
+pub record Matches (command : Waiting) (request : asks.Request) : Type 0 where
+  pub kind : Some command.kind ≡ request.kind
+  pub offset : command.offset ≡ request.offset
+  pub length_ : command.length ≡ request.length
 
 carries_simple : (command : Waiting) (request : asks.Request) (made : given.Reply) → Matches command request → FitsRequest request made → Carries command.offset made (simple_content command (error_in made) (bytes_in made))
 carries_simple command request (Refused error) m fits = subst (λ (c : Content). Carries command.offset (Refused error) c)
@@ -329,7 +329,7 @@ carries_simple command request (Holding bytes) m fits =
 carries_simple command request (Telling ds) m fits = subst (λ (c : Content). Carries command.offset (Telling ds) c)
     (sym (ap (λ (b : Bool). if b then Data command.offset [] else Bare) (not_read command.kind (λ e. fits (sym m.kind ∙ e))))) (carries_bare command.offset (Telling ds) (λ error e. cc) (λ bytes e. cc))
 
-size_simple : (command : Waiting) (request : asks.Request) (made : given.Reply) → Matches command request → FitsRequest request made → content_size command (error_in made) ≡ length (bytes_in made)
+pub size_simple : (command : Waiting) (request : asks.Request) (made : given.Reply) → Matches command request → FitsRequest request made → content_size command (error_in made) ≡ length (bytes_in made)
 size_simple command request (Refused error) m fits = ap (λ (b : Bool). if b then if is_read command.kind then command.length else 0 else 0) fits.1
 size_simple command request Done m fits = ap (λ (b : Bool). if b then command.length else 0) (not_read command.kind (λ e. fits (sym m.kind ∙ e)))
 size_simple command request (Holding bytes) m fits =
@@ -345,7 +345,7 @@ carries_chunk extended request offset (Holding (byte ∷ bytes)) fits = record {
 carries_chunk false request offset (Telling ds) fits = record { refused = λ error e. cc; data_ = λ bytes e. cc; status = λ id other e. let same : ds ≡ other = cc in ap Telling same }
 carries_chunk true request offset (Telling ds) fits = record { refused = λ error e. cc; data_ = λ bytes e. cc; status = λ id other e. let same : ds ≡ other = cc in ap Telling same }
 
-flags_still : (requests : History Nobody) (c : ℕ) (item : Item) (heard : Known Nobody) → (file requests c item heard).flags ≡ heard.flags
+pub flags_still : (requests : History Nobody) (c : ℕ) (item : Item) (heard : Known Nobody) → (file requests c item heard).flags ≡ heard.flags
 flags_still requests c item heard = go (request requests c)
   where
     go : (v : Option (Request Nobody)) → (file_under v c item heard).flags ≡ heard.flags
@@ -353,21 +353,37 @@ flags_still requests c item heard = go (request requests c)
     go (Some q) = refl
 
 -- what a command that waits says of the link
-record WaitsFor (known : Link) (cookie : ℕ) (command : Waiting) : Type 0 where
-  request_ : Request Nobody
-  is : request known.requests cookie ≡ Some request_
-  open_ : is_ended (own cookie known.heard.entries) ≡ false
-  kind : command.kind ≡ request_.kind
-  offset : command.offset ≡ request_.offset
-  length_ : command.length ≡ request_.length
+pub record WaitsFor (known : Link) (cookie : ℕ) (command : Waiting) : Type 0 where
+  pub request_ : Request Nobody
+  pub is : request known.requests cookie ≡ Some request_
+  pub open_ : is_ended (own cookie known.heard.entries) ≡ false
+  pub kind : command.kind ≡ request_.kind
+  pub offset : command.offset ≡ request_.offset
+  pub length_ : command.length ≡ request_.length
 
-waits_for : (known : Link) (cookie : ℕ) (command : Waiting) → waited known cookie ≡ Some command → WaitsFor known cookie command
+pub waits_for : (known : Link) (cookie : ℕ) (command : Waiting) → waited known cookie ≡ Some command → WaitsFor known cookie command
 waits_for known cookie command e = go (is_ended (own cookie known.heard.entries)) (request known.requests cookie) refl refl e
   where
     go : (b : Bool) (v : Option (Request Nobody)) → is_ended (own cookie known.heard.entries) ≡ b → request known.requests cookie ≡ v → waiting_of true b (own cookie known.heard.entries) v ≡ Some command → WaitsFor known cookie command
     go true v b w e = cc
     go false None b w e = cc
     go false (Some q) b w e = record { request_ = q; is = w; open_ = b; kind = cc; offset = cc; length_ = cc }
+
+pub good_map : (R Q : Shown → Type 0) (left : List ℕ) (v : Option Shown) → ((found : Shown) → R found → Q found) → Good IsBroken R left v → Good IsBroken Q left v
+good_map R Q left None h g = g
+good_map R Q left (Some found) h (inl b) = inl b
+good_map R Q left (Some found) h (inr (l, r)) = inr (l, h found r)
+
+-- What is shown, by where negotiation stands.
+abbrev pub ShownBy : Link → Phase → List ℕ → Option Shown
+ShownBy known p now =
+    if is_free p then if is_by_name known.wishes then shown.shows_by_name (has_bit flag_no_zeroes known.heard.flags) now else None
+    else shows_in p (sight known.heard) (waited known) now
+
+pub shown_by : (known : Link) (p : Phase) (now : List ℕ) → known.heard.stage ≡ Open → phase known.heard.turns ≡ p → shows known now ≡ ShownBy known p now
+shown_by known p now open_ at =
+    ap (λ (s : Stage). if is_free (phase known.heard.turns) then if is_by_name known.wishes then shows_at s (record (sight known.heard) { phase = phase.AskedByName }) (waited known) now else None else shows_at s (sight known.heard) (waited known) now) open_
+    ∙ ap (λ (q : Phase). if is_free q then if is_by_name known.wishes then shown.shows_by_name (has_bit flag_no_zeroes known.heard.flags) now else None else shows_in q (sight known.heard) (waited known) now) at
 
 module _ (name : List ℕ) (size : ℕ) (all : List Step) (link : ℕ) where
   matches : (known : Link) (replies : Replies) (request : asks.Request) (made : given.Reply) (command : Waiting) → Knows all link known → IsMade all link replies request made → waited known request.cookie ≡ Some command → Matches command request
@@ -386,11 +402,6 @@ module _ (name : List ℕ) (size : ℕ) (all : List Step) (link : ℕ) where
   -- a frame that carries the reply
   abbrev Framing : Link → asks.Request → given.Reply → Shown → Type 0
   Framing known request made found = (command : Waiting) × (waited known request.cookie ≡ Some command) × (content : Content) × (found ≡ reply request.cookie content true) × Carries command.offset made content
-
-  good_map : (R Q : Shown → Type 0) (left : List ℕ) (v : Option Shown) → ((found : Shown) → R found → Q found) → Good IsBroken R left v → Good IsBroken Q left v
-  good_map R Q left None h g = g
-  good_map R Q left (Some found) h (inl b) = inl b
-  good_map R Q left (Some found) h (inr (l, r)) = inr (l, h found r)
 
   good_reply : (known : Link) (replies : Replies) (request : asks.Request) (made : given.Reply) (structured extended : Bool) (now left : List ℕ) → Knows all link known → IsMade all link replies request made → now ++ left ≡ encode (Replies_to replies request made) →
       Good IsBroken (Framing known request made) left (shows_frame structured extended (waited known) now)
@@ -528,17 +539,6 @@ module _ (name : List ℕ) (size : ℕ) (all : List Step) (link : ℕ) where
           let is : phase (Replied r.0.told ∷ known.heard.turns) ≡ phase.Asked option = replied_stays known.heard.turns r.0.told e ∙ at in
           as_is (phase.Asked option) is refl (awaits_after known r.0.told more (phase.Asked option) is a.open_ fair_now a.sound.filed three a.knows (λ nay. cc)
           (rest, λ goes acks. promise goes (or_right (reply.type == rep_ack) (acknowledges more) acks)))
-
-  -- What is shown, by where negotiation stands.
-  abbrev ShownBy : Link → Phase → List ℕ → Option Shown
-  ShownBy known p now =
-      if is_free p then if is_by_name known.wishes then shown.shows_by_name (has_bit flag_no_zeroes known.heard.flags) now else None
-      else shows_in p (sight known.heard) (waited known) now
-
-  shown_by : (known : Link) (p : Phase) (now : List ℕ) → known.heard.stage ≡ Open → phase known.heard.turns ≡ p → shows known now ≡ ShownBy known p now
-  shown_by known p now open_ at =
-      ap (λ (s : Stage). if is_free (phase known.heard.turns) then if is_by_name known.wishes then shows_at s (record (sight known.heard) { phase = phase.AskedByName }) (waited known) now else None else shows_at s (sight known.heard) (waited known) now) open_
-      ∙ ap (λ (q : Phase). if is_free q then if is_by_name known.wishes then shown.shows_by_name (has_bit flag_no_zeroes known.heard.flags) now else None else shows_in q (sight known.heard) (waited known) now) at
 
   abbrev Settled : Link → List ℕ → List Said → Option Shown → Type 0
   Settled known left more v = Settles server encode full_said (Awaits name size all link) (IsOver name size all link) known left more v

@@ -138,7 +138,7 @@ may_join known now (Some one) more first rest = (first.0, rest)
 pub first_byte : (byte : ℕ) (bytes : List ℕ) → IsBytes (byte ∷ bytes) → (byte < 256) × IsBytes bytes
 first_byte byte bytes are = (are 0, λ i. are (suc i))
 
-some_heard : (one other : Heard) → Some one ≡ Some other → one ≡ other
+pub some_heard : (one other : Heard) → Some one ≡ Some other → one ≡ other
 some_heard one other e = cc
 
 -- the bytes that wait to be read are those of the things to come
@@ -189,14 +189,14 @@ same_servable one other f s = record {
   description = subst (λ (xs : List ℕ). length xs ≤ 4096) (sym f.3) s.description;
 }
 
-nothing_both : (one other : List ℕ) → one ++ other ≡ [] → (one ≡ []) × (other ≡ [])
+pub nothing_both : (one other : List ℕ) → one ++ other ≡ [] → (one ≡ []) × (other ≡ [])
 nothing_both [] other e = (refl, e)
 nothing_both (x ∷ one) other e = cc
 
 none_part : (rest : List Said) (read : List ℕ) → rest ≡ [] → IsPart encode read rest → read ≡ []
 none_part rest read none part = subst (λ (xs : List Said). IsPart encode read xs) none part
 
-push_bytes : (bytes : List ℕ) (byte : ℕ) → IsBytes bytes → byte < 256 → IsBytes (bytes ++ byte ∷ [])
+pub push_bytes : (bytes : List ℕ) (byte : ℕ) → IsBytes bytes → byte < 256 → IsBytes (bytes ++ byte ∷ [])
 push_bytes [] byte are small zero = small
 push_bytes [] byte are small (suc i) = are i
 push_bytes (x ∷ bytes) byte are small zero = are 0
@@ -292,7 +292,7 @@ module _ (start : Export) (servable : IsServable start) (truly : TellsTruly star
       none : state.waiting ≡ []
       none = opt_ready known state.waiting may.1 q.ready
 
-      a : Answered state.export (same_servable state.export start face servable) wish.option small wish.body known.wishes (option_answer offers state.export true state.agreed wish.option wish.body)
+      a : Answered state.export (same_servable state.export start face servable) wish.option small wish.body known.wishes (held.is_extended state.agreed.replies) (option_answer offers state.export true state.agreed wish.option wish.body)
       a = answered state.export (same_servable state.export start face servable) wish.option small wish.body known.wishes offers state.agreed
 
       never : phase known.heard.turns ≡ phase.Ready → ⊥
@@ -330,7 +330,7 @@ module _ (start : Export) (servable : IsServable start) (truly : TellsTruly star
             waits = subst (λ (ws : List Request). AllWait all link (option_answer offers state.export true state.agreed wish.option wish.body).agreed ws) (sym none) tt;
           }
 
-  not_two : (type : ℕ) (k : Kind) → kind_of type ≡ Some k → (type == 2) ≡ false
+  pub not_two : (type : ℕ) (k : Kind) → kind_of type ≡ Some k → (type == 2) ≡ false
   not_two type k e = elim (cases_eq type 2) [
     | inl same ↦ (let bad : None ≡ Some k = sym (ap kind_of same) ∙ e in cc)
     | inr other ↦ ne_eqb type 2 other
@@ -457,7 +457,7 @@ module _ (start : Export) (servable : IsServable start) (truly : TellsTruly star
       TieOf all (record { known = record s.known { stage = Strayed }; pending = [] }) (settle links.client c.known now v)
   strays all s c now v t are may = closed_step all (record s.known { stage = Strayed }) [] c now v refl are t.waits (record { straight = t.straight; knows = t.knows; ready = t.ready; begun = t.begun; stands = t.stands }) may
 
-  abbrev is_stray : server.Said → Bool
+  abbrev pub is_stray : server.Said → Bool
   is_stray (server.Flags flags) = false
   is_stray (server.OptionRequest option body) = false
   is_stray (server.Asks request payload) = false
@@ -465,7 +465,7 @@ module _ (start : Export) (servable : IsServable start) (truly : TellsTruly star
   is_stray server.Stray = true
   is_stray server.Ignored = false
 
-  stray_is : (one : server.Said) → is_stray one ≡ true → one ≡ server.Stray
+  pub stray_is : (one : server.Said) → is_stray one ≡ true → one ≡ server.Stray
   stray_is (server.Flags flags) e = cc
   stray_is (server.OptionRequest option body) e = cc
   stray_is (server.Asks request payload) e = cc
@@ -473,14 +473,14 @@ module _ (start : Export) (servable : IsServable start) (truly : TellsTruly star
   stray_is server.Stray e = refl
   stray_is server.Ignored e = cc
 
-  may_straight : (known : Link) (v : Option client.Said) (now : List ℕ) → AllMaySay known (things (shown_by now v)) → v ≢ Some Stray
+  pub may_straight : (known : Link) (v : Option client.Said) (now : List ℕ) → AllMaySay known (things (shown_by now v)) → v ≢ Some Stray
   may_straight known None now may e = cc
   may_straight known (Some Stray) now may e = absurd may.0
   may_straight known (Some (Flags flags)) now may e = cc
   may_straight known (Some (Wishes wish)) now may e = cc
   may_straight known (Some (Orders order)) now may e = cc
 
-  each_last : (bytes : List ℕ) (byte : ℕ) (stage : Stage) (e : Bool) → is_closed stage ≡ true → says stage e (bytes ++ byte ∷ []) ≡ Some (record { size = 1; said = server.Ignored })
+  pub each_last : (bytes : List ℕ) (byte : ℕ) (stage : Stage) (e : Bool) → is_closed stage ≡ true → says stage e (bytes ++ byte ∷ []) ≡ Some (record { size = 1; said = server.Ignored })
   unfolding each_byte
   each_last bytes byte Greeting e closed = cc
   each_last bytes byte Haggling e closed = cc
@@ -521,7 +521,7 @@ module _ (start : Export) (servable : IsServable start) (truly : TellsTruly star
           (λ x. let bad : Some found ≡ Some stray = sym hears ∙ x in let same : found.said ≡ server.Stray = ap (λ (h : Heard). h.said) (some_heard found stray bad) in let nay : true ≡ false = sym (ap is_stray same) ∙ e in cc)
           (λ x. may_straight c.known v now may (sym read_ ∙ x)) ∙ ap (option_map as_heard) read_)
 
-  byte_step : (was : List Step) (s : Held State) (c : Held Link) (byte : ℕ) → byte < 256 → During was s c → AllMaySay c.known (things (shown_by (c.pending ++ byte ∷ []) (links.client.shows c.known (c.pending ++ byte ∷ [])))) →
+  pub byte_step : (was : List Step) (s : Held State) (c : Held Link) (byte : ℕ) → byte < 256 → During was s c → AllMaySay c.known (things (shown_by (c.pending ++ byte ∷ []) (links.client.shows c.known (c.pending ++ byte ∷ [])))) →
       During was (take_byte (rules offers) s byte) (take_byte links.client c byte)
   byte_step was s c byte small d may = go d.tie.opened
     where

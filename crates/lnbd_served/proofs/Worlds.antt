@@ -37,13 +37,13 @@ speaks_split l both (first ∷ calls) call s = let r = speaks_split l (after_cal
 
 -- Links and exports at their places.
 
-opened_there : (links : List Link) (k : ℕ) → (link_in links k).opened ≡ true → k < length links
+pub opened_there : (links : List Link) (k : ℕ) → (link_in links k).opened ≡ true → k < length links
 opened_there links k is = elim (cases_lt k (length links)) [
   | inl less ↦ less
   | inr past ↦ let none : (link_in links k).opened ≡ false = ap (λ (l : Link). l.opened) (get_or_past links k no_link (omega (arith, past))) in absurd (let bad : false ≡ true = sym none ∙ is in cc)
 ]
 
-pushed_session : (links : List Link) (place n : ℕ) → (link_in (links ++ new_link place ∷ []) n).session ≡ (link_in links n).session
+pub pushed_session : (links : List Link) (place n : ℕ) → (link_in (links ++ new_link place ∷ []) n).session ≡ (link_in links n).session
 pushed_session [] place zero = refl
 pushed_session [] place (suc n) = refl
 pushed_session (l ∷ links) place zero = refl

@@ -40,7 +40,7 @@ take_zero [] = refl
 take_zero (byte ∷ bytes) = refl
 
 -- What is offered is a front of what waits, at every stage.
-front_offered : (stage : Stage) (parts : List Part) (n : ℕ) (bytes : List ℕ) → bytes ≡ take (length bytes) (out (waiting_at stage parts n)) → bytes ≡ take (length bytes) (out (waiting parts n))
+pub front_offered : (stage : Stage) (parts : List Part) (n : ℕ) (bytes : List ℕ) → bytes ≡ take (length bytes) (out (waiting_at stage parts n)) → bytes ≡ take (length bytes) (out (waiting parts n))
 front_offered Created parts n bytes e = e
 front_offered Open parts n bytes e = e
 front_offered Disconnecting parts n bytes e = e
@@ -55,7 +55,7 @@ front_offered (Dead why) parts n bytes e = nothing (e ∙ take_none (length byte
     nothing is = is ∙ sym (ap (λ bs. take (length bs) (out (waiting parts n))) is ∙ take_zero (out (waiting parts n)))
 
 -- Nothing goes out once all is done.
-done_none : (stage : Stage) (parts : List Part) (n : ℕ) (bytes : List ℕ) → is_done stage ≡ true → bytes ≡ take (length bytes) (out (waiting_at stage parts n)) → bytes ≡ []
+pub done_none : (stage : Stage) (parts : List Part) (n : ℕ) (bytes : List ℕ) → is_done stage ≡ true → bytes ≡ take (length bytes) (out (waiting_at stage parts n)) → bytes ≡ []
 done_none Closed parts n bytes d e = e ∙ take_none (length bytes)
 done_none (Dead why) parts n bytes d e = e ∙ take_none (length bytes)
 done_none Created parts n bytes d e = absurd (false≢true d)
@@ -107,7 +107,7 @@ dead_not_open : (stage : Stage) (why : Cause) → stage ≡ Dead why → stage �
 dead_not_open stage why d o = let bad : Dead why ≡ Open = sym d ∙ o in cc
 
 -- A link that comes to one that is open is open.
-open_before : (h : Held Link) (all : List Said) (v : Held Link) → Reaches h all v → IsOpened h.known.heard.stage → v.known.heard.stage ≡ Open → h.known.heard.stage ≡ Open
+pub open_before : (h : Held Link) (all : List Said) (v : Held Link) → Reaches h all v → IsOpened h.known.heard.stage → v.known.heard.stage ≡ Open → h.known.heard.stage ≡ Open
 open_before h all v r opened open_ = go h.known.heard.stage refl opened
   where
     go : (stage : Stage) → h.known.heard.stage ≡ stage → IsOpened stage → h.known.heard.stage ≡ Open
@@ -203,7 +203,7 @@ module _ {K : Type 0} (history : History K) (held : Held (Known K)) (h : Held Li
         by_stage Closed s = absurd (some (subst (λ st. bytes ≡ take (length bytes) (out (waiting_at st held.known.parts (asked history).wrote))) s e ∙ take_none (length bytes)))
         by_stage (Dead why) s = absurd (some (subst (λ st. bytes ≡ take (length bytes) (out (waiting_at st held.known.parts (asked history).wrote))) s e ∙ take_none (length bytes)))
 
-    open_now : bytes ≢ [] → h.known.heard.stage ≡ Open
+    pub open_now : bytes ≢ [] → h.known.heard.stage ≡ Open
     open_now some = open_before h a.asks a.v a.reach a.opened (go a.stands)
       where
         go : Haggles history held.known a.v.known a.front a.orders ⊎ Transmits history held.known a.v.known a.front a.asks a.orders → a.v.known.heard.stage ≡ Open

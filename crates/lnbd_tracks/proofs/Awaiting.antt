@@ -18,7 +18,7 @@ use Rattle.lnbd_asked.specs.Driven.{outcome_after}
 use Rattle.lnbd_asked.specs.Transcript.{outcome_of}
 use Rattle.lnbd_board.specs.declared.ticket.Ticket.{Ticket}
 use Rattle.lnbd_board.specs.declared.ticket.Ticket.TheVariants as ticket
-use Rattle.lnbd_board.specs.Files.{Seen, Files, came_with, filed, filed_done, is_map, is_unfit, or_error, rows_with}
+use Rattle.lnbd_board.specs.Files.{Seen, Files, came_with, filed, filed_done, is_map, is_unfit, or_error, content_first, rows_with}
 use Rattle.lnbd_board.specs.Files as board
 use Rattle.lnbd_tracks.specs.Awaiting.{AskingAwaits, Awaits, ComingAwaits, IsAsking, OthersAwait}
 use Rattle.lnbd_tracks.specs.Laws.{is_coming}
@@ -54,7 +54,7 @@ one_not : (call : Call Ticket) (before after : Seen) → Files before call after
 one_not (Chunk by bytes offset status error heard) before after f e = sym (ap (λ (s : Seen). s.mapped) f.1) ∙ e
 one_not (Extents by context offset entries error heard) before after f e = sym (hears_mapped (is_map by context) entries before after f.1) ∙ e
 one_not (Complete by error buf verdict) before after f e =
-    either_not (error == 0) (filed_done by buf before) (record before { error = or_error before.error error }) before.mapped (done_not by buf before) (λ k. k) (sym (ap (λ (s : Seen). s.mapped) f.1) ∙ e)
+    either_not (error == 0) (filed_done by buf before) (record before { error = content_first before.error error }) before.mapped (done_not by buf before) (λ k. k) (sym (ap (λ (s : Seen). s.mapped) f.1) ∙ e)
 one_not (Free by) before after f e = sym (ap (λ (s : Seen). s.mapped) f) ∙ e
 
 not_earlier : (calls : List (Call Ticket)) (before after : Seen) → OneByOne Files before calls after → after.mapped ≡ false → before.mapped ≡ false
@@ -63,15 +63,19 @@ not_earlier (call ∷ calls) before after f e = one_not call before f.0 f.1.0 (n
 
 -- Where the callback for extents is told of an end, the board is told of an answer or of an error.
 
-some_error : (told : Option ℕ) (error : ℕ) → or_error told error ≡ None → ⊥
+some_error : (told : Option ℕ) (error : ℕ) → content_first told error ≡ None → ⊥
 some_error None error e = cc
-some_error (Some first) error e = cc
+some_error (Some first) error e = go (error == 71) e
+  where
+    go : (b : Bool) → (if b then Some error else Some first) ≡ None → ⊥
+    go true e = cc
+    go false e = cc
 
 told_end : (by : Ticket) (error : ℕ) (buf : List ℕ) (old : Seen) → is_extents by ≡ true → (filed by error buf old).error ≡ None → (filed by error buf old).mapped ≡ false → ⊥
 told_end (ticket.Slice n) error buf old ends none unmapped = false≢true ends
 told_end ticket.Extents error buf old ends none unmapped = go (error == 0) none unmapped
   where
-    go : (b : Bool) → (if b then record old { mapped = true } else record old { error = or_error old.error error }).error ≡ None → (if b then record old { mapped = true } else record old { error = or_error old.error error }).mapped ≡ false → ⊥
+    go : (b : Bool) → (if b then record old { mapped = true } else record old { error = content_first old.error error }).error ≡ None → (if b then record old { mapped = true } else record old { error = content_first old.error error }).mapped ≡ false → ⊥
     go true none unmapped = false≢true (sym unmapped)
     go false none unmapped = some_error old.error error none
 told_end ticket.Flush error buf old ends none unmapped = false≢true ends

@@ -20,7 +20,7 @@ use Rattle.lnbd_history.specs.Events.{Answer, Hears, Decides}
 use Rattle.lnbd_history.specs.History.{next_heard, next_verdict}
 use Rattle.lnbd_board.specs.declared.ticket.Ticket.{Ticket}
 use Rattle.lnbd_board.specs.declared.ticket.Ticket.TheVariants as ticket
-use Rattle.lnbd_board.specs.Files.{Seen, rows_with, came_with, or_error, is_unfit, filed_done, is_map, Files}
+use Rattle.lnbd_board.specs.Files.{Seen, rows_with, came_with, or_error, content_first, is_unfit, filed_done, is_map, Files}
 use Rattle.lnbd_board.specs.Files as board
 use Rattle.lnbd_board.specs.Requests.{Request, Each, Answers}
 use Rattle.lnbd_board.specs.Turns.{Tells, TellAll}
@@ -111,6 +111,17 @@ none_kept : (told : Option ℕ) (error : ℕ) → or_error told error ≡ None �
 none_kept None error e = refl
 none_kept (Some first) error e = e
 
+content_kept : (told : Option ℕ) (error : ℕ) → content_first told error ≡ None → told ≡ None
+content_kept None error e = refl
+content_kept (Some first) error e = go (error == 71) e
+  where
+    some_none : {A : Type 0} (n : ℕ) → Some n ≡ None → A
+    some_none n e = absurd (cc)
+
+    go : (b : Bool) → (if b then Some error else Some first) ≡ None → Some first ≡ None
+    go true e = some_none error e
+    go false e = e
+
 -- of two boards, each of which is told none only where none was told before
 either_none : (b : Bool) (one other : Seen) (before : Option ℕ) → (one.error ≡ None → before ≡ None) → (other.error ≡ None → before ≡ None) → (if b then one else other).error ≡ None → before ≡ None
 either_none true one other before f g e = f e
@@ -127,7 +138,7 @@ one_error : (call : Call Ticket) (before after : Seen) → Files before call aft
 one_error (Chunk by bytes offset status error heard) before after f e = sym (ap (λ (s : Seen). s.error) f.1) ∙ e
 one_error (Extents by context offset entries error heard) before after f e = sym (hears_error (is_map by context) entries before after f.1) ∙ e
 one_error (Complete by error buf verdict) before after f e =
-    either_none (error == 0) (filed_done by buf before) (record before { error = or_error before.error error }) before.error (done_none by buf before) (none_kept before.error error) (sym (ap (λ (s : Seen). s.error) f.1) ∙ e)
+    either_none (error == 0) (filed_done by buf before) (record before { error = content_first before.error error }) before.error (done_none by buf before) (content_kept before.error error) (sym (ap (λ (s : Seen). s.error) f.1) ∙ e)
 one_error (Free by) before after f e = sym (ap (λ (s : Seen). s.error) f) ∙ e
 
 pub none_earlier : (calls : List (Call Ticket)) (before after : Seen) → OneByOne Files before calls after → after.error ≡ None → before.error ≡ None

@@ -30,7 +30,7 @@ use Rattle.lnbd_board.specs.declared.row.Stage.{Stage}
 use Rattle.lnbd_board.specs.declared.row.Stage.TheVariants as stage
 use Rattle.lnbd_board.specs.declared.ticket.Ticket.{Ticket}
 use Rattle.lnbd_board.specs.declared.ticket.Ticket.TheVariants as ticket
-use Rattle.lnbd_board.specs.Files.{Seen, Files, came_with, filed_done, is_map, is_reading, is_unfit, or_error, rows_with}
+use Rattle.lnbd_board.specs.Files.{Seen, Files, came_with, filed_done, is_map, is_reading, is_unfit, or_error, content_first, rows_with}
 use Rattle.lnbd_board.specs.Requests.{Each, Request, own as own_of, said_unanswered}
 use Rattle.lnbd_board.specs.Rows.{IsReading, Stands, StandsAt, slice_at}
 use Rattle.lnbd_board.specs.Turns.{IsAnswered, Tells, TellAll}
@@ -395,6 +395,14 @@ module _ (how : How) (slices : List Slice) (M : ℕ → Type 0) where
   kept_leads None code m error e = inr (subst M (some_same code error e) (m refl))
   kept_leads (Some first) code m error e = inl e
 
+  content_leads : (before : Option ℕ) (code : ℕ) → M code → Leads before (content_first before code)
+  content_leads None code m error e = inr (subst M (some_same code error e) m)
+  content_leads (Some first) code m error e = go (code == 71) e
+    where
+      go : (b : Bool) → (if b then Some code else Some first) ≡ Some error → (Some first ≡ Some error) ⊎ M error
+      go true e = inr (subst M (some_same code error e) m)
+      go false e = inl e
+
   either_leads : (b : Bool) (one other : Seen) (before : Option ℕ) → (b ≡ true → Leads before one.error) → (b ≡ false → Leads before other.error) → Leads before (if b then one else other).error
   either_leads true one other before f g = f refl
   either_leads false one other before f g = g refl
@@ -424,8 +432,8 @@ module _ (how : How) (slices : List Slice) (M : ℕ → Type 0) where
     one_leads (Extents by context offset extents error heard) after f t s = same_leads before.error after.error (hears_error (is_map by context) extents before after f.1)
     one_leads (Complete by error buf verdict) after f t s =
         subst (λ (b : Seen). Leads before.error b.error) (sym f.1)
-        (either_leads (error == 0) (filed_done by buf before) (record before { error = or_error before.error error }) before.error
-        (λ e. done_leads by buf (t (is_zero error e))) (λ e. kept_leads before.error error (λ none. s (not_zero error e))))
+        (either_leads (error == 0) (filed_done by buf before) (record before { error = content_first before.error error }) before.error
+        (λ e. done_leads by buf (t (is_zero error e))) (λ e. content_leads before.error error (s (not_zero error e))))
     one_leads (Free by) after f t s = same_leads before.error after.error (ap (λ (b : Seen). b.error) f)
 
   all_lead : (calls : List (Call Ticket)) (before after : Seen) (source destination source2 destination2 : List Request) → OneByOne Files before calls after → TellAll calls source destination source2 destination2 →

@@ -58,13 +58,13 @@ IsDoneIf r = moves_bytes r.said.command.kind ≡ true → IsDone r.said.outcome
 
 source_one : (slices : List Slice) (by : Ticket) (said : Said) → AsksOfSource slices by said.command → ((n : ℕ) → n < length slices → is_of n by ≡ true → IsDone said.outcome) → moves_bytes said.command.kind ≡ true → IsDone said.outcome
 source_one slices (ticket.Slice n) said asks done moves = done n asks.1.begun (eq-eqb n n refl)
-source_one slices ticket.Extents said asks done moves = absurd (false≢true (sym (ap moves_bytes asks) ∙ moves))
+source_one slices ticket.Extents said asks done moves = absurd (false≢true (sym (ap moves_bytes asks.0) ∙ moves))
 source_one slices ticket.Flush said asks done moves = absurd asks
 
 destination_one : (how : How) (slices : List Slice) (by : Ticket) (said : Said) → AsksOfDestination how slices by said.command → ((n : ℕ) → n < length slices → is_of n by ≡ true → IsDone said.outcome) → moves_bytes said.command.kind ≡ true → IsDone said.outcome
 destination_one how slices (ticket.Slice n) said asks done moves = done n asks.1.begun (eq-eqb n n refl)
 destination_one how slices ticket.Extents said asks done moves = absurd asks
-destination_one how slices ticket.Flush said asks done moves = absurd (false≢true (sym (ap moves_bytes asks) ∙ moves))
+destination_one how slices ticket.Flush said asks done moves = absurd (false≢true (sym (ap moves_bytes asks.0) ∙ moves))
 
 pub finished_are_done : FinishedAreDone
 finished_are_done how slices source destination stands = (

@@ -27,7 +27,7 @@ use Rattle.lnbd_history.specs.History.{next_verdict}
 use Rattle.lnbd_asked.specs.Transcript.{is_allocation, extents_in, zero_in}
 use Rattle.lnbd_board.specs.declared.ticket.Ticket.{Ticket}
 use Rattle.lnbd_board.specs.declared.ticket.Ticket.TheVariants as ticket
-use Rattle.lnbd_board.specs.Files.{Seen, filed, filed_done, is_unfit, rows_with, came_with, or_error, is_map, Files}
+use Rattle.lnbd_board.specs.Files.{Seen, filed, filed_done, is_unfit, rows_with, came_with, or_error, content_first, is_map, Files}
 use Rattle.lnbd_board.specs.Files as board
 use Rattle.lnbd_board.specs.Requests.{Each}
 use Rattle.lnbd_tracks.specs.Mapping.{is_extents, first_tells, tells_extents}
@@ -90,7 +90,7 @@ module _ (start : ℕ) (Z : ℕ → Type 0) (M : Type 0) where
   one_known (Chunk by bytes offset status error heard) before after f s k = subst Knows (sym f.1) k
   one_known (Extents by context offset entries error heard) before after f s k = hears_known (is_map by context) entries before after s f.1 k
   one_known (Complete by error buf verdict) before after f s k =
-      subst Knows (sym f.1) (either_known (error == 0) (filed_done by buf before) (record before { error = or_error before.error error })
+      subst Knows (sym f.1) (either_known (error == 0) (filed_done by buf before) (record before { error = content_first before.error error })
       (λ e. done_known by buf before (λ t. s t (zero_number error e)) k) (λ e. record { zero = k.zero; answered = k.answered }))
   one_known (Free by) before after f s k = subst Knows (sym f) k
 

@@ -1,5 +1,5 @@
 -- All that is told of extents is held by the board, and then known.
-use Rattle.std.proofs.Common.{◌≡◌, ◌≢◌, ℕ, ◌+◌, ◌*◌, ◌/◌, Bool, true, false, ◌&&◌, ◌||◌, List, [], ◌∷◌, ◌++◌, map, Option, Some, None, is_some, refl, ap, sym, subst, ◌∙◌, arith, ◌⊎◌, inl, inr, if◌then◌else◌, bytes_eq, codes, ◌==◌, nat_lt}
+use Rattle.std.proofs.Common.{◌≡◌, ◌≢◌, ℕ, ◌+◌, ◌*◌, ◌/◌, Bool, true, false, ◌&&◌, ◌||◌, List, [], ◌∷◌, ◌++◌, map, Option, Some, None, is_some, refl, ap, sym, subst, ◌∙◌, arith, ◌⊎◌, inl, inr, if◌then◌else◌, bytes_eq, codes, ◌==◌, nat_lt, nat_le}
 use Rattle.std.proofs.lemmas.Bool.{cases_eq, false≢true}
 use Rattle.lnbd_keyed.specs.Keyed.{value_at}
 use Rattle.lnbd_model.specs.declared.export.Context.{Context as MetaContext}
@@ -30,18 +30,18 @@ use Rattle.lnbd_history.specs.History.{asked, request, next_heard, filing_of, re
 use Rattle.lnbd_history.proofs.Cookies.{request_past}
 use Rattle.lnbd_asked.specs.Driven.{outcome_after, zero_after}
 use Rattle.lnbd_asked.specs.InStep.{silent_pieces}
-use Rattle.lnbd_asked.specs.Transcript.{outcome_of, extents_in, is_allocation, zero_in, zero_by, zero_told}
+use Rattle.lnbd_asked.specs.Transcript.{outcome_of, extents_in, is_allocation, is_zero, zero_in, zero_by, zero_told}
 use Rattle.lnbd_board.specs.declared.ticket.Ticket.{Ticket}
 use Rattle.lnbd_board.specs.declared.ticket.Ticket.TheVariants as ticket
-use Rattle.lnbd_board.specs.Files.{Seen, Files, filed_done, is_map, is_unfit, or_error, rows_with, came_with}
+use Rattle.lnbd_board.specs.Files.{Seen, Files, filed_done, is_map, is_unfit, or_error, content_first, rows_with, came_with}
 use Rattle.lnbd_board.specs.Files as board
 use Rattle.lnbd_board.specs.Requests.{Each}
-use Rattle.lnbd_tracks.specs.Heeding.{AllHeard, IsAwaited, IsHeard, Heeds, ListensTo, holds_whole, zero_asked, is_whole, NothingHeeds, ComingHeeds, OthersHeed, AskingHeeds, HearingHeeds}
+use Rattle.lnbd_tracks.specs.Saying.{is_told, said_after, said_by, said_in, said_of}
+use Rattle.lnbd_tracks.specs.Heeding.{AllHeard, IsAwaited, IsHeard, Heeds, ListensTo, holds_told, holds_whole, zero_asked, is_whole, NothingHeeds, ComingHeeds, OthersHeed, AskingHeeds, HearingHeeds}
 use Rattle.lnbd_tracks.specs.Laws.{IsDone, is_coming}
 use Rattle.lnbd_tracks.specs.Mapping.{Maps, ToldAlike, asks_extents, first_tells, is_extents, tells_extents}
 use Rattle.lnbd_tracks.specs.Tracks.{Histories, Happens, Adds, NoneFails, is_issue}
 use Rattle.lnbd_tracks.proofs.Along.{along}
-use Rattle.lnbd_tracks.proofs.Heard.{none_zero}
 use Rattle.lnbd_tracks.proofs.Mapped.{at, asked_at, hearing_maps, told_at, not_issued}
 use Rattle.lnbd_tracks.proofs.Staying.{asked_stays, done_over, ended_more, next_beside, next_here}
 use Rattle.lnbd_tracks.proofs.Coming.{closed_keeps, event_keeps}
@@ -97,7 +97,7 @@ calm_one : (call : Call Ticket) (before after : Seen) → Files before call afte
 calm_one (Chunk by bytes offset status error heard) before after f q = calm_same before after f.1
 calm_one (Extents by context offset entries error heard) before after f q = hears_calm (is_map by context) entries before after q f.1
 calm_one (Complete by error buf verdict) before after f q =
-    subst (IsCalm before) (sym f.1) (either_calm before (filed_done by buf before) (record before { error = or_error before.error error }) (error == 0) (done_calm by buf before) (record { told = refl; short = refl }))
+    subst (IsCalm before) (sym f.1) (either_calm before (filed_done by buf before) (record before { error = content_first before.error error }) (error == 0) (done_calm by buf before) (record { told = refl; short = refl }))
 calm_one (Free by) before after f q = calm_same before after f
 
 calm_all : (calls : List (Call Ticket)) (before after : Seen) → OneByOne Files before calls after → Each IsQuiet calls → IsCalm before after
@@ -216,6 +216,25 @@ item_said query earlier contexts (Framed content last) e = go (has_fault query e
 item_said query earlier contexts Lost e = refl
 item_said query earlier contexts Dropped e = refl
 
+-- What is said of positions.
+
+-- no extents say anything
+none_said : (test : Option ℕ → Bool) → test None ≡ false → (start p : ℕ) → said_in test start [] p ≡ true → ⊥
+none_said test blank start p e = false≢true (sym blank ∙ second (nat_le start p) (test None) e)
+  where
+    second : (a b : Bool) → (a && b) ≡ true → b ≡ true
+    second true b e = e
+    second false b e = absurd (false≢true e)
+
+zero_said : (start : ℕ) (all : List Piece) (p : ℕ) → zero_by start all p ≡ said_by is_zero start all p
+zero_said start [] p = refl
+zero_said start (piece ∷ earlier) p = ap (λ (b : Bool). zero_in start (extents_in piece.contexts (content_of piece.item)) p || b) (zero_said start earlier p)
+
+-- what is told as zero is said so
+zero_is : {K : Type 0} (asks : Option (Request K)) (filings : List (Filing K)) (p : ℕ) → zero_told asks filings p ≡ said_of is_zero asks filings p
+zero_is None filings p = refl
+zero_is (Some asks) filings p = zero_said asks.offset (pieces filings) p
+
 -- What is over stays as it is.
 
 module _ {K : Type 0} where
@@ -232,14 +251,15 @@ module _ {K : Type 0} where
           go (inr differ) = own_other c (filing_of asks k (own k entries) contexts item answers) entries differ ∙ h
 
 -- one request's own entries, with what was asked
-module _ (known : (block p : ℕ) → Bool) (c : ℕ) (q : Request Ticket) where
+module _ (known : (block p : ℕ) → Bool) (reach : ℕ → Bool) (c : ℕ) (q : Request Ticket) where
   -- a history that tells the same of a command
-  heard_same : (one other : History Ticket) → request one c ≡ Some q → request other c ≡ Some q → own c (reading other).known.entries ≡ own c (reading one).known.entries → IsHeard one known c q → IsHeard other known c q
+  heard_same : (one other : History Ticket) → request one c ≡ Some q → request other c ≡ Some q → own c (reading other).known.entries ≡ own c (reading one).known.entries → IsHeard one known reach c q → IsHeard other known reach c q
   heard_same one other was is same h = record {
     over = ap is_ended same ∙ h.over;
     whole = λ d block p e. h.whole
         (record { bytes = d.bytes; is = outcome ∙ d.is }) block p
         (ap (λ (f : ℕ → Bool). is_whole block (λ r. within (q.offset, q.length) r && f r) p) (λ i r. zeros r i) ∙ e);
+    reached = λ d p e. h.reached (record { bytes = d.bytes; is = outcome ∙ d.is }) p (ap (λ (b : Bool). within (q.offset, q.length) p && b) (saids p) ∙ e);
   }
     where
       outcome : outcome_after one c ≡ outcome_after other c
@@ -248,21 +268,24 @@ module _ (known : (block p : ℕ) → Bool) (c : ℕ) (q : Request Ticket) where
       zeros : (r : ℕ) → zero_after one c r ≡ zero_after other c r
       zeros r = ap (λ a. zero_told a (own c (reading one).known.entries) r) (was ∙ sym is) ∙ ap (λ l. zero_told (request other c) l r) (sym same)
 
-  heard_stays : (before : History Ticket) (event : Event Ticket) → request before c ≡ Some q → IsHeard before known c q → IsHeard (event ∷ before) known c q
+      saids : (r : ℕ) → said_after is_told one c r ≡ said_after is_told other c r
+      saids r = ap (λ a. said_of is_told a (own c (reading one).known.entries) r) (was ∙ sym is) ∙ ap (λ l. said_of is_told (request other c) l r) (sym same)
+
+  heard_stays : (before : History Ticket) (event : Event Ticket) → request before c ≡ Some q → IsHeard before known reach c q → IsHeard (event ∷ before) known reach c q
   heard_stays before event is h = heard_same before (event ∷ before) is (asked_stays before event c q is) (own_over before event c h.over) h
 
-module _ (link : ℕ) (event : Event Ticket) (histories histories2 : Histories) (known : (block p : ℕ) → Bool) (happens : Happens link event histories histories2) where
-  heard_at : (other c : ℕ) (q : Request Ticket) → request (histories other) c ≡ Some q → IsHeard (histories other) known c q → IsHeard (histories2 other) known c q
-  heard_at other c q is h = at link event histories histories2 happens other (λ x. (request x c ≡ Some q) × IsHeard x known c q) (λ x. IsHeard x known c q) (λ x b. heard_stays known c q x event b.0 b.1) (λ x b. b.1) (is, h)
+module _ (link : ℕ) (event : Event Ticket) (histories histories2 : Histories) (known : (block p : ℕ) → Bool) (reach : ℕ → Bool) (happens : Happens link event histories histories2) where
+  heard_at : (other c : ℕ) (q : Request Ticket) → request (histories other) c ≡ Some q → IsHeard (histories other) known reach c q → IsHeard (histories2 other) known reach c q
+  heard_at other c q is h = at link event histories histories2 happens other (λ x. (request x c ≡ Some q) × IsHeard x known reach c q) (λ x. IsHeard x known reach c q) (λ x b. heard_stays known reach c q x event b.0 b.1) (λ x b. b.1) (is, h)
 
-  all_heard : asks_extents event ≡ false → AllHeard histories known → AllHeard histories2 known
+  all_heard : asks_extents event ≡ false → AllHeard histories known reach → AllHeard histories2 known reach
   all_heard none all other c q is tells = let was = told_at link event histories histories2 happens none other c q tells is in heard_at other c q was (all other c q was tells)
 
 -- On the link of the command that is waited for.
 
 module _ (history : History Ticket) (k : ℕ) (asks : Request Ticket) (start : ℕ) (is_k : request history k ≡ Some asks) (starts : asks.offset ≡ start) (first : first_tells asks.flight.first ≡ true) where
   abbrev Held : List (Filing Ticket) → Seen → Type 0
-  Held filings now = now.short ≡ false → failure_in asks filings ≡ None → (p : ℕ) → zero_told (Some asks) filings p ≡ true → zero_in start now.told p ≡ true
+  Held filings now = now.short ≡ false → failure_in asks filings ≡ None → (test : Option ℕ → Bool) → test None ≡ false → (p : ℕ) → said_of test (Some asks) filings p ≡ true → said_in test start now.told p ≡ true
 
   record Awaits (entries : List (Entry Ticket)) (now : Seen) : Type 0 where
     others : (c : ℕ) (q : Request Ticket) → request history c ≡ Some q → tells_extents q.flight ≡ true → (c ≡ k) ⊎ (is_ended (own c entries) ≡ true)
@@ -273,7 +296,7 @@ module _ (history : History Ticket) (k : ℕ) (asks : Request Ticket) (start : �
   or_cases false b e = inr e
 
   held_calm : (filings : List (Filing Ticket)) (before after : Seen) → IsCalm before after → Held filings before → Held filings after
-  held_calm filings before after calm held short none p z = ap (λ (l : List Extent). zero_in start l p) calm.told ∙ held (sym calm.short ∙ short) none p z
+  held_calm filings before after calm held short none test blank p z = ap (λ (l : List Extent). said_in test start l p) calm.told ∙ held (sym calm.short ∙ short) none test blank p z
 
   -- a frame of its answer comes
   module _ (item : Item) (contexts : List MetaContext) (answers : List Answer) (filings : List (Filing Ticket)) (before after : Seen) where
@@ -281,7 +304,7 @@ module _ (history : History Ticket) (k : ℕ) (asks : Request Ticket) (start : �
     f = filing_of asks k filings contexts item answers
 
     held_here : OneByOne Files before (map call_of (acts_of f filings)) after → Held filings before → Held (f ∷ filings) after
-    held_here files held short none p z = go became
+    held_here files held short none test blank p z = go became
       where
         items : (failure_in asks filings ≡ None) × (item_failure (query_of asks) (pieces filings) contexts item ≡ None)
         items = fails_before (query_of asks) (piece_of f) (pieces filings) none
@@ -293,14 +316,14 @@ module _ (history : History Ticket) (k : ℕ) (asks : Request Ticket) (start : �
         became = becomes asks.flight asks.flight.first (hearing_in asks filings contexts item) f.heard item f.verdict (error_in asks (f ∷ filings)) (bytes_in asks (f ∷ filings)) (extents_in contexts (content_of item)) before after first
             (λ some. next_some (hears asks.flight (hearing_in asks filings contexts item)) answers (first_some asks.flight.first (hearing_in asks filings contexts item) first some)) said files short
 
-        go : Becomes before after (extents_in contexts (content_of item)) → zero_in start after.told p ≡ true
-        go (inl calm) = elim (or_cases (zero_in asks.offset (extents_in contexts (content_of item)) p) (zero_by asks.offset (pieces filings) p) z) [
-          | inl e ↦ absurd (none_zero asks.offset p (ap (λ (l : List Extent). zero_in asks.offset l p) (sym calm.1) ∙ e))
-          | inr e ↦ held_calm filings before after calm.0 held short items.0 p e
+        go : Becomes before after (extents_in contexts (content_of item)) → said_in test start after.told p ≡ true
+        go (inl calm) = elim (or_cases (said_in test asks.offset (extents_in contexts (content_of item)) p) (said_by test asks.offset (pieces filings) p) z) [
+          | inl e ↦ absurd (none_said test blank asks.offset p (ap (λ (l : List Extent). said_in test asks.offset l p) (sym calm.1) ∙ e))
+          | inr e ↦ held_calm filings before after calm.0 held short items.0 test blank p e
         ]
-        go (inr now) = elim (or_cases (zero_in asks.offset (extents_in contexts (content_of item)) p) (zero_by asks.offset (pieces filings) p) z) [
-          | inl e ↦ ap (λ (l : List Extent). zero_in start l p) now.1 ∙ ap (λ (n : ℕ). zero_in n (extents_in contexts (content_of item)) p) (sym starts) ∙ e
-          | inr e ↦ absurd (none_zero start p (ap (λ (l : List Extent). zero_in start l p) (sym now.0) ∙ held (now.2 ∙ short) items.0 p e))
+        go (inr now) = elim (or_cases (said_in test asks.offset (extents_in contexts (content_of item)) p) (said_by test asks.offset (pieces filings) p) z) [
+          | inl e ↦ ap (λ (l : List Extent). said_in test start l p) now.1 ∙ ap (λ (n : ℕ). said_in test n (extents_in contexts (content_of item)) p) (sym starts) ∙ e
+          | inr e ↦ absurd (none_said test blank start p (ap (λ (l : List Extent). said_in test start l p) (sym now.0) ∙ held (now.2 ∙ short) items.0 test blank p e))
         ]
 
   some_same : (one other : Request Ticket) → Some one ≡ Some other → one ≡ other
@@ -374,10 +397,10 @@ module _ (history : History Ticket) (start : Seen) where
 
 -- Several handles.
 
-module _ (link : ℕ) (event : Event Ticket) (histories histories2 : Histories) (known : (block p : ℕ) → Bool) (happens : Happens link event histories histories2) (range : ℕ × ℕ) (before : Seen) (m : IsAwaited histories range known before) where
+module _ (link : ℕ) (event : Event Ticket) (histories histories2 : Histories) (known : (block p : ℕ) → Bool) (reach : ℕ → Bool) (happens : Happens link event histories histories2) (range : ℕ × ℕ) (before : Seen) (m : IsAwaited histories range known reach before) where
   -- What was asked else is heard still; and so the command is waited for, where the board holds what it told.
   still_awaited : asks_extents event ≡ false → (after : Seen) →
-      (after.short ≡ false → failure_in m.asks (own m.cookie (reading (histories2 m.link)).known.entries) ≡ None → (p : ℕ) → zero_after (histories2 m.link) m.cookie p ≡ true → zero_in range.0 after.told p ≡ true) → IsAwaited histories2 range known after
+      (after.short ≡ false → failure_in m.asks (own m.cookie (reading (histories2 m.link)).known.entries) ≡ None → (test : Option ℕ → Bool) → test None ≡ false → (p : ℕ) → said_after test (histories2 m.link) m.cookie p ≡ true → said_in test range.0 after.told p ≡ true) → IsAwaited histories2 range known reach after
   still_awaited none after held = record {
     link = m.link;
     cookie = m.cookie;
@@ -388,28 +411,28 @@ module _ (link : ℕ) (event : Event Ticket) (histories histories2 : Histories) 
     length_ = m.length_;
     others = λ link' cookie' other is tells.
         let was = told_at link event histories histories2 happens none link' cookie' other tells is in
-        elim (m.others link' cookie' other was tells) [ inl same ↦ inl same | inr h ↦ inr (heard_at link event histories histories2 known happens link' cookie' other was h) ];
+        elim (m.others link' cookie' other was tells) [ inl same ↦ inl same | inr h ↦ inr (heard_at link event histories histories2 known reach happens link' cookie' other was h) ];
     held = held;
   }
 
   -- the same of what the board holds, by the entries alone
   was_held : (filings : List (Filing Ticket)) (a : Option (Request Ticket)) → a ≡ Some m.asks → (now : Seen) →
-      (now.short ≡ false → failure_in m.asks filings ≡ None → (p : ℕ) → zero_told (Some m.asks) filings p ≡ true → zero_in range.0 now.told p ≡ true) →
-      now.short ≡ false → failure_in m.asks filings ≡ None → (p : ℕ) → zero_told a filings p ≡ true → zero_in range.0 now.told p ≡ true
-  was_held filings a is now held short none p z = held short none p (ap (λ o. zero_told o filings p) (sym is) ∙ z)
+      (now.short ≡ false → failure_in m.asks filings ≡ None → (test : Option ℕ → Bool) → test None ≡ false → (p : ℕ) → said_of test (Some m.asks) filings p ≡ true → said_in test range.0 now.told p ≡ true) →
+      now.short ≡ false → failure_in m.asks filings ≡ None → (test : Option ℕ → Bool) → test None ≡ false → (p : ℕ) → said_of test a filings p ≡ true → said_in test range.0 now.told p ≡ true
+  was_held filings a is now held short none test blank p z = held short none test blank p (ap (λ o. said_of test o filings p) (sym is) ∙ z)
 
   is_held : (filings : List (Filing Ticket)) (a : Option (Request Ticket)) → a ≡ Some m.asks → (now : Seen) →
-      (now.short ≡ false → failure_in m.asks filings ≡ None → (p : ℕ) → zero_told a filings p ≡ true → zero_in range.0 now.told p ≡ true) →
-      now.short ≡ false → failure_in m.asks filings ≡ None → (p : ℕ) → zero_told (Some m.asks) filings p ≡ true → zero_in range.0 now.told p ≡ true
-  is_held filings a is now held short none p z = held short none p (ap (λ o. zero_told o filings p) is ∙ z)
+      (now.short ≡ false → failure_in m.asks filings ≡ None → (test : Option ℕ → Bool) → test None ≡ false → (p : ℕ) → said_of test a filings p ≡ true → said_in test range.0 now.told p ≡ true) →
+      now.short ≡ false → failure_in m.asks filings ≡ None → (test : Option ℕ → Bool) → test None ≡ false → (p : ℕ) → said_of test (Some m.asks) filings p ≡ true → said_in test range.0 now.told p ≡ true
+  is_held filings a is now held short none test blank p z = held short none test blank p (ap (λ o. said_of test o filings p) is ∙ z)
 
   module _ (other : is_issue event ≡ false) (added : List (Call Ticket)) (after : Seen) (adds : Adds event (histories link) added) (files : OneByOne Files before added after) where
     now_asked : request (histories2 m.link) m.cookie ≡ Some m.asks
     now_asked = asked_at link event histories histories2 happens m.link m.cookie m.asks m.asked
 
-    comes_here : link ≡ m.link → IsAwaited histories2 range known after
+    comes_here : link ≡ m.link → IsAwaited histories2 range known reach after
     comes_here same = still_awaited (not_issued event other) after (was_held (own m.cookie (reading (histories2 m.link)).known.entries) (request (histories2 m.link) m.cookie) now_asked after
-        (subst (λ (h : History Ticket). after.short ≡ false → failure_in m.asks (own m.cookie (reading h).known.entries) ≡ None → (p : ℕ) → zero_told (Some m.asks) (own m.cookie (reading h).known.entries) p ≡ true → zero_in range.0 after.told p ≡ true) (sym there) a.held))
+        (subst (λ (h : History Ticket). after.short ≡ false → failure_in m.asks (own m.cookie (reading h).known.entries) ≡ None → (test : Option ℕ → Bool) → test None ≡ false → (p : ℕ) → said_of test (Some m.asks) (own m.cookie (reading h).known.entries) p ≡ true → said_in test range.0 after.told p ≡ true) (sym there) a.held))
       where
         there : histories2 m.link ≡ event ∷ histories link
         there = ap histories2 (sym same) ∙ happens.here
@@ -420,17 +443,17 @@ module _ (link : ℕ) (event : Event Ticket) (histories histories2 : Histories) 
         here_others : (c : ℕ) (q : Request Ticket) → request (histories link) c ≡ Some q → tells_extents q.flight ≡ true → (c ≡ m.cookie) ⊎ (is_ended (own c (reading (histories link)).known.entries) ≡ true)
         here_others c q is tells = elim (m.others link c q is tells) [ inl e ↦ inl e.1 | inr h ↦ inr h.over ]
 
-        here_held : before.short ≡ false → failure_in m.asks (own m.cookie (reading (histories link)).known.entries) ≡ None → (p : ℕ) → zero_told (Some m.asks) (own m.cookie (reading (histories link)).known.entries) p ≡ true → zero_in range.0 before.told p ≡ true
-        here_held = subst (λ (x : ℕ). before.short ≡ false → failure_in m.asks (own m.cookie (reading (histories x)).known.entries) ≡ None → (p : ℕ) → zero_told (Some m.asks) (own m.cookie (reading (histories x)).known.entries) p ≡ true → zero_in range.0 before.told p ≡ true)
+        here_held : before.short ≡ false → failure_in m.asks (own m.cookie (reading (histories link)).known.entries) ≡ None → (test : Option ℕ → Bool) → test None ≡ false → (p : ℕ) → said_of test (Some m.asks) (own m.cookie (reading (histories link)).known.entries) p ≡ true → said_in test range.0 before.told p ≡ true
+        here_held = subst (λ (x : ℕ). before.short ≡ false → failure_in m.asks (own m.cookie (reading (histories x)).known.entries) ≡ None → (test : Option ℕ → Bool) → test None ≡ false → (p : ℕ) → said_of test (Some m.asks) (own m.cookie (reading (histories x)).known.entries) p ≡ true → said_in test range.0 before.told p ≡ true)
             (sym same) (is_held (own m.cookie (reading (histories m.link)).known.entries) (request (histories m.link) m.cookie) m.asked before m.held)
 
         a : Awaits (histories link) m.cookie m.asks range.0 here_asked m.offset m.first (reading (event ∷ histories link)).known.entries after
         a = awaits_after (histories link) m.cookie m.asks range.0 here_asked m.offset m.first event added before after (record { others = here_others; held = here_held }) adds files
 
-    comes_beside : (link ≡ m.link → ⊥) → IsAwaited histories2 range known after
+    comes_beside : (link ≡ m.link → ⊥) → IsAwaited histories2 range known reach after
     comes_beside differ = still_awaited (not_issued event other) after
-        (λ short none p z. ap (λ (l : List Extent). zero_in range.0 l p) u.calm.told
-        ∙ m.held (sym u.calm.short ∙ short) (ap (λ (h : History Ticket). failure_in m.asks (own m.cookie (reading h).known.entries)) (sym still) ∙ none) p (ap (λ (h : History Ticket). zero_after h m.cookie p) (sym still) ∙ z))
+        (λ short none test blank p z. ap (λ (l : List Extent). said_in test range.0 l p) u.calm.told
+        ∙ m.held (sym u.calm.short ∙ short) (ap (λ (h : History Ticket). failure_in m.asks (own m.cookie (reading h).known.entries)) (sym still) ∙ none) test blank p (ap (λ (h : History Ticket). said_after test h m.cookie p) (sym still) ∙ z))
       where
         still : histories2 m.link ≡ histories m.link
         still = happens.others m.link (λ e. differ (sym e))
@@ -441,21 +464,21 @@ module _ (link : ℕ) (event : Event Ticket) (histories histories2 : Histories) 
         u : Calms (histories link) before (reading (event ∷ histories link)).known.entries after
         u = calms_after (histories link) before event added before after (record { others = beside_others; calm = record { told = refl; short = refl } }) adds files
 
-    comes : IsAwaited histories2 range known after
+    comes : IsAwaited histories2 range known reach after
     comes = elim (cases_eq link m.link) [ inl same ↦ comes_here same | inr differ ↦ comes_beside differ ]
 
 -- What neither asks nor brings bytes files nothing but that the handle was closed.
 
-module _ (before : History Ticket) (k : ℕ) (asks : Request Ticket) (Z : ℕ → Type 0) where
+module _ (before : History Ticket) (k : ℕ) (asks : Request Ticket) (Z : (test : Option ℕ → Bool) → ℕ → Type 0) where
   abbrev Says : List (Filing Ticket) → Type 0
-  Says filings = failure_in asks filings ≡ None → (p : ℕ) → zero_told (Some asks) filings p ≡ true → Z p
+  Says filings = failure_in asks filings ≡ None → (test : Option ℕ → Bool) → test None ≡ false → (p : ℕ) → said_of test (Some asks) filings p ≡ true → Z test p
 
   drop_says : (f : Filing Ticket) (filings : List (Filing Ticket)) → f.item ≡ Dropped → Says filings → Says (f ∷ filings)
-  drop_says f filings is says none p z =
+  drop_says f filings is says none test blank p z =
       let items = fails_before (query_of asks) (piece_of f) (pieces filings) none in
-      elim (or_either (zero_in asks.offset (extents_in f.contexts (content_of f.item)) p) (zero_by asks.offset (pieces filings) p) z) [
-        | inl e ↦ absurd (none_zero asks.offset p (ap (λ (i : Item). zero_in asks.offset (extents_in f.contexts (content_of i)) p) (sym is) ∙ e))
-        | inr e ↦ says items.0 p e
+      elim (or_either (said_in test asks.offset (extents_in f.contexts (content_of f.item)) p) (said_by test asks.offset (pieces filings) p) z) [
+        | inl e ↦ absurd (none_said test blank asks.offset p (ap (λ (i : Item). said_in test asks.offset (extents_in f.contexts (content_of i)) p) (sym is) ∙ e))
+        | inr e ↦ says items.0 test blank p e
       ]
     where
       or_either : (a b : Bool) → (a || b) ≡ true → (a ≡ true) ⊎ (b ≡ true)
@@ -487,28 +510,28 @@ module _ (before : History Ticket) (k : ℕ) (asks : Request Ticket) (Z : ℕ �
   quiet_says ClearLog e p = p
   quiet_says Close e p = closed_keeps before (λ entries. Says (own k entries)) (λ item. item ≡ Dropped) drops (with_answers [] (reading before).known) refl p
 
-module _ (link : ℕ) (event : Event Ticket) (histories histories2 : Histories) (known : (block p : ℕ) → Bool) (happens : Happens link event histories histories2) (range : ℕ × ℕ) (before after : Seen) (m : IsAwaited histories range known before)
+module _ (link : ℕ) (event : Event Ticket) (histories histories2 : Histories) (known : (block p : ℕ) → Bool) (reach : ℕ → Bool) (happens : Happens link event histories histories2) (range : ℕ × ℕ) (before after : Seen) (m : IsAwaited histories range known reach before)
     (quiet : is_coming event ≡ false) (alike : ToldAlike before after) where
   abbrev HeldBy : Seen → History Ticket → Type 0
-  HeldBy now h = now.short ≡ false → failure_in m.asks (own m.cookie (reading h).known.entries) ≡ None → (p : ℕ) → zero_after h m.cookie p ≡ true → zero_in range.0 now.told p ≡ true
+  HeldBy now h = now.short ≡ false → failure_in m.asks (own m.cookie (reading h).known.entries) ≡ None → (test : Option ℕ → Bool) → test None ≡ false → (p : ℕ) → said_after test h m.cookie p ≡ true → said_in test range.0 now.told p ≡ true
 
   held_moved : (h : History Ticket) → (request h m.cookie ≡ Some m.asks) × HeldBy before h → HeldBy after (event ∷ h)
-  held_moved h was some none p z =
-      ap (λ (l : List Extent). zero_in range.0 l p) alike.told
-      ∙ quiet_says h m.cookie m.asks (λ r. zero_in range.0 before.told r ≡ true) event quiet
-      (λ none' r z'. was.1 (sym alike.short ∙ some) none' r (ap (λ a. zero_told a (own m.cookie (reading h).known.entries) r) was.0 ∙ z'))
-      none p (ap (λ a. zero_told a (own m.cookie (reading (event ∷ h)).known.entries) p) (sym (asked_stays h event m.cookie m.asks was.0)) ∙ z)
+  held_moved h was some none test blank p z =
+      ap (λ (l : List Extent). said_in test range.0 l p) alike.told
+      ∙ quiet_says h m.cookie m.asks (λ other r. said_in other range.0 before.told r ≡ true) event quiet
+      (λ none' other blank' r z'. was.1 (sym alike.short ∙ some) none' other blank' r (ap (λ a. said_of other a (own m.cookie (reading h).known.entries) r) was.0 ∙ z'))
+      none test blank p (ap (λ a. said_of test a (own m.cookie (reading (event ∷ h)).known.entries) p) (sym (asked_stays h event m.cookie m.asks was.0)) ∙ z)
 
   held_still : (h : History Ticket) → (request h m.cookie ≡ Some m.asks) × HeldBy before h → HeldBy after h
-  held_still h was some none p z = ap (λ (l : List Extent). zero_in range.0 l p) alike.told ∙ was.1 (sym alike.short ∙ some) none p z
+  held_still h was some none test blank p z = ap (λ (l : List Extent). said_in test range.0 l p) alike.told ∙ was.1 (sym alike.short ∙ some) none test blank p z
 
-  others_awaited : asks_extents event ≡ false → IsAwaited histories2 range known after
-  others_awaited none = still_awaited link event histories histories2 known happens range before m none after
+  others_awaited : asks_extents event ≡ false → IsAwaited histories2 range known reach after
+  others_awaited none = still_awaited link event histories histories2 known reach happens range before m none after
       (at link event histories histories2 happens m.link (λ h. (request h m.cookie ≡ Some m.asks) × HeldBy before h) (HeldBy after) held_moved held_still (m.asked, m.held))
 
 -- Extents are asked for.
 
-module _ (link : ℕ) (command : Command Ticket) (range : ℕ × ℕ) (histories histories2 : Histories) (known : (block p : ℕ) → Bool) (after : Seen) (all : AllHeard histories known) (listens : ListensTo range command) (happens : Happens link (Issue command) histories histories2) where
+module _ (link : ℕ) (command : Command Ticket) (range : ℕ × ℕ) (histories histories2 : Histories) (known : (block p : ℕ) → Bool) (reach : ℕ → Bool) (after : Seen) (all : AllHeard histories known reach) (listens : ListensTo range command) (happens : Happens link (Issue command) histories histories2) where
   abbrev next : ℕ
   next = (asked (histories link)).issued + 1
 
@@ -524,21 +547,21 @@ module _ (link : ℕ) (command : Command Ticket) (range : ℕ × ℕ) (histories
   next_asked : request (histories2 link) next ≡ Some asked_now
   next_asked = ap (λ (h : History Ticket). request h next) there ∙ next_here (histories link) command next refl
 
-  others_heard : (link' cookie' : ℕ) (other : Request Ticket) → request (histories2 link') cookie' ≡ Some other → tells_extents other.flight ≡ true → ((link' ≡ link) × (cookie' ≡ next)) ⊎ IsHeard (histories2 link') known cookie' other
+  others_heard : (link' cookie' : ℕ) (other : Request Ticket) → request (histories2 link') cookie' ≡ Some other → tells_extents other.flight ≡ true → ((link' ≡ link) × (cookie' ≡ next)) ⊎ IsHeard (histories2 link') known reach cookie' other
   others_heard link' cookie' other is tells = on (cases_eq link link')
     where
-      was_heard : request (histories link') cookie' ≡ Some other → IsHeard (histories2 link') known cookie' other
-      was_heard was = heard_at link (Issue command) histories histories2 known happens link' cookie' other was (all link' cookie' other was tells)
+      was_heard : request (histories link') cookie' ≡ Some other → IsHeard (histories2 link') known reach cookie' other
+      was_heard was = heard_at link (Issue command) histories histories2 known reach happens link' cookie' other was (all link' cookie' other was tells)
 
-      here : (link ≡ link') → (next ≡ cookie') ⊎ (next ≡ cookie' → ⊥) → ((link' ≡ link) × (cookie' ≡ next)) ⊎ IsHeard (histories2 link') known cookie' other
+      here : (link ≡ link') → (next ≡ cookie') ⊎ (next ≡ cookie' → ⊥) → ((link' ≡ link) × (cookie' ≡ next)) ⊎ IsHeard (histories2 link') known reach cookie' other
       here same (inl e) = inl (sym same, sym e)
       here same (inr d) = inr (was_heard (ap (λ x. request (histories x) cookie') (sym same) ∙ sym (next_beside (histories link) command cookie' d) ∙ ap (λ (h : History Ticket). request h cookie') (sym there) ∙ ap (λ x. request (histories2 x) cookie') same ∙ is))
 
-      on : (link ≡ link') ⊎ (link ≡ link' → ⊥) → ((link' ≡ link) × (cookie' ≡ next)) ⊎ IsHeard (histories2 link') known cookie' other
+      on : (link ≡ link') ⊎ (link ≡ link' → ⊥) → ((link' ≡ link) × (cookie' ≡ next)) ⊎ IsHeard (histories2 link') known reach cookie' other
       on (inl same) = here same (cases_eq next cookie')
       on (inr differ) = inr (was_heard (ap (λ (h : History Ticket). request h cookie') (sym (happens.others link' (λ e. differ (sym e)))) ∙ is))
 
-  asking : IsAwaited histories2 range known after
+  asking : IsAwaited histories2 range known reach after
   asking = record {
     link = link;
     cookie = next;
@@ -548,7 +571,7 @@ module _ (link : ℕ) (command : Command Ticket) (range : ℕ × ℕ) (histories
     offset = listens.asks.offset;
     length_ = listens.asks.length_;
     others = others_heard;
-    held = λ short none p z. absurd (false≢true (ap (λ l. zero_told (Some asked_now) l p) (sym none_filed) ∙ ap (λ a. zero_told a (own next (reading (histories2 link)).known.entries) p) (sym next_asked) ∙ z));
+    held = λ short none test blank p z. absurd (false≢true (ap (λ l. said_of test (Some asked_now) l p) (sym none_filed) ∙ ap (λ a. said_of test a (own next (reading (histories2 link)).known.entries) p) (sym next_asked) ∙ z));
   }
 
 -- They are heard.
@@ -561,36 +584,44 @@ done_fails asks filings bytes well e = ap (failure (query_of asks)) (sym (heard_
     go true (Some one) all k = absurd (cc k)
     go false o all k = absurd (cc k)
 
-module _ (sources : ℕ → Bool) (histories : Histories) (range : ℕ × ℕ) (known known' : (block p : ℕ) → Bool) (now : Seen) (m : IsAwaited histories range known now) (maps : Maps sources histories (Some range) now) (well : (link : ℕ) → NoneFails (reading (histories link)).known.entries)
-    (mapped : now.mapped ≡ true) (short : now.short ≡ false) (more : (block p : ℕ) → known block p ≡ true → known' block p ≡ true) (holds : (block p : ℕ) → holds_whole range now block p ≡ true → known' block p ≡ true) where
+module _ (sources : ℕ → Bool) (histories : Histories) (range : ℕ × ℕ) (known known' : (block p : ℕ) → Bool) (reach reach' : ℕ → Bool) (now : Seen) (m : IsAwaited histories range known reach now) (maps : Maps sources histories (Some range) now) (well : (link : ℕ) → NoneFails (reading (histories link)).known.entries)
+    (mapped : now.mapped ≡ true) (short : now.short ≡ false) (more : (block p : ℕ) → known block p ≡ true → known' block p ≡ true) (holds : (block p : ℕ) → holds_whole range now block p ≡ true → known' block p ≡ true)
+    (further : (p : ℕ) → reach p ≡ true → reach' p ≡ true) (reaches : (p : ℕ) → holds_told range now p ≡ true → reach' p ≡ true) where
   or_true : (a b : Bool) → a ≡ true → (a || b) ≡ true
   or_true true b e = refl
   or_true false b e = absurd (false≢true e)
 
-  heard_one : IsHeard (histories m.link) known' m.cookie m.asks
+  heard_one : IsHeard (histories m.link) known' reach' m.cookie m.asks
   heard_one = record {
     over = done_over (histories m.link) m.cookie m.asks m.asked ((hearing_maps sources histories range now maps mapped).0 m.link m.cookie m.asks m.asked (or_true (first_tells m.asks.flight.first) _ m.first));
-    whole = λ d block p e. holds block p (all_intro (λ q. within range q && zero_in range.0 now.told q) (p / block * block) block (λ q low high. told d q (all_elim (zero_asked (histories m.link) m.cookie m.asks) (p / block * block) block e q low high)));
+    whole = λ d block p e. holds block p (all_intro (λ q. within range q && zero_in range.0 now.told q) (p / block * block) block (λ q low high. zeroed d q (all_elim (zero_asked (histories m.link) m.cookie m.asks) (p / block * block) block e q low high)));
+    reached = λ d p e. reaches p (told is_told refl d p e);
   }
     where
-      told : IsDone (outcome_after (histories m.link) m.cookie) → (q : ℕ) → zero_asked (histories m.link) m.cookie m.asks q ≡ true → (within range q && zero_in range.0 now.told q) ≡ true
-      told d q e =
-          let parts = both (within (m.asks.offset, m.asks.length) q) (zero_after (histories m.link) m.cookie q) e in
+      told : (test : Option ℕ → Bool) → test None ≡ false → IsDone (outcome_after (histories m.link) m.cookie) → (q : ℕ) → (within (m.asks.offset, m.asks.length) q && said_after test (histories m.link) m.cookie q) ≡ true →
+          (within range q && said_in test range.0 now.told q) ≡ true
+      told test blank d q e =
+          let parts = both (within (m.asks.offset, m.asks.length) q) (said_after test (histories m.link) m.cookie q) e in
           let fails = done_fails m.asks (own m.cookie (reading (histories m.link)).known.entries) d.bytes (own_well m.cookie (reading (histories m.link)).known.entries (well m.link))
           (ap (λ a. outcome_of a (own m.cookie (reading (histories m.link)).known.entries)) (sym m.asked) ∙ d.is) in
           let inside : within range q ≡ true = ap (λ (n : ℕ). within (n, range.1) q) (sym m.offset) ∙ ap (λ (n : ℕ). within (m.asks.offset, n) q) (sym m.length_) ∙ parts.0 in
-          ap (λ (b : Bool). b && zero_in range.0 now.told q) inside ∙ m.held short fails q parts.1
+          ap (λ (b : Bool). b && said_in test range.0 now.told q) inside ∙ m.held short fails test blank q parts.1
         where
           both : (a b : Bool) → (a && b) ≡ true → (a ≡ true) × (b ≡ true)
           both true b e = (refl, e)
           both false b e = absurd (false≢true e)
 
-  hears_all : AllHeard histories known'
+      zeroed : IsDone (outcome_after (histories m.link) m.cookie) → (q : ℕ) → zero_asked (histories m.link) m.cookie m.asks q ≡ true → (within range q && zero_in range.0 now.told q) ≡ true
+      zeroed d q e =
+          told is_zero refl d q
+          (ap (λ (b : Bool). within (m.asks.offset, m.asks.length) q && b) (sym (zero_is (request (histories m.link) m.cookie) (own m.cookie (reading (histories m.link)).known.entries) q)) ∙ e)
+
+  hears_all : AllHeard histories known' reach'
   hears_all link cookie asks is tells = elim (m.others link cookie asks is tells) [
     | inl same ↦
         let q : m.asks ≡ asks = some_same (sym m.asked ∙ ap (λ x. request (histories x) m.cookie) (sym same.0) ∙ ap (request (histories link)) (sym same.1) ∙ is) in
-        subst (λ (x : ℕ). IsHeard (histories x) known' cookie asks) (sym same.0) (subst (λ (x : ℕ). IsHeard (histories m.link) known' x asks) (sym same.1) (subst (IsHeard (histories m.link) known' m.cookie) q heard_one))
-    | inr h ↦ record { over = h.over; whole = λ d block p e. more block p (h.whole d block p e) }
+        subst (λ (x : ℕ). IsHeard (histories x) known' reach' cookie asks) (sym same.0) (subst (λ (x : ℕ). IsHeard (histories m.link) known' reach' x asks) (sym same.1) (subst (IsHeard (histories m.link) known' reach' m.cookie) q heard_one))
+    | inr h ↦ record { over = h.over; whole = λ d block p e. more block p (h.whole d block p e); reached = λ d p e. further p (h.reached d p e) }
   ]
     where
       some_same : {one other : Request Ticket} → Some one ≡ Some other → one ≡ other
@@ -599,29 +630,30 @@ module _ (sources : ℕ → Bool) (histories : Histories) (range : ℕ × ℕ) (
 -- The laws.
 
 pub nothing_heeds : NothingHeeds
-nothing_heeds known now link cookie asks is tells = absurd (none_some is)
+nothing_heeds known reach now link cookie asks is tells = absurd (none_some is)
   where
     none_some : None ≡ Some asks → ⊥
     none_some e = cc
 
 pub coming_heeds : ComingHeeds
-coming_heeds link event histories histories2 None known added before after m other happens adds files = all_heard link event histories histories2 known happens (not_issued event other) m
-coming_heeds link event histories histories2 (Some range) known added before after m other happens adds files = comes link event histories histories2 known happens range before m other added after adds files
+coming_heeds link event histories histories2 None known reach added before after m other happens adds files = all_heard link event histories histories2 known reach happens (not_issued event other) m
+coming_heeds link event histories histories2 (Some range) known reach added before after m other happens adds files = comes link event histories histories2 known reach happens range before m other added after adds files
 
 pub others_heed : OthersHeed
-others_heed link event histories histories2 None known before after m none quiet happens alike = all_heard link event histories histories2 known happens none m
-others_heed link event histories histories2 (Some range) known before after m none quiet happens alike = others_awaited link event histories histories2 known happens range before after m quiet alike none
+others_heed link event histories histories2 None known reach before after m none quiet happens alike = all_heard link event histories histories2 known reach happens none m
+others_heed link event histories histories2 (Some range) known reach before after m none quiet happens alike = others_awaited link event histories histories2 known reach happens range before after m quiet alike none
 
 pub asking_heeds : AskingHeeds
-asking_heeds link command range histories histories2 known before after all listens happens = asking link command range histories histories2 known after all listens happens
+asking_heeds link command range histories histories2 known reach before after all listens happens = asking link command range histories histories2 known reach after all listens happens
 
 pub hearing_heeds : HearingHeeds
-hearing_heeds sources histories range known known' now m maps well mapped short more holds = hears_all sources histories range known known' now m maps well mapped short more holds
+hearing_heeds sources histories range known known' reach reach' now m maps well mapped short more holds further reaches =
+    hears_all sources histories range known known' reach reach' now m maps well mapped short more holds further reaches
 
 -- More is known.
-pub heeds_more : (histories : Histories) (wanted : Option (ℕ × ℕ)) (known known' : (block p : ℕ) → Bool) (now : Seen) → ((block p : ℕ) → known block p ≡ true → known' block p ≡ true) → Heeds histories wanted known now → Heeds histories wanted known' now
-heeds_more histories None known known' now more m = λ link cookie asks is tells. (let h = m link cookie asks is tells in record { over = h.over; whole = λ d block p e. more block p (h.whole d block p e) })
-heeds_more histories (Some range) known known' now more m = record {
+pub heeds_more : (histories : Histories) (wanted : Option (ℕ × ℕ)) (known known' : (block p : ℕ) → Bool) (reach reach' : ℕ → Bool) (now : Seen) → ((block p : ℕ) → known block p ≡ true → known' block p ≡ true) → ((p : ℕ) → reach p ≡ true → reach' p ≡ true) → Heeds histories wanted known reach now → Heeds histories wanted known' reach' now
+heeds_more histories None known known' reach reach' now more further m = λ link cookie asks is tells. (let h = m link cookie asks is tells in record { over = h.over; whole = λ d block p e. more block p (h.whole d block p e); reached = λ d p e. further p (h.reached d p e) })
+heeds_more histories (Some range) known known' reach reach' now more further m = record {
   link = m.link;
   cookie = m.cookie;
   asks = m.asks;
@@ -629,6 +661,6 @@ heeds_more histories (Some range) known known' now more m = record {
   first = m.first;
   offset = m.offset;
   length_ = m.length_;
-  others = λ link cookie other is tells. elim (m.others link cookie other is tells) [ inl same ↦ inl same | inr h ↦ inr (record { over = h.over; whole = λ d block p e. more block p (h.whole d block p e) }) ];
+  others = λ link cookie other is tells. elim (m.others link cookie other is tells) [ inl same ↦ inl same | inr h ↦ inr (record { over = h.over; whole = λ d block p e. more block p (h.whole d block p e); reached = λ d p e. further p (h.reached d p e) }) ];
   held = m.held;
 }

@@ -19,3 +19,6 @@ pub mod Failing
 pub mod Unanswered
 pub mod Awaiting
 pub mod Living
+pub mod Unfailed
+pub mod Content
+pub mod Filed

@@ -2,7 +2,9 @@ pub mod Tracks
 pub mod Laws
 pub mod Dealing
 pub mod Mapping
+pub mod Saying
 pub mod Heeding
 pub mod Failing
 pub mod Unanswered
 pub mod Awaiting
+pub mod Unfailed

@@ -6,6 +6,8 @@ ghost use Rattle.lnbd_tracks.specs.Dealing.{DoneIsWritten, TrackedAreDealt};
 ghost use Rattle.lnbd_tracks.specs.Failing.{AnsweredIsWritten, DestinationFails, FailuresAreKnown, FailuresStay, SourceFails};
 ghost use Rattle.lnbd_tracks.specs.Heeding.{NothingHeeds, ComingHeeds, OthersHeed, AskingHeeds, HearingHeeds};
 ghost use Rattle.lnbd_tracks.specs.Mapping.{NothingMaps, ComingMaps, OthersMap, AskingMaps, HearingMaps, ZeroesStay};
+ghost use Rattle.lnbd_tracks.specs.Unfailed.{ComingTellsContent, ComingUnfailed, OthersTellContent, OthersUnfailed};
+ghost use Rattle.lnbd_tracks.specs.Saying.{DrivenTells};
 ghost use Rattle.lnbd_tracks.specs.Unanswered.{OverCame, TrackedAreUnanswered, WaitingLives};
 
 /// Before any handle was asked anything, nothing was asked; and a handle that begins changes nothing.
@@ -113,6 +115,18 @@ pub fn awaiting_keeps()
     ensures asking { AskingAwaits }
 {}
 
+/// While a board was told of no error, no command of a copy came to one.
+pub fn unfailed_keeps()
+    ensures coming { ComingUnfailed }
+    ensures others { OthersUnfailed }
+{}
+
+/// Faulty content that a command of a copy came to is its board's error, whatever else it was told.
+pub fn content_is_told()
+    ensures coming { ComingTellsContent }
+    ensures others { OthersTellContent }
+{}
+
 /// A command of a handle waits only while the handle lives.
 pub fn waiting_lives<K>()
     ensures { WaitingLives K }
@@ -121,4 +135,9 @@ pub fn waiting_lives<K>()
 /// A command of a copy that is over came to something.
 pub fn over_came()
     ensures { OverCame }
+{}
+
+/// The link of a handle tells of the positions of which its history tells.
+pub fn driven_tells<K>()
+    ensures { DrivenTells K }
 {}

@@ -26,8 +26,9 @@ returns-then-how c =
         is = rw c.zero_flags-flags.ensures refl;
         spelt = refl;
         kept = c.requires.copied z;
-        change = inr (refl, refl);
+        change = inr (refl, refl, c.requires.copied z);
         dense = λ looks w. absurd (zeroing w);
+        zeroed = rw c.if-how.true refl;
       },
     )
 
@@ -40,7 +41,8 @@ returns c =
         is = refl;
         spelt = c.in_ok-bytes.ensures;
         kept = refl;
-        change = inl refl;
+        change = inl (refl, refl);
         dense = λ looks w. absurd (blind (not (c.args.how.block == 0)) c.args.how.zeroes c.args.how.skip c.if-how.false (c.requires.copied z) looks);
+        zeroed = rw c.if-how.false refl;
       },
     )

@@ -1,6 +1,6 @@
 use Rattle.lnbd_copy.specs.Conduct.{Conducts}
 use Rattle.lnbd_cli.specs.Copies.{WasMade}
-use Rattle.lnbd_cli.proofs.CopyLemmas.{between_words, by_words, copied_by, grounded_by}
+use Rattle.lnbd_cli.proofs.CopyLemmas.{between_words, by_words, copied_by, decided_by, grounded_by}
 use Rattle.lnbd_cli.proofs.copying.copy.Goals as goal
 
 pub returns-in-Ok-clause-copies : goal.returns-in-Ok-clause-copies
@@ -22,3 +22,7 @@ returns-in-Err-clause-grounds g c =
 pub returns-in-Err-clause-conducts : goal.returns-in-Err-clause-conducts
 returns-in-Err-clause-conducts g c =
     by_words Conducts c.new.result c.args.what.from c.args.what.to c.args.what.options (g.W.Wires.told c.args.wires.now) (g.W.Wires.told c.run.new.wires) c.new.ensures.what c.run.ensures.conducts
+
+pub returns-in-Err-clause-decides : goal.returns-in-Err-clause-decides
+returns-in-Err-clause-decides g c =
+    decided_by c.new.result c.args.what.from c.args.what.to c.args.what.options (g.W.Wires.told c.args.wires.now) (g.W.Wires.told c.run.new.wires) _ c.new.ensures.what c.in-Err.ensures.decides

@@ -15,6 +15,7 @@ returns-in-Err-clause-ends g c = record {
   asked = record { wish = c.in-Ok.wish; transfer = c.in-Some.what; asks = c.in-Ok.ensures.asked; is = sym c.in-Some.ensures };
   grounds = c.in-Err.ensures.grounds;
   conduct = c.copy.ensures.conducts;
+  decided = c.in-Err.ensures.decides;
 }
 
 pub returns-in-Err-clause-well : goal.returns-in-Err-clause-well

@@ -1,4 +1,4 @@
-use Rattle.std.proofs.Common.{refl, []}
+use Rattle.std.proofs.Common.{false, refl, []}
 use Rattle.lnbd_copy.proofs.DialLemmas.{dials}
 use Rattle.lnbd_copy.proofs.PauseLemmas.{unpaused_adds, unpaused_then}
 use Rattle.lnbd_copy.proofs.LinkLemmas.{links_connected, links_end, links_refused}
@@ -7,6 +7,7 @@ use Rattle.lnbd_copy.proofs.UnaskedLemmas.{unasked_connects, unasked_idle, unask
 use Rattle.lnbd_copy.proofs.ConnectedLemmas.{connected_adds, connected_same, connected_then}
 use Rattle.lnbd_copy.proofs.DrivingLemmas.{one_dials, one_idly, one_none}
 use Rattle.lnbd_copy.proofs.IdleLemmas.{idly_adds}
+use Rattle.lnbd_copy.proofs.DecidingLemmas.{decides_refused}
 use Rattle.lnbd_copy.proofs.dialing.dial.Goals as goal
 
 pub returns-in_ok-hold-in-Ok-clause-dials : goal.returns-in_ok-hold-in-Ok-clause-dials
@@ -69,3 +70,12 @@ returns-in-Err-clause-drives g c = one_idly _ _ _ _ _ _ _ (one_none _ _ _ _ _) (
 
 pub returns-in_err-handle-clause-drives : goal.returns-in_err-handle-clause-drives
 returns-in_err-handle-clause-drives g c = one_none _ _ _ _ _
+
+pub returns-in-Err-clause-decides : goal.returns-in-Err-clause-decides
+returns-in-Err-clause-decides g c = decides_refused false _ _ _ _ c.args.place.now.to _ c.in_ok-check_calm.ensures refl c.in-Err.ensures.told
+
+pub returns-in_err-check_calm-clause-unasked : goal.returns-in_err-check_calm-clause-unasked
+returns-in_err-check_calm-clause-unasked g c from to there = unasked_none from to _
+
+pub returns-in_err-check_calm-clause-drives : goal.returns-in_err-check_calm-clause-drives
+returns-in_err-check_calm-clause-drives g c = one_none _ _ _ _ _

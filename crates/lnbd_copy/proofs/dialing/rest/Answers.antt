@@ -1,3 +1,6 @@
+use Rattle.std.proofs.Common.{inl, inr, refl}
+use Rattle.std.proofs.lemmas.Result.{on_ok_weaker}
+use Rattle.lnbd_copy.proofs.DealingLemmas.{on_ok_both}
 use Rattle.lnbd_copy.proofs.PauseLemmas.{either_way, pauses_then, pauses_unpaused, unpaused_same}
 use Rattle.lnbd_copy.proofs.PausedLemmas.{unready_none, unready_rests, unready_unpaused}
 use Rattle.lnbd_copy.proofs.VainLemmas.{pauses_vain}
@@ -5,7 +8,7 @@ use Rattle.lnbd_copy.proofs.dialing.rest.Goals as goal
 
 pub returns-in_ok-check_loud-in-Still-clause-unready : goal.returns-in_ok-check_loud-in-Still-clause-unready
 returns-in_ok-check_loud-in-Still-clause-unready g c now =
-    either_way c.wait.result c.wait.ensures.pauses c.wait.ensures.still (λ adds. unready_rests now c.args.handles.now _ _ c.in_ok-check_loud-in-Still.ensures adds)
+    either_way c.wait.result (on_ok_both c.wait.result (λ adds unparted. unready_rests now c.args.handles.now _ _ c.in_ok-check_loud-in-Still.ensures unparted adds) c.wait.ensures.pauses c.wait.ensures.unparted) c.wait.ensures.still (λ unready. unready)
     (λ same. unready_unpaused now c.args.handles.now _ _ (λ stand. unpaused_same _ _ same))
 
 pub returns-then-are_quiet-clause-unready : goal.returns-then-are_quiet-clause-unready
@@ -27,3 +30,12 @@ returns-in-Moved-clause-vain g c before unpaused full = pauses_unpaused _ _ unpa
 
 pub returns-in_err-check_loud-in-Still-clause-vain : goal.returns-in_err-check_loud-in-Still-clause-vain
 returns-in_err-check_loud-in-Still-clause-vain g c before unpaused full = pauses_unpaused _ _ unpaused
+
+pub returns-in_ok-check_loud-in-Still-clause-rests : goal.returns-in_ok-check_loud-in-Still-clause-rests
+returns-in_ok-check_loud-in-Still-clause-rests g c = on_ok_weaker c.wait.result (λ adds. inr (c.in-Still.is, c.in_ok-check_loud-in-Still.ensures, adds)) c.wait.ensures.pauses
+
+pub returns-then-are_quiet-clause-rests : goal.returns-then-are_quiet-clause-rests
+returns-then-are_quiet-clause-rests g c = inl refl
+
+pub returns-in-Moved-clause-rests : goal.returns-in-Moved-clause-rests
+returns-in-Moved-clause-rests g c = inl refl

@@ -1,8 +1,6 @@
-use Rattle.std.proofs.Common.{◌≡◌, [], length}
-use Rattle.lnbd_board.specs.declared.how.How.{How}
+use Rattle.std.proofs.Common.{◌≡◌, length}
 use Rattle.lnbd_board.specs.Files.{Seen}
-use Rattle.lnbd_copy.specs.declared.sides.Sides.{Sides}
-use Rattle.lnbd_copy.specs.Way.{Keeps}
+use Rattle.lnbd_copy.specs.Leaving.{Parts}
 use Rattle.lnbd_copy.specs.Links.{HaveSameLinks}
 use Rattle.lnbd_copy.proofs.parting.part.Given as goal
 
@@ -10,5 +8,5 @@ abbrev pub invariant-handles : goal.invariant-handles
 invariant-handles l = record {
   count : length l.handles ≡ length l.initial.handles;
   links : HaveSameLinks l.fn.handles l.handles;
-  keeps : (how : How) (sides : Sides) (now : Seen) → Keeps how sides [] now now l.fn.handles l.handles;
+  parts : (now : Seen) → Parts now l.fn.handles l.handles;
 }

@@ -3,6 +3,7 @@ use Rattle.lnbd_copy.specs.Causes.{GoesOn}
 use Rattle.lnbd_copy.specs.Grounds.{Lasts}
 use Rattle.lnbd_copy.specs.Links.{LinksGo}
 use Rattle.lnbd_copy.specs.Faults.{GoesIdly}
+use Rattle.lnbd_copy.specs.Deciding.{GoesShut}
 use Rattle.lnbd_copy.specs.Pauses.{Unpaused}
 use Rattle.lnbd_copy.proofs.parting.shut_all.Given as goal
 
@@ -13,6 +14,7 @@ invariant-handles g l = record {
   idly : GoesIdly (g.W.Wires.told l.fn.wires) (g.W.Wires.told l.wires);
   lasts : Lasts (g.W.Wires.told l.fn.wires) (g.W.Wires.told l.wires);
   unpaused : Unpaused (g.W.Wires.told l.fn.wires) (g.W.Wires.told l.wires);
+  shuts : GoesShut (g.W.Wires.told l.fn.wires) (g.W.Wires.told l.wires);
   none : l.fn.handles ≡ [] → l.handles ≡ [];
   same : l.fn.handles ≡ [] → l.wires ≡ l.fn.wires;
 }

@@ -1,6 +1,7 @@
 use Rattle.std.proofs.Common.{arith}
 use Rattle.lnbd_copy.proofs.CauseLemmas.{goes_then}
 use Rattle.lnbd_copy.proofs.IdleLemmas.{idly_then}
+use Rattle.lnbd_copy.proofs.DecidingLemmas.{shut_then}
 use Rattle.lnbd_copy.proofs.MovingLemmas.{happens_behind}
 use Rattle.lnbd_copy.proofs.PartLemmas.{leaves_then}
 use Rattle.lnbd_copy.proofs.PauseLemmas.{unpaused_then}
@@ -27,9 +28,10 @@ handles-preserved g c =
             happens = λ some. happens_behind _ _ _ was.unpaused w.hang_up.ensures.happens;
             few = omega (arith, few);
             leaves = leaves_then _ _ _ _ _ _ _ _ _ was.leaves (w.hang_up.ensures.leaves (c.has_parted.ensures w.if-has_parted.true));
+            shuts = shut_then _ _ _ was.shuts w.hang_up.ensures.shuts;
             links = links_then _ _ _ _ _ _ was.links w.hang_up.ensures.links;
             idly = idly_then _ _ _ was.idly w.hang_up.ensures.idly;
             counts = goes_then _ _ _ _ _ _ _ _ _ was.counts w.hang_up.ensures.counts;
           }))))
-      | else-has_parted w ↦ rw w.handles-is (rw w.board-is (rw w.wires-is (rw w.shut-is (record { left = left; unpaused = was.unpaused; still = was.still; happens = was.happens; few = omega (arith, few); leaves = was.leaves; links = was.links; idly = was.idly; counts = was.counts }))))
+      | else-has_parted w ↦ rw w.handles-is (rw w.board-is (rw w.wires-is (rw w.shut-is (record { left = left; unpaused = was.unpaused; still = was.still; happens = was.happens; few = omega (arith, few); leaves = was.leaves; shuts = was.shuts; links = was.links; idly = was.idly; counts = was.counts }))))
     ]

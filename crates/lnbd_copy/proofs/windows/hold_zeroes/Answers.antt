@@ -5,6 +5,7 @@ use Rattle.std.proofs.Math.ListN.{drop_of_length-le}
 use Rattle.lnbd_model.specs.declared.export.Extent.{Extent}
 use Rattle.lnbd_records.specs.Numbers.{has_bit}
 use Rattle.lnbd_copy.proofs.SparedLemmas.{whole_begins, whole_held, whole_on}
+use Rattle.lnbd_copy.proofs.ToldLemmas.{told_before}
 use Rattle.lnbd_copy.proofs.WindowLemmas.{hold_on, hold_passes, next_any, hold_begins, walk_begins}
 use Rattle.lnbd_copy.proofs.windows.hold_zeroes.Goals.{then-extent-ne0+in_ok-hold_blocks, else-extent-ne0}
 use Rattle.lnbd_copy.proofs.windows.hold_zeroes.Goals as goal
@@ -43,3 +44,7 @@ extents-preserved c =
 pub returns-clause-whole : goal.returns-clause-whole
 returns-clause-whole c =
     whole_held c.args.told.now c.extents.zero c.args.from c.args.grain c.extents.extent-index c.extents.reached c.args.most c.requires.grain c.extents.invariant.1 (drop_of_length-le c.args.told.now c.extents-test.false)
+
+pub returns-clause-far : goal.returns-clause-far
+returns-clause-far c =
+    told_before c.args.told.now c.extents.extent-index c.extents.reached c.args.most c.extents.invariant.0.walks (drop_of_length-le c.args.told.now c.extents-test.false)

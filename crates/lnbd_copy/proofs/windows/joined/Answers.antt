@@ -2,6 +2,7 @@ use Rattle.std.proofs.Common.{get_or}
 use Rattle.std.proofs.Math.ListN.{drop_of_length-le}
 use Rattle.lnbd_model.specs.declared.export.Extent.{Extent}
 use Rattle.lnbd_copy.proofs.SparedLemmas.{all_joined, all_on}
+use Rattle.lnbd_copy.proofs.ToldLemmas.{told_joined}
 use Rattle.lnbd_copy.proofs.WindowLemmas.{join_on, next_any}
 use Rattle.lnbd_copy.proofs.windows.joined.Goals as goal
 
@@ -18,3 +19,7 @@ extents-preserved c =
 pub returns-clause-all : goal.returns-clause-all
 returns-clause-all c =
     all_joined c.args.told.now c.extents.list.items c.extents.extent-index c.extents.left c.args.most c.extents.invariant (drop_of_length-le c.args.told.now c.extents-test.false)
+
+pub returns-clause-reach : goal.returns-clause-reach
+returns-clause-reach c =
+    told_joined c.args.told.now c.extents.list.items c.extents.extent-index c.extents.left c.args.most c.extents.invariant (drop_of_length-le c.args.told.now c.extents-test.false)

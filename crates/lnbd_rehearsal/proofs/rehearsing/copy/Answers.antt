@@ -1,6 +1,6 @@
 use Rattle.std.proofs.Common.{◌∙◌, ap}
 use Rattle.lnbd_plan.specs.declared.options.CopyOptions.{CopyOptions}
-use Rattle.lnbd_rehearsal.proofs.RehearsedLemmas.{copies_between, made_between}
+use Rattle.lnbd_rehearsal.proofs.RehearsedLemmas.{conducts_between, copies_between, made_between}
 use Rattle.lnbd_rehearsal.proofs.rehearsing.copy.Goals as goal
 
 pub returns-in-Ok-clause-copies : goal.returns-in-Ok-clause-copies
@@ -11,3 +11,7 @@ returns-in-Ok-clause-copies c =
 pub returns-in-Ok-clause-made : goal.returns-in-Ok-clause-made
 returns-in-Ok-clause-made c =
     made_between c.new.result.options c.new.result.from c.new.result.to _ _ _ c.new.ensures.what.0 (c.new.ensures.what.1 ∙ c.in_ok-from.ensures) (c.new.ensures.what.2 ∙ c.in_ok-to.ensures) (λ apart. c.in-Ok.ensures.made apart)
+
+pub returns-in-Ok-clause-conducts : goal.returns-in-Ok-clause-conducts
+returns-in-Ok-clause-conducts c =
+    conducts_between c.new.result.options c.new.result.from c.new.result.to _ _ c.new.ensures.what.0 (c.new.ensures.what.1 ∙ c.in_ok-from.ensures) (c.new.ensures.what.2 ∙ c.in_ok-to.ensures) c.in-Ok.ensures.conducts

@@ -12,7 +12,7 @@ sums_of-requires c =
     c.in_ok-exports.exports.items c.in_ok-wires.wires c.copy.new.wires c.in_ok-summary.summary c.in_ok-exports.ensures.items c.in_ok-wires.ensures.contents c.in_ok-summary.ensures.kept
     shorts (c.is_told.ensures.two yes) (c.came.ensures shorts)
     (record { size = c.fits.ensures.size; name = c.fits.ensures.name; description = c.fits.ensures.description }) (record { size = c.fits-2.ensures.size; name = c.fits-2.ensures.name; description = c.fits-2.ensures.description })
-    c.in_ok-wires.ensures.told c.in_ok-summary.ensures.copies c.in_ok-summary.ensures.made in
+    c.in_ok-wires.ensures.told c.in_ok-summary.ensures.copies c.in_ok-summary.ensures.made c.in_ok-summary.ensures.conducts in
     let held = ap (λ (b : List ℕ). length b) c.bytes.ensures in
     let long = over.long in
     omega (arith, held, long, c.requires)
@@ -26,7 +26,7 @@ returns c =
     c.in_ok-exports.exports.items c.in_ok-wires.wires c.copy.new.wires c.in_ok-summary.summary c.in_ok-exports.ensures.items c.in_ok-wires.ensures.contents c.in_ok-summary.ensures.kept
     shorts (c.is_told.ensures.two yes) (c.came.ensures shorts)
     (record { size = c.fits.ensures.size; name = c.fits.ensures.name; description = c.fits.ensures.description }) (record { size = c.fits-2.ensures.size; name = c.fits-2.ensures.name; description = c.fits-2.ensures.description })
-    c.in_ok-wires.ensures.told c.in_ok-summary.ensures.copies c.in_ok-summary.ensures.made in
+    c.in_ok-wires.ensures.told c.in_ok-summary.ensures.copies c.in_ok-summary.ensures.made c.in_ok-summary.ensures.conducts in
     rehearsed c.args.seed c.args.size c.in_ok-source.source c.in_ok-destination.field-0 c.in_ok-source.ensures.at c.in_ok-source.ensures.generated c.in_ok-destination.ensures.at c.in_ok-destination.ensures.noise
-    c.copy.new.wires c.in_ok-summary.summary shorts (c.is_told.ensures.seeded yes) (c.came.ensures shorts)
+    c.copy.new.wires c.in_ok-summary.summary shorts (c.is_told.ensures.seeded yes) (c.came.ensures shorts) c.keeps.ensures
     (c.is_same.ensures c.if-not-is_same.false ∙ c.sums_of.ensures ∙ ap (λ (b : List ℕ). sums_of c.args.seed b) c.bytes.ensures) over

@@ -20,8 +20,8 @@ returns-clause-busy c =
     (λ full start told on. busy_after _ start told c.in-Some.job c.act.new.self c.act.new.board c.in-Some.is full (subst (λ (s : Seen). IsOnItsWay start told s) (sym c.self.view_is) on))
     c.act.ensures.full
 
-pub act-requires : goal.act-requires
-act-requires c = job_writes _ c.in-Some.job (subst HasJob (sym c.self.view_is) c.requires) c.in-Some.is
+pub act-requires-clause-how : goal.act-requires-clause-how
+act-requires-clause-how c = job_writes _ c.in-Some.job (subst HasJob (sym c.self.view_is) c.requires.job) c.in-Some.is
 
 pub returns-clause-still : goal.returns-clause-still
 returns-clause-still c = if_ok_leads c.act.result (λ acted still none. still none ∙ ap (λ (s : Seen). s.held) c.self.view_is) c.act.ensures.still

@@ -3,14 +3,18 @@ use Rattle.lnbd_copy.specs.Copier.{Seen}
 use Rattle.lnbd_copy.proofs.GroundLemmas.{grounded_as, grounded_later, if_err_leads}
 use Rattle.lnbd_copy.proofs.PauseLemmas.{pauses_begin, pauses_then, pauses_unpaused}
 use Rattle.lnbd_copy.specs.Connects.{LinksGoWithin}
-use Rattle.lnbd_copy.specs.Driven.{AreDrivenBy}
+use Rattle.lnbd_copy.specs.DrivenAs.{AreDrivenBy}
 use Rattle.lnbd_copy.specs.Links.{LinksGo}
 use Rattle.lnbd_copy.specs.Way.{Told}
 use Rattle.lnbd_copy.proofs.ConnectLemmas.{within_end}
 use Rattle.lnbd_copy.proofs.UnaskedLemmas.{told_unasked, unasked_as}
 use Rattle.lnbd_copy.proofs.PausedLemmas.{early_opening, early_waits, opening_as, told_stays}
+use Rattle.std.proofs.lemmas.Result.{on_ok_weaker}
+use Rattle.lnbd_copy.proofs.TriedLemmas.{left_stays, left_tried, tries_any, tries_begin}
 use Rattle.lnbd_copy.proofs.VainLemmas.{vain_empty, vain_full}
-use Rattle.lnbd_copy.proofs.DrivingLemmas.{driven_idly}
+use Rattle.lnbd_copy.specs.Decided.{IsDecided}
+use Rattle.lnbd_copy.proofs.DecidingLemmas.{decided_shut}
+use Rattle.lnbd_copy.proofs.DrivenAsLemmas.{driven_idly}
 use Rattle.lnbd_copy.proofs.copier.Copier.begin.Goals as goal
 
 pub returns-then-is_err-clause-grounds : goal.returns-then-is_err-clause-grounds
@@ -61,4 +65,23 @@ returns-then-is_err-clause-wanted g c = pauses_begin _ _ (pauses_then _ _ _ c.co
 
 pub returns-then-is_err-clause-drives : goal.returns-then-is_err-clause-drives
 returns-then-is_err-clause-drives g c =
-    driven_idly _ _ _ _ _ _ c.shut_all.ensures.idly (subst (λ (s : Seen). Told (g.W.Wires.told c.args.wires.now) (g.W.Wires.told c.connect-told.new.wires) (AreDrivenBy s.options.extents s.from s.to)) c.self.view_is c.connect-told.ensures.drives)
+    driven_idly _ _ _ _ _ _ c.shut_all.ensures.idly (subst (λ (s : Seen). Told (g.W.Wires.told c.args.wires.now) (g.W.Wires.told c.connect-told.new.wires) (AreDrivenBy s.options s.from s.to)) c.self.view_is c.connect-told.ensures.drives)
+
+pub returns-then-is_err-clause-decides : goal.returns-then-is_err-clause-decides
+returns-then-is_err-clause-decides g c =
+    if_err_leads c.connect-told.result
+    (λ why decides. subst (λ (s : Seen). IsDecided (g.W.Wires.told c.args.wires.now) (g.W.Wires.told c.shut_all.new.wires) s.options.extents s.from s.to why) c.self.view_is
+    (decided_shut _ _ _ _ _ _ c.shut_all.ensures.shuts why decides))
+    c.connect-told.ensures.decides
+
+pub returns-else-is_err-clause-tries : goal.returns-else-is_err-clause-tries
+returns-else-is_err-clause-tries g c = left_tried _ _ (tries_begin _ _ c.connect-told.ensures.tries)
+
+pub returns-then-is_err-clause-tries : goal.returns-then-is_err-clause-tries
+returns-then-is_err-clause-tries g c = left_tried _ _ (tries_begin _ _ (tries_any _ _ _ c.connect-told.ensures.tries c.shut_all.ensures.unpaused))
+
+pub returns-else-is_err-clause-tried : goal.returns-else-is_err-clause-tried
+returns-else-is_err-clause-tried g c = on_ok_weaker c.connect-told.result (λ tried. tries_begin _ _ tried) c.connect-told.ensures.tried
+
+pub returns-then-is_err-clause-tried : goal.returns-then-is_err-clause-tried
+returns-then-is_err-clause-tried g c = on_ok_weaker c.connect-told.result (λ tried. left_stays _ _ _ c.shut_all.ensures.unpaused (tries_begin _ _ tried)) c.connect-told.ensures.tried

@@ -6,11 +6,13 @@ use Rattle.lnbd_copy.proofs.CopierLemmas.{met_further}
 use Rattle.lnbd_copy.proofs.GroundLemmas.{grounded_as, same_fails, handed_on}
 use Rattle.lnbd_copy.proofs.PauseLemmas.{pauses_then}
 use Rattle.lnbd_copy.proofs.LinkLemmas.{links_begin, links_same}
+use Rattle.lnbd_copy.proofs.TriedLemmas.{tries_then}
 use Rattle.lnbd_copy.proofs.PausedLemmas.{early_back, early_kept}
 use Rattle.lnbd_copy.proofs.ConnectedLemmas.{connected_begins}
 use Rattle.lnbd_copy.proofs.ConnectLemmas.{told_end, told_met, within_first, within_met, within_told}
 use Rattle.lnbd_copy.proofs.UnaskedLemmas.{unasked_as}
-use Rattle.lnbd_copy.proofs.DrivingLemmas.{driven_met}
+use Rattle.lnbd_copy.proofs.MeetLemmas.{decided_met, same_decided}
+use Rattle.lnbd_copy.proofs.DrivenAsLemmas.{first_driven, met_driven}
 use Rattle.lnbd_copy.proofs.copier.Copier.connect.Goals as goal
 
 pub returns-clause-begins : goal.returns-clause-begins
@@ -147,16 +149,52 @@ returns-clause-unasked g c =
     (c.dial_further.ensures.unasked _ c.in_ok-terms.terms c.in_ok-terms.ensures.met refl c.in_ok-terms.ensures.unissued c.in_ok-terms.ensures.two)
 
 pub returns-in_err-dial_further-clause-drives : goal.returns-in_err-dial_further-clause-drives
-returns-in_err-dial_further-clause-drives g c = driven_met c.args.self.now c.meet.new.self _ _ c.in_ok-terms.ensures.kept (c.dial_further.ensures.drives (g.W.Wires.told c.args.wires.now) c.in_ok-terms.terms c.in_ok-terms.ensures.met refl c.in_ok-terms.ensures.two)
+returns-in_err-dial_further-clause-drives g c = met_driven c.args.self.now c.meet.new.self _ _ _ c.in_ok-terms.terms c.in_ok-terms.ensures.kept c.in_ok-terms.ensures.met (c.dial_further.ensures.links c.in_ok-terms.ensures.met.stand).go.lasts (c.dial_further.ensures.drives (g.W.Wires.told c.args.wires.now) c.in_ok-terms.terms c.in_ok-terms.ensures.met refl c.in_ok-terms.ensures.two)
 
 pub returns-in_err-check_same-clause-drives : goal.returns-in_err-check_same-clause-drives
-returns-in_err-check_same-clause-drives g c = driven_met c.args.self.now c.meet.new.self _ _ c.in_ok-terms.ensures.kept (c.dial_further.ensures.drives (g.W.Wires.told c.args.wires.now) c.in_ok-terms.terms c.in_ok-terms.ensures.met refl c.in_ok-terms.ensures.two)
+returns-in_err-check_same-clause-drives g c = met_driven c.args.self.now c.meet.new.self _ _ _ c.in_ok-terms.terms c.in_ok-terms.ensures.kept c.in_ok-terms.ensures.met (c.dial_further.ensures.links c.in_ok-terms.ensures.met.stand).go.lasts (c.dial_further.ensures.drives (g.W.Wires.told c.args.wires.now) c.in_ok-terms.terms c.in_ok-terms.ensures.met refl c.in_ok-terms.ensures.two)
 
 pub returns-in_err-check_well-clause-drives : goal.returns-in_err-check_well-clause-drives
-returns-in_err-check_well-clause-drives g c = driven_met c.args.self.now c.meet.new.self _ _ c.in_ok-terms.ensures.kept (c.dial_further.ensures.drives (g.W.Wires.told c.args.wires.now) c.in_ok-terms.terms c.in_ok-terms.ensures.met refl c.in_ok-terms.ensures.two)
+returns-in_err-check_well-clause-drives g c = met_driven c.args.self.now c.meet.new.self _ _ _ c.in_ok-terms.terms c.in_ok-terms.ensures.kept c.in_ok-terms.ensures.met (c.dial_further.ensures.links c.in_ok-terms.ensures.met.stand).go.lasts (c.dial_further.ensures.drives (g.W.Wires.told c.args.wires.now) c.in_ok-terms.terms c.in_ok-terms.ensures.met refl c.in_ok-terms.ensures.two)
 
 pub returns-in_err-set_up-clause-drives : goal.returns-in_err-set_up-clause-drives
-returns-in_err-set_up-clause-drives g c = driven_met c.args.self.now c.meet.new.self _ _ c.in_ok-terms.ensures.kept (c.dial_further.ensures.drives (g.W.Wires.told c.args.wires.now) c.in_ok-terms.terms c.in_ok-terms.ensures.met refl c.in_ok-terms.ensures.two)
+returns-in_err-set_up-clause-drives g c = met_driven c.args.self.now c.meet.new.self _ _ _ c.in_ok-terms.terms c.in_ok-terms.ensures.kept c.in_ok-terms.ensures.met (c.dial_further.ensures.links c.in_ok-terms.ensures.met.stand).go.lasts (c.dial_further.ensures.drives (g.W.Wires.told c.args.wires.now) c.in_ok-terms.terms c.in_ok-terms.ensures.met refl c.in_ok-terms.ensures.two)
 
 pub returns-clause-drives : goal.returns-clause-drives
-returns-clause-drives g c = driven_met c.args.self.now c.meet.new.self _ _ c.in_ok-terms.ensures.kept (c.dial_further.ensures.drives (g.W.Wires.told c.args.wires.now) c.in_ok-terms.terms c.in_ok-terms.ensures.met refl c.in_ok-terms.ensures.two)
+returns-clause-drives g c = met_driven c.args.self.now c.meet.new.self _ _ _ c.in_ok-terms.terms c.in_ok-terms.ensures.kept c.in_ok-terms.ensures.met (c.dial_further.ensures.links c.in_ok-terms.ensures.met.stand).go.lasts (c.dial_further.ensures.drives (g.W.Wires.told c.args.wires.now) c.in_ok-terms.terms c.in_ok-terms.ensures.met refl c.in_ok-terms.ensures.two)
+
+pub returns-in_err-terms-clause-drives : goal.returns-in_err-terms-clause-drives
+returns-in_err-terms-clause-drives g c = first_driven c.args.self.now.options _ _ _ _ _ _ c.requires.begun.held c.meet.ensures.links c.meet.ensures.drives
+
+pub returns-in_err-dial_further-clause-decides : goal.returns-in_err-dial_further-clause-decides
+returns-in_err-dial_further-clause-decides g c =
+    handed_on _ c.from_residual-in_err-dial_further.result _ c.from_residual-in_err-dial_further.ensures.1 (
+    decided_met c.args.self.now c.meet.new.self _ _ _ c.in_ok-terms.ensures.kept
+    (c.in_err-dial_further.ensures.decides (g.W.Wires.told c.args.wires.now) c.in_ok-terms.terms c.in_ok-terms.ensures.met refl c.in_ok-terms.ensures.two))
+
+pub returns-in_err-check_same-clause-decides : goal.returns-in_err-check_same-clause-decides
+returns-in_err-check_same-clause-decides g c =
+    handed_on _ c.from_residual-in_err-check_same.result _ c.from_residual-in_err-check_same.ensures.1 (
+    decided_met c.args.self.now c.meet.new.self _ _ _ c.in_ok-terms.ensures.kept (
+    decided_met c.meet.new.self c.dial_further.new.self _ _ _ c.in_ok-dial_further.ensures.kept (
+    same_decided c.dial_further.new.self c.self.inside.handles (g.W.Wires.told c.args.wires.now) (g.W.Wires.told c.dial_further.new.wires) c.in_ok-terms.terms _ (ap (λ (s : Seen). s.held) c.self.view_is)
+    (met_further c.meet.new.self c.dial_further.new.self _ _ _ c.in_ok-terms.terms c.in_ok-dial_further.ensures.kept c.in_ok-terms.ensures.met c.in_ok-terms.ensures.two c.in_ok-dial_further.ensures.further)
+    c.in_ok-dial_further.ensures.calm c.in_err-check_same.ensures.found)))
+
+pub returns-clause-tries : goal.returns-clause-tries
+returns-clause-tries g c = tries_then _ _ _ c.in_ok-terms.ensures.tried (c.dial_further.ensures.tries c.in_ok-terms.ensures.met.stand)
+
+pub returns-clause-tried : goal.returns-clause-tried
+returns-clause-tried g c = tries_then _ _ _ c.in_ok-terms.ensures.tried (c.in_ok-dial_further.ensures.tried c.in_ok-terms.ensures.met.stand)
+
+pub returns-in_err-dial_further-clause-tries : goal.returns-in_err-dial_further-clause-tries
+returns-in_err-dial_further-clause-tries g c = tries_then _ _ _ c.in_ok-terms.ensures.tried (c.dial_further.ensures.tries c.in_ok-terms.ensures.met.stand)
+
+pub returns-in_err-check_same-clause-tries : goal.returns-in_err-check_same-clause-tries
+returns-in_err-check_same-clause-tries g c = tries_then _ _ _ c.in_ok-terms.ensures.tried (c.dial_further.ensures.tries c.in_ok-terms.ensures.met.stand)
+
+pub returns-in_err-check_well-clause-tries : goal.returns-in_err-check_well-clause-tries
+returns-in_err-check_well-clause-tries g c = tries_then _ _ _ c.in_ok-terms.ensures.tried (c.dial_further.ensures.tries c.in_ok-terms.ensures.met.stand)
+
+pub returns-in_err-set_up-clause-tries : goal.returns-in_err-set_up-clause-tries
+returns-in_err-set_up-clause-tries g c = tries_then _ _ _ c.in_ok-terms.ensures.tried (c.dial_further.ensures.tries c.in_ok-terms.ensures.met.stand)

@@ -1,4 +1,5 @@
-use Rattle.std.proofs.Common.{List, Option, ap, sym, subst, ◌∙◌}
+use Rattle.std.proofs.Common.{List, Option, refl, ap, sym, subst, ◌∙◌}
+use Rattle.lnbd_poll.specs.Held.{wants_now}
 use Rattle.lnbd_link.specs.Call.{Call}
 use Rattle.lnbd_copy.specs.Copier.{IsOnItsWay, Seen}
 use Rattle.lnbd_copy.specs.Faults.{Behaves}
@@ -15,9 +16,12 @@ use Rattle.lnbd_copy.proofs.PausedLemmas.{IsFine, fine_open, fine_rest, fine_tur
 use Rattle.lnbd_copy.proofs.ConnectLemmas.{told_end, within_told}
 use Rattle.lnbd_copy.proofs.LinkLemmas.{links_as, links_then}
 use Rattle.lnbd_copy.proofs.UnaskedLemmas.{told_behaves}
+use Rattle.lnbd_copy.proofs.TriedLemmas.{left_any, left_none, left_rests, left_tried, left_turned}
 use Rattle.lnbd_copy.proofs.VainLemmas.{pauses_empty, pauses_full}
 use Rattle.lnbd_copy.proofs.copier.Copier.copy.Goals.{in-Moved, in-Still+in_ok-rest-in-Still}
-use Rattle.lnbd_copy.proofs.DrivingLemmas.{driven_as, driven_idly, drives_none, way_driven}
+use Rattle.lnbd_copy.proofs.DrivingLemmas.{drives_none}
+use Rattle.lnbd_copy.proofs.DecidingLemmas.{decided_all, rests_decided}
+use Rattle.lnbd_copy.proofs.DrivenAsLemmas.{driven_as, driven_idly, way_driven}
 use Rattle.lnbd_copy.proofs.copier.Copier.copy.Goals as goal
 
 pub turns-preserved : goal.turns-preserved
@@ -25,6 +29,7 @@ turns-preserved g c =
     let start = g.W.Wires.told c.args.wires.now in
     let turn = c.in_ok-turn.ensures in
     let was = c.turns.invariant in
+    let turned = left_turned c.turns.self.held start _ _ (λ wanted since left. left) (turn.tries start was.on) was.tried in
     elim c.match-branch-3.branch [
       | in-Moved w ↦ record {
         start = ap (λ (s : Seen). s.start) w.self-is ∙ ap (λ (s : Seen). s.start) turn.kept ∙ was.start;
@@ -41,6 +46,7 @@ turns-preserved g c =
         counts = goes_as _ _ _ _ _ _ _ _ _ (ap g.W.Wires.faults w.wires-is) (ap g.W.Wires.idles w.wires-is) (ap g.W.Wires.contents w.wires-is) (goes_then _ _ _ _ _ _ _ _ _ was.counts turn.counts);
         reads = told_same _ start _ _ (ap g.W.Wires.told w.wires-is) (told_stays start _ _ turn.unpaused was.reads);
         wanted = told_same _ start _ _ (ap g.W.Wires.told w.wires-is) (told_stays start _ _ turn.unpaused was.wanted);
+        tried = told_same _ start _ _ (ap g.W.Wires.told w.wires-is) (left_none start _ (λ wanted since left. absurd left) turned);
       }
       | in-Still+in_ok-rest-in-Still w ↦
           let rest = w.in_ok-rest-in-Still.ensures in
@@ -57,18 +63,20 @@ turns-preserved g c =
             connects = told_end _ _ _ _ _ _ _ _ _ was.connects (links_as _ _ _ _ _ _ _ (ap (λ (s : Seen). s.held) w.self-is) (ap g.W.Wires.told w.wires-is) (links_then _ _ _ _ _ _ turn.links rest.links));
             fair = λ two. subst (λ (t : Option (List Call)). Told start t (Behaves c.args.self.now.options c.args.self.now.from c.args.self.now.to)) (sym (ap g.W.Wires.told w.wires-is)) (behaves_idly _ _ _ start _ _ w.rest.ensures.idly (fair_on c.args.self.now c.turns.self (g.W.Wires.told c.args.wires.now) _ _ c.turns.invariant.kept (c.turn.ensures.fair (g.W.Wires.told c.args.wires.now)) c.turns.invariant.on c.turns.invariant.fair two));
             waits = told_same _ start _ _ (ap g.W.Wires.told w.wires-is)
-                (waits_rest c.turn.new.self start _ _ rest.pauses (still_on start _ c.turn.new.self c.in_ok-turn.field-0 w.in-Still.is (turn.turns start was.on)) (told_stays start _ _ turn.unpaused was.waits));
+                (waits_rest c.turn.new.self start _ _ rest.unparted rest.pauses (still_on start _ c.turn.new.self c.in_ok-turn.field-0 w.in-Still.is (turn.turns start was.on)) (told_stays start _ _ turn.unpaused was.waits));
             counts = goes_as _ _ _ _ _ _ _ _ _ (ap g.W.Wires.faults w.wires-is) (ap g.W.Wires.idles w.wires-is) (ap g.W.Wires.contents w.wires-is)
                 (goes_then _ _ _ _ _ _ _ _ _ was.counts (goes_then _ _ _ _ _ _ _ _ _ turn.counts rest.counts));
             reads = told_same _ start _ _ (ap g.W.Wires.told w.wires-is) ((pauses_empty _ _ _ _ (turn.still w.in-Still.is) rest.pauses).on start was.reads);
             wanted = told_same _ start _ _ (ap g.W.Wires.told w.wires-is) (rest.wanted.on start (told_stays start _ _ turn.unpaused was.wanted));
+            tried = told_same _ start _ _ (ap g.W.Wires.told w.wires-is)
+                (left_rests start _ _ (wants_now c.turn.new.self.held) (record { none = refl; wants = sym (ap (λ (s : Seen). wants_now s.held) w.self-is ∙ ap wants_now rest.same) }) rest.pauses turned);
           }
     ]
 
 pub turns-init : goal.turns-init
 turns-init g c =
     let begun = c.in_ok-begin.ensures in
-    record { start = begun.began; kept = begun.kept; on = begun.begins; pauses = fine_open c.args.self.now c.begin.new.self _ _ begun.kept begun.unready; writes = begun.writes; connects = begun.connects; fair = λ two. told_behaves _ _ _ _ _ c.begin.ensures.unasked; waits = begun.waits; counts = begun.counts; reads = begun.reads; wanted = begun.wanted }
+    record { start = begun.began; kept = begun.kept; on = begun.begins; pauses = fine_open c.args.self.now c.begin.new.self _ _ begun.kept begun.unready; writes = begun.writes; connects = begun.connects; fair = λ two. told_behaves _ _ _ _ _ c.begin.ensures.unasked; waits = begun.waits; counts = begun.counts; reads = begun.reads; wanted = begun.wanted; tried = left_none _ _ (λ wanted since left. absurd left) begun.tried }
 
 pub turn-requires-clause-going : goal.turn-requires-clause-going
 turn-requires-clause-going g c = record { start = g.W.Wires.told c.args.wires.now; on = c.turns.invariant.on }
@@ -196,3 +204,26 @@ returns-in_err-rest-in-Still-clause-drives g c = driven_idly _ _ _ _ _ _ c.rest.
 
 pub returns-clause-drives : goal.returns-clause-drives
 returns-clause-drives g c = driven_as c.args.self.now c.turns.self _ _ c.turns.invariant.kept (way_driven c.turns.self (g.W.Wires.told c.args.wires.now) _ _ (drives_none _ _ _) c.turns.invariant.on)
+
+pub returns-in_err-turn-clause-decides : goal.returns-in_err-turn-clause-decides
+returns-in_err-turn-clause-decides g c =
+    handed_on _ c.from_residual-in_err-turn.result _ c.from_residual-in_err-turn.ensures.1 (
+    decided_all c.args.self.now c.turns.self _ _ _ c.turns.invariant.kept (c.in_err-turn.ensures.decides (g.W.Wires.told c.args.wires.now) c.turns.invariant.on))
+
+pub returns-in_err-rest-in-Still-clause-decides : goal.returns-in_err-rest-in-Still-clause-decides
+returns-in_err-rest-in-Still-clause-decides g c =
+    handed_on _ c.from_residual-in_err-rest-in-Still.result _ c.from_residual-in_err-rest-in-Still.ensures.1 (
+    decided_all c.args.self.now c.turns.self _ _ _ c.turns.invariant.kept (
+    rests_decided _ _ _ _ _ _ _ c.in_err-rest-in-Still.ensures.free c.in_err-rest-in-Still.ensures.still (c.in_ok-turn.ensures.untroubled (g.W.Wires.told c.args.wires.now) c.turns.invariant.on)))
+
+pub returns-in-Finished-clause-tries : goal.returns-in-Finished-clause-tries
+returns-in-Finished-clause-tries g c = left_tried _ _ (left_any _ _ _ c.turn.ensures.unpaused c.turns.invariant.tried)
+
+pub returns-in_err-turn-clause-tries : goal.returns-in_err-turn-clause-tries
+returns-in_err-turn-clause-tries g c = left_tried _ _ (left_any _ _ _ c.turn.ensures.unpaused c.turns.invariant.tried)
+
+pub returns-in_err-rest-in-Still-clause-tries : goal.returns-in_err-rest-in-Still-clause-tries
+returns-in_err-rest-in-Still-clause-tries g c = told_same _ (g.W.Wires.told c.args.wires.now) _ _ c.in_err-rest-in-Still.ensures.still (left_tried _ _ (left_any _ _ _ c.turn.ensures.unpaused c.turns.invariant.tried))
+
+pub returns-clause-tries : goal.returns-clause-tries
+returns-clause-tries g c = left_tried _ _ c.turns.invariant.tried

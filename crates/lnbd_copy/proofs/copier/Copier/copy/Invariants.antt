@@ -3,6 +3,7 @@ use Rattle.lnbd_copy.specs.Causes.{GoesOn}
 use Rattle.lnbd_copy.specs.Copier.{IsOnItsWay}
 use Rattle.lnbd_copy.specs.Paused.{PausesAreFull}
 use Rattle.lnbd_copy.specs.Pauses.{AtEachPause, WantsOnlyFull}
+use Rattle.lnbd_copy.specs.Tried.{IsLeft, TriedBut}
 use Rattle.lnbd_copy.specs.Vain.{WantsOnlyEmpty}
 use Rattle.lnbd_copy.specs.Waits.{WaitsWell}
 use Rattle.lnbd_copy.specs.Wanted.{WantsSome}
@@ -24,4 +25,5 @@ invariant-turns g l = record {
   counts : GoesOn (g.W.Wires.faults l.fn.wires) (g.W.Wires.faults l.wires) (g.W.Wires.idles l.fn.wires) (g.W.Wires.idles l.wires) (g.W.Wires.contents l.fn.wires) (g.W.Wires.contents l.wires);
   reads : Told (g.W.Wires.told l.fn.wires) (g.W.Wires.told l.wires) (AtEachPause WantsOnlyEmpty);
   wanted : Told (g.W.Wires.told l.fn.wires) (g.W.Wires.told l.wires) (AtEachPause WantsSome);
+  tried : Told (g.W.Wires.told l.fn.wires) (g.W.Wires.told l.wires) (TriedBut (IsLeft l.self.held));
 }

@@ -8,6 +8,8 @@ use Rattle.lnbd_copy.proofs.ConnectLemmas.{all_made, goes_all, one_fails, one_mo
 use Rattle.lnbd_copy.proofs.UnaskedLemmas.{stays_kept, unasked_then}
 use Rattle.lnbd_copy.proofs.ConnectedLemmas.{connected_then}
 use Rattle.lnbd_copy.proofs.DrivingLemmas.{destination_further, further_drives}
+use Rattle.lnbd_copy.proofs.GroundLemmas.{handed_on}
+use Rattle.lnbd_copy.proofs.MeetLemmas.{further_decides}
 use Rattle.lnbd_copy.proofs.copier.Copier.dial_destinations.Goals as goal
 
 pub further-preserved : goal.further-preserved
@@ -53,3 +55,8 @@ returns-in_err-dial_destination-clause-drives g c =
     destination_further c.args.self.now c.args.sides (c.args.sides.source + 1) c.further.self _ _ c.further.invariant.kept c.further.invariant.further _ c.dial_destination.ensures.drives
     (λ count none. let more = c.further.invariant.more in absurd (omega (arith, count, more, none)))
     (λ count. behind_source c.args.sides (length c.further.self.held) (let more = c.further.invariant.more in omega (arith, count, more)))
+
+pub returns-in_err-dial_destination-clause-decides : goal.returns-in_err-dial_destination-clause-decides
+returns-in_err-dial_destination-clause-decides g c =
+    handed_on _ c.from_residual.result _ c.from_residual.ensures.1
+    (further_decides c.args.self.now c.args.sides (c.args.sides.source + 1) _ _ _ _ _ _ c.further.invariant.further c.in_err-dial_destination.ensures.decides)

@@ -1,15 +1,17 @@
 use Rattle.std.proofs.Common.{◌+◌, ◌-◌, ap, replicate}
 use Rattle.std.proofs.lemmas.Result.{on_ok_weaker}
 use Rattle.lnbd_copy.proofs.CopierLemmas.{always_on_ok, further_goes, further_kept, further_then}
-use Rattle.lnbd_copy.proofs.GroundLemmas.{further_fails, if_err_leads}
+use Rattle.lnbd_copy.proofs.GroundLemmas.{further_fails, handed_on, if_err_leads}
 use Rattle.lnbd_copy.proofs.PauseLemmas.{pauses_then, pauses_unpaused, unpaused_then}
 use Rattle.lnbd_copy.proofs.PausedLemmas.{further_unready, told_stays}
 use Rattle.lnbd_copy.proofs.LinkLemmas.{links_end}
+use Rattle.lnbd_copy.proofs.TriedLemmas.{tries_anyhow, tries_then, tries_unpaused}
 use Rattle.lnbd_copy.proofs.ConnectLemmas.{both_made, goes_all, goes_wider, second_fails}
 use Rattle.lnbd_copy.specs.Copier.{Seen}
 use Rattle.lnbd_copy.proofs.UnaskedLemmas.{further_unasked, met_unasked, stays_kept, unasked_then}
 use Rattle.lnbd_copy.proofs.ConnectedLemmas.{connected_links, connected_then}
 use Rattle.lnbd_copy.proofs.DrivingLemmas.{further_behind, further_driven, further_settled}
+use Rattle.lnbd_copy.proofs.MeetLemmas.{behind_decides, further_decided, further_decides}
 use Rattle.lnbd_copy.proofs.copier.Copier.dial_further.Goals as goal
 
 pub returns-clause-further : goal.returns-clause-further
@@ -111,3 +113,40 @@ returns-clause-drives g c start terms met same two =
     let second = further_kept c.args.self.now c.dial_sources.new.self c.args.sides (c.args.sides.source + 1) _ _ _ _ _ _ c.in_ok-dial_sources.ensures.kept c.in_ok-dial_destinations.ensures.further in
     let both = further_then c.args.self.now c.args.sides 2 (c.args.sides.source + 1) _ _ _ _ _ _ _ _ _ one second c.in_ok-dial_sources.ensures.many in
     further_driven c.args.self.now c.args.sides start _ _ (further_settled c.args.self.now c.args.sides 2 _ _ _ _ _ both c.settle.ensures.drives) terms met same two
+
+pub returns-in_err-dial_sources-clause-decides : goal.returns-in_err-dial_sources-clause-decides
+returns-in_err-dial_sources-clause-decides g c =
+    handed_on _ c.from_residual.result _ c.from_residual.ensures.1
+    (λ start terms met same two. further_decided c.args.self.now c.args.sides start _ _ _ c.in_err-dial_sources.ensures.decides terms met same two)
+
+pub returns-in_err-dial_destinations-clause-decides : goal.returns-in_err-dial_destinations-clause-decides
+returns-in_err-dial_destinations-clause-decides g c =
+    handed_on _ c.from_residual-in_err-dial_destinations.result _ c.from_residual-in_err-dial_destinations.ensures.1
+    (λ start terms met same two.
+    further_decided c.args.self.now c.args.sides start _ _ _
+    (behind_decides c.args.self.now c.args.sides 2 _ c.dial_sources.new.self (c.args.sides.source + 1) _ _ _ c.in_ok-dial_sources.ensures.kept c.in_ok-dial_sources.ensures.further c.in_err-dial_destinations.ensures.decides c.in_ok-dial_sources.ensures.many) terms met same two)
+
+pub returns-clause-decides : goal.returns-clause-decides
+returns-clause-decides g c =
+    let one = c.in_ok-dial_sources.ensures.further in
+    let second = further_kept c.args.self.now c.dial_sources.new.self c.args.sides (c.args.sides.source + 1) _ _ _ _ _ _ c.in_ok-dial_sources.ensures.kept c.in_ok-dial_destinations.ensures.further in
+    let both = further_then c.args.self.now c.args.sides 2 (c.args.sides.source + 1) _ _ _ _ _ _ _ _ _ one second c.in_ok-dial_sources.ensures.many in
+    if_err_leads c.settle.result
+    (λ why decides start terms met same two. further_decided c.args.self.now c.args.sides start _ _ why (further_decides c.args.self.now c.args.sides 2 why _ _ _ _ _ both decides) terms met same two) c.settle.ensures.decides
+
+pub returns-clause-tries : goal.returns-clause-tries
+returns-clause-tries g c stand =
+    tries_then _ _ _ (tries_unpaused _ _ (unpaused_then _ _ _ c.dial_sources.ensures.unpaused c.dial_destinations.ensures.unpaused))
+    (c.settle.ensures.tries (c.in_ok-dial_destinations.ensures.further.stand (c.in_ok-dial_sources.ensures.further.stand stand)))
+
+pub returns-clause-tried : goal.returns-clause-tried
+returns-clause-tried g c =
+    on_ok_weaker c.settle.result
+    (λ tried stand. tries_then _ _ _ (tries_unpaused _ _ (unpaused_then _ _ _ c.dial_sources.ensures.unpaused c.dial_destinations.ensures.unpaused)) (tried (c.in_ok-dial_destinations.ensures.further.stand (c.in_ok-dial_sources.ensures.further.stand stand))))
+    c.settle.ensures.tried
+
+pub returns-in_err-dial_sources-clause-tries : goal.returns-in_err-dial_sources-clause-tries
+returns-in_err-dial_sources-clause-tries g c stand = tries_anyhow _ _ (tries_unpaused _ _ c.dial_sources.ensures.unpaused)
+
+pub returns-in_err-dial_destinations-clause-tries : goal.returns-in_err-dial_destinations-clause-tries
+returns-in_err-dial_destinations-clause-tries g c stand = tries_anyhow _ _ (tries_unpaused _ _ (unpaused_then _ _ _ c.dial_sources.ensures.unpaused c.dial_destinations.ensures.unpaused))

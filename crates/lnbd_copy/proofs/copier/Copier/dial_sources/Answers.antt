@@ -9,6 +9,8 @@ use Rattle.lnbd_copy.proofs.ConnectLemmas.{all_made, goes_all, one_fails, one_mo
 use Rattle.lnbd_copy.proofs.UnaskedLemmas.{stays_kept, unasked_then}
 use Rattle.lnbd_copy.proofs.ConnectedLemmas.{connected_then}
 use Rattle.lnbd_copy.proofs.DrivingLemmas.{further_drives, source_further}
+use Rattle.lnbd_copy.proofs.GroundLemmas.{handed_on}
+use Rattle.lnbd_copy.proofs.MeetLemmas.{further_decides}
 use Rattle.lnbd_copy.proofs.copier.Copier.dial_sources.Goals as goal
 
 pub further-preserved : goal.further-preserved
@@ -54,3 +56,8 @@ returns-in_err-dial_source-clause-drives g c =
     source_further c.args.self.now c.args.sides 2 c.further.self _ _ c.further.invariant.kept c.further.invariant.further _ c.dial_source.ensures.drives
     (λ two none. let many = c.further.invariant.many two in absurd (omega (arith, many, none)))
     (λ two. ap (is_source c.args.sides) (c.further.invariant.many two) ∙ further_source c.args.sides c.further.connection c.further.invariant.some c.further-test.true)
+
+pub returns-in_err-dial_source-clause-decides : goal.returns-in_err-dial_source-clause-decides
+returns-in_err-dial_source-clause-decides g c =
+    handed_on _ c.from_residual.result _ c.from_residual.ensures.1
+    (further_decides c.args.self.now c.args.sides 2 _ _ _ _ _ _ c.further.invariant.further c.in_err-dial_source.ensures.decides)

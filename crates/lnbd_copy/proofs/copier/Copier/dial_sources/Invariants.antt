@@ -4,7 +4,7 @@ use Rattle.lnbd_copy.specs.Copier.{GoesFurther}
 use Rattle.lnbd_copy.specs.Pauses.{Unpaused}
 use Rattle.lnbd_copy.specs.Links.{LinksGo}
 use Rattle.lnbd_copy.specs.Faults.{AreUnissued, StaysUnasked}
-use Rattle.lnbd_copy.specs.Connected.{StaysConnected}
+use Rattle.lnbd_copy.specs.Connects.{StaysConnected}
 use Rattle.lnbd_copy.proofs.copier.Copier.dial_sources.Given as goal
 
 abbrev pub invariant-further : goal.invariant-further

@@ -10,6 +10,7 @@ use Rattle.lnbd_copy.proofs.FaultLemmas.{behaves_idly}
 use Rattle.lnbd_copy.proofs.FlushLemmas.{flushed}
 use Rattle.lnbd_copy.proofs.MovingLemmas.{happens_behind, moved_acts, moved_happens, moved_stirs}
 use Rattle.lnbd_copy.proofs.PauseLemmas.{unpaused_then}
+use Rattle.lnbd_copy.proofs.TriedLemmas.{tries_behind}
 use Rattle.lnbd_copy.proofs.VainLemmas.{vain_same}
 use Rattle.lnbd_copy.proofs.ShareLemmas.{way_shares}
 use Rattle.lnbd_copy.proofs.SpreadLemmas.{way_spread}
@@ -17,7 +18,9 @@ use Rattle.lnbd_copy.proofs.SummedLemmas.{summed}
 use Rattle.lnbd_copy.proofs.UnansweredLemmas.{way_all_asked}
 use Rattle.lnbd_copy.proofs.LinkLemmas.{links_same, links_then}
 use Rattle.lnbd_copy.proofs.copier.Copier.go_on.Goals.{else-acted, then-acted}
-use Rattle.lnbd_copy.proofs.DrivingLemmas.{driven_idly}
+use Rattle.lnbd_copy.proofs.DecidingLemmas.{was_decided, was_shut}
+use Rattle.lnbd_copy.proofs.GroundLemmas.{handed_on}
+use Rattle.lnbd_copy.proofs.DrivenAsLemmas.{driven_idly}
 use Rattle.lnbd_copy.proofs.copier.Copier.go_on.Goals as goal
 
 pub returns-then-is_finished-clause-turns : goal.returns-then-is_finished-clause-turns
@@ -29,8 +32,8 @@ returns-then-is_finished-clause-turns g c start on =
 pub returns-clause-turns : goal.returns-clause-turns
 returns-clause-turns g c start on = c.progress_of.ensures.on start _ _ (c.part-parted.ensures.on start (c.in_ok-acted.ensures.on start _ (c.in_ok-moved.ensures.on start on)))
 
-pub act-requires : goal.act-requires
-act-requires g c = has_job c.requires.going.start _ _ (c.in_ok-moved.ensures.on c.requires.going.start c.requires.going.on)
+pub act-requires-clause-job : goal.act-requires-clause-job
+act-requires-clause-job g c = has_job c.requires.going.start _ _ (c.in_ok-moved.ensures.on c.requires.going.start c.requires.going.on)
 
 pub returns-then-is_finished-clause-asks : goal.returns-then-is_finished-clause-asks
 returns-then-is_finished-clause-asks g c start on two =
@@ -116,6 +119,9 @@ returns-clause-still g c still =
 
 pub returns-in_err-check_well-clause-counts : goal.returns-in_err-check_well-clause-counts
 returns-in_err-check_well-clause-counts g c = goes_then _ _ _ _ _ _ _ _ _ c.take_turn.ensures.counts c.part-parted.ensures.counts
+
+pub returns-then-is_finished-clause-counts : goal.returns-then-is_finished-clause-counts
+returns-then-is_finished-clause-counts g c = goes_then _ _ _ _ _ _ _ _ _ c.take_turn.ensures.counts c.part-parted.ensures.counts
 
 pub returns-clause-counts : goal.returns-clause-counts
 returns-clause-counts g c = goes_then _ _ _ _ _ _ _ _ _ c.take_turn.ensures.counts c.part-parted.ensures.counts
@@ -216,3 +222,20 @@ returns-in_err-check_well-clause-drives g c start on = driven_idly _ _ _ start _
 
 pub returns-in_err-check_counts-clause-drives : goal.returns-in_err-check_counts-clause-drives
 returns-in_err-check_counts-clause-drives g c start on = driven_idly _ _ _ start _ _ c.part-parted.ensures.idly (c.take_turn.ensures.drives start on)
+
+pub returns-in_err-check_counts-clause-decides : goal.returns-in_err-check_counts-clause-decides
+returns-in_err-check_counts-clause-decides g c =
+    handed_on _ c.from_residual-in_err-check_counts.result _ c.from_residual-in_err-check_counts.ensures.1 (λ start on.
+    was_decided _ _ _ _ start _ c.in_err-check_counts.ensures.free (was_shut _ _ _ start _ _ c.part-parted.ensures.shuts (c.in_ok-moved.ensures.untroubled start on)))
+
+pub returns-then-is_finished-clause-untroubled : goal.returns-then-is_finished-clause-untroubled
+returns-then-is_finished-clause-untroubled g c start on = was_shut _ _ _ start _ _ c.part-parted.ensures.shuts (c.in_ok-moved.ensures.untroubled start on)
+
+pub returns-clause-untroubled : goal.returns-clause-untroubled
+returns-clause-untroubled g c start on = was_shut _ _ _ start _ _ c.part-parted.ensures.shuts (c.in_ok-moved.ensures.untroubled start on)
+
+pub returns-clause-tries : goal.returns-clause-tries
+returns-clause-tries g c start on = tries_behind _ _ _ _ c.part-parted.ensures.unpaused (c.in_ok-moved.ensures.tries start on)
+
+pub returns-then-is_finished-clause-tries : goal.returns-then-is_finished-clause-tries
+returns-then-is_finished-clause-tries g c start on = tries_behind _ _ _ _ c.part-parted.ensures.unpaused (c.in_ok-moved.ensures.tries start on)

@@ -11,11 +11,13 @@ use Rattle.lnbd_copy.specs.Way.{Stand}
 use Rattle.lnbd_copy.proofs.PauseLemmas.{pauses_then, pauses_unpaused}
 use Rattle.lnbd_copy.proofs.ConnectLemmas.{both_made, goes_all, goes_wider, second_fails}
 use Rattle.lnbd_copy.proofs.LinkLemmas.{links_end}
+use Rattle.lnbd_copy.proofs.TriedLemmas.{tries_anyhow, tries_then, tries_unpaused}
 use Rattle.lnbd_copy.proofs.TurnLemmas.{none_stand}
 use Rattle.lnbd_copy.proofs.PausedLemmas.{meet_unready, source_dialled, source_unready, told_stays}
 use Rattle.lnbd_copy.proofs.UnaskedLemmas.{both_unasked, both_unissued, source_unasked, stays_kept}
 use Rattle.lnbd_copy.proofs.ConnectedLemmas.{connected_links, connected_then}
 use Rattle.lnbd_copy.proofs.DrivingLemmas.{destination_dialed, destination_settled, one_as, source_dialed, source_settled}
+use Rattle.lnbd_copy.proofs.MeetLemmas.{begins_decided, destination_decided, second_decided, source_decided, terms_decided}
 use Rattle.lnbd_copy.proofs.copier.Copier.meet.Goals as goal
 
 pub returns-clause-met : goal.returns-clause-met
@@ -252,3 +254,70 @@ pub returns-clause-drives : goal.returns-clause-drives
 returns-clause-drives g c =
     destination_settled c.args.self.now c.dial_source.new.self _ _ c.in_ok-dial_source.ensures.board (dials_as c.args.self.now.options _ _ _ _ _ _ _ (ap (λ (s : Seen). s.options.extents) c.self.view_is) c.in_ok-dial_source.ensures.dials) c.requires.begun
     c.settle.new.self _ c.in_ok-dial_source.ensures.kept c.in_ok-settle.ensures.kept c.in_ok-settle.ensures.goes c.dial_destination.new.self _ _ c.in_ok-dial_destination.ensures.board c.in_ok-dial_destination.ensures.dials c.settle-2.ensures.drives
+
+pub returns-in_err-dial_source-clause-decides : goal.returns-in_err-dial_source-clause-decides
+returns-in_err-dial_source-clause-decides g c =
+    handed_on _ c.from_residual.result _ c.from_residual.ensures.1 (begins_decided c.args.self.now _ _ _ c.requires.begun c.in_err-dial_source.ensures.decides)
+
+pub returns-in_err-settle-clause-decides : goal.returns-in_err-settle-clause-decides
+returns-in_err-settle-clause-decides g c =
+    handed_on _ c.from_residual-in_err-settle.result _ c.from_residual-in_err-settle.ensures.1 (
+    source_decided c.args.self.now c.dial_source.new.self _ _ c.in_ok-dial_source.ensures.board (dials_as c.args.self.now.options _ _ _ _ _ _ _ (ap (λ (s : Seen). s.options.extents) c.self.view_is) c.in_ok-dial_source.ensures.dials) c.requires.begun _ _ c.in_err-settle.ensures.decides)
+
+pub returns-in_err-dial_destination-clause-decides : goal.returns-in_err-dial_destination-clause-decides
+returns-in_err-dial_destination-clause-decides g c =
+    handed_on _ c.from_residual-in_err-dial_destination.result _ c.from_residual-in_err-dial_destination.ensures.1 (
+    second_decided c.args.self.now c.dial_source.new.self _ _ c.in_ok-dial_source.ensures.board (dials_as c.args.self.now.options _ _ _ _ _ _ _ (ap (λ (s : Seen). s.options.extents) c.self.view_is) c.in_ok-dial_source.ensures.dials) c.requires.begun c.settle.new.self _ c.in_ok-settle.ensures.goes _ _ c.in_err-dial_destination.ensures.decides)
+
+pub returns-in_err-settle-2-clause-decides : goal.returns-in_err-settle-2-clause-decides
+returns-in_err-settle-2-clause-decides g c =
+    handed_on _ c.from_residual-in_err-settle-2.result _ c.from_residual-in_err-settle-2.ensures.1 (
+    destination_decided c.args.self.now c.dial_source.new.self _ _ c.in_ok-dial_source.ensures.board (dials_as c.args.self.now.options _ _ _ _ _ _ _ (ap (λ (s : Seen). s.options.extents) c.self.view_is) c.in_ok-dial_source.ensures.dials) c.requires.begun c.settle.new.self _ c.in_ok-settle.ensures.goes c.dial_destination.new.self _
+    c.in_ok-dial_source.ensures.kept c.in_ok-settle.ensures.kept c.in_ok-dial_destination.ensures.board c.in_ok-dial_destination.ensures.dials _ _ c.in_err-settle-2.ensures.decides)
+
+pub returns-clause-decides : goal.returns-clause-decides
+returns-clause-decides g c =
+    let one = c.in_ok-dial_source.ensures.dials.stand (subst Stand (sym c.requires.begun.held) none_stand) in
+    let both = c.in_ok-dial_destination.ensures.dials.stand (c.in_ok-settle.ensures.goes.stand one) in
+    let connects = links_end _ _ _ _ _ _ _ (both_made (c.args.self.now.from.to ∷ []) (c.args.self.now.to.to ∷ []) (c.settle.new.self.to.to ∷ []) _ _ _ _ _ _ (ap (λ (s : Seen). s.to.to ∷ []) c.in_ok-settle.ensures.kept ∙ ap (λ (s : Seen). s.to.to ∷ []) c.in_ok-dial_source.ensures.kept) (links_end _ _ _ _ _ _ _ c.in_ok-dial_source.ensures.connects (c.in_ok-settle.ensures.links one)) c.in_ok-dial_destination.ensures.connects) (c.in_ok-settle-2.ensures.links both) in
+    if_err_leads c.agree.result
+    (λ why found. terms_decided c.args.self.now c.dial_source.new.self _ _ c.in_ok-dial_source.ensures.board (dials_as c.args.self.now.options _ _ _ _ _ _ _ (ap (λ (s : Seen). s.options.extents) c.self.view_is) c.in_ok-dial_source.ensures.dials) c.requires.begun c.settle.new.self _ c.in_ok-settle.ensures.goes c.dial_destination.new.self _
+    c.in_ok-dial_source.ensures.kept c.in_ok-settle.ensures.kept c.in_ok-dial_destination.ensures.board c.in_ok-dial_destination.ensures.dials c.settle-2.new.self _ c.self-2.inside.handles why
+    (ap (λ (s : Seen). s.held) c.self-2.view_is) c.in_ok-settle-2.ensures.goes connects c.in_ok-settle-2.ensures.calm found)
+    c.agree.ensures.found
+
+pub returns-in_err-dial_source-clause-tries : goal.returns-in_err-dial_source-clause-tries
+returns-in_err-dial_source-clause-tries g c = tries_anyhow _ _ (tries_unpaused _ _ c.dial_source.ensures.unpaused)
+
+pub returns-in_err-settle-clause-tries : goal.returns-in_err-settle-clause-tries
+returns-in_err-settle-clause-tries g c =
+    let begun = subst (λ (l : List (Held Ticket)). Stand l) (sym c.requires.begun.held) none_stand in
+    let one = c.in_ok-dial_source.ensures.dials.stand begun in
+    tries_then _ _ _ (tries_unpaused _ _ c.dial_source.ensures.unpaused) (c.settle.ensures.tries one)
+
+pub returns-in_err-dial_destination-clause-tries : goal.returns-in_err-dial_destination-clause-tries
+returns-in_err-dial_destination-clause-tries g c =
+    let begun = subst (λ (l : List (Held Ticket)). Stand l) (sym c.requires.begun.held) none_stand in
+    let one = c.in_ok-dial_source.ensures.dials.stand begun in
+    tries_anyhow _ _ (tries_then _ _ _ (tries_then _ _ _ (tries_unpaused _ _ c.dial_source.ensures.unpaused) (c.in_ok-settle.ensures.tried one)) (tries_unpaused _ _ c.dial_destination.ensures.unpaused))
+
+pub returns-in_err-settle-2-clause-tries : goal.returns-in_err-settle-2-clause-tries
+returns-in_err-settle-2-clause-tries g c =
+    let begun = subst (λ (l : List (Held Ticket)). Stand l) (sym c.requires.begun.held) none_stand in
+    let one = c.in_ok-dial_source.ensures.dials.stand begun in
+    let two = c.in_ok-dial_destination.ensures.dials.stand (c.in_ok-settle.ensures.goes.stand one) in
+    tries_then _ _ _ (tries_then _ _ _ (tries_unpaused _ _ c.dial_source.ensures.unpaused) (c.in_ok-settle.ensures.tried one)) (tries_then _ _ _ (tries_unpaused _ _ c.dial_destination.ensures.unpaused) (c.settle-2.ensures.tries two))
+
+pub returns-clause-tries : goal.returns-clause-tries
+returns-clause-tries g c =
+    let begun = subst (λ (l : List (Held Ticket)). Stand l) (sym c.requires.begun.held) none_stand in
+    let one = c.in_ok-dial_source.ensures.dials.stand begun in
+    let two = c.in_ok-dial_destination.ensures.dials.stand (c.in_ok-settle.ensures.goes.stand one) in
+    tries_then _ _ _ (tries_then _ _ _ (tries_unpaused _ _ c.dial_source.ensures.unpaused) (c.in_ok-settle.ensures.tried one)) (tries_then _ _ _ (tries_unpaused _ _ c.dial_destination.ensures.unpaused) (c.settle-2.ensures.tries two))
+
+pub returns-clause-tried : goal.returns-clause-tried
+returns-clause-tried g c =
+    let begun = subst (λ (l : List (Held Ticket)). Stand l) (sym c.requires.begun.held) none_stand in
+    let one = c.in_ok-dial_source.ensures.dials.stand begun in
+    let two = c.in_ok-dial_destination.ensures.dials.stand (c.in_ok-settle.ensures.goes.stand one) in
+    always_on_ok c.agree.result (tries_then _ _ _ (tries_then _ _ _ (tries_unpaused _ _ c.dial_source.ensures.unpaused) (c.in_ok-settle.ensures.tried one)) (tries_then _ _ _ (tries_unpaused _ _ c.dial_destination.ensures.unpaused) (c.in_ok-settle-2.ensures.tried two)))

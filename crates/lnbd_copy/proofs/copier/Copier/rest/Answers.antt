@@ -1,9 +1,10 @@
-use Rattle.std.proofs.Common.{sym, subst}
+use Rattle.std.proofs.Common.{ap, sym, subst, ◌∙◌}
 use Rattle.std.proofs.lemmas.Result.{on_ok_weaker}
 use Rattle.lnbd_link.specs.Call.{Pause}
 use Rattle.lnbd_link.specs.Part.{Adds}
 use Rattle.lnbd_poll.specs.Held.{wants_now}
 use Rattle.lnbd_copy.specs.Copier.{IsOnItsWay, Seen}
+use Rattle.lnbd_copy.specs.Waits.{AreUnparted}
 use Rattle.lnbd_copy.proofs.EndLemmas.{after_turn}
 use Rattle.lnbd_copy.proofs.copier.Copier.rest.Goals as goal
 
@@ -16,3 +17,9 @@ returns-clause-on g c =
 pub returns-clause-pauses : goal.returns-clause-pauses
 returns-clause-pauses g c =
     on_ok_weaker c.wait.result (λ adds. subst (λ (s : Seen). Adds (g.W.Wires.told c.args.wires.now) (g.W.Wires.told c.wait.new.wires) (Pause (wants_now s.held))) c.self.view_is adds) c.wait.ensures.pauses
+
+pub returns-clause-unparted : goal.returns-clause-unparted
+returns-clause-unparted g c = on_ok_weaker c.wait.result (λ unparted. subst (λ (s : Seen). AreUnparted s.held) c.self.view_is unparted) c.wait.ensures.unparted
+
+pub returns-clause-same : goal.returns-clause-same
+returns-clause-same g c = c.wait.ensures.same ∙ ap (λ (s : Seen). s.held) c.self.view_is

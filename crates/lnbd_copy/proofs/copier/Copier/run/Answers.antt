@@ -14,7 +14,8 @@ use Rattle.lnbd_copy.proofs.MadeLemmas.{is_made}
 use Rattle.lnbd_copy.proofs.ConductLemmas.{conducts}
 use Rattle.lnbd_copy.proofs.ConnectLemmas.{connects_as_told, connects_within, told_end, within_end}
 use Rattle.lnbd_copy.proofs.LinkLemmas.{links_kept}
-use Rattle.lnbd_copy.proofs.DrivingLemmas.{driven_idly}
+use Rattle.lnbd_copy.proofs.DecidingLemmas.{decided_shut}
+use Rattle.lnbd_copy.proofs.DrivenAsLemmas.{driven_idly}
 use Rattle.lnbd_copy.proofs.copier.Copier.run.Goals as goal
 
 pub returns-clause-copies : goal.returns-clause-copies
@@ -116,6 +117,9 @@ returns-clause-shares g c two = told_part _ _ (told_as _ _ (λ calls is. is.shar
 pub returns-clause-waits : goal.returns-clause-waits
 returns-clause-waits g c = told_part _ _ (told_stays _ _ _ c.end.ensures.unpaused c.copy-told.ensures.waits)
 
+pub returns-clause-tries : goal.returns-clause-tries
+returns-clause-tries g c = told_part _ _ (told_stays _ _ _ c.end.ensures.unpaused c.copy-told.ensures.tries)
+
 pub returns-clause-wanted : goal.returns-clause-wanted
 returns-clause-wanted g c = told_part _ _ (told_stays _ _ _ c.end.ensures.unpaused c.copy-told.ensures.wanted)
 
@@ -147,4 +151,7 @@ returns-clause-made g c two =
 pub returns-clause-conducts : goal.returns-clause-conducts
 returns-clause-conducts g c =
     conducts c.args.self.options c.args.self.from c.args.self.to _ _ (returns-clause-links g c) (returns-clause-within g c) (λ two. told_part _ _ (behaves_idly _ _ _ _ _ _ c.end.ensures.idly (c.copy-told.ensures.fair two))) (returns-clause-pauses g c)
-    (returns-clause-waits g c) (returns-clause-writes g c) (returns-clause-reads g c) (returns-clause-wanted g c) (returns-clause-drives g c)
+    (returns-clause-waits g c) (returns-clause-writes g c) (returns-clause-reads g c) (returns-clause-wanted g c) (returns-clause-drives g c) (returns-clause-tries g c)
+
+pub returns-clause-decides : goal.returns-clause-decides
+returns-clause-decides g c = if_err_leads c.copy-told.result (λ why decides. decided_shut _ _ _ _ _ _ c.end.ensures.shuts why decides) c.copy-told.ensures.decides

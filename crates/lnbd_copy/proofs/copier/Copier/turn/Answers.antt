@@ -5,7 +5,8 @@ use Rattle.lnbd_copy.proofs.FaultLemmas.{behaves_idly}
 use Rattle.lnbd_copy.proofs.GroundLemmas.{grounded_later, if_err_leads}
 use Rattle.lnbd_copy.proofs.LinkLemmas.{links_then}
 use Rattle.lnbd_copy.proofs.PauseLemmas.{unpaused_then}
-use Rattle.lnbd_copy.proofs.DrivingLemmas.{driven_idly}
+use Rattle.lnbd_copy.proofs.DecidingLemmas.{decided_shut}
+use Rattle.lnbd_copy.proofs.DrivenAsLemmas.{driven_idly}
 use Rattle.lnbd_copy.proofs.copier.Copier.turn.Goals as goal
 
 pub returns-then-is_err-clause-grounds : goal.returns-then-is_err-clause-grounds
@@ -23,3 +24,7 @@ returns-then-is_err-clause-unpaused g c = unpaused_then _ _ _ c.go_on-told.ensur
 
 pub returns-then-is_err-clause-drives : goal.returns-then-is_err-clause-drives
 returns-then-is_err-clause-drives g c start on = driven_idly _ _ _ start _ _ c.shut_all.ensures.idly (c.go_on-told.ensures.drives start on)
+
+pub returns-then-is_err-clause-decides : goal.returns-then-is_err-clause-decides
+returns-then-is_err-clause-decides g c =
+    if_err_leads c.go_on-told.result (λ why decides start on. decided_shut _ _ _ start _ _ c.shut_all.ensures.shuts why (decides start on)) c.go_on-told.ensures.decides

@@ -13,7 +13,7 @@ returns-then-self-clause-acts c =
     (acts_flushing was new c.args.board.now c.ask_flush.new.board c.args.handles.now c.ask_flush.new.handles c.if-self.true refl (ap (λ (j : Seen). j.phase) c.self.view_is ∙ c.requires.copying) (subst (λ (j : Seen). IsOver j c.args.board.now) (sym c.self.view_is) c.requires.over) c.in_ok-ask_flush.ensures.board c.in_ok-ask_flush.ensures.asked)
 
 pub returns-clause-acts : goal.returns-clause-acts
-returns-clause-acts c = acts_parting c.args.self.now c.leave.new.self c.args.board.now c.args.handles.now c.leave.new.handles (sym (ap (λ (j : Seen). j.terms.flush) c.self.view_is) ∙ c.if-self.false) c.leave.ensures.others c.requires.copying c.requires.over (c.leave.ensures.keeps c.args.board.now)
+returns-clause-acts c = acts_parting c.args.self.now c.leave.new.self c.args.board.now c.args.handles.now c.leave.new.handles (sym (ap (λ (j : Seen). j.terms.flush) c.self.view_is) ∙ c.if-self.false) c.leave.ensures.others c.requires.copying c.requires.over c.requires.well (c.leave.ensures.parts c.args.board.now)
 
 pub returns-then-self-clause-past : goal.returns-then-self-clause-past
 returns-then-self-clause-past c = flushing_past _ c.args.board.now c.ask_flush.new.board refl c.in_ok-ask_flush.ensures.board

@@ -2,6 +2,7 @@ use Rattle.std.proofs.Common.{◌||◌, ℕ, false, Bool, List, refl, ap, sym, s
 use Rattle.lnbd_model.specs.declared.export.Extent.{Extent}
 use Rattle.lnbd_plan.specs.declared.grid.Slice.{Slice}
 use Rattle.lnbd_copy.specs.Job.{Acts, Seen}
+use Rattle.lnbd_copy.specs.Reached.{IsToldTo, told_heard}
 use Rattle.lnbd_copy.specs.Spared.{IsSpared, whole_heard}
 use Rattle.lnbd_copy.specs.Windows as windows
 use Rattle.lnbd_copy.proofs.JobLemmas.{acts_heard}
@@ -17,5 +18,8 @@ returns-clause-acts c = λ held.
     let spares =
     subst (λ (told : List Extent). (whole : ℕ → Bool) (slices : List Slice) → IsSpared c.self.inside.windows whole slices → IsSpared c.hear.new.self (λ p. whole p || whole_heard c.self.inside.windows.grain (windows.wanted c.self.inside.windows) told p) slices)
     c.told.ensures c.in_ok-hear.ensures.spared in
+    let tells =
+    subst (λ (told : List Extent). (reach : ℕ → Bool) → IsToldTo c.self.inside.windows reach → IsToldTo c.hear.new.self (λ p. reach p || told_heard (windows.wanted c.self.inside.windows) told p))
+    c.told.ensures c.in_ok-hear.ensures.reached in
     subst (λ (j : Seen). Acts j new c.args.board.now c.args.board.now held held) c.self.view_is
-    (acts_heard was new c.hear.new.self c.args.board.now held (ap (λ (j : Seen). j.phase) c.self.view_is ∙ c.requires) (ap (λ (j : Seen). j.asked) c.self.view_is ∙ c.has_come.ensures.asked c.if-not-has_come.false) (c.has_come.ensures.mapped c.if-not-has_come.false) (sym c.is_short.ensures ∙ c.if-is_short.false) refl c.hear.ensures.cells c.hear.ensures.size c.hear.ensures.grain spares hears c.in_ok-hear.ensures.heard)
+    (acts_heard was new c.hear.new.self c.args.board.now held (ap (λ (j : Seen). j.phase) c.self.view_is ∙ c.requires) (ap (λ (j : Seen). j.asked) c.self.view_is ∙ c.has_come.ensures.asked c.if-not-has_come.false) (c.has_come.ensures.mapped c.if-not-has_come.false) (sym c.is_short.ensures ∙ c.if-is_short.false) refl c.hear.ensures.cells c.hear.ensures.size c.hear.ensures.grain spares hears c.in_ok-hear.ensures.heard tells)

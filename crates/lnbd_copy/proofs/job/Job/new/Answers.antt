@@ -3,5 +3,5 @@ use Rattle.lnbd_copy.proofs.JobLemmas.{job_begins}
 use Rattle.lnbd_copy.proofs.job.Job.new.Goals as goal
 
 pub returns-clause-job : goal.returns-clause-job
-returns-clause-job c way now size writes how sides blank asked unknown unflushed all =
-    job_begins _ way now refl refl c.in_ok-windows.ensures.cells c.in_ok-windows.ensures.size c.in_ok-windows.ensures.grain c.in_ok-windows.ensures.planned size writes how sides blank asked unknown unflushed (c.in_ok-windows.ensures.heard way.heard all)
+returns-clause-job c way now size writes how sides blank asked unknown unflushed all untold =
+    job_begins _ way now refl refl c.in_ok-windows.ensures.cells c.in_ok-windows.ensures.size c.in_ok-windows.ensures.grain c.in_ok-windows.ensures.planned size writes how sides blank asked unknown unflushed (c.in_ok-windows.ensures.heard way.heard all) (c.in_ok-windows.ensures.reached way.reach untold)

@@ -1,14 +1,17 @@
-use Rattle.std.proofs.Common.{refl, ap, sym, true, ◌≡◌, ◌<◌, ◌≤◌, ◌+◌, ◌-◌, ◌||◌, ℕ, Bool, List, subst, arith}
+use Rattle.std.proofs.Common.{refl, ap, sym, ◌∙◌, true, ◌≡◌, ◌<◌, ◌≤◌, ◌+◌, ◌-◌, ◌||◌, ℕ, Bool, List, subst, arith}
 use Rattle.lnbd_model.specs.declared.export.Extent.{Extent}
 use Rattle.lnbd_extents.specs.Lists.{flags_at}
 use Rattle.lnbd_asked.specs.Transcript.{is_zero}
+use Rattle.lnbd_tracks.specs.Saying.{is_told}
 use Rattle.lnbd_plan.specs.Plans.{Planned}
 use Rattle.lnbd_plan.specs.declared.grid.Slice.{Slice}
 use Rattle.lnbd_copy.specs.Heard.{IsHeardTo, has_position}
+use Rattle.lnbd_copy.specs.Reached.{IsToldTo, told_heard}
 use Rattle.lnbd_copy.specs.Windows.{Seen, IsPlanned, wanted, zero_heard}
 use Rattle.lnbd_copy.specs.Spared.{IsSpared, whole_heard}
 use Rattle.lnbd_copy.proofs.ReachLemmas.{heard_further, heard_still}
 use Rattle.lnbd_copy.proofs.SparedLemmas.{spared_partly, spared_wholly}
+use Rattle.lnbd_copy.proofs.ToldLemmas.{told_partly, told_still, told_wholly}
 use Rattle.lnbd_copy.proofs.WindowLemmas.{window_kept, hear_wholly}
 use Rattle.lnbd_copy.proofs.windows.Windows.hear.Goals as goal
 
@@ -17,7 +20,7 @@ invariant_of-self-2 c =
     let kept = c.self.invariant in
     let ahead = kept.ahead in
     let order = c.end_of-end.ensures.order in
-    let most = c.passed.ensures in
+    let most = c.passed.ensures.inside in
     let left : c.self.inside.at < c.end_of-end.result = omega arith in
     let last : c.self.inside.start + (c.self.inside.at + c.passed.result - c.self.inside.start) ≡ c.self.inside.at + c.passed.result = omega arith in
     window_kept c.self.inside.plan c.window.new.self c.self.inside.start c.self.inside.at c.self.inside.size c.self.inside.grain (c.self.inside.at + c.passed.result - c.self.inside.start) (c.self.inside.at + c.passed.result)
@@ -30,7 +33,7 @@ returns-clause-planned c =
     let left : c.self.inside.at < c.end_of-end.result = omega arith in
     let ahead = c.self.invariant.ahead in
     let order = c.end_of-end.ensures.order in
-    let most = c.passed.ensures in
+    let most = c.passed.ensures.inside in
     let fits : c.self.inside.start + (c.self.inside.at + c.passed.result - c.self.inside.start) ≤ c.self.inside.size = omega arith in
     let last : c.self.inside.start + (c.self.inside.at + c.passed.result - c.self.inside.start) ≡ c.end_of-end.result = omega arith in
     subst (λ (w : Seen). (blank : ℕ → Bool) (slices : List Slice) → IsPlanned w blank slices → IsPlanned now (λ p. blank p || zero_heard (wanted w) c.args.told.now p) slices) c.self.view_is
@@ -53,7 +56,7 @@ returns-clause-spared c =
     let left : c.self.inside.at < c.end_of-end.result = omega arith in
     let ahead = c.self.invariant.ahead in
     let order = c.end_of-end.ensures.order in
-    let most = c.passed.ensures in
+    let most = c.passed.ensures.inside in
     let fits : c.self.inside.start + (c.self.inside.at + c.passed.result - c.self.inside.start) ≤ c.self.inside.size = omega arith in
     let last : c.self.inside.start + (c.self.inside.at + c.passed.result - c.self.inside.start) ≡ c.end_of-end.result = omega arith in
     subst (λ (w : Seen). (whole : ℕ → Bool) (slices : List Slice) → IsSpared w whole slices → IsSpared now (λ p. whole p || whole_heard w.grain (wanted w) c.args.told.now p) slices) c.self.view_is
@@ -69,7 +72,7 @@ returns-then-at-end-clause-heard c =
     let begins = c.self.invariant.begins in
     let ahead = c.self.invariant.ahead in
     subst (λ (w : Seen). (heard : ℕ → Bool) → IsHeardTo w heard → IsHeardTo now (λ p. heard p || has_position (wanted w) p)) c.self.view_is
-    (heard_further was now c.self.inside.start c.end_of-end.result c.passed.result begins c.end_of-end.ensures.end left c.passed.ensures refl (omega (arith, begins, ahead)))
+    (heard_further was now c.self.inside.start c.end_of-end.result c.passed.result begins c.end_of-end.ensures.end left c.passed.ensures.inside refl (omega (arith, begins, ahead)))
 
 pub returns-clause-heard : goal.returns-clause-heard
 returns-clause-heard c =
@@ -79,7 +82,38 @@ returns-clause-heard c =
     let ahead = c.self.invariant.ahead in
     let ends = ap (λ (p : Planned). p.end) c.in_ok-window.ensures.ok in
     subst (λ (w : Seen). (heard : ℕ → Bool) → IsHeardTo w heard → IsHeardTo now (λ p. heard p || has_position (wanted w) p)) c.self.view_is
-    (heard_further was now c.self.inside.start c.end_of-end.result c.passed.result c.self.invariant.begins c.end_of-end.ensures.end left c.passed.ensures refl (omega (arith, ends, ahead)))
+    (heard_further was now c.self.inside.start c.end_of-end.result c.passed.result c.self.invariant.begins c.end_of-end.ensures.end left c.passed.ensures.inside refl (omega (arith, ends, ahead)))
 
 pub returns-then-end-self-clause-heard : goal.returns-then-end-self-clause-heard
 returns-then-end-self-clause-heard c = λ heard was. heard_still c.args.self.now heard was
+
+pub returns-then-at-end-clause-reached : goal.returns-then-at-end-clause-reached
+returns-then-at-end-clause-reached c =
+    let was : Seen = record { plan = c.self.inside.plan; size = c.self.inside.size; grain = c.self.inside.grain; at = c.self.inside.at; zero = c.self.inside.zero } in
+    let now : Seen = record { plan = c.self.inside.plan; size = c.self.inside.size; grain = c.self.inside.grain; at = c.self.inside.at + c.passed.result; zero = c.hold_zeroes.new.zero } in
+    let left : c.self.inside.at < c.end_of-end.result = omega arith in
+    let less : c.self.inside.at + c.passed.result < c.end_of-end.result = omega arith in
+    subst (λ (w : Seen). (reach : ℕ → Bool) → IsToldTo w reach → IsToldTo now (λ p. reach p || told_heard (wanted w) c.args.told.now p)) c.self.view_is
+    (told_partly was c.self.inside.start c.end_of-end.result c.in_ok-reached.reached c.passed.result c.args.told.now c.deref.result.now c.self.invariant.begins c.self.invariant.ahead c.end_of-end.ensures.end left
+    (λ p low e. subst (λ (l : List Extent). is_told (flags_at l p) ≡ true) (sym c.deref.ensures.value) (c.in_ok-joined.ensures.reach p low e)) c.in_ok-reached.ensures.far c.in_ok-reached.ensures.reached c.passed.ensures.inside c.passed.ensures.whole c.passed.ensures.near
+    now refl refl refl refl less)
+
+pub returns-clause-reached : goal.returns-clause-reached
+returns-clause-reached c =
+    let was : Seen = record { plan = c.self.inside.plan; size = c.self.inside.size; grain = c.self.inside.grain; at = c.self.inside.at; zero = c.self.inside.zero } in
+    let now : Seen = record { plan = c.window.new.self; size = c.self.inside.size; grain = c.self.inside.grain; at = c.self.inside.at + c.passed.result; zero = c.new.result } in
+    let left : c.self.inside.at < c.end_of-end.result = omega arith in
+    let ahead = c.self.invariant.ahead in
+    let most = c.passed.ensures.inside in
+    let last : c.self.inside.start + (c.self.inside.at + c.passed.result - c.self.inside.start) ≡ c.end_of-end.result = omega arith in
+    subst (λ (w : Seen). (reach : ℕ → Bool) → IsToldTo w reach → IsToldTo now (λ p. reach p || told_heard (wanted w) c.args.told.now p)) c.self.view_is
+    (told_wholly was c.self.inside.start c.end_of-end.result c.in_ok-reached.reached c.passed.result c.args.told.now c.deref.result.now c.self.invariant.begins ahead c.end_of-end.ensures.end left
+    (λ p low e. subst (λ (l : List Extent). is_told (flags_at l p) ≡ true) (sym c.deref.ensures.value) (c.in_ok-joined.ensures.reach p low e)) c.in_ok-reached.ensures.far c.in_ok-reached.ensures.reached c.passed.ensures.inside c.passed.ensures.whole c.passed.ensures.near
+    now (ap (λ (p : Planned). p.end) c.in_ok-window.ensures.ok ∙ last))
+
+pub returns-then-end-self-clause-reached : goal.returns-then-end-self-clause-reached
+returns-then-end-self-clause-reached c =
+    let was : Seen = record { plan = c.self.inside.plan; size = c.self.inside.size; grain = c.self.inside.grain; at = c.self.inside.at; zero = c.self.inside.zero } in
+    let past : c.end_of-end.result ≤ c.self.inside.at = omega arith in
+    subst (λ (w : Seen). (reach : ℕ → Bool) → IsToldTo w reach → IsToldTo w (λ p. reach p || told_heard (wanted w) c.args.told.now p)) c.self.view_is
+    (told_still was c.self.inside.start c.end_of-end.result c.args.told.now c.self.invariant.begins c.end_of-end.ensures.end past)

@@ -2,6 +2,7 @@ use Rattle.std.proofs.Common.{◌≤◌, ◌+◌, ◌-◌, ◌≡◌, refl, inr,
 use Rattle.lnbd_copy.specs.Windows.{Seen, IsPlanned}
 use Rattle.lnbd_plan.specs.Plans.{Planned}
 use Rattle.lnbd_copy.proofs.ReachLemmas.{heard_all}
+use Rattle.lnbd_copy.proofs.ToldLemmas.{told_none}
 use Rattle.lnbd_copy.proofs.WindowLemmas.{window_kept, window_planned}
 use Rattle.lnbd_copy.proofs.windows.Windows.plan_rest.Goals as goal
 
@@ -26,3 +27,6 @@ returns-clause-heard c = λ heard all.
     let ahead = c.self.invariant.ahead in
     let inside = c.self.invariant.inside in
     heard_all _ heard (omega (arith, ends, ahead, inside)) all
+
+pub returns-clause-reached : goal.returns-clause-reached
+returns-clause-reached c = λ reach none. told_none _ reach none

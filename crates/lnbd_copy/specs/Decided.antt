@@ -1,0 +1,196 @@
+-- Which event a copy ends by, where it does not end well: the first one in its calls for which it ends.
+use Rattle.std.specs.Prelude.{◌≡◌, ◌≢◌, ◌⊎◌, ◌==◌, ℕ, Bool, true, false, ◌&&◌, List, [], ◌∷◌, ◌++◌, Option, Some, None}
+use Rattle.std.specs.List.{list_any}
+use Rattle.lnbd_model.specs.declared.breach.Broken.{Broken}
+use Rattle.lnbd_model.specs.declared.breach.Broken.TheVariants as broken
+use Rattle.lnbd_model.specs.declared.errors.TheConstants.{EPROTO}
+use Rattle.lnbd_model.specs.declared.failure.Origin.TheVariants as origin
+use Rattle.lnbd_model.specs.declared.state.Cause.{Cause}
+use Rattle.lnbd_model.specs.declared.state.Cause.TheVariants as cause
+use Rattle.lnbd_model.specs.declared.state.State.TheVariants as state
+use Rattle.lnbd_model.specs.declared.target.Place.{Place}
+use Rattle.lnbd_model.specs.declared.target.Target.{Target}
+use Rattle.lnbd_link.specs.Call.{Call, Connect, Listen, Accept, Read, Write, Pause, Shut, WriteTold, Sent, Full, WriteFault}
+use Rattle.lnbd_link.specs.Listed.{has_failed}
+use Rattle.lnbd_link.specs.Numbers.{is_given}
+use Rattle.lnbd_history.specs.Answers.{state_after}
+use Rattle.lnbd_history.specs.Events.{History}
+use Rattle.lnbd_plan.specs.declared.fault.CopyFault.{CopyFault}
+use Rattle.lnbd_plan.specs.declared.fault.CopyFault.TheVariants as fault
+use Rattle.lnbd_poll.specs.Alone.{link_of}
+use Rattle.lnbd_board.specs.declared.ticket.Ticket.{Ticket}
+use Rattle.lnbd_course.specs.Failed.{SideFails}
+use Rattle.lnbd_course.specs.Unfailed.{NothingFails}
+use Rattle.lnbd_copy.specs.Connected.{AllConnected}
+use Rattle.lnbd_copy.specs.Driven.{WasDriven}
+use Rattle.lnbd_copy.specs.Grounds.{Differ, HasDied, Settle, needs_no_ground}
+use Rattle.lnbd_copy.specs.Way.{Told}
+
+-- Before it.
+
+-- The handle on which this happened is not dead: its peer kept to the protocol, refused no option and did not end the connection before it was asked to, and its
+-- link did not fail.
+abbrev pub IsAlive : History Ticket → Type 0
+IsAlive history = (why : Cause) → state_after history ≢ state.Dead why
+
+-- A link was driven as a copy drives it, by a handle that is not dead, and to which all had come that was read.
+pub record IsDrivenAlive (extents : Bool) (from to : Place) (link : ℕ) (calls : List Call) : Type 0 where
+  pub source : Bool
+  pub driven : WasDriven extents from to source link calls
+  pub alive : IsAlive driven.history
+  pub arrived : driven.unread ≡ []
+
+-- So was each link that these calls gave.
+abbrev pub AreDrivenAlive : (extents : Bool) → (from to : Place) → List Call → Type 0
+AreDrivenAlive extents from to calls = (link : ℕ) → is_given link calls ≡ true → IsDrivenAlive extents from to link calls
+
+-- By these calls nothing came for which a copy ends: each link that they gave was driven so, each connect gave one, and no command came to an error.
+pub record IsUntroubled (extents : Bool) (from to : Place) (calls : List Call) : Type 0 where
+  pub alive : AreDrivenAlive extents from to calls
+  pub well : NothingFails from to calls
+  pub connected : AllConnected calls
+
+-- The event.
+
+-- a write was made, of all that was offered or of less
+abbrev pub is_made : WriteTold → Bool
+is_made (Sent bytes) = true
+is_made Full = true
+is_made WriteFault = false
+
+-- a write on this link that did not fail
+abbrev pub is_written_on : (link : ℕ) → Call → Bool
+is_written_on link (Connect to given) = false
+is_written_on link (Listen at listener) = false
+is_written_on link (Accept listener answer) = false
+is_written_on link (Read n room answer) = false
+is_written_on link (Write n offered answer) = (n == link) && is_made answer
+is_written_on link (Pause wants) = false
+is_written_on link (Shut n) = false
+
+abbrev pub AreWrittenOn : (link : ℕ) → List Call → Type 0
+AreWrittenOn link [] = Unit {0}
+AreWrittenOn link (call ∷ calls) = (is_written_on link call ≡ true) × AreWrittenOn link calls
+
+-- one read or write of this link, or none
+abbrev pub IsOneOn : (link : ℕ) → List Call → Type 0
+IsOneOn link [] = Unit {0}
+IsOneOn link (call ∷ calls) = (link_of call ≡ Some link) × (calls ≡ [])
+
+-- These calls are made on one link, and nothing can have come by any but the last of them: the others are writes that did not fail.
+pub record IsOnOneLink (calls : List Call) : Type 0 where
+  pub link : ℕ
+  pub writes : List Call
+  pub last : List Call
+  pub are : calls ≡ writes ++ last
+  pub written : AreWrittenOn link writes
+  pub one : IsOneOn link last
+
+-- A connect gave no link.
+pub record IsRefusedConnect (calls : List Call) : Type 0 where
+  pub to : Target
+  pub are : calls ≡ Connect to None ∷ []
+
+abbrev pub IsOneEvent : List Call → Type 0
+IsOneEvent calls = IsOnOneLink calls ⊎ IsRefusedConnect calls
+
+-- After it.
+
+abbrev pub is_shut : Call → Bool
+is_shut (Connect to given) = false
+is_shut (Listen at listener) = false
+is_shut (Accept listener answer) = false
+is_shut (Read n room answer) = false
+is_shut (Write n offered answer) = false
+is_shut (Pause wants) = false
+is_shut (Shut n) = true
+
+-- Links are shut, and nothing else is done.
+abbrev pub OnlyShut : List Call → Type 0
+OnlyShut [] = Unit {0}
+OnlyShut (call ∷ calls) = (is_shut call ≡ true) × OnlyShut calls
+
+-- What the calls show that end with the event: of a breach, an end and a refused option, a connection that died of it; of faulty content and an error that was
+-- told, a command that came to it; of a rule, that it is the first that does not hold between what the first connections were told; and that two connections of one
+-- side were told different exports. Of a link that failed and of silence the counts of the wires tell.
+abbrev pub ShowBreak : (from to : Place) → Broken → List Call → Type 0
+ShowBreak from to (broken.Breach breach) calls = HasDied from to (cause.Broke breach) calls
+ShowBreak from to broken.Content calls = SideFails from to (record { origin = origin.Content; error = EPROTO }) calls
+ShowBreak from to broken.Ended calls = HasDied from to cause.Ended calls
+ShowBreak from to broken.Differs calls = Differ from to calls
+
+abbrev pub ShowRefusal : (from to : Place) → Option ℕ → (code : ℕ) → List Call → Type 0
+ShowRefusal from to None code calls = SideFails from to (record { origin = origin.Told; error = code }) calls
+ShowRefusal from to (Some option) code calls = HasDied from to (cause.Refused option code) calls
+
+abbrev pub Show : (from to : Place) → CopyFault → List Call → Type 0
+Show from to fault.NoMemory calls = Unit {0}
+Show from to (fault.Link before after) calls = Unit {0}
+Show from to (fault.Broke one) calls = ShowBreak from to one calls
+Show from to (fault.Peer option code) calls = ShowRefusal from to option code calls
+Show from to (fault.Rule rule) calls = Settle from to (Some rule) calls
+Show from to (fault.Silent idles) calls = Unit {0}
+
+-- the fault is a link that failed
+abbrev pub is_of_link : CopyFault → Bool
+is_of_link fault.NoMemory = false
+is_of_link (fault.Link before after) = true
+is_of_link (fault.Broke one) = false
+is_of_link (fault.Peer option code) = false
+is_of_link (fault.Rule rule) = false
+is_of_link (fault.Silent idles) = false
+
+-- it is an error that a command was answered by
+abbrev pub is_refusal : Option ℕ → Bool
+is_refusal None = true
+is_refusal (Some option) = false
+
+abbrev pub is_of_answer : CopyFault → Bool
+is_of_answer fault.NoMemory = false
+is_of_answer (fault.Link before after) = false
+is_of_answer (fault.Broke one) = false
+is_of_answer (fault.Peer option code) = is_refusal option
+is_of_answer (fault.Rule rule) = false
+is_of_answer (fault.Silent idles) = false
+
+-- it is faulty content
+abbrev pub is_content : Broken → Bool
+is_content (broken.Breach breach) = false
+is_content broken.Content = true
+is_content broken.Ended = false
+is_content broken.Differs = false
+
+abbrev pub is_of_content : CopyFault → Bool
+is_of_content fault.NoMemory = false
+is_of_content (fault.Link before after) = false
+is_of_content (fault.Broke one) = is_content one
+is_of_content (fault.Peer option code) = false
+is_of_content (fault.Rule rule) = false
+is_of_content (fault.Silent idles) = false
+
+-- The calls end with one event and what shuts the links. Before the event nothing had come for which a copy ends, and with it the calls show the fault. Of what one event
+-- brought, a call that failed is told before all else, then faulty content that a command came to, and a command's error only where no connection died.
+pub record IsDecidedBy (extents : Bool) (from to : Place) (why : CopyFault) (calls : List Call) : Type 0 where
+  pub before : List Call
+  pub event : List Call
+  pub after : List Call
+  pub are : calls ≡ before ++ event ++ after
+  pub untroubled : IsUntroubled extents from to before
+  pub one : IsOneEvent event
+  pub shut : OnlyShut after
+  pub shows : Show from to why (before ++ event)
+  pub failed : is_of_link why ≡ false → list_any has_failed event ≡ false
+  pub answered : is_of_answer why ≡ true → AreDrivenAlive extents from to (before ++ event)
+  pub whole : needs_no_ground why ≡ false → is_of_content why ≡ false → ¬ SideFails from to (record { origin = origin.Content; error = EPROTO }) (before ++ event)
+
+abbrev pub is_of_memory : CopyFault → Bool
+is_of_memory fault.NoMemory = true
+is_of_memory (fault.Link before after) = false
+is_of_memory (fault.Broke one) = false
+is_of_memory (fault.Peer option code) = false
+is_of_memory (fault.Rule rule) = false
+is_of_memory (fault.Silent idles) = false
+
+-- So it is since some start, unless it is of want of memory, which may come at any time.
+pub record IsDecided (start told : Option (List Call)) (extents : Bool) (from to : Place) (why : CopyFault) : Type 0 where
+  pub on : is_of_memory why ≡ false → Told start told (IsDecidedBy extents from to why)

@@ -1,0 +1,16 @@
+pub mod Going
+pub mod Owing
+pub mod Hearing
+pub mod Calls
+pub mod Waiting
+pub mod Answering
+pub mod Moving
+pub mod Straight
+pub mod Options
+pub mod Opening
+pub mod Sending
+pub mod Keeping
+pub mod Never
+pub mod Drivers
+pub mod Unnamed
+pub mod Parting
