@@ -199,7 +199,8 @@ module _ {K World : Type 0} (steps : World → List (Call K) → World → Type 
   waits_kept awaited before world calls after world' end (Is_still _ _ _ _ _ _ notice own middle half other busy turns enough rest calls_are) well kept =
       let well' = subst AllWell calls_are well in
       waits_kept awaited middle half other after world' end rest (well_later own (_ ∷ other) well') (turn_kept notice before middle own world half None turns (well_first own (_ ∷ other) well') kept)
-  waits_kept awaited before world calls after world' end (Is_silent _ _ _ _ _ _ notice busy turns enough end_is) well kept = turn_kept notice before after calls world world' None turns well kept
+  waits_kept awaited before world calls after world' end (Is_silent _ _ _ _ _ _ notice own busy turns enough calls_are end_is) well kept =
+      turn_kept notice before after own world world' None turns (well_first own (_ ∷ []) (subst AllWell calls_are well)) kept
   waits_kept awaited before world calls after world' end (Runs_short _ _ _ _ _ _ moved busy turns end_is) well kept = turn_kept noticed.NoMemory before after calls world world' moved turns well kept
 
   talks_kept : (before : Seen K) (world : World) (calls : List wire.Call) (after : Seen K) (world' : World) (end : Result (Unit {0}) Halt) → Talks steps before world calls after world' end → AllWell calls → IsKept before.history → IsKept after.history

@@ -105,5 +105,5 @@ module _ {K World : Type 0} (steps : World → List (Call K) → World → Type 
       made_on before.history middle.history after.history world half world' (made_turn notice before middle own world half (Some n) turns) (made_waiting awaited middle half other after world' end rest)
   made_waiting awaited before world calls after world' end (Is_still _ _ _ _ _ _ notice own middle half other busy turns enough rest calls_are) =
       made_on before.history middle.history after.history world half world' (made_turn notice before middle own world half None turns) (made_waiting awaited middle half other after world' end rest)
-  made_waiting awaited before world calls after world' end (Is_silent _ _ _ _ _ _ notice busy turns enough end_is) = made_turn notice before after calls world world' None turns
+  made_waiting awaited before world calls after world' end (Is_silent _ _ _ _ _ _ notice own busy turns enough calls_are end_is) = made_turn notice before after own world world' None turns
   made_waiting awaited before world calls after world' end (Runs_short _ _ _ _ _ _ moved busy turns end_is) = made_turn noticed.NoMemory before after calls world world' moved turns

@@ -90,6 +90,7 @@ module _ {K World : Type 0} (steps : World → List (Call K) → World → Type 
     grown : Grows a c (own ++ Pause (want after ∷ []) ∷ [])
     at : Holds all' after
     blames : Blames (own ++ Pause (want after ∷ []) ∷ []) f h
+    silent : Waits steps awaited before world (own ++ Pause (want after ∷ []) ∷ []) after world' (Err halt.Silent)
     going : (x : List wire.Call) (end : Result (Unit {0}) Halt) (last : Seen K) (last' : World) → Waits steps awaited after world' x last last' end → Waits steps awaited before world ((own ++ Pause (want after ∷ []) ∷ []) ++ x) last last' end
 
   paused : (a b c : Option (List wire.Call)) (f g h : ℕ) (all all' : List (Held K)) (before : Seen K) (half half' : World) (told : Turn) → told ≡ turn.Still → is_awaited awaited before.history ≡ true → f ≤ g → g ≤ h → Holds all before
@@ -108,6 +109,7 @@ module _ {K World : Type 0} (steps : World → List (Call K) → World → Type 
         grown = grows_on a b c went.calls (one ∷ []) went.grown (subst (λ (l : List Want). Adds b c (Pause l)) same pause);
         at = went.at;
         blames = blames_on went.calls (one ∷ []) f g h part.blames (blames_pause (want went.after ∷ []) g h) fg gh;
+        silent = Is_silent before half (went.calls ++ one ∷ []) went.after half' (Err halt.Silent) went.leads.0 went.calls busy turns went.leads.1 refl refl;
         going = λ x end last last' r. Is_still before half ((went.calls ++ one ∷ []) ++ x) last last' end went.leads.0 went.calls went.after half' x busy turns went.leads.1 r (append_assoc went.calls (one ∷ []) x);
       }
 
@@ -128,24 +130,24 @@ module _ {K World : Type 0} (steps : World → List (Call K) → World → Type 
             (w.goes_on (own ++ x) after final end (p.going x end after final r));
       }
 
-  -- a turn in which nothing happened, and no patience any more
-  pub waiting_silent : (a b c : Option (List wire.Call)) (f g h : ℕ) (all all' : List (Held K)) (seen : Seen K) (world half half' : World) (told : Turn) (b' : Bool) → told ≡ turn.Still → b' ≡ true → f ≤ g → g ≤ h
+  -- a turn in which nothing happened, and a pause behind which there is no patience any more
+  pub waiting_silent : (a b c d : Option (List wire.Call)) (f g h i : ℕ) (all all' : List (Held K)) (seen : Seen K) (world half half' : World) (told : Turn) (b' : Bool) → told ≡ turn.Still → b' ≡ true → f ≤ g → g ≤ h → h ≤ i
       → ((s : Seen K) → Holds all s → b' ≡ is_awaited awaited s.history)
       → Waiting a b f g all seen world half → Goes b c (Holds all) (Holds all') (λ before calls after. TookEnough steps g h told before half calls after half')
-      → Went a c (Holds all') (λ calls after. Waited steps awaited f h (Err halt.Silent) seen world calls after half')
-  waiting_silent a b c f g h all all' seen world half half' told b' is busy fg gh asks w goes =
-      let went = goes w.now w.at in
-      let part = went.leads.2 in
-      let turns = subst (λ (m : Option ℕ). TurnsOne steps went.leads.0 w.now half went.calls went.after half' m) (none_moved part.moved told is part.tells) part.turns in
+      → Adds c d (Pause (wants_now all')) → ((seen : List (Seen K)) → AreAt all' seen → wants_now all' ≡ wants_after seen) → (last : List (Held K)) → last ≡ all'
+      → Went a d (Holds last) (λ calls after. Waited steps awaited f i (Err halt.Silent) seen world calls after half')
+  waiting_silent a b c d f g h i all all' seen world half half' told b' is busy fg gh hi asks w goes pause wants last same =
+      let p = paused b c d g h i all all' w.now half half' told is (sym (asks w.now w.at) ∙ busy) gh hi w.at goes pause wants in
+      let own = p.own ++ Pause (want p.after ∷ []) ∷ [] in
       record {
-        calls = w.calls ++ went.calls;
-        after = went.after;
-        grown = grows_on a b c w.calls went.calls w.grown went.grown;
+        calls = w.calls ++ own;
+        after = p.after;
+        grown = grows_on a b d w.calls own w.grown p.grown;
         leads = record {
-          waits = w.goes_on went.calls went.after half' (Err halt.Silent) (Is_silent w.now half went.calls went.after half' (Err halt.Silent) went.leads.0 (sym (asks w.now w.at) ∙ busy) turns went.leads.1 refl);
-          blames = blames_on w.calls went.calls f g h w.blames part.blames fg gh;
+          waits = w.goes_on own p.after half' (Err halt.Silent) p.silent;
+          blames = blames_on w.calls own f g i w.blames p.blames fg (omega (arith, gh, hi));
         };
-        at = went.at;
+        at = subst (λ (l : List (Held K)). Holds l p.after) (sym same) p.at;
       }
 
   pub waiting_short : (a b c : Option (List wire.Call)) (f g h : ℕ) (all all' : List (Held K)) (seen : Seen K) (world half half' : World) (b' : Bool) → b' ≡ true → f ≤ g → g ≤ h

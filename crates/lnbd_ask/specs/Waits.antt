@@ -57,8 +57,8 @@ is_awaited awaited history = is_to_come awaited (state_after history) (in_flight
 abbrev pub want : {K : Type 0} → Seen K → Want
 want seen = record { link = seen.link; direction = direction_after seen.history }
 
--- Turns are taken while it is to come, with a pause after each in which nothing happened, which waits for the link. It ends after one in which nothing happened
--- where the wires were idle for too long, and at once where memory ran out.
+-- Turns are taken while it is to come, with a pause after each in which nothing happened, which waits for the link. It ends with a pause
+-- where the wires were idle for too long by then, whatever came in it, and at once where memory ran out.
 pub data Waits {K World : Type 0} (steps : World → List (Call K) → World → Type 0) (awaited : Awaited) : Seen K → World → List wire.Call → Seen K → World → Result (Unit {0}) Halt → Type 0 where
   Is_there : (before : Seen K) (world : World) (calls : List wire.Call) (after : Seen K) (world' : World) (end : Result (Unit {0}) Halt)
       → is_awaited awaited before.history ≡ false → calls ≡ [] → after ≡ before → world' ≡ world → end ≡ Ok tt
@@ -74,8 +74,8 @@ pub data Waits {K World : Type 0} (steps : World → List (Call K) → World →
       → Waits steps awaited middle half other after world' end → calls ≡ own ++ Pause (want middle ∷ []) ∷ other
       → Waits steps awaited before world calls after world' end
   Is_silent : (before : Seen K) (world : World) (calls : List wire.Call) (after : Seen K) (world' : World) (end : Result (Unit {0}) Halt)
-      → (notice : Noticed)
-      → is_awaited awaited before.history ≡ true → TurnsOne steps notice before world calls after world' None → is_short notice ≡ false → end ≡ Err halt.Silent
+      → (notice : Noticed) (own : List wire.Call)
+      → is_awaited awaited before.history ≡ true → TurnsOne steps notice before world own after world' None → is_short notice ≡ false → calls ≡ own ++ Pause (want after ∷ []) ∷ [] → end ≡ Err halt.Silent
       → Waits steps awaited before world calls after world' end
   Runs_short : (before : Seen K) (world : World) (calls : List wire.Call) (after : Seen K) (world' : World) (end : Result (Unit {0}) Halt)
       → (moved : Option ℕ)

@@ -95,8 +95,8 @@ fn turn<K: Caller, W: Wires>(
 }
 
 /// Takes turns while it is to come, with a pause after each in which nothing happened. `start` is the count of waiting from
-/// which patience is counted. It ends for every peer: what may still come and go is bounded, and so is the waiting that is
-/// borne.
+/// which patience is counted: no turn comes behind the pause by which it is over. It ends for every peer: what may still come
+/// and go is bounded, and so is the waiting that is borne.
 pub(crate) fn settle<K: Caller, W: Wires>(
     handles: &mut Handles<K>,
     wires: &mut W,
@@ -116,10 +116,12 @@ pub(crate) fn settle<K: Caller, W: Wires>(
         match turn(handles, wires, world) {
             Ok(Turn::Moved(_)) => continue,
             Ok(Turn::Still) => {
+                // (a count that can be read has an end, so that it does not fall in the pause)
+                let _before = wires.idles();
+                handles.pause(wires);
                 if is_long(start, wires.idles()) {
                     return Err(Halt::Silent);
                 }
-                handles.pause(wires);
             }
             Err(_) => return Err(Halt::NoMemory),
         }

@@ -33,6 +33,7 @@ left_pieces how s bytes left len looks e =
     let all : AreLeft how s bytes 0 (slices_of (in_zero_block how.block s.start bytes) (λ _. false) s.start (length bytes)) = record {
       between = end_is s.start (s.start + 0) (s.start + length bytes) (s.start + s.length) _ (omega arith) (omega (arith, len)) l.between;
       whole = whole_same (in_zero_block how.block s.start bytes) (is_told how s bytes) (λ _. false) (λ p. and_true (detects how) (in_zero_block how.block s.start bytes p) looks) _ l.whole;
+      parted = l.parted;
     } in
     subst (λ (x : List Slice). AreLeft how s bytes 0 x) (sym e) all
 
@@ -43,13 +44,14 @@ left_one how s bytes left len blind some e =
     let all : AreLeft how s bytes 0 (record { start = s.start; length = s.length; zero = false } ∷ []) = record {
       between = (omega arith, omega (arith, len, some), omega arith);
       whole = (record { alike = λ p l k. and_false (detects how) (in_zero_block how.block s.start bytes p) blind; uncut = λ p l k. refl }, tt);
+      parted = tt;
     } in
     subst (λ (x : List Slice). AreLeft how s bytes 0 x) (sym e) all
 
 -- or none
 pub left_none : (how : How) (s : Slice) (bytes : List ℕ) (left : List Slice) → length bytes ≡ s.length → length bytes ≡ 0 → left ≡ [] → AreLeft how s bytes 0 left
 left_none how s bytes left len none e =
-    let all : AreLeft how s bytes 0 [] = record { between = omega (arith, len, none); whole = tt } in
+    let all : AreLeft how s bytes 0 [] = record { between = omega (arith, len, none); whole = tt; parted = tt } in
     subst (λ (x : List Slice). AreLeft how s bytes 0 x) (sym e) all
 
 -- The first piece.

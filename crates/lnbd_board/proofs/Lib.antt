@@ -1,5 +1,6 @@
 pub mod Lists
 pub mod Spelling
+pub mod Runs
 pub mod Inside
 pub mod Copied
 pub mod Once

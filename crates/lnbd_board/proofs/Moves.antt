@@ -1,5 +1,5 @@
 -- What a row asks for next keeps the invariant.
-use Rattle.std.proofs.Common.{◌≡◌, ℕ, zero, suc, ◌+◌, ◌-◌, ◌*◌, ◌/◌, ◌<◌, ◌≤◌, List, [], ◌∷◌, ◌++◌, Bool, true, false, not, ◌&&◌, ◌==◌, inl, inr, refl, ap, sym, subst, ◌∙◌, arith, length, get_or, take, drop, Option, Some, None, length-take, length-drop, replicate, Result, Ok, Err, OnErr}
+use Rattle.std.proofs.Common.{◌≡◌, ℕ, zero, suc, ◌+◌, ◌-◌, ◌*◌, ◌/◌, ◌<◌, ◌≤◌, List, [], ◌∷◌, ◌++◌, Bool, true, false, not, ◌&&◌, ◌==◌, inl, inr, refl, ap, sym, subst, ◌∙◌, arith, length, get_or, take, drop, Option, Some, None, length-take, length-drop, append-nil, replicate, Result, Ok, Err, OnErr}
 use Rattle.std.proofs.lemmas.Grind.{common_steps, same_number_lists}
 use Rattle.std.proofs.lemmas.Bool.{false≢true}
 use Rattle.std.proofs.lemmas.List.{get_or-take, get_or-drop}
@@ -26,9 +26,10 @@ use Rattle.lnbd_board.specs.declared.row.Stage.{Stage}
 use Rattle.lnbd_board.specs.declared.row.Stage.TheVariants.{Reading, Last, Came, Writing, Holding, Finished}
 use Rattle.lnbd_board.specs.Files.{rows_with}
 use Rattle.lnbd_board.specs.Requests.{Said, own, waiting}
-use Rattle.lnbd_board.specs.Pieces.{Piece, Bytes, Zeros, spell, spell1, ask_of, is_passed, wrote, zero_flags, detects, is_told, AreLeft, IsDense}
+use Rattle.lnbd_board.specs.Pieces.{Piece, Bytes, Zeros, spell, spell1, ask_of, is_passed, is_zeros, wrote, zero_flags, detects, is_told, stretches, AreLeft, AreRuns, IsDense}
 use Rattle.lnbd_board.specs.Rows.{is_busy, IsHeld, IsWritten, IsEnding, StandsAt, slice_at, IsInside, IsChange, IsZeroed}
 use Rattle.lnbd_board.specs.Asks.{change_of, Advances, Sits, Cuts, Passes, cutting, bytes_of}
+use Rattle.lnbd_board.proofs.Runs.{none_between, parted_rest, runs_left, taken}
 use Rattle.lnbd_board.proofs.Spelling.{within_at, within_true, has_piece, spell_more, wrote_passed}
 use Rattle.lnbd_board.proofs.Steps.{row_stands, regarded, asked}
 
@@ -118,7 +119,7 @@ first_left how s bytes at piece left h =
       some = b.1;
       fits = omega (arith, up);
       alike = h.whole.0.alike;
-      rest = record { between = subst (λ (n : ℕ). LieBetween n (s.start + s.length) left) e b.2; whole = h.whole.1 };
+      rest = record { between = subst (λ (n : ℕ). LieBetween n (s.start + s.length) left) e b.2; whole = h.whole.1; parted = parted_rest (λ _. false) piece left h.parted };
     }
 
 -- nothing is left at the end
@@ -148,6 +149,25 @@ zero_piece how s bytes at piece left len f z =
     get_or-replicate piece.length k 0 0 small
     ∙ sym (get_or-take piece.length (drop at bytes) k 0 small ∙ (get_or-drop at bytes k 0 ∙ told_byte how s bytes (at + k) (omega (arith, small, fits, len)) t)))
 
+-- A piece that is taken is a run like the others, with those that are left.
+
+length_at : (did : List Piece) (at : ℕ) (bytes : List ℕ) → spell did ≡ take at bytes → at ≤ length bytes → length (spell did) ≡ at
+length_at did at bytes e l = ap length e ∙ (let t = length-take at bytes in omega (arith, t, l))
+
+length_piece : (bytes : List ℕ) (at n : ℕ) → at + n ≤ length bytes → length (take n (drop at bytes)) ≡ n
+length_piece bytes at n l = let t = length-take n (drop at bytes) in let d = length-drop at bytes in omega (arith, t, d, l)
+
+takes : (how : How) (s : Slice) (bytes : List ℕ) (piece : Slice) (left : List Slice) (now : Piece) (read changed : List Said) (k : IsHeld how s bytes (piece ∷ left) read changed) →
+    spell1 now ≡ take piece.length (drop k.at bytes) → is_zeros now ≡ piece.zero → AreRuns how s bytes (stretches s.start (k.did ++ now ∷ []) ++ left)
+takes how s bytes piece left now read changed k e alike =
+    let f = first_left how s bytes k.at piece left k.rest in
+    let size = k.known.size in
+    let fits = f.fits in
+    let start = f.start in
+    let len = length_at k.did k.at bytes k.spelt k.fits in
+    let many : length (spell1 now) ≡ piece.length = ap length e ∙ length_piece bytes k.at piece.length (omega (arith, fits, size)) in
+    subst (AreRuns how s bytes) (sym (taken s.start piece.start k.did now piece left (omega (arith, start, len)) refl (sym many) (sym alike))) k.cut
+
 -- A read slice is cut.
 pub cut_step : (how : How) (n : ℕ) (s : Slice) (bytes : List ℕ) (left : List Slice) → AreLeft how s bytes 0 left → Advances how n s (Came bytes) (Holding bytes left) None
 cut_step how n s bytes left h = idle_step how n s (Came bytes) (Holding bytes left) refl refl (λ read changed k. record {
@@ -159,6 +179,7 @@ cut_step how n s bytes left h = idle_step how n s (Came bytes) (Holding bytes le
   asked = k.unchanged;
   rest = h;
   data_ = k.data_;
+  cut = runs_left how s bytes left h;
 })
 
 pub cut_steps : (how : How) (n : ℕ) (s : Slice) (stage : Stage) (left : List Slice) → Cuts how s stage left → Advances how n s stage (cutting stage left) None
@@ -201,6 +222,7 @@ pass_step how n s bytes piece left skip z = idle_step how n s (Holding bytes (pi
       asked = k.asked ∙ sym (wrote_passed how s.start k.did (Zeros piece.length) skip);
       rest = f.rest;
       data_ = k.data_;
+      cut = takes how s bytes piece left (Zeros piece.length) read changed k e (sym z);
     })
 
 pub passes_none : (how : How) (left : List Slice) → Passes how left left
@@ -232,12 +254,10 @@ end_step how n s bytes = idle_step how n s (Holding bytes []) (Finished bytes) r
       spelt = k.spelt ∙ grind (arith, common_steps, all);
       asked = k.asked;
       one = λ z. absurd (false≢true (sym k.data_ ∙ z));
+      cut = λ untold. subst (AreRuns how s bytes) (append-nil (stretches s.start k.did)) k.cut;
     })
 
 -- A piece is asked to be written.
-
-length_at : (did : List Piece) (at : ℕ) (bytes : List ℕ) → spell did ≡ take at bytes → at ≤ length bytes → length (spell did) ≡ at
-length_at did at bytes e l = ap length e ∙ (let t = length-take at bytes in omega (arith, t, l))
 
 -- what is asked for a piece lies in the slice
 piece_inside : (how : How) (s : Slice) (at : ℕ) (piece : Piece) (p : ℕ) → at + length (spell1 piece) ≤ s.length → has (ask_of how (s.start + at) piece) p ≡ true → within (s.start, s.length) p ≡ true
@@ -246,8 +266,8 @@ piece_inside how s at piece p l h =
     within_at s.start s.length p (omega (arith, w.0)) (omega (arith, w.1, l))
 
 writes : (how : How) (s : Slice) (bytes : List ℕ) (piece : Slice) (left : List Slice) (now : Piece) (read changed : List Said) (k : IsHeld how s bytes (piece ∷ left) read changed) →
-    spell1 now ≡ take piece.length (drop k.at bytes) → is_passed how now ≡ false → IsWritten how s bytes left read (changed ++ waiting (ask_of how piece.start now) ∷ [])
-writes how s bytes piece left now read changed k e kept =
+    spell1 now ≡ take piece.length (drop k.at bytes) → is_zeros now ≡ piece.zero → is_passed how now ≡ false → IsWritten how s bytes left read (changed ++ waiting (ask_of how piece.start now) ∷ [])
+writes how s bytes piece left now read changed k e alike kept =
     let f = first_left how s bytes k.at piece left k.rest in
     let size = k.known.size in
     let fits = f.fits in
@@ -265,11 +285,12 @@ writes how s bytes piece left now read changed k e kept =
       asked = ap (λ c. c ++ waiting (ask_of how piece.start now) ∷ []) k.asked ∙ ap (λ (m : ℕ). wrote how s.start k.did ++ waiting (ask_of how m now) ∷ []) place;
       rest = f.rest;
       data_ = k.data_;
+      cut = takes how s bytes piece left now read changed k e alike;
     }
 
 ends : (how : How) (s : Slice) (bytes : List ℕ) (piece : Slice) (left : List Slice) (now : Piece) (read changed : List Said) (k : IsHeld how s bytes (piece ∷ left) read changed) →
-    spell1 now ≡ take piece.length (drop k.at bytes) → is_passed how now ≡ false → k.at + piece.length ≡ length bytes → IsEnding how s read (changed ++ waiting (ask_of how piece.start now) ∷ [])
-ends how s bytes piece left now read changed k e kept all =
+    spell1 now ≡ take piece.length (drop k.at bytes) → is_zeros now ≡ piece.zero → is_passed how now ≡ false → k.at + piece.length ≡ length bytes → IsEnding how s read (changed ++ waiting (ask_of how piece.start now) ∷ [])
+ends how s bytes piece left now read changed k e alike kept all =
     let f = first_left how s bytes k.at piece left k.rest in
     let start = f.start in
     let len = length_at k.did k.at bytes k.spelt k.fits in
@@ -285,10 +306,12 @@ ends how s bytes piece left now read changed k e kept all =
       kept = kept;
       asked = ap (λ c. c ++ waiting (ask_of how piece.start now) ∷ []) k.asked ∙ ap (λ (m : ℕ). wrote how s.start k.did ++ waiting (ask_of how m now) ∷ []) place;
       alone = λ z. absurd (false≢true (sym k.data_ ∙ z));
+      cut = λ untold.
+          let cut = takes how s bytes piece left now read changed k e alike in
+          let size = k.known.size in
+          let none = none_between (s.start + (k.at + piece.length)) (s.start + s.length) left f.rest.between (omega (arith, all, size)) in
+          subst (AreRuns how s bytes) (ap (λ (l : List Slice). stretches s.start (k.did ++ now ∷ []) ++ l) none ∙ append-nil (stretches s.start (k.did ++ now ∷ []))) cut;
     }
-
-length_piece : (bytes : List ℕ) (at n : ℕ) → at + n ≤ length bytes → length (take n (drop at bytes)) ≡ n
-length_piece bytes at n l = let t = length-take n (drop at bytes) in let d = length-drop at bytes in omega (arith, t, d, l)
 
 block_some : (how : How) → detects how ≡ true → 0 < how.block
 block_some how h = some how.block (first (not (how.block == 0)) _ h)
@@ -342,7 +365,7 @@ not_write command z w = absurd (cc)
 pub zero_step : (how : How) (n : ℕ) (s : Slice) (bytes : List ℕ) (piece : Slice) (left : List Slice) → piece.zero ≡ true → how.skip ≡ false →
     Advances how n s (Holding bytes (piece ∷ left)) (Writing bytes left) (Some (change.Zero piece.start piece.length (zero_flags how.allocated)))
 zero_step how n s bytes piece left z skip = busy_step how n s (Holding bytes (piece ∷ left)) (Writing bytes left) (change.Zero piece.start piece.length (zero_flags how.allocated)) refl refl
-    (λ read changed k. writes how s bytes piece left (Zeros piece.length) read changed k (zero_piece how s bytes k.at piece left k.known.size (first_left how s bytes k.at piece left k.rest) z) skip)
+    (λ read changed k. writes how s bytes piece left (Zeros piece.length) read changed k (zero_piece how s bytes k.at piece left k.known.size (first_left how s bytes k.at piece left k.rest) z) (sym z) skip)
     (λ read changed k.
     let f = first_left how s bytes k.at piece left k.rest in
     let fits = f.fits in
@@ -356,7 +379,7 @@ zero_step how n s bytes piece left z skip = busy_step how n s (Holding bytes (pi
 pub part_step : (how : How) (n : ℕ) (s : Slice) (bytes part : List ℕ) (piece : Slice) (left : List Slice) → piece.zero ≡ false → part ≡ bytes_of s bytes piece →
     Advances how n s (Holding bytes (piece ∷ left)) (Writing bytes left) (Some (change.Write piece.start part))
 part_step how n s bytes part piece left z is = busy_step how n s (Holding bytes (piece ∷ left)) (Writing bytes left) (change.Write piece.start part) refl refl
-    (λ read changed k. writes how s bytes piece left (Bytes part) read changed k (here read changed k) refl)
+    (λ read changed k. writes how s bytes piece left (Bytes part) read changed k (here read changed k) (sym z) refl)
     (λ read changed k.
     let f = first_left how s bytes k.at piece left k.rest in
     let fits = f.fits in
@@ -385,7 +408,7 @@ last_step how n s bytes piece left z all = busy_step how n s (Holding bytes (pie
     let f = first_left how s bytes k.at piece left k.rest in
     let fits = f.fits in
     let size = k.known.size in
-    ends how s bytes piece left (Bytes bytes) read changed k (here read changed k) refl (omega (arith, fits, size, all)))
+    ends how s bytes piece left (Bytes bytes) read changed k (here read changed k) (sym z) refl (omega (arith, fits, size, all)))
     (λ read changed k.
     let f = first_left how s bytes k.at piece left k.rest in
     let fits = f.fits in

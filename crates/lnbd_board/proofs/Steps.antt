@@ -1,7 +1,7 @@
 -- Each step of a copy keeps the invariant: it changes one row, and what was asked for one slice.
 use Rattle.std.proofs.Common.{◌≡◌, ◌≢◌, ℕ, ◌+◌, ◌<◌, ◌≤◌, ◌⊎◌, inl, inr, List, [], ◌∷◌, ◌++◌, Bool, true, false, cond, refl, ap, sym, subst, ◌∙◌, arith, length, ◌==◌, Some, length-append, replicate}
 use Rattle.std.proofs.lemmas.Grind.{common_steps}
-use Rattle.std.proofs.lemmas.Bool.{cases_lt}
+use Rattle.std.proofs.lemmas.Bool.{cases_lt, false≢true}
 use Rattle.std.proofs.Math.ListN.{length-replicate, get_or-append}
 use Rattle.lnbd_keyed.specs.Keyed.{value_at, with_value, without, IsBelow}
 use Rattle.lnbd_keyed.proofs.KeyedLemmas.{IsRising_append, IsRising_without, IsRising_with, value_at_with, value_at_with_other, value_at_without, value_at_without_other, value_at_last, value_at_last_other, IsBelow_append, IsBelow_without, IsBelow_with, IsBelow_less, IsBelow_at}
@@ -75,6 +75,7 @@ last_done how n s buf destination destination2 read h a =
       spelt = spell_more h.did h.now ∙ h.spelt;
       asked = k.0 ∙ (ap (λ x. wrote how s.start h.did ++ x ∷ []) (suits_piece how (s.start + length (spell h.did)) h.now buf k.1) ∙ sym (wrote_more how s.start (s.start + length (spell h.did)) h.did h.now h.kept refl));
       one = λ z. record { piece = h.now; is = ap (λ (l : List Piece). l ++ h.now ∷ []) (h.alone z).0; kept = h.kept; kind = (h.alone z).1 };
+      cut = h.cut;
     }
 
 pub write_done : (how : How) (n : ℕ) (s : Slice) (bytes : List ℕ) (left : List Slice) (buf : List ℕ) (destination destination2 : List Request) (read : List Said) →
@@ -90,6 +91,7 @@ write_done how n s bytes left buf destination destination2 read h a =
       asked = k.0 ∙ (ap (λ x. wrote how s.start h.did ++ x ∷ []) (suits_piece how (s.start + length (spell h.did)) h.now buf k.1) ∙ sym (wrote_more how s.start (s.start + length (spell h.did)) h.did h.now h.kept refl));
       rest = h.rest;
       data_ = h.data_;
+      cut = h.cut;
     }
 
 -- The steps of the whole.
@@ -340,6 +342,7 @@ began_zero how slices n link cookie s row piece rows source destination len stan
       kept = kept;
       asked = own_asking n link cookie (ask_of how s.start piece) destination ∙ rw (none2, plus) refl;
       alone = λ z. (refl, zeroed);
+      cut = λ untold. absurd (false≢true (sym untold ∙ told));
     } in
     began how slices n s row rows source source destination (asking link cookie (ticket.Slice n) (ask_of how s.start piece) destination) len stands same
     (λ j d. refl) (λ j d. own_asking_other n j link cookie (ask_of how s.start piece) destination d)

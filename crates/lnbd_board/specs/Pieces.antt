@@ -7,7 +7,7 @@ use Rattle.lnbd_history.specs.Commands.{Command}
 use Rattle.lnbd_asked.specs.Link.{Nobody}
 use Rattle.lnbd_plan.specs.declared.grid.Slice.{Slice}
 use Rattle.lnbd_plan.specs.Blocks.{in_zero_block}
-use Rattle.lnbd_plan.specs.Laws.{LieBetween, AreWhole}
+use Rattle.lnbd_plan.specs.Laws.{LieBetween, AreWhole, ArePartedBy, AreLongest}
 use Rattle.lnbd_board.specs.declared.how.How.{How}
 use Rattle.lnbd_board.specs.Requests.{Said, done}
 
@@ -69,6 +69,23 @@ is_told how s bytes p = detects how && in_zero_block how.block s.start bytes p
 pub record AreLeft (how : How) (s : Slice) (bytes : List ℕ) (at : ℕ) (pieces : List Slice) : Type 0 where
   pub between : LieBetween (s.start + at) (s.start + s.length) pieces
   pub whole : AreWhole (is_told how s bytes) (λ _. false) pieces
+  pub parted : ArePartedBy (λ _. false) pieces
+
+-- The pieces of a slice are the longest runs: of blocks of zeros that were found, or of other bytes.
+abbrev pub AreRuns : (how : How) (s : Slice) (bytes : List ℕ) (pieces : List Slice) → Type 0
+AreRuns how s bytes pieces = AreLongest (is_told how s bytes) (λ _. false) s.start s.length pieces
+
+-- the stretch that a piece is at a place, and those that pieces are from a place on
+abbrev pub is_zeros : Piece → Bool
+is_zeros (Bytes bytes) = false
+is_zeros (Zeros n) = true
+
+abbrev pub stretch : ℕ → Piece → Slice
+stretch at piece = record { start = at; length = length (spell1 piece); zero = is_zeros piece }
+
+abbrev pub stretches : ℕ → List Piece → List Slice
+stretches at [] = []
+stretches at (piece ∷ pieces) = stretch at piece ∷ stretches (at + length (spell1 piece)) pieces
 
 -- where zeros are looked for, a WRITE contains no whole block that is all zeros
 abbrev pub IsDense : How → Command Nobody → Type 0

@@ -16,7 +16,7 @@ use Rattle.lnbd_board.specs.declared.row.Stage.TheVariants.{Reading, Last, Came,
 use Rattle.lnbd_board.specs.declared.ticket.Ticket.{Ticket}
 use Rattle.lnbd_board.specs.declared.ticket.Ticket.TheVariants as ticket
 use Rattle.lnbd_board.specs.Requests.{Said, Request, own, unanswered, Each, waiting}
-use Rattle.lnbd_board.specs.Pieces.{Piece, spell, spell1, ask_of, is_passed, wrote, AreLeft, IsDense, kind_of, zero_flags, zeroing_kind}
+use Rattle.lnbd_board.specs.Pieces.{Piece, spell, spell1, ask_of, is_passed, wrote, AreLeft, AreRuns, IsDense, kind_of, stretches, zero_flags, zeroing_kind}
 
 -- whether a request is under way
 abbrev pub is_busy : Stage → Bool
@@ -54,7 +54,7 @@ pub record IsReading (s : Slice) (read changed : List Said) : Type 0 where
   pub asked : IsRead s Unfinished read
   pub unchanged : changed ≡ []
 
--- the last piece is asked to be written, which of a zero slice is all of it
+-- The last piece is asked to be written, which of a zero slice is all of it. With the others it is a run of what was read.
 pub record IsEnding (how : How) (s : Slice) (read changed : List Said) : Type 0 where
   pub bytes : List ℕ
   pub known : Known s bytes read
@@ -64,6 +64,7 @@ pub record IsEnding (how : How) (s : Slice) (read changed : List Said) : Type 0 
   pub kept : is_passed how now ≡ false
   pub asked : changed ≡ wrote how s.start did ++ waiting (ask_of how (s.start + length (spell did)) now) ∷ []
   pub alone : s.zero ≡ true → (did ≡ []) × (kind_of now ≡ zeroing_kind how)
+  pub cut : s.zero ≡ false → AreRuns how s bytes (stretches s.start (did ++ now ∷ []))
 
 -- the slice was read
 pub record IsHere (s : Slice) (bytes : List ℕ) (read changed : List Said) : Type 0 where
@@ -71,7 +72,7 @@ pub record IsHere (s : Slice) (bytes : List ℕ) (read changed : List Said) : Ty
   pub unchanged : changed ≡ []
   pub data_ : s.zero ≡ false
 
--- the pieces before a place are written
+-- The pieces before a place are written. With those that are left they are the runs of what was read.
 pub record IsHeld (how : How) (s : Slice) (bytes : List ℕ) (left : List Slice) (read changed : List Said) : Type 0 where
   pub known : Known s bytes read
   pub at : ℕ
@@ -81,6 +82,7 @@ pub record IsHeld (how : How) (s : Slice) (bytes : List ℕ) (left : List Slice)
   pub asked : changed ≡ wrote how s.start did
   pub rest : AreLeft how s bytes at left
   pub data_ : s.zero ≡ false
+  pub cut : AreRuns how s bytes (stretches s.start did ++ left)
 
 -- and the next piece is asked to be, up to a place
 pub record IsWritten (how : How) (s : Slice) (bytes : List ℕ) (left : List Slice) (read changed : List Said) : Type 0 where
@@ -94,6 +96,7 @@ pub record IsWritten (how : How) (s : Slice) (bytes : List ℕ) (left : List Sli
   pub asked : changed ≡ wrote how s.start did ++ waiting (ask_of how (s.start + length (spell did)) now) ∷ []
   pub rest : AreLeft how s bytes to left
   pub data_ : s.zero ≡ false
+  pub cut : AreRuns how s bytes (stretches s.start (did ++ now ∷ []) ++ left)
 
 -- one piece, which is not passed over, and is asked for as zeros are
 pub record IsOnePiece (how : How) (did : List Piece) : Type 0 where
@@ -102,7 +105,7 @@ pub record IsOnePiece (how : How) (did : List Piece) : Type 0 where
   pub kept : is_passed how piece ≡ false
   pub kind : kind_of piece ≡ zeroing_kind how
 
--- A slice that is over: its bytes are known, and all its pieces are written. Of a zero slice that is one.
+-- A slice that is over: its bytes are known, and all its pieces are written. Of a zero slice that is one; of another they are the runs of what was read.
 pub record IsOver (how : How) (s : Slice) (read changed : List Said) : Type 0 where
   pub bytes : List ℕ
   pub known : Known s bytes read
@@ -110,6 +113,7 @@ pub record IsOver (how : How) (s : Slice) (read changed : List Said) : Type 0 wh
   pub spelt : spell did ≡ bytes
   pub asked : changed ≡ wrote how s.start did
   pub one : s.zero ≡ true → IsOnePiece how did
+  pub cut : s.zero ≡ false → AreRuns how s bytes (stretches s.start did)
 
 abbrev pub StandsAt : How → Slice → Stage → List Said → List Said → Type 0
 StandsAt how s Reading read changed = IsReading s read changed

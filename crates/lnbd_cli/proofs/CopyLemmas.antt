@@ -153,12 +153,13 @@ pub between_words : (Is : CopyOptions → (from to : Place) → List Call → Ty
 between_words Is seen from to options a b what run two = by_words Is seen from to options a b what (run (λ e. two (sym what.1 ∙ e ∙ what.2)))
 
 pub grounded_by : (seen : copier.Seen) (from to : Place) (options : CopyOptions) (a b : Option (List Call)) (fault : CopyFault) → (seen.options ≡ options) × (seen.from ≡ from) × (seen.to ≡ to) →
-    IsGrounded a b seen.from seen.to fault → IsGrounded a b from to fault
+    IsGrounded a b seen.options.extents seen.from seen.to fault → IsGrounded a b options.extents from to fault
 grounded_by seen from to options a b fault what shown =
-    subst (λ (p : Place). IsGrounded a b from p fault) what.2 (subst (λ (p : Place). IsGrounded a b p seen.to fault) what.1 shown)
+    subst (λ (o : CopyOptions). IsGrounded a b o.extents from to fault) what.0
+    (subst (λ (p : Place). IsGrounded a b seen.options.extents from p fault) what.2 (subst (λ (p : Place). IsGrounded a b seen.options.extents p seen.to fault) what.1 shown))
 
 pub decided_by : (seen : copier.Seen) (from to : Place) (options : CopyOptions) (a b : Option (List Call)) (fault : CopyFault) → (seen.options ≡ options) × (seen.from ≡ from) × (seen.to ≡ to) →
-    IsDecided a b seen.options.extents seen.from seen.to fault → IsDecided a b options.extents from to fault
+    IsDecided a b seen.options seen.from seen.to fault → IsDecided a b options from to fault
 decided_by seen from to options a b fault what shown =
-    subst (λ (o : CopyOptions). IsDecided a b o.extents from to fault) what.0
-    (subst (λ (p : Place). IsDecided a b seen.options.extents from p fault) what.2 (subst (λ (p : Place). IsDecided a b seen.options.extents p seen.to fault) what.1 shown))
+    subst (λ (o : CopyOptions). IsDecided a b o from to fault) what.0
+    (subst (λ (p : Place). IsDecided a b seen.options from p fault) what.2 (subst (λ (p : Place). IsDecided a b seen.options p seen.to fault) what.1 shown))

@@ -17,7 +17,7 @@ use Rattle.lnbd_ask.specs.Maps.{Mapped}
 use Rattle.lnbd_ask.specs.Quiet.{Passes}
 use Rattle.lnbd_ask.specs.declared.fault.InfoFault.{InfoFault}
 use Rattle.lnbd_ask.specs.declared.fault.InfoFault.TheVariants as info
-use Rattle.lnbd_cli.specs.Heard.{IsMapText, IsOfMap, Says, SaysList, SaysMap, Unheard, end_of_entries, exports_text, heard, unmapped}
+use Rattle.lnbd_cli.specs.Heard.{IsMapText, IsOfMap, Says, SaysList, SaysMap, Unheard, WasAsked, end_of_entries, exports_text, heard, unmapped}
 use Rattle.lnbd_cli.specs.Informs.{status_of_asked, status_of_why}
 
 pub if_both : {A E : Type 0} {P Q R : A → Type 0} (result : Result A E) → IfOk result P → IfOk result Q → ((a : A) → P a → Q a → R a) → IfOk result R
@@ -46,6 +46,7 @@ unheard_size why.NoMemory place told told' unheard = unheard
 unheard_size (why.Asked fault) place told told' unheard = unheard
 unheard_size (why.NoContext name) place told told' unheard = unheard
 unheard_size (why.Refused code) place told told' unheard = absurd unheard
+unheard_size (why.Risen risen) place told told' unheard = absurd unheard
 unheard_size why.Output place told told' unheard = absurd unheard
 unheard_size why.Usage place told told' unheard = absurd unheard
 unheard_size (why.Uri fault) place told told' unheard = absurd unheard
@@ -55,6 +56,7 @@ unheard_test why.NoMemory predicate place told told' unheard = unheard
 unheard_test (why.Asked fault) predicate place told told' unheard = unheard
 unheard_test (why.NoContext name) predicate place told told' unheard = unheard
 unheard_test (why.Refused code) predicate place told told' unheard = absurd unheard
+unheard_test (why.Risen risen) predicate place told told' unheard = absurd unheard
 unheard_test why.Output predicate place told told' unheard = absurd unheard
 unheard_test why.Usage predicate place told told' unheard = absurd unheard
 unheard_test (why.Uri fault) predicate place told told' unheard = absurd unheard
@@ -65,6 +67,7 @@ unheard_totals why.NoMemory context place told told' unheard = unheard
 unheard_totals (why.Asked fault) context place told told' unheard = unheard
 unheard_totals (why.NoContext name) context place told told' unheard = unheard
 unheard_totals (why.Refused code) context place told told' unheard = absurd unheard
+unheard_totals (why.Risen risen) context place told told' unheard = absurd unheard
 unheard_totals why.Output context place told told' unheard = absurd unheard
 unheard_totals why.Usage context place told told' unheard = absurd unheard
 unheard_totals (why.Uri fault) context place told told' unheard = absurd unheard
@@ -118,6 +121,15 @@ unmapped_fails context (info.Broke broken) place told told' mapped = (info.Broke
 unmapped_fails context (info.Link before after) place told told' mapped = (info.Link before after, mapped, refl)
 unmapped_fails context (info.Silent idles) place told told' mapped = (info.Silent idles, mapped, refl)
 unmapped_fails context info.NoMemory place told told' mapped = (info.NoMemory, mapped, refl)
+
+-- The server was asked, where its answer is told.
+pub was_asked : (which : What) (json : Bool) (place : Place) (told told' : Option (List Call)) (text : List ℕ) (end : Result Bool ℕ) → Says which json place told told' text end → WasAsked which place told told'
+was_asked what.Listing json place told told' text end says = (Ok says.found, says.collected)
+was_asked what.Size json place told told' text end says = (Ok says.found, says.collected)
+was_asked (what.Test predicate) json place told told' text end says = (Ok says.found, says.collected)
+was_asked what.List json place told told' text end says = (Ok says.entries, says.listed)
+was_asked (what.Map context) json place told told' text end says = (Ok says.map, says.mapped)
+was_asked (what.Totals context) json place told told' text end says = (Ok says.map, says.mapped)
 
 -- What is printed of a list and of a map.
 

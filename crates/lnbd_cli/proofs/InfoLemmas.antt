@@ -1,6 +1,6 @@
 -- What the words of nbdinfo come to, and the status of its run.
 use Rattle.std.proofs.Common.{◌≡◌, ◌≢◌, ◌⊎◌, inl, inr, ◌≤◌, ℕ, Bool, true, false, List, [], ◌∷◌, length, get_or, drop, Option, Some, None, Result, Ok, Err, refl, sym, ◌∙◌, ap, subst, arith, String}
-use Rattle.std.specs.Prelude.{IsErrOf}
+use Rattle.std.specs.Prelude.{IsErrOf, OnOk}
 use Rattle.std.specs.declared.alloc.Global.{Global}
 use Rattle.lnbd_args.specs.declared.asked.Asked.{Asked}
 use Rattle.lnbd_args.specs.declared.asked.What.{What}
@@ -13,6 +13,9 @@ use Rattle.lnbd_ask.specs.declared.fault.InfoFault.TheVariants as info
 use Rattle.lnbd_link.specs.Call.{Call}
 use Rattle.lnbd_link.specs.Count.{Rises}
 use Rattle.lnbd_model.specs.declared.target.Place.{Place}
+use Rattle.lnbd_cli.specs.Counted.{HasRisen}
+use Rattle.lnbd_cli.specs.declared.counts.Risen.{Risen}
+use Rattle.lnbd_cli.specs.declared.counts.Risen.TheVariants as risen
 use Rattle.lnbd_cli.specs.declared.ending.Uninformed.{Uninformed}
 use Rattle.lnbd_cli.specs.declared.ending.Uninformed.TheVariants as why
 use Rattle.lnbd_cli.specs.declared.hearing.Question.{Question}
@@ -71,6 +74,7 @@ pub unheard_ends : (why : Uninformed) (q : Question) (told told' : Option (List 
 unheard_ends why.NoMemory q told told' taken Unprinted none unheard = (unheard, none)
 unheard_ends (why.Asked fault) q told told' taken Unprinted none unheard = (unheard, none)
 unheard_ends (why.NoContext context) q told told' taken Unprinted none unheard = (unheard, none)
+unheard_ends (why.Risen risen) q told told' taken Unprinted none unheard = absurd unheard
 unheard_ends (why.Refused code) q told told' taken Unprinted none unheard = absurd unheard
 unheard_ends why.Output q told told' taken Unprinted none unheard = absurd unheard
 unheard_ends why.Usage q told told' taken Unprinted none unheard = absurd unheard
@@ -101,10 +105,25 @@ pub unheard_output : (why : Uninformed) (what : What) (place : Place) (told told
 unheard_output why.NoMemory what place told told' unheard = λ e. omega (arith, e)
 unheard_output (why.Asked fault) what place told told' unheard = output_of fault
 unheard_output (why.NoContext context) what place told told' unheard = λ e. omega (arith, e)
+unheard_output (why.Risen risen) what place told told' unheard = absurd unheard
 unheard_output (why.Refused code) what place told told' unheard = absurd unheard
 unheard_output why.Output what place told told' unheard = absurd unheard
 unheard_output why.Usage what place told told' unheard = absurd unheard
 unheard_output (why.Uri fault) what place told told' unheard = absurd unheard
+
+-- A count rose of which nothing was told.
+
+pub risen_link : (which : Risen) (f f' i i' : ℕ) → HasRisen which f f' i i' → status_of_why (why.Risen which) ≡ 5 → Rises 1 f f'
+risen_link risen.Link f f' i i' rose is = rose
+risen_link risen.Silent f f' i i' rose is = absurd (omega (arith, is))
+
+pub risen_silent : (which : Risen) (f f' i i' : ℕ) → HasRisen which f f' i i' → status_of_why (why.Risen which) ≡ 7 → Rises 1000000000 i i'
+risen_silent risen.Silent f f' i i' rose is = rose
+risen_silent risen.Link f f' i i' rose is = absurd (omega (arith, is))
+
+pub risen_other : (which : Risen) → (status_of_why (why.Risen which) ≢ 6) × (status_of_why (why.Risen which) ≢ 8)
+risen_other risen.Link = (λ e. omega (arith, e), λ e. omega (arith, e))
+risen_other risen.Silent = (λ e. omega (arith, e), λ e. omega (arith, e))
 
 -- The words.
 
@@ -115,6 +134,7 @@ module _ (words : List (String Global)) (wish : Asked) (q : Question) (asks : As
   informed (Err why.NoMemory) ends = inr (record { asked = wish; question = q; asks = asks; is = is; ends = ends })
   informed (Err (why.Asked fault)) ends = record { asked = wish; question = q; asks = asks; is = is; ends = ends }
   informed (Err (why.NoContext context)) ends = record { asked = wish; question = q; asks = asks; is = is; ends = ends }
+  informed (Err (why.Risen risen)) ends = record { asked = wish; question = q; asks = asks; is = is; ends = ends }
   informed (Err (why.Refused code)) ends = record { asked = wish; question = q; asks = asks; is = is; ends = ends }
   informed (Err why.Usage) ends = absurd ends
   informed (Err (why.Uri fault)) ends = absurd ends
@@ -133,6 +153,8 @@ asked_accepts (Ok false) q told told' taken taken' Unprinted ends = λ e. omega 
 asked_accepts (Err why.Output) q told told' taken taken' Unprinted ends = λ e. omega (arith, e)
 asked_accepts (Err why.NoMemory) q told told' taken taken' Unprinted ends = λ e. omega (arith, e)
 asked_accepts (Err (why.Asked fault)) q told told' taken taken' Unprinted ends = asked_usage fault
+asked_accepts (Err (why.Risen risen.Link)) q told told' taken taken' Unprinted ends = λ e. omega (arith, e)
+asked_accepts (Err (why.Risen risen.Silent)) q told told' taken taken' Unprinted ends = λ e. omega (arith, e)
 asked_accepts (Err (why.Refused code)) q told told' taken taken' Unprinted ends = λ e. omega (arith, e)
 asked_accepts (Err (why.NoContext context)) q told told' taken taken' Unprinted ends = λ e. omega (arith, e)
 asked_accepts (Err why.Usage) q told told' taken taken' Unprinted ends = absurd ends
@@ -152,6 +174,53 @@ lawful_question words wish (Err why) lawful is none either = absurd (cc is)
 pub by_status : (n status : ℕ) (end : End) (P Q : Type 0) → n ≢ 9 → ((status ≡ status_of_info end) × P) ⊎ ((status ≡ 9) × Q) → status ≡ n → status_of_info end ≡ n
 by_status n status end P Q other (inl told) is = sym told.0 ∙ is
 by_status n status end P Q other (inr told) is = absurd (other (sym is ∙ told.0))
+
+asked_ends : (fault : InfoFault) → (status_of_asked fault ≡ 0) ⊎ (status_of_asked fault ≡ 2) → ⊥
+asked_ends info.NoContext (inl e) = omega (arith, e)
+asked_ends info.NoContext (inr e) = omega (arith, e)
+asked_ends (info.Peer option code) (inl e) = omega (arith, e)
+asked_ends (info.Peer option code) (inr e) = omega (arith, e)
+asked_ends (info.Broke broken) (inl e) = omega (arith, e)
+asked_ends (info.Broke broken) (inr e) = omega (arith, e)
+asked_ends (info.Link before after) (inl e) = omega (arith, e)
+asked_ends (info.Link before after) (inr e) = omega (arith, e)
+asked_ends (info.Silent idles) (inl e) = omega (arith, e)
+asked_ends (info.Silent idles) (inr e) = omega (arith, e)
+asked_ends info.NoMemory (inl e) = omega (arith, e)
+asked_ends info.NoMemory (inr e) = omega (arith, e)
+
+why_ends : (why : Uninformed) → (status_of_why why ≡ 0) ⊎ (status_of_why why ≡ 2) → ⊥
+why_ends why.Usage (inl e) = omega (arith, e)
+why_ends why.Usage (inr e) = omega (arith, e)
+why_ends (why.Uri fault) (inl e) = omega (arith, e)
+why_ends (why.Uri fault) (inr e) = omega (arith, e)
+why_ends why.Output (inl e) = omega (arith, e)
+why_ends why.Output (inr e) = omega (arith, e)
+why_ends why.NoMemory (inl e) = omega (arith, e)
+why_ends why.NoMemory (inr e) = omega (arith, e)
+why_ends (why.NoContext context) (inl e) = omega (arith, e)
+why_ends (why.NoContext context) (inr e) = omega (arith, e)
+why_ends (why.Refused code) (inl e) = omega (arith, e)
+why_ends (why.Refused code) (inr e) = omega (arith, e)
+why_ends (why.Risen risen.Link) (inl e) = omega (arith, e)
+why_ends (why.Risen risen.Link) (inr e) = omega (arith, e)
+why_ends (why.Risen risen.Silent) (inl e) = omega (arith, e)
+why_ends (why.Risen risen.Silent) (inr e) = omega (arith, e)
+why_ends (why.Asked fault) is = asked_ends fault is
+
+well_end : (end : End) (P : Type 0) → OnOk end P → (status_of_info end ≡ 0) ⊎ (status_of_info end ≡ 2) → P
+well_end (Ok holds) P seen is = seen
+well_end (Err why) P seen is = absurd (why_ends why is)
+
+status_ends : (status : ℕ) (end : End) (P Q : Type 0) → ((status ≡ status_of_info end) × P) ⊎ ((status ≡ 9) × Q) → (status ≡ 0) ⊎ (status ≡ 2) → (status_of_info end ≡ 0) ⊎ (status_of_info end ≡ 2)
+status_ends status end P Q (inl told) (inl is) = inl (sym told.0 ∙ is)
+status_ends status end P Q (inl told) (inr is) = inr (sym told.0 ∙ is)
+status_ends status end P Q (inr told) (inl is) = absurd (omega (arith, told.0, is))
+status_ends status end P Q (inr told) (inr is) = absurd (omega (arith, told.0, is))
+
+-- a run that ends with 0 or 2 ends well
+pub ends_well : (status : ℕ) (end : End) (P Q Well : Type 0) → OnOk end Well → ((status ≡ status_of_info end) × P) ⊎ ((status ≡ 9) × Q) → (status ≡ 0) ⊎ (status ≡ 2) → Well
+ends_well status end P Q Well seen told is = well_end end Well seen (status_ends status end P Q told is)
 
 -- what the status of an end may be
 record IsKnown (status : ℕ) : Type 0 where
@@ -175,6 +244,8 @@ known_end (Err why.Output) = record { known = refl; done = λ a b c d. absurd (d
 known_end (Err why.NoMemory) = record { known = refl; done = λ a b c d. inr (inr (inr (inr (inr refl)))) }
 known_end (Err (why.NoContext context)) = record { known = refl; done = λ a b c d. inr (inr (inr (inr (inl refl)))) }
 known_end (Err (why.Refused code)) = record { known = refl; done = λ a b c d. inr (inr (inl refl)) }
+known_end (Err (why.Risen risen.Link)) = record { known = refl; done = λ a b c d. absurd (b refl) }
+known_end (Err (why.Risen risen.Silent)) = record { known = refl; done = λ a b c d. absurd (c refl) }
 known_end (Err (why.Asked fault)) = known_asked fault
 
 pub known_status : (status : ℕ) (end : End) (P Q : Type 0) → ((status ≡ status_of_info end) × P) ⊎ ((status ≡ 9) × Q) → is_info_status status ≡ true

@@ -1,6 +1,6 @@
 -- What the words of serve come to, and the status of its run.
 use Rattle.std.proofs.Common.{◌≡◌, ◌≢◌, ◌⊎◌, inl, inr, ◌≤◌, ◌^◌, ℕ, true, List, [], ◌∷◌, get_or, Option, Some, None, Result, Ok, Err, refl, sym, ◌∙◌, ap, subst, arith, String}
-use Rattle.std.specs.Prelude.{codes}
+use Rattle.std.specs.Prelude.{OnOk, codes}
 use Rattle.std.specs.declared.alloc.Global.{Global}
 use Rattle.lnbd_args.specs.declared.asked.Asked.{Asked}
 use Rattle.lnbd_args.specs.declared.asked.Asked.TheVariants as asked
@@ -67,6 +67,7 @@ module _ (words : List (String Global)) (wish : Asked) (service : Service) (asks
   pub hosted : (end : End) → HostEnds end service told told' taken taken' Uncalled Unprinted → ServeEnds end words told told' taken taken' Uncalled Unprinted
   hosted (Ok sessions) ends = record { wish = wish; service = service; asks = asks; is = is; holds = ends }
   hosted (Err (why.Served fault)) ends = record { wish = wish; service = service; asks = asks; is = is; holds = ends }
+  hosted (Err why.Link) ends = record { wish = wish; service = service; asks = asks; is = is; holds = ends }
   hosted (Err why.NoMemory) ends = ends
   hosted (Err why.Usage) ends = absurd ends
   hosted (Err (why.Uri fault)) ends = absurd ends
@@ -81,6 +82,7 @@ served_usage serving.NoMemory = λ e. omega (arith, e)
 pub host_accepts : (end : End) (service : Service) (told told' : Option (List Call)) (taken taken' : Option (List ℕ)) (Uncalled Unprinted : Type 0) → HostEnds end service told told' taken taken' Uncalled Unprinted → status_of_serve end ≢ 1
 host_accepts (Ok sessions) service told told' taken taken' Uncalled Unprinted ends = λ e. omega (arith, e)
 host_accepts (Err (why.Served fault)) service told told' taken taken' Uncalled Unprinted ends = served_usage fault
+host_accepts (Err why.Link) service told told' taken taken' Uncalled Unprinted ends = λ e. omega (arith, e)
 host_accepts (Err why.NoMemory) service told told' taken taken' Uncalled Unprinted ends = λ e. omega (arith, e)
 host_accepts (Err why.Usage) service told told' taken taken' Uncalled Unprinted ends = absurd ends
 host_accepts (Err (why.Uri fault)) service told told' taken taken' Uncalled Unprinted ends = absurd ends
@@ -114,6 +116,26 @@ pub serve_status : (n status : ℕ) (end : End) (P Q : Type 0) → n ≢ 9 → (
 serve_status n status end P Q other (inl told) is = sym told.0 ∙ is
 serve_status n status end P Q other (inr told) is = absurd (other (sym is ∙ told.0))
 
+served_fails : (fault : ServeFault) → status_of_served fault ≢ 0
+served_fails serving.Client = λ e. omega (arith, e)
+served_fails (serving.Link before after) = λ e. omega (arith, e)
+served_fails (serving.Silent idles) = λ e. omega (arith, e)
+served_fails serving.Output = λ e. omega (arith, e)
+served_fails serving.NoMemory = λ e. omega (arith, e)
+
+well_end : (end : End) (P : Type 0) → OnOk end P → status_of_serve end ≡ 0 → P
+well_end (Ok sessions) P seen is = seen
+well_end (Err why.Usage) P seen is = absurd (omega (arith, is))
+well_end (Err (why.Uri fault)) P seen is = absurd (omega (arith, is))
+well_end (Err why.NoMemory) P seen is = absurd (omega (arith, is))
+well_end (Err why.Link) P seen is = absurd (omega (arith, is))
+well_end (Err (why.Served fault)) P seen is = absurd (served_fails fault is)
+
+-- a run that ends with 0 ends well
+pub serves_well : (status : ℕ) (end : End) (P Q Well : Type 0) → OnOk end Well → ((status ≡ status_of_serve end) × P) ⊎ ((status ≡ 9) × Q) → status ≡ 0 → Well
+serves_well status end P Q Well seen (inl told) is = well_end end Well seen (sym told.0 ∙ is)
+serves_well status end P Q Well seen (inr told) is = absurd (omega (arith, told.0, is))
+
 -- what the status of an end may be
 record IsKnown (status : ℕ) : Type 0 where
   known : is_serve_status status ≡ true
@@ -131,6 +153,7 @@ known_end (Ok sessions) = record { known = refl; done = λ a b c d. inl refl }
 known_end (Err why.Usage) = record { known = refl; done = λ a b c d. absurd (a refl) }
 known_end (Err (why.Uri fault)) = record { known = refl; done = λ a b c d. absurd (a refl) }
 known_end (Err why.NoMemory) = record { known = refl; done = λ a b c d. inr (inr refl) }
+known_end (Err why.Link) = record { known = refl; done = λ a b c d. absurd (b refl) }
 known_end (Err (why.Served fault)) = known_served fault
 
 pub serve_known : (status : ℕ) (end : End) (P Q : Type 0) → ((status ≡ status_of_serve end) × P) ⊎ ((status ≡ 9) × Q) → is_serve_status status ≡ true

@@ -15,8 +15,12 @@ use Rattle.lnbd_args.specs.declared.asked.Asked.TheVariants as asked
 use Rattle.lnbd_args.specs.Tools.{Asks, IsMisplaced, Reads, Wanted}
 use Rattle.lnbd_course.specs.Asks.{GrewBy}
 use Rattle.lnbd_course.specs.Copied.{Copies}
+use Rattle.lnbd_course.specs.Driven.{AreDriven}
 use Rattle.lnbd_copy.specs.Conduct.{Conducts}
+use Rattle.lnbd_copy.specs.Connected.{AllConnected}
+use Rattle.lnbd_copy.specs.Connects.{ConnectsAsTold}
 use Rattle.lnbd_copy.specs.Decided.{IsDecided}
+use Rattle.lnbd_copy.specs.DrivenAs.{AreLeftBy}
 use Rattle.lnbd_copy.specs.Grounds.{IsGrounded}
 use Rattle.lnbd_copy.specs.Made.{IsMade}
 use Rattle.lnbd_cli.specs.declared.copying.Transfer.{Transfer}
@@ -94,19 +98,27 @@ pub record IsTransfer (words : List (String Global)) : Type 0 where
 abbrev pub WasMade : CopyOptions → (from to : Place) → List Call → Type 0
 WasMade options from to calls = (summary : Summary) × IsMade options from to summary calls
 
--- What the words ask to be copied, from one place to another, was copied by the calls that this transcript grew by, and these were made as the words say; and from a place to itself too they conduct such a copy.
+-- The calls of a copy that came to its end, be it from a place to itself: it connected to both places as often as its options and what both sides told say, each connect gave a link, and each link was left well.
+pub record HasParted (options : CopyOptions) (from to : Place) (calls : List Call) : Type 0 where
+  pub connects : ConnectsAsTold options from to calls
+  pub connected : AllConnected calls
+  pub driven : AreDriven calls
+  pub left : AreLeftBy options from to calls
+
+-- What the words ask to be copied, from one place to another, was copied by the calls that this transcript grew by, and these were made as the words say; and from a place to itself too they conduct such a copy to its end.
 pub record HasCopied (words : List (String Global)) (told told' : Option (List Call)) : Type 0 where
   pub asked : IsTransfer words
   pub copied : asked.transfer.from ≢ asked.transfer.to → Copies asked.transfer.from asked.transfer.to asked.transfer.options.destination_is_zero told told'
   pub made : asked.transfer.from ≢ asked.transfer.to → GrewBy (WasMade asked.transfer.options asked.transfer.from asked.transfer.to) told told'
   pub conduct : GrewBy (Conducts asked.transfer.options asked.transfer.from asked.transfer.to) told told'
+  pub parted : GrewBy (HasParted asked.transfer.options asked.transfer.from asked.transfer.to) told told'
 
 -- What the words ask to be copied did not come to its end, for a fault on the grounds that the calls show by which this transcript grew; these conduct such a copy until it is broken off, and before the event that decided nothing had come for which it ends.
 pub record HasFailed (words : List (String Global)) (told told' : Option (List Call)) (fault : CopyFault) : Type 0 where
   pub asked : IsTransfer words
-  pub grounds : IsGrounded told told' asked.transfer.from asked.transfer.to fault
+  pub grounds : IsGrounded told told' asked.transfer.options.extents asked.transfer.from asked.transfer.to fault
   pub conduct : GrewBy (Conducts asked.transfer.options asked.transfer.from asked.transfer.to) told told'
-  pub decided : IsDecided told told' asked.transfer.options.extents asked.transfer.from asked.transfer.to fault
+  pub decided : IsDecided told told' asked.transfer.options asked.transfer.from asked.transfer.to fault
 
 -- What the end of a run tells of the words and of the calls; the last says that nothing was called.
 abbrev pub CopyEnds : Result (Unit {0}) Uncopied → List (String Global) → (told told' : Option (List Call)) → (Uncalled : Type 0) → Type 0

@@ -153,6 +153,7 @@ abbrev pub Unheard : What → Place → (told told' : Option (List Call)) → Un
 Unheard what place told told' why.NoMemory = WasAsked what place told told'
 Unheard what place told told' (why.Asked fault) = Fails what place told told' (why.Asked fault)
 Unheard what place told told' (why.NoContext context) = Fails what place told told' (why.NoContext context)
+Unheard what place told told' (why.Risen risen) = ⊥
 Unheard what place told told' (why.Refused code) = ⊥
 Unheard what place told told' why.Output = ⊥
 Unheard what place told told' why.Usage = ⊥

@@ -13,6 +13,7 @@ use Rattle.lnbd_ask.specs.declared.fault.InfoFault.TheVariants as info
 use Rattle.lnbd_cli.specs.declared.hearing.Question.{Question}
 use Rattle.lnbd_cli.specs.declared.ending.Uninformed.{Uninformed}
 use Rattle.lnbd_cli.specs.declared.ending.Uninformed.TheVariants as why
+use Rattle.lnbd_cli.specs.Counted.{risen_text, status_of_risen}
 use Rattle.lnbd_cli.specs.Heard.{Fails, IsOfMap, Says, WasAsked}
 use Rattle.lnbd_cli.specs.Statuses.{broken_text}
 
@@ -53,6 +54,7 @@ status_of_why (why.NoContext context) = 6
 status_of_why why.Output = 8
 status_of_why why.NoMemory = 9
 status_of_why (why.Asked fault) = status_of_asked fault
+status_of_why (why.Risen risen) = status_of_risen risen
 
 abbrev pub status_of_info : Result Bool Uninformed → ℕ
 status_of_info (Ok true) = 0
@@ -74,6 +76,7 @@ why_text (why.Uri fault) = codes "uri " ++ name_of fault
 why_text why.Output = codes "output fault"
 why_text why.NoMemory = codes "no memory"
 why_text (why.Asked fault) = asked_text fault
+why_text (why.Risen risen) = risen_text risen
 why_text (why.NoContext context) = codes "rule no-context " ++ context
 why_text (why.Refused code) = codes "peer error option 6 code " ++ decimal code
 
@@ -112,6 +115,8 @@ AskedEnds (Err why.Output) q told told' taken taken' Unprinted = PrintedFront q 
 AskedEnds (Err why.NoMemory) q told told' taken taken' Unprinted = WasAsked q.what q.place told told' × Unprinted
 AskedEnds (Err (why.Asked fault)) q told told' taken taken' Unprinted = Fails q.what q.place told told' (why.Asked fault) × Unprinted
 AskedEnds (Err (why.NoContext context)) q told told' taken taken' Unprinted = Fails q.what q.place told told' (why.NoContext context) × Unprinted
+-- (a count rose though all was told)
+AskedEnds (Err (why.Risen risen)) q told told' taken taken' Unprinted = WasAsked q.what q.place told told' × Unprinted
 AskedEnds (Err why.Usage) q told told' taken taken' Unprinted = ⊥
 AskedEnds (Err (why.Uri fault)) q told told' taken taken' Unprinted = ⊥
 
@@ -134,6 +139,7 @@ InfoEnds (Err (why.Uri fault)) words told told' taken taken' Uncalled Unprinted 
 InfoEnds (Err why.NoMemory) words told told' taken taken' Uncalled Unprinted = (Uncalled × Unprinted) ⊎ Informed words (λ q. AskedEnds (Err why.NoMemory) q told told' taken taken' Unprinted)
 InfoEnds (Err why.Output) words told told' taken taken' Uncalled Unprinted = Informed words (λ q. AskedEnds (Err why.Output) q told told' taken taken' Unprinted)
 InfoEnds (Err (why.Asked fault)) words told told' taken taken' Uncalled Unprinted = Informed words (λ q. AskedEnds (Err (why.Asked fault)) q told told' taken taken' Unprinted)
+InfoEnds (Err (why.Risen risen)) words told told' taken taken' Uncalled Unprinted = Informed words (λ q. AskedEnds (Err (why.Risen risen)) q told told' taken taken' Unprinted)
 InfoEnds (Err (why.Refused code)) words told told' taken taken' Uncalled Unprinted = Informed words (λ q. AskedEnds (Err (why.Refused code)) q told told' taken taken' Unprinted)
 InfoEnds (Err (why.NoContext context)) words told told' taken taken' Uncalled Unprinted = Informed words (λ q. AskedEnds (Err (why.NoContext context)) q told told' taken taken' Unprinted)
 InfoEnds (Ok holds) words told told' taken taken' Uncalled Unprinted = Informed words (λ q. AskedEnds (Ok holds) q told told' taken taken' Unprinted)

@@ -1,3 +1,4 @@
+pub mod Counted
 pub mod Statuses
 pub mod Inputs
 pub mod Runs

@@ -7,10 +7,13 @@ use Rattle.lnbd_lines.specs.declared.line.Line.{Line}
 use Rattle.lnbd_lines.specs.Scripts.{IsFault, IsScript}
 use Rattle.lnbd_script.specs.declared.event.Event.{Event}
 use Rattle.lnbd_script.specs.declared.event.PlayFault.TheVariants as play
-use Rattle.lnbd_script.specs.Plays.{How, Finished, Silent, Untold, Short, first_fault}
+use Rattle.lnbd_link.specs.Call.{Call}
+use Rattle.lnbd_script.specs.Plays.{How, Finished, HasPlayed, Silent, Untold, Short, first_fault}
 use Rattle.lnbd_script.specs.Streams.{TakesFront}
 use Rattle.lnbd_cli.specs.declared.fault.Fault.{Fault}
 use Rattle.lnbd_cli.specs.declared.fault.Fault.TheVariants as fault
+use Rattle.lnbd_cli.specs.declared.counts.Risen.TheVariants as risen
+use Rattle.lnbd_cli.specs.Statuses.{end_line, fault_line, status_of}
 
 -- the one word that names the tool which plays a script
 pub record IsCalls (words : List (String Global)) : Type 0 where
@@ -49,12 +52,23 @@ pub record IsLawful (words : List (String Global)) (left : Option (List ℕ)) : 
   pub lines : List Line
   pub script : IsScript bytes lines
 
+-- The status and the line are those of the script's first event. Where there was none, they may be those of a link that failed though no line told of it.
+abbrev pub IsTold : Option Event → ℕ → (List ℕ → Type 0) → Type 0
+IsTold first status Printed =
+    ((status ≡ status_of (first_fault first)) × Printed (end_line (first_fault first)))
+    ⊎ ((Ok tt ≡ first_fault first) × (status ≡ 5) × Printed (fault_line (fault.Risen risen.Link)))
+
+-- A line waited for too long. Or the script was played without an event while the wires waited for as long, though they gave what was awaited after it.
+abbrev pub HasWaited : List Line → (old new : Option (List Call)) → (before after : Option (List ℕ)) → Type 0
+HasWaited lines old new before after = HasPlayed lines old new before after Silent (λ first. Unit {0}) ⊎ HasPlayed lines old new before after Finished (λ first. Ok tt ≡ first_fault first)
+
 -- what the end of a run tells of it
 abbrev pub Ends : Result (Unit {0}) Fault → List (String Global) → Option (List ℕ) → Option (List ℕ) → (List Line → How → (Option Event → Type 0) → Type 0) → Type 0 → Type 0
 Ends (Ok done) words left left' Whole None_ = Ran words left left' (λ lines. Whole lines Finished (λ first. Ok tt ≡ first_fault first))
 Ends (Err (fault.Played play.Link)) words left left' Whole None_ = Ran words left left' (λ lines. Whole lines Finished (λ first. Err play.Link ≡ first_fault first))
 Ends (Err (fault.Played (play.Broke broken))) words left left' Whole None_ = Ran words left left' (λ lines. Whole lines Finished (λ first. Err (play.Broke broken) ≡ first_fault first))
 Ends (Err (fault.Played (play.Peer option code))) words left left' Whole None_ = Ran words left left' (λ lines. Whole lines Finished (λ first. Err (play.Peer option code) ≡ first_fault first))
+Ends (Err (fault.Risen risen)) words left left' Whole None_ = Ran words left left' (λ lines. Whole lines Finished (λ first. Ok tt ≡ first_fault first))
 Ends (Err (fault.Played play.Silent)) words left left' Whole None_ = Ran words left left' (λ lines. Whole lines Silent (λ first. Unit {0}))
 Ends (Err (fault.Played play.Output)) words left left' Whole None_ = Ran words left left' (λ lines. (last : List ℕ) × Whole lines (Untold last) (λ first. Unit {0}))
 Ends (Err (fault.Played play.NoMemory)) words left left' Whole None_ = Ran words left left' (λ lines. Whole lines Short (λ first. Unit {0}))

@@ -47,6 +47,7 @@ status_of_serve (Err why.Usage) = 1
 status_of_serve (Err (why.Uri fault)) = 1
 status_of_serve (Err why.NoMemory) = 9
 status_of_serve (Err (why.Served fault)) = status_of_served fault
+status_of_serve (Err why.Link) = 5
 
 abbrev pub served_text : ServeFault → List ℕ
 served_text serving.Client = codes "peer broke Client"
@@ -60,6 +61,7 @@ unserved_text why.Usage = codes "usage"
 unserved_text (why.Uri fault) = codes "uri " ++ name_of fault
 unserved_text why.NoMemory = codes "no memory"
 unserved_text (why.Served fault) = served_text fault
+unserved_text why.Link = codes "link fault"
 
 -- what is printed of it
 abbrev pub serve_line : Result ℕ Unserved → List ℕ
@@ -80,6 +82,8 @@ pub record Hosted (service : Service) (answer : Result ℕ ServeFault) (told tol
 abbrev pub HostEnds : Result ℕ Unserved → Service → Option (List Call) → Option (List Call) → Option (List ℕ) → Option (List ℕ) → (Uncalled Unprinted : Type 0) → Type 0
 HostEnds (Ok sessions) service told told' taken taken' Uncalled Unprinted = Hosted service (Ok sessions) told told' taken taken'
 HostEnds (Err (why.Served fault)) service told told' taken taken' Uncalled Unprinted = Hosted service (Err fault) told told' taken taken'
+-- (all clients were served, but a call failed of which none told)
+HostEnds (Err why.Link) service told told' taken taken' Uncalled Unprinted = (sessions : ℕ) × Hosted service (Ok sessions) told told' taken taken'
 HostEnds (Err why.NoMemory) service told told' taken taken' Uncalled Unprinted = Uncalled × Unprinted
 HostEnds (Err why.Usage) service told told' taken taken' Uncalled Unprinted = ⊥
 HostEnds (Err (why.Uri fault)) service told told' taken taken' Uncalled Unprinted = ⊥
@@ -98,6 +102,7 @@ ServeEnds (Err why.Usage) words told told' taken taken' Uncalled Unprinted = ((w
 ServeEnds (Err (why.Uri fault)) words told told' taken taken' Uncalled Unprinted = IsMisplaced (spelled words) fault × Uncalled × Unprinted
 ServeEnds (Err why.NoMemory) words told told' taken taken' Uncalled Unprinted = Uncalled × Unprinted
 ServeEnds (Err (why.Served fault)) words told told' taken taken' Uncalled Unprinted = IsService words (λ service. Hosted service (Err fault) told told' taken taken')
+ServeEnds (Err why.Link) words told told' taken taken' Uncalled Unprinted = IsService words (λ service. (sessions : ℕ) × Hosted service (Ok sessions) told told' taken taken')
 ServeEnds (Ok sessions) words told told' taken taken' Uncalled Unprinted = IsService words (λ service. Hosted service (Ok sessions) told told' taken taken')
 
 -- A run of serve ended so, and its line was printed, unless that found no memory.

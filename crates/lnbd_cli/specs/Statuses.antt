@@ -5,8 +5,10 @@ use Rattle.lnbd_model.specs.declared.breach.Broken.{Broken}
 use Rattle.lnbd_model.specs.declared.breach.Broken.TheVariants as broken
 use Rattle.lnbd_script.specs.declared.event.PlayFault.{PlayFault}
 use Rattle.lnbd_script.specs.declared.event.PlayFault.TheVariants as play
+use Rattle.lnbd_cli.specs.declared.counts.Risen.{Risen}
 use Rattle.lnbd_cli.specs.declared.fault.Fault.{Fault}
 use Rattle.lnbd_cli.specs.declared.fault.Fault.TheVariants as fault
+use Rattle.lnbd_cli.specs.Counted.{risen_text, status_of_risen}
 
 abbrev pub status_of_play : PlayFault → ℕ
 status_of_play (play.Peer option code) = 3
@@ -21,6 +23,7 @@ status_of_fault fault.Usage = 1
 status_of_fault (fault.Line number) = 1
 status_of_fault fault.Input = 10
 status_of_fault fault.NoMemory = 9
+status_of_fault (fault.Risen risen) = status_of_risen risen
 status_of_fault (fault.Played play) = status_of_play play
 
 -- 0 for a run of which no fault came
@@ -56,6 +59,7 @@ fault_text fault.Usage = codes "usage"
 fault_text (fault.Line number) = codes "script line " ++ decimal number
 fault_text fault.Input = codes "input fault"
 fault_text fault.NoMemory = codes "no memory"
+fault_text (fault.Risen risen) = risen_text risen
 fault_text (fault.Played play) = play_text play
 
 abbrev pub fault_line : Fault → List ℕ
@@ -66,10 +70,11 @@ abbrev pub end_line : Result (Unit {0}) PlayFault → List ℕ
 end_line (Ok done) = []
 end_line (Err play) = fault_line (fault.Played play)
 
--- the end of a run by that of its play
-abbrev pub end_of : Result (Unit {0}) PlayFault → Result (Unit {0}) Fault
-end_of (Ok done) = Ok tt
-end_of (Err play) = Err (fault.Played play)
+-- the end of a run by that of its play, and else by the last look at the counts
+abbrev pub end_of : Result (Unit {0}) PlayFault → Result (Unit {0}) Risen → Result (Unit {0}) Fault
+end_of (Ok done) (Ok well) = Ok tt
+end_of (Ok done) (Err risen) = Err (fault.Risen risen)
+end_of (Err play) looked = Err (fault.Played play)
 
 abbrev pub status_of_end : Result (Unit {0}) Fault → ℕ
 status_of_end (Ok done) = 0
@@ -85,5 +90,6 @@ is_bad (Err fault.Usage) = true
 is_bad (Err (fault.Line number)) = true
 is_bad (Err fault.Input) = false
 is_bad (Err fault.NoMemory) = false
+is_bad (Err (fault.Risen risen)) = false
 is_bad (Err (fault.Played play)) = false
 is_bad (Ok done) = false

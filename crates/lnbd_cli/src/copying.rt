@@ -10,7 +10,7 @@ ghost use Rattle.lnbd_copy.specs.Decided.{IsDecided};
 ghost use Rattle.lnbd_copy.specs.Grounds.{IsGrounded};
 ghost use Rattle.lnbd_cli.specs.Runs.{Prints};
 ghost use Rattle.lnbd_cli.specs.declared.copying.Uncopied.TheVariants as why;
-ghost use Rattle.lnbd_cli.specs.Copies.{CopyEnds, CopyRan, IsCopy, IsCopyDone, IsTransfer, WasMade, copied_text, copy_line, is_copy_status, rule_text, status_of_copied, status_of_copy, transfer_of, uncopied_text};
+ghost use Rattle.lnbd_cli.specs.Copies.{CopyEnds, CopyRan, HasParted, IsCopy, IsCopyDone, IsTransfer, WasMade, copied_text, copy_line, is_copy_status, rule_text, status_of_copied, status_of_copy, transfer_of, uncopied_text};
 
 use crate::fault::push_broken;
 use crate::top::{no_memory, print};
@@ -71,9 +71,10 @@ fn transfer_in(wish: Asked) -> Option<Transfer>
 fn copy<W: Wires>(alloc: Global, what: Transfer, wires: &mut W) -> Result<(), CopyFault>
     ensures copies { what.from ≢ what.to → OnOk result (Copies what.from what.to what.options.destination_is_zero (W.told wires.old) (W.told wires.new)) }
     ensures made { what.from ≢ what.to → OnOk result (GrewBy (WasMade what.options what.from what.to) (W.told wires.old) (W.told wires.new)) }
-    ensures grounds { IfErr result (λ fault. IsGrounded (W.told wires.old) (W.told wires.new) what.from what.to fault) }
-    ensures decides { IfErr result (λ fault. IsDecided (W.told wires.old) (W.told wires.new) what.options.extents what.from what.to fault) }
+    ensures grounds { IfErr result (λ fault. IsGrounded (W.told wires.old) (W.told wires.new) what.options.extents what.from what.to fault) }
+    ensures decides { IfErr result (λ fault. IsDecided (W.told wires.old) (W.told wires.new) what.options what.from what.to fault) }
     ensures conducts { GrewBy (Conducts what.options what.from what.to) (W.told wires.old) (W.told wires.new) }
+    ensures parted { OnOk result (GrewBy (HasParted what.options what.from what.to) (W.told wires.old) (W.told wires.new)) }
     ensures link { (before after : ℕ) → result ≡ Err (CopyFault.Link before after) → Rises 1 (W.faults wires.old) (W.faults wires.new) }
     ensures silent { (idles : ℕ) → result ≡ Err (CopyFault.Silent idles) → Rises patience (W.idles wires.old) (W.idles wires.new) }
     ensures well { OnOk result (¬ Rises 1 (W.faults wires.old) (W.faults wires.new)) }

@@ -3,7 +3,8 @@
 ghost use Rattle.std.specs.Prelude.{◌≡◌, ◌++◌, OnOk, string_bytes};
 ghost use Rattle.lnbd_cli.specs.Informs.{asked_text, ended, info_line, status_of_asked, status_of_info, status_of_why, why_text};
 
-use crate::fault::push_broken;
+use crate::counts::Risen;
+use crate::fault::{push_broken, risen_text, status_of_risen};
 use lnbd_ask::InfoFault;
 use lnbd_model::Text;
 use lnbd_uri::UriFault;
@@ -26,6 +27,8 @@ pub(crate) enum Uninformed {
     Refused(u32),
     /// A map was asked for in this context, to which the server did not agree.
     NoContext(Text),
+    /// All was told, but this count of the wires rose.
+    Risen(Risen),
 }
 
 /// The end of a run whose text is printed.
@@ -61,6 +64,7 @@ fn status_of_why(why: &Uninformed) -> u8
         Uninformed::Output => 8,
         Uninformed::NoMemory => 9,
         Uninformed::Asked(fault) => status_of_asked(*fault),
+        Uninformed::Risen(risen) => status_of_risen(*risen),
     }
 }
 
@@ -106,6 +110,7 @@ fn push_why(text: &mut String, why: &Uninformed) -> Result<(), AllocError>
         Uninformed::Output => text.push_str("output fault"),
         Uninformed::NoMemory => text.push_str("no memory"),
         Uninformed::Asked(fault) => push_asked(text, *fault),
+        Uninformed::Risen(risen) => text.push_str(risen_text(*risen)),
         Uninformed::Refused(code) => {
             let code = *code;
             write!(text, "peer error option 6 code {code}")

@@ -2,7 +2,9 @@
 
 ghost use Rattle.std.specs.Prelude.{◌≡◌, ◌++◌, OnOk, string_bytes};
 ghost use Rattle.lnbd_cli.specs.Statuses.{broken_text, fault_line, fault_text, play_text, status_of_fault, status_of_play};
+ghost use Rattle.lnbd_cli.specs.Counted.{risen_text, status_of_risen};
 
+use crate::counts::Risen;
 use lnbd_script::{Broken, PlayFault};
 use std::alloc::AllocError;
 
@@ -19,6 +21,28 @@ pub(crate) enum Fault {
     NoMemory,
     /// The script was played, and this came of it.
     Played(PlayFault),
+    /// It was played without an event, but this count rose.
+    Risen(Risen),
+}
+
+/// The status of a run in which this count rose.
+pub(crate) fn status_of_risen(risen: Risen) -> u8
+    ensures { result ≡ status_of_risen risen }
+{
+    match risen {
+        Risen::Link => 5,
+        Risen::Silent => 7,
+    }
+}
+
+/// What is printed of it.
+pub(crate) fn risen_text(risen: Risen) -> &'static str
+    ensures { result.now ≡ risen_text risen }
+{
+    match risen {
+        Risen::Link => "link fault",
+        Risen::Silent => "peer silent",
+    }
 }
 
 fn status_of_play(fault: PlayFault) -> u8
@@ -75,6 +99,7 @@ fn push_fault(text: &mut String, fault: Fault) -> Result<(), AllocError>
         Fault::Input => text.push_str("input fault"),
         Fault::NoMemory => text.push_str("no memory"),
         Fault::Played(fault) => push_play(text, fault),
+        Fault::Risen(risen) => text.push_str(risen_text(risen)),
     }
 }
 
@@ -88,6 +113,7 @@ impl Fault {
             Fault::Input => 10,
             Fault::NoMemory => 9,
             Fault::Played(fault) => status_of_play(fault),
+            Fault::Risen(risen) => status_of_risen(risen),
         }
     }
 

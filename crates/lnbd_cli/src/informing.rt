@@ -1,6 +1,6 @@
 //! nbdinfo: what the words ask of a server, how that is told, and how such a run ends (nbdinfo(1)).
 
-ghost use Rattle.std.specs.Prelude.{◌≡◌, ◌≢◌, ◌⊎◌, Err, false, true};
+ghost use Rattle.std.specs.Prelude.{◌≡◌, ◌≢◌, ◌⊎◌, Err, OnOk, false, true};
 ghost use Rattle.lnbd_link.specs.Count.{Rises};
 ghost use Rattle.lnbd_script.specs.Seen.{patience};
 ghost use Rattle.lnbd_cli.specs.Runs.{Prints};
@@ -8,6 +8,7 @@ ghost use Rattle.lnbd_cli.specs.declared.ending.Uninformed.TheVariants as why;
 ghost use Rattle.lnbd_cli.specs.Informs.{AskedEnds, AsksMap, InfoEnds, InfoRan, IsInfo, IsInfoDone, IsLawfulInfo, Tells, info_line, is_info_status, question_of, status_of_info};
 ghost use Rattle.lnbd_cli.specs.Heard.{IsOfMap};
 
+use crate::counts::Counts;
 use crate::ending::{Uninformed, ended, push_info_line, status_of_info};
 use crate::hearing::{News, Question, hear};
 use crate::top::{no_memory, print};
@@ -63,10 +64,17 @@ fn ask<W: Wires, O: Sink>(
     ensures rule { status_of_info result ≡ 6 → IsOfMap question.what }
     ensures silent { status_of_info result ≡ 7 → Rises patience (W.idles wires.old) (W.idles wires.new) }
     ensures output { status_of_info result ≡ 8 → Rises 1 (O.faults out.old) (O.faults out.new) }
+    ensures well { OnOk result (¬ Rises 1 (W.faults wires.old) (W.faults wires.new)) }
+    ensures patient { OnOk result (¬ Rises patience (W.idles wires.old) (W.idles wires.new)) }
 {
-    match hear(alloc, question, wires) {
-        Ok(news) => tell(news, out),
-        Err(why) => Err(why),
+    let start = Counts::of(wires);
+    let news = match hear(alloc, question, wires) {
+        Ok(news) => news,
+        Err(why) => return Err(why),
+    };
+    match start.check(wires) {
+        Ok(()) => tell(news, out),
+        Err(risen) => Err(Uninformed::Risen(risen)),
     }
 }
 
@@ -83,6 +91,8 @@ fn inform<W: Wires, O: Sink>(
     ensures rule { status_of_info result ≡ 6 → AsksMap words.now }
     ensures silent { status_of_info result ≡ 7 → Rises patience (W.idles wires.old) (W.idles wires.new) }
     ensures output { status_of_info result ≡ 8 → Rises 1 (O.faults out.old) (O.faults out.new) }
+    ensures well { OnOk result (¬ Rises 1 (W.faults wires.old) (W.faults wires.new)) }
+    ensures patient { OnOk result (¬ Rises patience (W.idles wires.old) (W.idles wires.new)) }
 {
     let wish = match read_words(alloc, words) {
         Ok(wish) => wish,
@@ -110,6 +120,8 @@ pub(crate) fn run_info<W: Wires, O: Sink, E: Sink>(
     ensures rule_cause { result ≡ 6 → AsksMap words.now }
     ensures silent_cause { result ≡ 7 → Rises patience (W.idles wires.old) (W.idles wires.new) }
     ensures output_cause { result ≡ 8 → Rises 1 (O.faults out.old) (O.faults out.new) }
+    ensures well { (result ≡ 0) ⊎ (result ≡ 2) → ¬ Rises 1 (W.faults wires.old) (W.faults wires.new) }
+    ensures patient { (result ≡ 0) ⊎ (result ≡ 2) → ¬ Rises patience (W.idles wires.old) (W.idles wires.new) }
     ensures complete { IsLawfulInfo words.now → (¬ Rises 1 (W.faults wires.old) (W.faults wires.new)) → (¬ Rises patience (W.idles wires.old) (W.idles wires.new)) → (¬ Rises 1 (O.faults out.old) (O.faults out.new)) → IsInfoDone result }
 {
     let end = inform(alloc, words, wires, out);

@@ -3,6 +3,7 @@
 #![tactic(auto)]
 
 mod copying;
+mod counts;
 mod ending;
 mod fault;
 mod hearing;

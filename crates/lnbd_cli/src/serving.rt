@@ -8,6 +8,7 @@ ghost use Rattle.lnbd_cli.specs.Runs.{Prints};
 ghost use Rattle.lnbd_cli.specs.declared.serving.Unserved.TheVariants as why;
 ghost use Rattle.lnbd_cli.specs.Serves.{HostEnds, IsLawfulServe, IsServe, IsServeDone, ServeEnds, ServeRan, is_serve_status, serve_line, served_text, service_of, status_of_serve, status_of_served, unserved_text};
 
+use crate::counts::rose;
 use crate::top::{no_memory, print};
 use lnbd_args::{ArgsFault, Asked, read_words};
 use lnbd_export::{Export, generate};
@@ -28,6 +29,8 @@ pub(crate) enum Unserved {
     NoMemory,
     /// The export was served, and this came of it.
     Served(ServeFault),
+    /// It was served to all clients, but a call on the wires failed.
+    Link,
 }
 
 /// What is served, and to how many clients.
@@ -100,10 +103,17 @@ fn serve_export<W: Wires, O: Sink>(
     ensures link { status_of_serve result ≡ 5 → Rises 1 (W.faults wires.old) (W.faults wires.new) }
     ensures silent { status_of_serve result ≡ 7 → Rises patience (W.idles wires.old) (W.idles wires.new) }
     ensures output { status_of_serve result ≡ 8 → Rises 1 (O.faults out.old) (O.faults out.new) }
+    ensures well { OnOk result (¬ Rises 1 (W.faults wires.old) (W.faults wires.new)) }
 {
     let sessions = service.sessions;
+    let faults = wires.faults();
     match serve(alloc, &service.place, &mut export, sessions, wires, out) {
-        Ok(sessions) => Ok(sessions),
+        Ok(sessions) => {
+            if rose(1, faults, wires.faults()) {
+                return Err(Unserved::Link);
+            }
+            Ok(sessions)
+        }
         Err(fault) => Err(Unserved::Served(fault)),
     }
 }
@@ -120,6 +130,7 @@ fn host<W: Wires, O: Sink>(
     ensures link { status_of_serve result ≡ 5 → Rises 1 (W.faults wires.old) (W.faults wires.new) }
     ensures silent { status_of_serve result ≡ 7 → Rises patience (W.idles wires.old) (W.idles wires.new) }
     ensures output { status_of_serve result ≡ 8 → Rises 1 (O.faults out.old) (O.faults out.new) }
+    ensures well { OnOk result (¬ Rises 1 (W.faults wires.old) (W.faults wires.new)) }
 {
     match export_of(alloc, service) {
         Ok(export) => serve_export(alloc, service, export, wires, out),
@@ -140,6 +151,7 @@ fn serve_asked<W: Wires, O: Sink>(
     ensures link { status_of_serve result ≡ 5 → Rises 1 (W.faults wires.old) (W.faults wires.new) }
     ensures silent { status_of_serve result ≡ 7 → Rises patience (W.idles wires.old) (W.idles wires.new) }
     ensures output { status_of_serve result ≡ 8 → Rises 1 (O.faults out.old) (O.faults out.new) }
+    ensures well { OnOk result (¬ Rises 1 (W.faults wires.old) (W.faults wires.new)) }
 {
     let wish = match read_words(alloc, words) {
         Ok(wish) => wish,
@@ -173,6 +185,7 @@ fn status_of_serve(end: Result<u32, Unserved>) -> u8
         Ok(_) => 0,
         Err(Unserved::Usage | Unserved::Uri(_)) => 1,
         Err(Unserved::NoMemory) => 9,
+        Err(Unserved::Link) => 5,
         Err(Unserved::Served(fault)) => status_of_served(fault),
     }
 }
@@ -200,6 +213,7 @@ fn push_unserved(text: &mut String, why: Unserved) -> Result<(), AllocError>
         }
         Unserved::NoMemory => text.push_str("no memory"),
         Unserved::Served(fault) => text.push_str(served_text(fault)),
+        Unserved::Link => text.push_str("link fault"),
     }
 }
 
@@ -231,6 +245,7 @@ pub(crate) fn run_serve<W: Wires, O: Sink, E: Sink>(
     ensures link_cause { result ≡ 5 → Rises 1 (W.faults wires.old) (W.faults wires.new) }
     ensures silent_cause { result ≡ 7 → Rises patience (W.idles wires.old) (W.idles wires.new) }
     ensures output_cause { result ≡ 8 → Rises 1 (O.faults out.old) (O.faults out.new) }
+    ensures well { result ≡ 0 → ¬ Rises 1 (W.faults wires.old) (W.faults wires.new) }
     ensures complete { IsLawfulServe words.now → (¬ Rises 1 (W.faults wires.old) (W.faults wires.new)) → (¬ Rises patience (W.idles wires.old) (W.idles wires.new)) → (¬ Rises 1 (O.faults out.old) (O.faults out.new)) → IsServeDone result }
 {
     let end = serve_asked(alloc, words, wires, out);

@@ -1,10 +1,10 @@
 //! The top call: which tool the words name, and the status of its run.
 
-ghost use Rattle.std.specs.Prelude.{◌≡◌, ◌⊎◌, ◌++◌, Err, OnOk, true, false, string_bytes};
+ghost use Rattle.std.specs.Prelude.{◌≡◌, ◌⊎◌, ◌++◌, Ok, Err, OnOk, true, false, string_bytes};
 ghost use Rattle.lnbd_link.specs.Count.{Rises};
 ghost use Rattle.lnbd_script.specs.Plays.{Finished, HasBeenCut, HasEnded, HasPlayed, Silent, first_fault};
 ghost use Rattle.lnbd_cli.specs.Inputs.{ReadAtMost, ReadUpTo, fault_of, most_read};
-ghost use Rattle.lnbd_cli.specs.Runs.{Ends, IsBad, IsCalls, IsLawful, IsOneOf, Nothing, Prints, Ran};
+ghost use Rattle.lnbd_cli.specs.Runs.{Ends, HasWaited, IsBad, IsCalls, IsLawful, IsOneOf, IsTold, Nothing, Prints, Ran};
 ghost use Rattle.lnbd_cli.specs.Informs.{InfoRan, IsInfo, IsInfoDone, IsLawfulInfo, is_info_status};
 ghost use Rattle.lnbd_cli.specs.Serves.{IsLawfulServe, IsServe, IsServeDone, ServeRan, is_serve_status};
 ghost use Rattle.lnbd_cli.specs.Copies.{CopyRan, IsCopy, IsCopyDone, IsTransfer, is_copy_status};
@@ -15,6 +15,7 @@ ghost use Rattle.lnbd_script.specs.declared.event.PlayFault.TheVariants as play;
 ghost use Rattle.lnbd_script.specs.Seen.{patience};
 
 use crate::copying::{names_copy, run_copy};
+use crate::counts::{Counts, Risen};
 use crate::fault::Fault;
 use crate::informing::{names_info, run_info};
 use crate::input::{Unread, read_script};
@@ -37,11 +38,11 @@ pub fn run<W: Wires, I: Source, O: Sink, E: Sink>(
     out: &mut O,
     err: &mut E,
 ) -> u8
-    // On 0, 3, 4 and 5 the whole script was played, by its first event: out took all its lines, and err the line of the event.
-    ensures played { (¬ IsOther words.now) → is_whole result ≡ true → Ran words.now (I.left input.old) (I.left input.new) (λ lines. HasPlayed lines (W.told wires.old) (W.told wires.new) (O.taken out.old) (O.taken out.new) Finished (λ first. (result ≡ status_of (first_fault first)) × Prints (E.taken err.old) (E.taken err.new) (E.faults err.old) (E.faults err.new) (end_line (first_fault first)))) }
+    // On 0, 3, 4 and 5 the whole script was played, by its first event: out took all its lines, and err the line of the event. 5 comes also where a link failed of which no line told.
+    ensures played { (¬ IsOther words.now) → is_whole result ≡ true → Ran words.now (I.left input.old) (I.left input.new) (λ lines. HasPlayed lines (W.told wires.old) (W.told wires.new) (O.taken out.old) (O.taken out.new) Finished (λ first. IsTold first result (Prints (E.taken err.old) (E.taken err.new) (E.faults err.old) (E.faults err.new)))) }
 
-    // On 7 a line waited for too long: out took those before it.
-    ensures waited { (¬ IsOther words.now) → result ≡ 7 → Ran words.now (I.left input.old) (I.left input.new) (λ lines. HasPlayed lines (W.told wires.old) (W.told wires.new) (O.taken out.old) (O.taken out.new) Silent (λ first. Unit {0})) }
+    // On 7 a line waited for too long: out took those before it. Or all were played, but the wires had waited for as long.
+    ensures waited { (¬ IsOther words.now) → result ≡ 7 → Ran words.now (I.left input.old) (I.left input.new) (λ lines. HasWaited lines (W.told wires.old) (W.told wires.new) (O.taken out.old) (O.taken out.new)) }
 
     // On 8 out took all but the last played line, of that a front, and no later line was played. On 9 the script ended in one of
     // these ways, or between two lines, or nothing was begun.
@@ -69,6 +70,10 @@ pub fn run<W: Wires, I: Source, O: Sink, E: Sink>(
     ensures silent_cause { result ≡ 7 → Rises patience (W.idles wires.old) (W.idles wires.new) }
     ensures output_cause { result ≡ 8 → Rises 1 (O.faults out.old) (O.faults out.new) }
 
+    // On 0 no call on the wires failed in it, and they waited for less than is borne.
+    ensures calls_well { (¬ IsOther words.now) → result ≡ 0 → ¬ Rises 1 (W.faults wires.old) (W.faults wires.new) }
+    ensures calls_patient { (¬ IsOther words.now) → result ≡ 0 → ¬ Rises patience (W.idles wires.old) (W.idles wires.new) }
+
     // No other status is told.
     ensures known { (¬ IsOther words.now) → is_status result ≡ true }
     ensures info_known { IsInfo words.now → is_info_status result ≡ true }
@@ -85,11 +90,18 @@ pub fn run<W: Wires, I: Source, O: Sink, E: Sink>(
     // Where they ask something of a server and no count rose, it is told, the peer told an error, agreed to no map's context or broke off, or memory runs out.
     ensures info_complete { IsInfo words.now → IsLawfulInfo words.now → (¬ Rises 1 (W.faults wires.old) (W.faults wires.new)) → (¬ Rises patience (W.idles wires.old) (W.idles wires.new)) → (¬ Rises 1 (O.faults out.old) (O.faults out.new)) → IsInfoDone result }
 
+    // On 0 and 2 no call on the wires failed in it, and they waited for less than is borne.
+    ensures info_well { IsInfo words.now → (result ≡ 0) ⊎ (result ≡ 2) → ¬ Rises 1 (W.faults wires.old) (W.faults wires.new) }
+    ensures info_patient { IsInfo words.now → (result ≡ 0) ⊎ (result ≡ 2) → ¬ Rises patience (W.idles wires.old) (W.idles wires.new) }
+
     // Words whose first is serve: the export was made and served and its lines printed, or the run ended for this cause.
     ensures serve { IsServe words.now → ServeRan words.now (W.told wires.old) (W.told wires.new) (O.taken out.old) (O.taken out.new) (wires.new ≡ wires.old) (out.new ≡ out.old) (Prints (E.taken err.old) (E.taken err.new) (E.faults err.old) (E.faults err.new)) result }
 
     // Where they are lawful and no count rose, all clients were served, one of them broke the protocol, or memory runs out.
     ensures serve_complete { IsServe words.now → IsLawfulServe words.now → (¬ Rises 1 (W.faults wires.old) (W.faults wires.new)) → (¬ Rises patience (W.idles wires.old) (W.idles wires.new)) → (¬ Rises 1 (O.faults out.old) (O.faults out.new)) → IsServeDone result }
+
+    // On 0 no call on the wires failed in it.
+    ensures serve_well { IsServe words.now → result ≡ 0 → ¬ Rises 1 (W.faults wires.old) (W.faults wires.new) }
 
     // Words whose first is nbdcopy: on 0 what they ask was copied, so that over honest exports the destination holds the source's bytes; else the run ended for this
     // cause. Either way its calls, if it made any, are those of such a copy. Nothing is printed on `out`.
@@ -208,12 +220,13 @@ fn fault_of(unread: Unread) -> Fault
     }
 }
 
-fn end_of(played: Result<(), PlayFault>) -> Result<(), Fault>
-    ensures { result ≡ end_of played }
+fn end_of(played: Result<(), PlayFault>, looked: Result<(), Risen>) -> Result<(), Fault>
+    ensures { result ≡ end_of played looked }
 {
-    match played {
-        Ok(()) => Ok(()),
-        Err(fault) => Err(Fault::Played(fault)),
+    match (played, looked) {
+        (Err(fault), _) => Err(Fault::Played(fault)),
+        (Ok(()), Err(risen)) => Err(Fault::Risen(risen)),
+        (Ok(()), Ok(())) => Ok(()),
     }
 }
 
@@ -231,9 +244,11 @@ fn tool<W: Wires, I: Source, O: Sink>(
     ensures bad_script { IsCalls words.now → is_bad result ≡ true → ReadUpTo most_read (I.left input.old) (I.left input.new) }
     ensures most { ReadAtMost most_read (I.left input.old) (I.left input.new) }
     ensures input_cause { result ≡ Err fault.Input → Rises 1 (I.faults input.old) (I.faults input.new) }
-    ensures link_cause { result ≡ Err (fault.Played play.Link) → Rises 1 (W.faults wires.old) (W.faults wires.new) }
-    ensures silent_cause { result ≡ Err (fault.Played play.Silent) → Rises patience (W.idles wires.old) (W.idles wires.new) }
+    ensures link_cause { status_of_end result ≡ 5 → Rises 1 (W.faults wires.old) (W.faults wires.new) }
+    ensures silent_cause { status_of_end result ≡ 7 → Rises patience (W.idles wires.old) (W.idles wires.new) }
     ensures output_cause { result ≡ Err (fault.Played play.Output) → Rises 1 (O.faults out.old) (O.faults out.new) }
+    ensures well { result ≡ Ok tt → ¬ Rises 1 (W.faults wires.old) (W.faults wires.new) }
+    ensures patient { result ≡ Ok tt → ¬ Rises patience (W.idles wires.old) (W.idles wires.new) }
 {
     if !names_calls(words) {
         return Err(Fault::Usage);
@@ -242,5 +257,7 @@ fn tool<W: Wires, I: Source, O: Sink>(
         Ok(script) => script,
         Err(unread) => return Err(fault_of(unread)),
     };
-    end_of(play(alloc, &script, wires, out))
+    let start = Counts::of(wires);
+    let played = play(alloc, &script, wires, out);
+    end_of(played, start.check(wires))
 }

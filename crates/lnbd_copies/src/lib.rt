@@ -19,6 +19,8 @@ mod played;
 #[cfg(test)]
 mod served;
 #[cfg(test)]
+mod silence_tests;
+#[cfg(test)]
 mod size_tests;
 #[cfg(test)]
 mod turn_tests;

@@ -44,7 +44,7 @@ const OPTIONS: CopyOptions = CopyOptions {
 };
 
 /// A copy between both exports, not begun.
-fn copier(alloc: Global) -> Result<Copier, Fail>
+pub(crate) fn copier(alloc: Global) -> Result<Copier, Fail>
     ensures { IfOk result (λ copier. HasNotBegun copier) }
 {
     let from = Place {

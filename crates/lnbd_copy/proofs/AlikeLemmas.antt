@@ -35,14 +35,17 @@ use Rattle.lnbd_copy.specs.declared.sides.Sides.{Sides}
 use Rattle.lnbd_copy.specs.declared.terms.Terms.{Terms}
 use Rattle.lnbd_copy.specs.Agreed.{AreQuiet}
 use Rattle.lnbd_copy.specs.Alike.{AllAlike, ToldAs}
+use Rattle.lnbd_copy.specs.Begun.{opened}
 use Rattle.lnbd_copy.specs.Copier.{HasMet, beginning}
 use Rattle.lnbd_copy.specs.Copier as copier
+use Rattle.lnbd_copy.specs.Driven.{WentOn, asks_extents_on, beginning_on}
 use Rattle.lnbd_copy.specs.Firsts.{KnowBoth, Knows}
 use Rattle.lnbd_copy.specs.Giving.{GivesNone}
 use Rattle.lnbd_copy.specs.Grounds.{AllSame, AreSame, Happened, Happens, IsShown}
 use Rattle.lnbd_copy.specs.Lasting.{AtSome}
 use Rattle.lnbd_copy.specs.Settled.{FindsTerms, HasSettled}
 use Rattle.lnbd_copy.specs.Way.{IsOn, Stand, Told, Way, is_source}
+use Rattle.lnbd_copy.proofs.DrivenLemmas.{went_there}
 use Rattle.lnbd_copy.proofs.GroundLemmas.{driven_at}
 use Rattle.lnbd_copy.proofs.LastLemmas.{terms_later, at_once}
 
@@ -126,7 +129,7 @@ first_alike zero info (one ∷ held) (here ∷ seens) (last ∷ others) seen qui
 first_alike (suc index) info (one ∷ held) (here ∷ seens) (last ∷ others) seen quiet at at' knows there =
     first_alike index info held seens others seen (λ i h is. quiet (suc i) h is) at.1 at'.1 (record { seen = knows.seen; there = knows.there; known = knows.known }) there
 
-below_held : (index : ℕ) (held : List (Held Ticket)) (seens : List (Seen Ticket)) (seen : Seen Ticket) → AreAt held seens → slice_get seens index ≡ Some seen → index < length held
+pub below_held : (index : ℕ) (held : List (Held Ticket)) (seens : List (Seen Ticket)) (seen : Seen Ticket) → AreAt held seens → slice_get seens index ≡ Some seen → index < length held
 below_held index held [] seen at there = absurd (none_some seen there)
 below_held index [] (here ∷ seens) seen at there = absurd at
 below_held zero (one ∷ held) (here ∷ seens) seen at there = omega arith
@@ -173,27 +176,27 @@ module _ (source destination : ExportInfo) (sides : Sides) (held : List (Held Ti
 -- By the calls.
 
 -- the handle of a link
-record HasLink (link : ℕ) (seens : List (Seen Ticket)) : Type 0 where
-  index : ℕ
-  seen : Seen Ticket
-  there : slice_get seens index ≡ Some seen
-  is : seen.link ≡ link
+pub record HasLink (link : ℕ) (seens : List (Seen Ticket)) : Type 0 where
+  pub index : ℕ
+  pub seen : Seen Ticket
+  pub there : slice_get seens index ≡ Some seen
+  pub is : seen.link ≡ link
 
-has_link : (link : ℕ) (seens : List (Seen Ticket)) → (AreApart link seens → ⊥) → HasLink link seens
+pub has_link : (link : ℕ) (seens : List (Seen Ticket)) → (AreApart link seens → ⊥) → HasLink link seens
 has_link link [] near = absurd (near tt)
 has_link link (seen ∷ others) near = elim (cases_eq seen.link link) [
   | inl same ↦ record { index = 0; seen = seen; there = refl; is = same }
   | inr differ ↦ (let rest = has_link link others (λ apart. near (differ, apart)) in record { index = suc rest.index; seen = rest.seen; there = rest.there; is = rest.is })
 ]
 
-by_side : (from to : Place) (source destination : ExportInfo) (link : ℕ) (calls : List wire.Call) (b : Bool) → ToldAs (place_of from to b) (info_at source destination b) link calls → AtSome (ToldAs from source link) calls ⊎ AtSome (ToldAs to destination link) calls
-by_side from to source destination link calls true told = inl (at_once calls told)
-by_side from to source destination link calls false told = inr (at_once calls told)
+by_side : (extents : Bool) (from to : Place) (source destination : ExportInfo) (link : ℕ) (calls : List wire.Call) (b : Bool) → ToldAs extents (place_of from to b) (info_at source destination b) link calls → AtSome (ToldAs extents from source link) calls ⊎ AtSome (ToldAs extents to destination link) calls
+by_side extents from to source destination link calls true told = inl (at_once calls told)
+by_side extents from to source destination link calls false told = inr (at_once calls told)
 
-true_false : (b : Bool) → b ≡ true → b ≡ false → ⊥
+pub true_false : (b : Bool) → b ≡ true → b ≡ false → ⊥
 true_false b e f = cc
 
-all_alike : (source destination : ExportInfo) (way : Way) (now : board.Seen) (calls : List wire.Call) (held : List (Held Ticket)) → AreQuiet held → KnowBoth source destination held → AllSame way.sides (length held) held → IsOn way now calls held → AllAlike way.from way.to source destination calls
+all_alike : (source destination : ExportInfo) (way : Way) (now : board.Seen) (calls : List wire.Call) (held : List (Held Ticket)) → AreQuiet held → KnowBoth source destination held → AllSame way.sides (length held) held → IsOn way now calls held → AllAlike way.extents way.from way.to source destination calls
 all_alike source destination way now calls held quiet know same on = λ link given.
     let h = has_link link on.seens (λ apart. true_false (is_given link calls) given (on.all link apart)) in
     let between = on.stands.between in
@@ -202,7 +205,7 @@ all_alike source destination way now calls held quiet know same on = λ link giv
     let given' : is_given seen.link calls ≡ true = ap (λ (n : ℕ). is_given n calls) h.is ∙ given in
     let side : on.has seen.link ≡ is_source way.sides h.index = on.sided h.index seen h.there in
     let alike = each_alike source destination way.sides held on.seens quiet on.at know h.index seen same h.there in
-    let told : ToldAs (place_of way.from way.to (is_source way.sides h.index)) (info_at source destination (is_source way.sides h.index)) seen.link calls = record {
+    let told : ToldAs way.extents (place_of way.from way.to (is_source way.sides h.index)) (info_at source destination (is_source way.sides h.index)) seen.link calls = record {
       history = seen.history;
       drives = driven_at calls h.index seen held on.seens h.there on.at course.drive.drive course.drive.plain;
       address = subst (λ (b : Bool). target_of seen.link calls ≡ Some (place_of way.from way.to b).to) side (between.placed.address seen.link given');
@@ -210,12 +213,13 @@ all_alike source destination way now calls held quiet know same on = λ link giv
       other = alike.other;
       shown = alike.shown;
       same = alike.same;
+      began = subst (λ (b : Bool). WentOn (opened (place_of way.from way.to b).name (asks_extents_on seen.link way.extents calls)) seen.history) side (went_there (beginning_on way.extents way.from way.to on.has calls) on.seens h.index seen h.there on.drives.went);
     } in
-    by_side way.from way.to source destination link calls (is_source way.sides h.index) (subst (λ (n : ℕ). ToldAs (place_of way.from way.to (is_source way.sides h.index)) (info_at source destination (is_source way.sides h.index)) n calls) h.is told)
+    by_side way.extents way.from way.to source destination link calls (is_source way.sides h.index) (subst (λ (n : ℕ). ToldAs way.extents (place_of way.from way.to (is_source way.sides h.index)) (info_at source destination (is_source way.sides h.index)) n calls) h.is told)
 
 -- Where all connections stand that were made behind those that met.
 pub met_alike : (copy : copier.Seen) (start told : Option (List wire.Call)) (terms : Terms) → (met : HasMet copy start told terms) → AreQuiet copy.held → AllSame terms.sides (length copy.held) copy.held →
-    (calls : List wire.Call) → IsOn (beginning copy (Some terms.size) terms.how terms.sides) copy.board calls copy.held → AllAlike copy.from copy.to met.settled.source met.settled.destination calls
+    (calls : List wire.Call) → IsOn (beginning copy (Some terms.size) terms.how terms.sides) copy.board calls copy.held → AllAlike copy.options.extents copy.from copy.to met.settled.source met.settled.destination calls
 met_alike copy start told terms met quiet same calls on =
     all_alike met.settled.source met.settled.destination (beginning copy (Some terms.size) terms.how terms.sides) copy.board calls copy.held quiet met.know same on
 
@@ -236,14 +240,14 @@ terms_known options terms held held' same finds stand =
 later : {Is : List wire.Call → Type 0} (calls more : List wire.Call) → AtSome Is calls → AtSome Is (calls ++ more)
 later calls more is = record { before = is.before; after = is.after ++ more; are = ap (λ (l : List wire.Call). l ++ more) is.are ∙ append_assoc is.before is.after more; is = is.is }
 
-pub alike_later : (from to : Place) (source destination : ExportInfo) (calls more : List wire.Call) → ((link : ℕ) → is_given link more ≡ false) → AllAlike from to source destination calls → AllAlike from to source destination (calls ++ more)
-alike_later from to source destination calls more none all = λ link given. elim (all link (sym (given_stays link calls more (none link)) ∙ given)) [
+pub alike_later : (extents : Bool) (from to : Place) (source destination : ExportInfo) (calls more : List wire.Call) → ((link : ℕ) → is_given link more ≡ false) → AllAlike extents from to source destination calls → AllAlike extents from to source destination (calls ++ more)
+alike_later extents from to source destination calls more none all = λ link given. elim (all link (sym (given_stays link calls more (none link)) ∙ given)) [
   | inl one ↦ inl (later calls more one)
   | inr other ↦ inr (later calls more other)
 ]
 
-all_later : (from to : Place) (source destination : ExportInfo) (start a b : Option (List wire.Call)) → GivesNone a b → Told start a (AllAlike from to source destination) → Told start b (AllAlike from to source destination)
-all_later from to source destination start a b gives t = record {
+all_later : (extents : Bool) (from to : Place) (source destination : ExportInfo) (start a b : Option (List wire.Call)) → GivesNone a b → Told start a (AllAlike extents from to source destination) → Told start b (AllAlike extents from to source destination)
+all_later extents from to source destination start a b gives t = record {
   since = λ all is.
       let g = gives.on all is in
       let since = t.since g.before g.was in
@@ -252,7 +256,7 @@ all_later from to source destination start a b gives t = record {
         calls = since.calls ++ g.more;
         was = since.was;
         now = g.are ∙ ap (λ (l : List wire.Call). l ++ g.more) since.now ∙ append_assoc since.before since.calls g.more;
-        is = alike_later from to source destination since.calls g.more g.none since.is;
+        is = alike_later extents from to source destination since.calls g.more g.none since.is;
       };
 }
 
@@ -260,5 +264,5 @@ pub settled_later : (options : CopyOptions) (from to : Place) (start a b : Optio
 unfolding terms_later
 settled_later options from to start a b terms gives s = record {
   first = terms_later options from to start a b terms (record { on = λ all is. let g = gives.on all is in record { before = g.before; after = g.more; are = g.are; is = g.was } }) s.first;
-  all = all_later from to s.first.source s.first.destination start a b gives s.all;
+  all = all_later options.extents from to s.first.source s.first.destination start a b gives s.all;
 }

@@ -71,7 +71,7 @@ shared_stays options from to calls more quiet none s = record {
       destination = λ link. subst (FewOn (rounded_up s.is.terms.limit s.is.terms.sides.destination) link) (sym (dealt_stays calls more quiet none to)) (s.is.few.destination link);
     };
   };
-  all = alike_later from to s.source s.destination calls more none s.all;
+  all = alike_later options.extents from to s.source s.destination calls more none s.all;
 }
 
 pub always_stays : (options : CopyOptions) (from to : Place) → StaysIdly (IsAlwaysShared options from to)
@@ -144,7 +144,7 @@ module _ (copy : copier.Seen) (start told : Option (List wire.Call)) (well : cop
   abbrev pub AreTerms : (source destination : ExportInfo) → Type 0
   AreTerms source destination = AreSettledBy copy.options source destination on.job.terms × IsLimited copy.options on.job.terms
 
-  pub way_settled : Told start told (Settled copy.from copy.to AreTerms)
+  pub way_settled : Told start told (Settled copy.options.extents copy.from copy.to AreTerms)
   way_settled =
       settled_with (λ source destination calls. AreTerms source destination) copy.options copy.from copy.to start told on.job.terms on.settled
       (told_as start told (λ calls is. (on.settled.first.settled, on.limited)) on.on)
@@ -172,7 +172,7 @@ module _ (copy : copier.Seen) (start told : Option (List wire.Call)) (well : cop
         go true parts one f = over_few (rounded_up on.job.terms.limit on.job.terms.sides.source) (rounded_up on.job.terms.limit on.job.terms.sides.destination) true on.way copy.board calls front copy.held one well f (on.is.over (past_copying on.job.phase parts)).rows
         go false held one f = front_few on.way copy.board calls front copy.held one well f apart (rounded_up on.job.terms.limit on.job.terms.sides.source) (rounded_up on.job.terms.limit on.job.terms.sides.destination) sources destinations
 
-    shared_in_turn : Settled copy.from copy.to AreTerms calls → IsShared copy.options copy.from copy.to (calls ++ front)
+    shared_in_turn : Settled copy.options.extents copy.from copy.to AreTerms calls → IsShared copy.options copy.from copy.to (calls ++ front)
     shared_in_turn s = record {
       source = s.source;
       destination = s.destination;
@@ -180,12 +180,12 @@ module _ (copy : copier.Seen) (start told : Option (List wire.Call)) (well : cop
       shown' = some_longer calls front s.shown';
       none = s.none;
       is = record { terms = on.job.terms; settled = s.is.0; limited = s.is.1; few = few_in_turn };
-      all = alike_later copy.from copy.to s.source s.destination calls front is_front.none s.all;
+      all = alike_later copy.options.extents copy.from copy.to s.source s.destination calls front is_front.none s.all;
     }
 
   -- So it is after a turn, whole or short, where it was so before.
   pub always_turned : (calls part : List wire.Call) (now : board.Seen) (after : List (Seen Ticket)) (ending : Ending) → (is : IsUnderWay (work.is_parting on.job.phase) on.way copy.board calls copy.held) → Turns steps is.seens copy.board part after now ending →
-      Settled copy.from copy.to AreTerms calls → IsAlwaysShared copy.options copy.from copy.to calls → IsAlwaysShared copy.options copy.from copy.to (calls ++ part)
+      Settled copy.options.extents copy.from copy.to AreTerms calls → IsAlwaysShared copy.options copy.from copy.to calls → IsAlwaysShared copy.options copy.from copy.to (calls ++ part)
   always_turned calls part now after ending is turns settled always = record { each = λ front rest are. go front rest (cut calls part front rest are) }
     where
       go : (front rest : List wire.Call) → InFirst calls front ⊎ InSecond calls part front rest → NothingWasAsked front ⊎ IsShared copy.options copy.from copy.to front

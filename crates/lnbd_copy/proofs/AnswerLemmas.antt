@@ -41,7 +41,7 @@ module _ (way : Way) (size : ℕ) (has : ℕ → Bool) (now : board.Seen) (calls
   sized = subst (λ (o : Option ℕ). Between way.from way.to o way.how has way.slices now calls []) settled s.between
 
   -- what is not planned yet is not read
-  unread_behind : (rest : List Slice) (cells : Cells) (told : ℕ → Bool) (end : ℕ) → ((p : ℕ) → IsPlannedOnce cells told 0 end p (way.slices ++ rest)) → (p : ℕ) → end ≤ p → IsUnread (dealt_with way.from calls) p
+  pub unread_behind : (rest : List Slice) (cells : Cells) (told : ℕ → Bool) (end : ℕ) → ((p : ℕ) → IsPlannedOnce cells told 0 end p (way.slices ++ rest)) → (p : ℕ) → end ≤ p → IsUnread (dealt_with way.from calls) p
   unread_behind rest cells told end planned p behind =
       nothing_is_read_behind way.from way.how has way.slices rest now calls cells told end sized.course well (links_are_of_sides way.from way.to size way.how has way.slices now calls sized two).0.source planned p behind
 
@@ -69,7 +69,7 @@ module _ (way : Way) (size : ℕ) (has : ℕ → Bool) (now : board.Seen) (calls
   }
 
 -- asking begins where it is to go on
-wanted_starts : (planned : windows.Seen) (range : ℕ × ℕ) → windows.wanted planned ≡ Some range → range.0 ≡ planned.at
+pub wanted_starts : (planned : windows.Seen) (range : ℕ × ℕ) → windows.wanted planned ≡ Some range → range.0 ≡ planned.at
 wanted_starts planned range = elim (nat_lt planned.at (windows.window_end planned)) as (λ b. (if b then Some (planned.at, windows.window_end planned - planned.at) else None) ≡ Some range → range.0 ≡ planned.at) [
   | true ↦ λ e. sym (ap (λ (r : ℕ × ℕ). r.0) (some_same (planned.at, windows.window_end planned - planned.at) range e))
   | false ↦ λ e. absurd (none_some range e)
@@ -82,7 +82,7 @@ wanted_starts planned range = elim (nat_lt planned.at (windows.window_end planne
     none_some other e = cc
 
 -- The extents that were asked for were answered: their range may be read.
-pub range_may_be_read : (way : Way) (size : ℕ) (planned : windows.Seen) (told : ℕ → Bool) (now : board.Seen) (calls : List wire.Call) (held : List (Held Ticket)) → way.size ≡ Some size → way.asked ≡ windows.wanted planned → IsHeardTo planned way.heard →
+pub range_may_be_read : (way : Way) (size : ℕ) (planned : windows.Seen) (told : ℕ → Bool) (now : board.Seen) (calls : List wire.Call) (held : List (Held Ticket)) → way.size ≡ Some size → way.asked ≡ windows.wanted planned → IsHeardTo planned (way.heard planned.grain) →
     ((p : ℕ) → IsPlannedOnce planned.plan.cells told 0 planned.plan.end p (way.slices ++ planned.plan.slices)) → now.mapped ≡ true → (on : IsOn way now calls held) → now.error ≡ None → way.from ≢ way.to →
     (p : ℕ) → has_position way.asked p ≡ true → MayBeRead way.extents way.from p calls
 range_may_be_read way size planned told now calls held settled asked heard once mapped on well two p inside = go way.asked refl inside

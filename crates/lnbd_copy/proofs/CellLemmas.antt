@@ -61,7 +61,7 @@ cells_stay options from to calls more quiet none kept = record {
   is =
       subst (λ (d : Dealt). AreInCells (both.cell options kept.source kept.destination) (both.zero_cell options kept.source kept.destination) d (dealt_with to (calls ++ more))) (sym (dealt_stays calls more quiet none from))
       (subst (λ (d : Dealt). AreInCells (both.cell options kept.source kept.destination) (both.zero_cell options kept.source kept.destination) (dealt_with from calls) d) (sym (dealt_stays calls more quiet none to)) kept.is);
-  all = alike_later from to kept.source kept.destination calls more none kept.all;
+  all = alike_later options.extents from to kept.source kept.destination calls more none kept.all;
 }
 
 -- A turn, whole or short.

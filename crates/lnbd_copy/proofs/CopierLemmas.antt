@@ -23,6 +23,8 @@ use Rattle.lnbd_copy.specs.Limit.{IsLimited}
 use Rattle.lnbd_copy.specs.Opening.{Dials, place_of}
 use Rattle.lnbd_copy.specs.Alike.{AllAlike}
 use Rattle.lnbd_copy.specs.Firsts.{KnowBoth}
+use Rattle.lnbd_copy.specs.Grounds.{Drove, IsShown}
+use Rattle.lnbd_copy.specs.Lasting.{AtSome}
 use Rattle.lnbd_copy.specs.Settled.{AreSettledBy, HasTerms, HasSettled}
 use Rattle.lnbd_copy.specs.Statuses.{FirstAgreedNone}
 use Rattle.lnbd_copy.specs.Way.{Goes, IsOn, IsUnderWay, Stand, Told, Way, is_source}
@@ -65,7 +67,7 @@ module _ (copy : Seen) (sides : Sides) (first : ℕ) where
   further_dials place extents now now' held held2 held3 a b c further dials unasked some there = record {
     stand = λ s. dials.stand (further.stand s);
     filed = further.filed;
-    on = λ size how start s count on. dials.on (beginning copy size how sides) start (there count size how) (λ none. absurd (some count none)) (λ asks. absurd (false≢true (sym unasked ∙ asks))) (further.on size how start s count on);
+    on = λ size how start s count on. dials.on (beginning copy size how sides) start (there count size how) (λ none. absurd (some count none)) (λ asks. absurd (false≢true (sym unasked ∙ asks))) refl (further.on size how start s count on);
     lasts = λ s. lasts_then a b c (further.lasts s) dials.lasts;
     know = λ source destination both. dials.know source destination (further.know source destination both);
     connected = λ s. connected_then a b c (further.connected s) dials.connected;
@@ -104,7 +106,7 @@ pub to_second : (copy : Seen) (how : How) (sides : Sides) (n : ℕ) → n ≡ 1 
 to_second copy how sides n is = ap (λ (m : ℕ). place_of (beginning copy None how sides) m) is
 
 pub begins_on : (copy : Seen) (how : How) (sides : Sides) → HasNotBegun copy → IsOn (beginning copy None how sides) copy.board [] copy.held
-begins_on copy how sides none = subst (λ (held : List (Held Ticket)). IsOn (beginning copy None how sides) copy.board [] held) (sym none.held) (nothing_is_on (beginning copy None how sides) copy.board refl refl refl (λ p. refl) none.rows none.begun none.uncounted refl (λ p. refl) refl)
+begins_on copy how sides none = subst (λ (held : List (Held Ticket)). IsOn (beginning copy None how sides) copy.board [] held) (sym none.held) (nothing_is_on (beginning copy None how sides) copy.board refl refl refl (λ p. refl) none.rows none.begun none.uncounted refl (λ grain p. refl) refl)
 
 -- The first two handles agreed on the source's size.
 agreed_on : (copy : Seen) (size : ℕ) (how : How) (sides : Sides) (calls : List wire.Call) → Agrees size copy.held → IsOn (beginning copy None how sides) copy.board calls copy.held → IsOn (beginning copy (Some size) how sides) copy.board calls copy.held
@@ -127,12 +129,14 @@ agreed_on copy size how sides calls agrees on =
       drives = on.drives;
       ends = on.ends;
       order = on.order;
+      queried = on.queried;
+      flushes = on.flushes;
     }
 
 pub first_on : (copy : Seen) (h : List (Held Ticket)) (t u : Option (List wire.Call)) (how : How) (sides : Sides) → HasNotBegun copy → Dials copy.from copy.options.extents copy.board copy.held t h u → Told t u (λ calls. IsOn (beginning copy None how sides) copy.board calls h)
 first_on copy h t u how sides none first =
     let none_held : length copy.held ≡ 0 = ap (λ (l : List (Held Ticket)). length l) none.held in
-    first.on (beginning copy None how sides) t (from_first copy how sides (length copy.held) none_held) (λ empty. refl) (λ asks. none_held) (told_begins t (begins_on copy how sides none))
+    first.on (beginning copy None how sides) t (from_first copy how sides (length copy.held) none_held) (λ empty. refl) (λ asks. none_held) refl (told_begins t (begins_on copy how sides none))
 
 pub one_some : (n : ℕ) → n ≡ 1 → n ≢ 0
 one_some n one none = absurd (omega (arith, one, none))
@@ -148,7 +152,7 @@ second_on copy b h i j t u v w how sides none first one second =
     let way = beginning copy None how sides in
     let s1 = first.stand (no_handles copy none) in
     let one_held : length i ≡ 1 = one.many s1 ∙ first.many ∙ ap (λ (n : ℕ). n + 1) (ap (λ (l : List (Held Ticket)). length l) none.held) in
-    (second.stand (one.stand s1), second.on way t (to_second copy how sides (length i) one_held) (λ none. absurd (one_some (length i) one_held none)) (λ asks. absurd (false≢true asks)) (one.on false way t s1 (first_on copy h t u how sides none first)))
+    (second.stand (one.stand s1), second.on way t (to_second copy how sides (length i) one_held) (λ none. absurd (one_some (length i) one_held none)) (λ asks. absurd (false≢true asks)) refl (one.on false way t s1 (first_on copy h t u how sides none first)))
 
 -- Each connect gave a link.
 pub one_connects : (copy : Seen) (b : board.Seen) (h i : List (Held Ticket)) (t u v : Option (List wire.Call)) → HasNotBegun copy → Dials copy.from copy.options.extents copy.board copy.held t h u → Goes copy.board h u b i v → Told t v AllConnected
@@ -200,8 +204,8 @@ terms_as : (options options' : CopyOptions) (from to : Place) (start told : Opti
 terms_as options options' from to start told terms same s = record {
   source = s.source;
   destination = s.destination;
-  shown = s.shown;
-  shown' = s.shown';
+  shown = subst (λ (o : CopyOptions). Told start told (AtSome (Drove o.extents from (IsShown s.source)))) same s.shown;
+  shown' = subst (λ (o : CopyOptions). Told start told (AtSome (Drove o.extents to (IsShown s.destination)))) same s.shown';
   none = s.none;
   settled = subst (λ (o : CopyOptions). AreSettledBy o s.source s.destination terms) same s.settled;
 }
@@ -290,7 +294,7 @@ further_kept copy mid sides first now now' held held' a b kept further =
     record { stand = same.stand; filed = same.filed; on = λ size how start s count on. same.on size how start s count on; lasts = same.lasts; know = same.know; connected = same.connected }
 
 -- Where no extents may be asked for, every position counts as heard.
-all_heard : (way : Way) (extents flush : Bool) (now : board.Seen) (calls : List wire.Call) (held : List (Held Ticket)) → (extents ≡ false → FirstAgreedNone way.extents way.from calls) → way.ended ≡ false → IsOn way now calls held → IsOn (record way { heard = λ p. not extents; flush = flush }) now calls held
+all_heard : (way : Way) (extents flush : Bool) (now : board.Seen) (calls : List wire.Call) (held : List (Held Ticket)) → (extents ≡ false → FirstAgreedNone way.extents way.from calls) → way.ended ≡ false → IsOn way now calls held → IsOn (record way { heard = λ grain p. not extents; flush = flush }) now calls held
 all_heard way extents flush now calls held silent unended on = record {
   has = on.has;
   seens = on.seens;
@@ -300,11 +304,13 @@ all_heard way extents flush now calls held silent unended on = record {
   stands = record { between = on.stands.between; told = on.stands.told };
   rest = on.rest;
   all = on.all;
-  hears = record { answered = λ well two p h. inr (silent (not_true extents h)); first = on.hears.first; begun = on.hears.begun };
+  hears = record { answered = λ well two grain p h. inr (silent (not_true extents h)); first = on.hears.first; begun = on.hears.begun; passed = λ well two grain p h. inr (silent (not_true extents h)) };
   bound = on.bound;
   drives = on.drives;
   ends = ended_wanting way.extents way.how.skip way.how.skip way.flush flush way.from way.to calls way.ended on.seens unended on.ends;
   order = on.order;
+  queried = on.queried;
+  flushes = on.flushes;
 }
   where
     not_true : (b : Bool) → not b ≡ true → b ≡ false
@@ -314,12 +320,12 @@ all_heard way extents flush now calls held silent unended on = record {
 -- What is settled begins.
 pub begins_job : (copy : Seen) (start told : Option (List wire.Call)) (terms : Terms) (j : job.Seen) (now : board.Seen) (extents : Bool) → (met : HasMet copy start told terms) → copy.board.error ≡ None → now.rows ≡ [] → now.begun ≡ 0 → HasNotCounted now → now.how ≡ terms.how → j.terms ≡ terms → j.phase ≡ Copying → AreDealt terms.limit terms.sides j.bound [] →
     (extents ≡ false → (calls : List wire.Call) → IsOn (beginning copy (Some terms.size) terms.how terms.sides) copy.board calls copy.held → FirstAgreedNone copy.options.extents copy.from calls) →
-    ((calls : List wire.Call) → IsOn (beginning copy (Some terms.size) terms.how terms.sides) copy.board calls copy.held → AllAlike copy.from copy.to met.settled.source met.settled.destination calls) →
-    ((way : Way) (b : board.Seen) → way.size ≡ Some terms.size → b.how ≡ terms.how → way.how ≡ terms.how → way.sides ≡ terms.sides → way.slices ≡ [] → way.asked ≡ None → ((block p : ℕ) → way.whole block p ≡ false) → b.flushing ≡ false → (extents ≡ false → (p : ℕ) → way.heard p ≡ true) → ((p : ℕ) → way.reach p ≡ false) → way.ended ≡ false → way.flush ≡ terms.flush → job.IsJob j way b) →
+    ((calls : List wire.Call) → IsOn (beginning copy (Some terms.size) terms.how terms.sides) copy.board calls copy.held → AllAlike copy.options.extents copy.from copy.to met.settled.source met.settled.destination calls) →
+    ((way : Way) (b : board.Seen) → way.size ≡ Some terms.size → b.how ≡ terms.how → way.how ≡ terms.how → way.sides ≡ terms.sides → way.slices ≡ [] → way.asked ≡ None → ((block p : ℕ) → way.whole block p ≡ false) → b.flushing ≡ false → (extents ≡ false → (grain p : ℕ) → way.heard grain p ≡ true) → ((p : ℕ) → way.reach p ≡ false) → way.ended ≡ false → way.flush ≡ terms.flush → way.queries ≡ 0 → job.IsJob j way b) →
     IsOnItsWay start told (record copy { board = now; job = Some j })
 begins_job copy start told terms j now extents met well empty new uncounted writes same copying dealt silent alike is =
     let before = beginning copy (Some terms.size) terms.how terms.sides in
-    let way : Way = record before { heard = λ p. not extents; flush = terms.flush } in
+    let way : Way = record before { heard = λ grain p. not extents; flush = terms.flush } in
     record {
       stand = met.stand;
       job = j;
@@ -331,7 +337,7 @@ begins_job copy start told terms j now extents met well empty new uncounted writ
       wished = subst (IsWished copy.options) (sym same) met.wished;
       limited = subst (IsLimited copy.options) (sym same) met.limited;
       most = subst (λ (rows : List (ℕ × Row)). length rows ≤ j.terms.limit) (sym empty) (omega arith);
-      is = is way now refl writes refl refl refl refl (λ block p. refl) uncounted.flushing (λ none p. ap not none) (λ p. refl) refl refl;
+      is = is way now refl writes refl refl refl refl (λ block p. refl) uncounted.flushing (λ none grain p. ap not none) (λ p. refl) refl refl refl;
       on = told_as start told
           (λ calls on. subst (λ (p : Bool). IsUnderWay p way now calls copy.held) (sym (ap job.is_parting copying))
           (settled way terms.how copy.board now calls copy.held refl refl refl met.blank.rows well met.blank.unflushed empty new uncounted (all_heard before extents terms.flush copy.board calls copy.held (λ none. silent none calls on) refl on)))

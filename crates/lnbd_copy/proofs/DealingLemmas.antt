@@ -3,6 +3,7 @@ use Rattle.std.proofs.Common.{◌≡◌, ◌<◌, ℕ, ◌+◌, ◌-◌, ◌^◌
 use Rattle.std.proofs.lemmas.Bool.{false≢true}
 use Rattle.std.proofs.lemmas.List.{append-nil, append_assoc}
 use Rattle.std.proofs.lemmas.Result.{on_ok_weaker}
+use Rattle.lnbd_model.specs.Kind.{is_status}
 use Rattle.lnbd_handle.specs.Issues.{read_of}
 use Rattle.lnbd_history.specs.Commands.{Command}
 use Rattle.lnbd_history.specs.Events.{Issue}
@@ -22,7 +23,7 @@ use Rattle.lnbd_board.specs.Asks as asks
 use Rattle.lnbd_board.specs.Board.{AsksOn, EndsRow, IsNext, begun_with, looked_at}
 use Rattle.lnbd_board.specs.Files as board
 use Rattle.lnbd_tracks.specs.Mapping.{ToldAlike, asks_extents}
-use Rattle.lnbd_course.specs.Counted.{CountsFirst}
+use Rattle.lnbd_course.specs.Counted.{CountsFirst, is_flush}
 use Rattle.lnbd_course.specs.Laws.{AsksDestination}
 use Rattle.lnbd_course.specs.Orders.{command_of}
 use Rattle.lnbd_course.specs.Taken.{without_buffer}
@@ -62,6 +63,16 @@ change_tells_none : (n : ℕ) (one : Change) → asks_extents (Issue (without_bu
 change_tells_none n (change.Write offset bytes) = refl
 change_tells_none n (change.Zero offset size flags) = refl
 
+-- nor does it ask for any
+change_asks_none : (n : ℕ) (one : Change) → is_status (without_buffer (command_of n one)).kind ≡ false
+change_asks_none n (change.Write offset bytes) = refl
+change_asks_none n (change.Zero offset size flags) = refl
+
+-- nor is it a flush
+change_flushes_none : (n : ℕ) (one : Change) → is_flush (without_buffer (command_of n one)).kind ≡ false
+change_flushes_none n (change.Write offset bytes) = refl
+change_flushes_none n (change.Zero offset size flags) = refl
+
 -- its callback is that of the slice
 change_of : (n : ℕ) (one : Change) → (without_buffer (command_of n one)).done ≡ ticket.Slice n
 change_of n (change.Write offset bytes) = refl
@@ -93,24 +104,24 @@ module _ (how : How) (sides : Sides) where
 
   pub on_asks : (n destination : ℕ) (one : Change) (old new : board.Seen) (held held' : List (Held Ticket)) → AsksOn how n destination one old new → IsAskedOf sides false destination (command_of n one) held held' → Keeps how sides [] old new held held'
   on_asks n destination one old new held held' goes asked =
-      destination_keeps how sides [] (command_of n one) old new held held' (no_more old.begun new.begun (ap (λ (s : board.Seen). s.begun) goes.now)) (change_tells_none n one) (alike_of old new (ap (λ (s : board.Seen). s.told) goes.now) (ap (λ (s : board.Seen). s.mapped) goes.now) (ap (λ (s : board.Seen). s.short) goes.now))
+      destination_keeps how sides [] (command_of n one) old new held held' (no_more old.begun new.begun (ap (λ (s : board.Seen). s.begun) goes.now)) (change_tells_none n one) (change_asks_none n one) (alike_of old new (ap (λ (s : board.Seen). s.told) goes.now) (ap (λ (s : board.Seen). s.mapped) goes.now) (ap (λ (s : board.Seen). s.short) goes.now))
       (λ slices count. subst (λ (more : List Slice). AsksDestination how (without_buffer (command_of n one)) slices more old new) (sym (append-nil slices))
       (going_asks how n one slices old new (λ none. sym (ap (λ (s : board.Seen). s.error) goes.now) ∙ none)
       (record { read = ap (λ (s : board.Seen). s.read) goes.now; written = ap (λ (s : board.Seen). s.written) goes.now; zeroed = ap (λ (s : board.Seen). s.zeroed) goes.now; flushing = ap (λ (s : board.Seen). s.flushing) goes.now; flushed = ap (λ (s : board.Seen). s.flushed) goes.now }) goes.goes))
       destination
       (subst (λ (c : ℕ). Binds false c (without_buffer (command_of n one)).done old new) (sym goes.writes)
       (subst (λ (t : Ticket). Binds false goes.row.destination t old new) (sym (change_of n one)) (binds_on n goes.row goes.stage old new goes.held (ap (λ (s : board.Seen). s.rows) goes.now))))
-      asked
+      asked (λ flushes. absurd (false≢true (sym (change_flushes_none n one) ∙ flushes)))
 
   pub first_keeps : (slice : Slice) (row : Row) (one : Ask) (old new : board.Seen) (held held' : List (Held Ticket)) → new.begun ≡ old.begun + 1 → new.error ≡ old.error → CountsFirst one old new → ToldAlike old new →
       asks.Begins how slice old.begun one old.rows new.rows → new.rows ≡ old.rows ++ (old.begun, row) ∷ [] → IsAskedFirst sides row.source row.destination old.begun one held held' → Keeps how sides (slice ∷ []) old new held held'
   first_keeps slice row (ask.Read offset buf) old new held held' begun error counts alike begins rows asked =
-      source_keeps how sides (slice ∷ []) (read_of asked.bytes offset (ticket.Slice old.begun) 0) old new held held' begun refl alike
-      (λ slices count. beginning_asks how slice old.begun (ask.Read offset buf) slices old new count (λ none. sym error ∙ none) counts begins asked.bytes asked.many) row.source (binds_first true row old new rows) asked.asked
+      source_keeps how sides (slice ∷ []) (read_of asked.bytes offset (ticket.Slice old.begun) 0) old new held held' begun refl refl alike
+      (λ slices count. beginning_asks how slice old.begun (ask.Read offset buf) slices old new count (λ none. sym error ∙ none) counts begins asked.bytes asked.many) row.source (binds_first true row old new rows) asked.asked (λ flushes. absurd (false≢true flushes))
   first_keeps slice row (ask.Change one) old new held held' begun error counts alike begins rows asked =
-      destination_keeps how sides (slice ∷ []) (command_of old.begun one) old new held held' begun (change_tells_none old.begun one) alike
+      destination_keeps how sides (slice ∷ []) (command_of old.begun one) old new held held' begun (change_tells_none old.begun one) (change_asks_none old.begun one) alike
       (λ slices count. beginning_asks how slice old.begun (ask.Change one) slices old new count (λ none. sym error ∙ none) counts begins)
-      row.destination (subst (λ (t : Ticket). Binds false row.destination t old new) (sym (change_of old.begun one)) (binds_first false row old new rows)) asked
+      row.destination (subst (λ (t : Ticket). Binds false row.destination t old new) (sym (change_of old.begun one)) (binds_first false row old new rows)) asked (λ flushes. absurd (false≢true (sym (change_flushes_none old.begun one) ∙ flushes)))
 
 -- the same with what the calls answered
 pub asks_keeps : (how : How) (sides sides' : Sides) (n destination : ℕ) (one : Change) (told : Next) (old mid new : board.Seen) (held held' : List (Held Ticket)) → sides' ≡ sides → told ≡ next.Asks n destination one →

@@ -43,13 +43,15 @@ use Rattle.lnbd_copy.proofs.ConnectedLemmas.{connected_adds}
 use Rattle.lnbd_copy.proofs.FirstLemmas.{more_knowing}
 use Rattle.lnbd_copy.proofs.DrivenLemmas.{drive_dialed}
 use Rattle.lnbd_copy.proofs.OrderLemmas.{ordered_dialed}
+use Rattle.lnbd_copy.proofs.FlushedLemmas.{second_dialed}
+use Rattle.lnbd_copy.proofs.QueriedLemmas.{queried_dialed}
 use Rattle.lnbd_copy.proofs.UnendedLemmas.{ended_begins, ended_dialed, ended_wanting}
 use Rattle.lnbd_copy.proofs.HeardLemmas.{hears_dialed, hears_on}
 use Rattle.lnbd_copy.proofs.StepLemmas.{nothing_stands, settling_stands}
 use Rattle.lnbd_copy.proofs.TurnLemmas.{at_count, rested_on, none_some, since_on, some_same}
 
 -- Before any call a copy without handles, whose board is empty, is on its way.
-pub nothing_is_on : (way : Way) (now : board.Seen) → way.size ≡ None → way.slices ≡ [] → way.asked ≡ None → ((p : ℕ) → way.zero p ≡ false) → now.rows ≡ [] → now.begun ≡ 0 → HasNotCounted now → way.rested ≡ None → ((p : ℕ) → way.heard p ≡ false) → way.ended ≡ false → IsOn way now [] []
+pub nothing_is_on : (way : Way) (now : board.Seen) → way.size ≡ None → way.slices ≡ [] → way.asked ≡ None → ((p : ℕ) → way.zero p ≡ false) → now.rows ≡ [] → now.begun ≡ 0 → HasNotCounted now → way.rested ≡ None → ((grain p : ℕ) → way.heard grain p ≡ false) → way.ended ≡ false → IsOn way now [] []
 nothing_is_on way now unsettled none unasked unknown empty new uncounted unrested unheard unended = record {
   has = λ link. false;
   seens = [];
@@ -59,11 +61,13 @@ nothing_is_on way now unsettled none unasked unknown empty new uncounted unreste
   stands = nothing_stands way (λ link. false) now unsettled none unasked unknown empty uncounted;
   rest = subst (λ (o : Option board.Seen). HasRested way.from way.to way.size o []) (sym unrested) tt;
   all = λ link apart. refl;
-  hears = record { answered = λ well two p h. absurd (false≢true (sym (unheard p) ∙ h)); first = refl; begun = tt };
+  hears = record { answered = λ well two grain p h. absurd (false≢true (sym (unheard grain p) ∙ h)); first = refl; begun = tt; passed = λ well two grain p h. absurd (false≢true (sym (unheard grain p) ∙ h)) };
   bound = bound_none way.sides now [] empty;
   drives = record { went = tt; left = λ link apart given. absurd (false≢true given); first = λ link is. absurd (none_some link is) };
   ends = ended_begins way.extents way.how.skip way.flush way.from way.to [] way.ended unended;
   order = refl;
+  queried = tt;
+  flushes = tt;
 }
 
 -- Another board, of a copy that writes otherwise, takes the place of one that is empty, before any slice is begun.
@@ -83,6 +87,8 @@ settled way how now now' calls held unended none unasked empty well unflushed em
   drives = on.drives;
   ends = ended_wanting way.extents way.how.skip how.skip way.flush way.flush way.from way.to calls way.ended on.seens unended on.ends;
   order = on.order;
+  queried = on.queried;
+  flushes = on.flushes;
 }
 
 -- The last of some handles.
@@ -183,9 +189,9 @@ side_place way n place is = is
 
 -- With a handle more, on a link that was just made, a copy is on its way.
 dialed : (way : Way) (now : board.Seen) (calls : List wire.Call) (held : List (Held Ticket)) (place : Place) (link : ℕ) (extents : Bool) (handle : Machine Ticket)
-    → place_of way (length held) ≡ place → (length held ≡ 0 → way.extents ≡ extents) → (extents ≡ true → length held ≡ 0) → IsOn way now calls held → is_given link calls ≡ false → length place.name ≤ max_text → StandsFor max_unretired (opened place.name extents) handle
+    → place_of way (length held) ≡ place → (length held ≡ 0 → way.extents ≡ extents) → (extents ≡ true → length held ≡ 0) → way.ended ≡ false → IsOn way now calls held → is_given link calls ≡ false → length place.name ≤ max_text → StandsFor max_unretired (opened place.name extents) handle
     → IsOn way now (calls ++ wire.Connect place.to (Some link) ∷ []) (held ++ record { link = link; handle = handle; inbox = [] } ∷ [])
-dialed way now calls held place link extents handle there wants only on new short stands =
+dialed way now calls held place link extents handle there wants only unended on new short stands =
     let side = is_source way.sides (length on.seens) in
     let history = opened place.name extents in
     let last : Seen Ticket = record { link = link; history = history; unread = [] } in
@@ -209,8 +215,10 @@ dialed way now calls held place link extents handle there wants only on new shor
       bound = bound_more way.sides now on.seens last (opened_asks place.name extents) (last_or on.seens last) on.bound;
       drives = drive_dialed way.extents way.from way.to on.has calls place.to link side on.seens place extents at_place (λ none. ap (is_source way.sides) none) (on.stands.told.course.unused link new).apart on.hears.first
           (λ none. wants (at_count held on.seens on.at ∙ none)) (λ asks. sym (at_count held on.seens on.at) ∙ only asks) (held_more calls place.to link on.seens last refl on.all) on.drives;
-      ends = ended_dialed way.extents way.how.skip way.flush way.from way.to calls (wire.Connect place.to (Some link) ∷ []) way.ended false on.seens link place.name extents on.ends;
+      ends = ended_dialed way.extents way.how.skip way.flush way.from way.to calls (wire.Connect place.to (Some link) ∷ []) way.ended on.seens link place.name extents unended on.ends;
       order = ordered_dialed (is_source way.sides) on.has (with_link link side on.has) calls place.to on.seens last on.order;
+      queried = queried_dialed way.queries on.seens link place.name extents on.queried;
+      flushes = second_dialed calls place.to on.seens link place.name extents on.flushes;
     }
   where
     began_first : length on.seens ≡ 0 → length held ≡ length on.seens → BeganAs (opened way.from.name way.extents) (opened place.name extents)
@@ -238,12 +246,12 @@ dials a b c place now held held' link extents handle adds fresh told_is short st
     subst (λ (t : Option (List wire.Call)). Dials place extents now held a held' t) (sym told_is) (subst (λ (l : List (Held Ticket)). Dials place extents now held a l b) (sym held_is) (record {
       stand = λ s. record { seens = s.seens ++ record { link = link; history = opened place.name extents; unread = [] } ∷ []; at = last_at held s.seens link handle (opened place.name extents) s.at stands };
       many = count_more held (record { link = link; handle = handle; inbox = [] });
-      on = λ way start is wants only told. record {
+      on = λ way start is wants only unended told. record {
         since = λ all told_all.
             let grown = adds all told_all in
             let since = told.since grown.0 grown.1 in
             let free = last_free link since.before since.calls (subst (λ (l : List wire.Call). is_given link l ≡ false) since.now (fresh grown.0 grown.1)) in
-            since_on start grown.0 all (wire.Connect place.to (Some link) ∷ []) grown.2 since (dialed way now since.calls held place link extents handle is wants only since.is free short stands);
+            since_on start grown.0 all (wire.Connect place.to (Some link) ∷ []) grown.2 since (dialed way now since.calls held place link extents handle is wants only unended since.is free short stands);
       };
       lasts = lasts_adds a b (wire.Connect place.to (Some link)) adds;
       know = λ source destination both.

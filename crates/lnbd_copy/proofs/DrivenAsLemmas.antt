@@ -38,13 +38,13 @@ use Rattle.lnbd_copy.proofs.TurnLemmas.{told_begins, told_map}
 -- Calls that read and write no link, and give none.
 
 told_longer : (options : CopyOptions) (from to : Place) (sides : Sides) (calls more : List wire.Call) → ((link : ℕ) → is_given link more ≡ false) →
-    (length (given_links calls) ≤ 2) ⊎ IsToldFirst from to (λ source destination. sides ≡ both.sides_by options source destination) calls →
-    (length (given_links (calls ++ more)) ≤ 2) ⊎ IsToldFirst from to (λ source destination. sides ≡ both.sides_by options source destination) (calls ++ more)
+    (length (given_links calls) ≤ 2) ⊎ IsToldFirst options.extents from to (λ source destination. sides ≡ both.sides_by options source destination) calls →
+    (length (given_links (calls ++ more)) ≤ 2) ⊎ IsToldFirst options.extents from to (λ source destination. sides ≡ both.sides_by options source destination) (calls ++ more)
 told_longer options from to sides calls more none (inl few) = inl (subst (λ (l : List ℕ). length l ≤ 2) (sym (same_given calls more none)) few)
 told_longer options from to sides calls more none (inr told) = inr (record { source = told.source; destination = told.destination; shown = some_longer calls more told.shown; shown' = some_longer calls more told.shown'; none = told.none; is = told.is })
 
-wanted_longer : (options : CopyOptions) (from to : Place) (flush : Bool) (calls more : List wire.Call) → (flush ≡ true) ⊎ IsToldFirst from to (λ source destination. flush ≡ (options.flush && both.takes_flush destination)) calls →
-    (flush ≡ true) ⊎ IsToldFirst from to (λ source destination. flush ≡ (options.flush && both.takes_flush destination)) (calls ++ more)
+pub wanted_longer : (options : CopyOptions) (from to : Place) (flush : Bool) (calls more : List wire.Call) → (flush ≡ true) ⊎ IsToldFirst options.extents from to (λ source destination. flush ≡ (options.flush && both.takes_flush destination)) calls →
+    (flush ≡ true) ⊎ IsToldFirst options.extents from to (λ source destination. flush ≡ (options.flush && both.takes_flush destination)) (calls ++ more)
 wanted_longer options from to flush calls more (inl is) = inl is
 wanted_longer options from to flush calls more (inr told) = inr (record { source = told.source; destination = told.destination; shown = some_longer calls more told.shown; shown' = some_longer calls more told.shown'; none = told.none; is = told.is })
 

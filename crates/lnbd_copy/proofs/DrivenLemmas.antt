@@ -37,7 +37,7 @@ on_event first event history may went = record { since = event ∷ went.since; a
 -- Handles.
 
 -- they began as links of theirs say that are those but for one
-went_as : (first first' : ℕ → History Ticket) (link : ℕ) (seens : List (Seen Ticket)) → ((n : ℕ) → n ≢ link → first' n ≡ first n) → AreApart link seens → AllWentOn first seens → AllWentOn first' seens
+pub went_as : (first first' : ℕ → History Ticket) (link : ℕ) (seens : List (Seen Ticket)) → ((n : ℕ) → n ≢ link → first' n ≡ first n) → AreApart link seens → AllWentOn first seens → AllWentOn first' seens
 went_as first first' link [] same apart went = tt
 went_as first first' link (seen ∷ others) same apart went =
     (subst (λ (h : History Ticket). WentOn h seen.history) (sym (same seen.link apart.0)) went.0, went_as first first' link others same apart.1 went.1)
@@ -50,22 +50,22 @@ went_more : (first : ℕ → History Ticket) (seens : List (Seen Ticket)) (last 
 went_more first [] last went one = (one, tt)
 went_more first (seen ∷ others) last went one = (went.0, went_more first others last went.1 one)
 
-went_event : (first : ℕ → History Ticket) (index : ℕ) (event : Event Ticket) (seens : List (Seen Ticket)) → may_come event ≡ true → AllWentOn first seens → AllWentOn first (with_event index event seens)
+pub went_event : (first : ℕ → History Ticket) (index : ℕ) (event : Event Ticket) (seens : List (Seen Ticket)) → may_come event ≡ true → AllWentOn first seens → AllWentOn first (with_event index event seens)
 went_event first index event [] may went = tt
 went_event first zero event (seen ∷ others) may went = (on_event (first seen.link) event seen.history may went.0, went.1)
 went_event first (suc index) event (seen ∷ others) may went = (went.0, went_event first index event others may went.1)
 
-went_joined : (first : ℕ → History Ticket) (one other : List (Seen Ticket)) → AllWentOn first one → AllWentOn first other → AllWentOn first (one ++ other)
+pub went_joined : (first : ℕ → History Ticket) (one other : List (Seen Ticket)) → AllWentOn first one → AllWentOn first other → AllWentOn first (one ++ other)
 went_joined first [] other a b = b
 went_joined first (seen ∷ one) other a b = (a.0, went_joined first one other a.1 b)
 
-went_taken : (first : ℕ → History Ticket) (n : ℕ) (seens : List (Seen Ticket)) → AllWentOn first seens → AllWentOn first (take n seens)
+pub went_taken : (first : ℕ → History Ticket) (n : ℕ) (seens : List (Seen Ticket)) → AllWentOn first seens → AllWentOn first (take n seens)
 went_taken first zero [] went = tt
 went_taken first (suc n) [] went = tt
 went_taken first zero (seen ∷ others) went = tt
 went_taken first (suc n) (seen ∷ others) went = (went.0, went_taken first n others went.1)
 
-went_dropped : (first : ℕ → History Ticket) (n : ℕ) (seens : List (Seen Ticket)) → AllWentOn first seens → AllWentOn first (drop n seens)
+pub went_dropped : (first : ℕ → History Ticket) (n : ℕ) (seens : List (Seen Ticket)) → AllWentOn first seens → AllWentOn first (drop n seens)
 went_dropped first zero [] went = tt
 went_dropped first (suc n) [] went = tt
 went_dropped first zero (seen ∷ others) went = went

@@ -75,7 +75,7 @@ drives_there calls [] index seen there drive = absurd (none_some seen there)
 drives_there calls (one ∷ others) zero seen there drive = subst (λ (s : Seen Ticket). Drives s.link calls s.history s.unread) (some_same one seen there) drive.0
 drives_there calls (one ∷ others) (suc index) seen there drive = drives_there calls others index seen there drive.1
 
-unended_there : (seens : List (Seen Ticket)) (index : ℕ) (seen : Seen Ticket) → slice_get seens index ≡ Some seen → AllUnended seens → IsUnended seen.history
+pub unended_there : (seens : List (Seen Ticket)) (index : ℕ) (seen : Seen Ticket) → slice_get seens index ≡ Some seen → AllUnended seens → IsUnended seen.history
 unended_there [] index seen there unended = absurd (none_some seen there)
 unended_there (one ∷ others) zero seen there unended = subst (λ (s : Seen Ticket). IsUnended s.history) (some_same one seen there) unended.0
 unended_there (one ∷ others) (suc index) seen there unended = unended_there others index seen there unended.1
@@ -102,7 +102,8 @@ module _ (extents blank flush : Bool) (from to : Place) (has : ℕ → Bool) (ca
   }
 
   all_end : (ended parting : Bool) → AreHeld parting calls seens → HasEnded ended parting extents blank flush from to calls seens → EndLast extents blank flush from to calls
-  all_end true parting all ends = inr ends
+  all_end true false all ends = inr ends.end
+  all_end true true all ends = inr ends.ends.end
   all_end false false all ends = inl (all_unended all ends)
   all_end false true all ends = absurd ends
 
@@ -157,7 +158,7 @@ module _ (parting : Bool) (way : Way) (now now' : board.Seen) (calls part : List
       both_off link calls part u.quiet (turns_pass_others steps link part on.seens after now now' ending u.apart turns))
       (drive_later way.extents way.from way.to on.has calls part on.seens after none_given (λ link. brought_apart link on.seens after brought)
       (λ link apart. turns_pass_others steps link part on.seens after now now' ending apart turns) (brought_on (beginning_on way.extents way.from way.to on.has calls) on.seens after brought) on.drives)
-      way.ended parting (held_on parting calls part on.seens after (λ link. brought_apart link on.seens after brought) none_given on.all) (ended_turned way.extents way.how.skip way.flush way.from way.to calls part way.ended parting on.seens after brought on.ends)
+      way.ended parting (held_on parting calls part on.seens after (λ link. brought_apart link on.seens after brought) none_given on.all) (ended_turned way.extents way.how.skip way.flush way.from way.to calls part none_given way.ended parting on.seens after (λ link apart. turns_pass_others steps link part on.seens after now now' ending apart turns) brought on.ends)
       (order_later (is_source way.sides) on.has calls part none_given (in_order parting way.sides on.has calls on.seens on.sided on.order))
 
 -- Calls that read and write no link, and give none.
@@ -215,13 +216,13 @@ cut_drives a b f g now now' held held' goes = record {
 -- Connections.
 
 pub one_none : (place : Place) (extents : Bool) (now : board.Seen) (held : List (Held Ticket)) (told : Option (List wire.Call)) → DrivesOneMore place extents now held told told
-one_none place extents now held told = record { on = λ way start there wants only is. told_as start told (λ calls on. on_driven false way now calls held on) is }
+one_none place extents now held told = record { on = λ way start there wants only unended is. told_as start told (λ calls on. on_driven false way now calls held on) is }
 
 pub one_dials : (place : Place) (extents : Bool) (now : board.Seen) (held held' : List (Held Ticket)) (a b : Option (List wire.Call)) → Dials place extents now held a held' b → DrivesOneMore place extents now held a b
-one_dials place extents now held held' a b dials = record { on = λ way start there wants only is. told_as start b (λ calls on. on_driven false way now calls held' on) (dials.on way start there wants only is) }
+one_dials place extents now held held' a b dials = record { on = λ way start there wants only unended is. told_as start b (λ calls on. on_driven false way now calls held' on) (dials.on way start there wants only unended is) }
 
 pub one_idly : (place : Place) (extents : Bool) (now : board.Seen) (held : List (Held Ticket)) (a b c : Option (List wire.Call)) → DrivesOneMore place extents now held a b → GoesIdly b c → DrivesOneMore place extents now held a c
-one_idly place extents now held a b c one idly = record { on = λ way start there wants only is. driven_idly (is_source way.sides) way.extents way.how.skip way.flush way.from way.to start b c idly (one.on way start there wants only is) }
+one_idly place extents now held a b c one idly = record { on = λ way start there wants only unended is. driven_idly (is_source way.sides) way.extents way.how.skip way.flush way.from way.to start b c idly (one.on way start there wants only unended is) }
 
 -- What the first handle asks for is what the options want.
 pub one_as : (options : CopyOptions) (place : Place) (extents : Bool) (now : board.Seen) (held : List (Held Ticket)) (a b : Option (List wire.Call)) → extents ≡ options.extents → DrivesOneMore place extents now held a b → DrivesOneMore place options.extents now held a b
@@ -234,14 +235,14 @@ not_asked : {A : Type 0} → false ≡ true → A
 not_asked e = absurd (false≢true e)
 
 -- how a copy writes that leaves zeros out where its options say that the destination is zero
-abbrev wished_how : copier.Seen → How
+abbrev pub wished_how : copier.Seen → How
 wished_how copy = record copy.board.how { skip = copy.options.destination_is_zero }
 
 -- The source's first.
 pub source_dialed : (copy : copier.Seen) (t u : Option (List wire.Call)) → DrivesOneMore copy.from copy.options.extents copy.board copy.held t u → HasNotBegun copy → Told t u (AreDrivenTo (is_source one_each) copy.options.extents copy.options.destination_is_zero true copy.from copy.to)
 source_dialed copy t u one none =
     let how = wished_how copy in
-    one.on (beginning copy None how one_each) t (from_first copy how one_each (length copy.held) (none_held copy none)) (λ empty. refl) (λ asks. none_held copy none) (told_begins t (begins_on copy how one_each none))
+    one.on (beginning copy None how one_each) t (from_first copy how one_each (length copy.held) (none_held copy none)) (λ empty. refl) (λ asks. none_held copy none) refl (told_begins t (begins_on copy how one_each none))
 
 module _ (s0 s1 : copier.Seen) (t u : Option (List wire.Call)) (same : s1.board ≡ s0.board) (first : Dials s0.from s0.options.extents s0.board s0.held t s1.held u) (none : HasNotBegun s0) where
   abbrev way : Way
@@ -259,7 +260,7 @@ module _ (s0 s1 : copier.Seen) (t u : Option (List wire.Call)) (same : s1.board 
         let stand = first.stand (no_handles s0 none) in
         let one_held : length s2.held ≡ 1 = one.many stand ∙ first.many ∙ ap (λ (n : ℕ). n + 1) (none_held s0 none) in
         let there : s2.to ≡ s0.to = ap (λ (s : copier.Seen). s.to) k2 ∙ ap (λ (s : copier.Seen). s.to) k1 in
-        second.on way t (to_second s0 (wished_how s0) one_each (length s2.held) one_held ∙ sym there) (λ empty. absurd (one_some (length s2.held) one_held empty)) (λ asks. not_asked asks)
+        second.on way t (to_second s0 (wished_how s0) one_each (length s2.held) one_held ∙ sym there) (λ empty. absurd (one_some (length s2.held) one_held empty)) (λ asks. not_asked asks) refl
         (one.on false way t stand (subst (λ (b : board.Seen). Told t u (λ calls. IsOn way b calls s1.held)) (sym same) (first_on s0 s1.held t u (wished_how s0) one_each none first)))
 
     pub destination_settled : (s3 : copier.Seen) (w c : Option (List wire.Call)) → s3.board ≡ s2.board → Dials s2.to false s2.board s2.held v s3.held w → DrivesOn s3.board s3.held w c → Told t c (AreDrivenTo (is_source one_each) s0.options.extents s0.options.destination_is_zero true s0.from s0.to)
@@ -284,7 +285,7 @@ module _ (copy : copier.Seen) (sides : Sides) (first : ℕ) where
   further_one : (place : Place) (now : board.Seen) (held : List (Held Ticket)) (a b c : Option (List wire.Call)) → GoesFurther copy sides first copy.board copy.held a now held b → DrivesOneMore place false now held b c →
       (length copy.held ≡ first → length held ≢ 0) → (length copy.held ≡ first → (size : Option ℕ) (how : How) → opening.place_of (beginning copy size how sides) (length held) ≡ place) → DrivesFurther copy sides first a c
   further_one place now held a b c further one some there = record {
-    on = λ size how start stand count is. one.on (beginning copy size how sides) start (there count size how) (λ empty. absurd (some count empty)) (λ asks. not_asked asks) (further.on size how start stand count is);
+    on = λ size how start stand count is. one.on (beginning copy size how sides) start (there count size how) (λ empty. absurd (some count empty)) (λ asks. not_asked asks) refl (further.on size how start stand count is);
   }
 
   module _ (mid : copier.Seen) (a b : Option (List wire.Call)) (kept : mid ≡ with_held copy mid) (further : GoesFurther copy sides first copy.board copy.held a mid.board mid.held b) where

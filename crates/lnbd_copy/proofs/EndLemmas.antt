@@ -45,7 +45,8 @@ use Rattle.lnbd_copy.specs.Copier.{HasJob, HasTurned, IsDone, IsOnItsWay, Seen}
 use Rattle.lnbd_copy.specs.declared.copier.Progress.{Progress}
 use Rattle.lnbd_copy.specs.declared.copier.Progress.TheVariants.{Finished, Moved, Still}
 use Rattle.lnbd_copy.specs.Dealt.{HasDealt, Spreads}
-use Rattle.lnbd_copy.specs.Driven.{AreLeft}
+use Rattle.lnbd_copy.specs.Driven.{AreLeft, HasEnded}
+use Rattle.lnbd_copy.specs.DrivenAs.{AreLeftBy}
 use Rattle.lnbd_copy.specs.Job as job
 use Rattle.lnbd_copy.specs.Leaving.{Leaves}
 use Rattle.lnbd_copy.specs.Limit.{IsLimited}
@@ -54,6 +55,7 @@ use Rattle.lnbd_copy.specs.Terms as both
 use Rattle.lnbd_copy.specs.Statuses.{ReadsAreAnswered}
 use Rattle.lnbd_copy.specs.Windows as windows
 use Rattle.lnbd_copy.specs.Way.{Filed, Goes, IsLeaving, IsOn, IsUnderWay, Stands, Told, Way, known_of}
+use Rattle.lnbd_copy.specs.Whole.{WasCopiedWhole}
 use Rattle.lnbd_copy.proofs.AnswerLemmas.{none_held, reads_are_answered}
 use Rattle.lnbd_copy.proofs.ConnectedLemmas.{gives_connected, goes_connected}
 use Rattle.lnbd_copy.proofs.CopierLemmas.{told_as}
@@ -61,6 +63,7 @@ use Rattle.lnbd_copy.proofs.AlikeLemmas.{settled_later}
 use Rattle.lnbd_copy.proofs.PartLemmas.{on_leaving}
 use Rattle.lnbd_copy.proofs.SpreadLemmas.{dealt_filed}
 use Rattle.lnbd_copy.proofs.SettledLemmas.{same_calls, same_rest, settled_with}
+use Rattle.lnbd_copy.proofs.WholeLemmas.{way_whole}
 
 pub some_same : (one other : job.Seen) → Some one ≡ Some other → one ≡ other
 some_same one other e = cc
@@ -87,6 +90,7 @@ job_filed j way now now' filed is = record {
   reached = is.reached;
   parts = is.parts;
   wants = is.wants;
+  onward = is.onward;
 }
 
 -- Once the connections part, places don't count any more.
@@ -303,7 +307,7 @@ under_way_answers : (j : job.Seen) (way : Way) (now : board.Seen) (parting : Boo
 under_way_answers j way now parting calls held is well on two =
     let reached = is.heard.planned in
     reads_are_answered way j.terms.size on.has now calls is.size (none_held way on.has now calls held on.seens on.at on.stands) well two j.windows.plan.slices j.windows.plan.cells (told_by 0 is.planned.parts) j.windows.plan.end (planned_once j way now is)
-    (λ p low. on.hears.answered well two p (is.heard.before p (omega (arith, low, reached))))
+    (λ p low. on.hears.answered well two j.windows.grain p (is.heard.before p (omega (arith, low, reached))))
 
 pub way_answers : (copy : Seen) (start told : Option (List wire.Call)) → copy.board.error ≡ None → IsOnItsWay start told copy → copy.from ≢ copy.to → Told start told (ReadsAreAnswered copy.options.extents copy.from)
 way_answers copy start told well on two =
@@ -344,8 +348,20 @@ way_all_done j way now calls is over parts has s well two =
     answered false unwanted flushing = absurd (false≢true (sym (is.unwanted unwanted) ∙ flushing))
 
 -- Each link was left as a copy does.
-all_left : (way : Way) (now : board.Seen) (calls : List wire.Call) → IsLeaving way now calls [] → AreLeft way.extents way.from way.to calls
-all_left way now calls on = record { has = on.has; each = λ link given. on.drives.left link (subst (AreApart link) (sym (none_left on.seens on.at)) tt) given }
+all_left : (way : Way) (now : board.Seen) (calls : List wire.Call) → IsLeaving way now calls [] → AreLeft way.extents way.how.skip way.flush way.from way.to calls
+all_left way now calls on = go way.ended on.ends
+  where
+    go : (ended : Bool) → HasEnded ended true way.extents way.how.skip way.flush way.from way.to calls on.seens → AreLeft way.extents way.how.skip way.flush way.from way.to calls
+    go true s = record { end = s.ends.end; each = λ link given. s.left link (subst (AreApart link) (sym (none_left on.seens on.at)) tt) given }
+    go false s = absurd s
+
+left_as : (way : Way) (copy : Seen) (flush : Bool) (calls : List wire.Call) → way.extents ≡ copy.options.extents → way.from ≡ copy.from → way.to ≡ copy.to → way.how.skip ≡ copy.options.destination_is_zero → way.flush ≡ flush → AreLeft way.extents way.how.skip way.flush way.from way.to calls →
+    AreLeft copy.options.extents copy.options.destination_is_zero flush copy.from copy.to calls
+left_as way copy flush calls extents from to skip wants left =
+    subst (λ (b : Bool). AreLeft copy.options.extents b flush copy.from copy.to calls) skip
+    (subst (λ (e : Bool). AreLeft e way.how.skip flush copy.from copy.to calls) extents
+    (subst (λ (w : Bool). AreLeft way.extents way.how.skip w copy.from copy.to calls) wants
+    (subst (λ (t : Place). AreLeft way.extents way.how.skip way.flush copy.from t calls) to (subst (λ (f : Place). AreLeft way.extents way.how.skip way.flush f way.to calls) from left))))
 
 pub finished : (copy : Seen) (start told : Option (List wire.Call)) (j : job.Seen) → copy.job ≡ Some j → job.is_parting j.phase ≡ true → copy.held ≡ [] → copy.board.error ≡ None → IsOnItsWay start told copy → IsDone start told copy
 finished copy start told j there parts none well on =
@@ -428,13 +444,14 @@ finished copy start told j there parts none well on =
           subst (λ (h : List (Held Ticket)). IsLeaving on.way copy.board calls h) none (subst (λ (p : Bool). IsUnderWay p on.way copy.board calls copy.held) parting is) in
           ended_are_driven on.way.from on.way.to on.way.size on.way.how leaving.has on.way.slices copy.board calls (stands_alone on.way copy.board calls leaving).between)
           on.on;
-      left = told_as start told
+      left = settled_with (λ source destination calls. AreLeft copy.options.extents copy.options.destination_is_zero (copy.options.flush && both.takes_flush destination) copy.from copy.to calls) copy.options copy.from copy.to start told on.job.terms on.settled
+          (told_as start told
           (λ calls is.
           let leaving : IsLeaving on.way copy.board calls [] =
           subst (λ (h : List (Held Ticket)). IsLeaving on.way copy.board calls h) none (subst (λ (p : Bool). IsUnderWay p on.way copy.board calls copy.held) parting is) in
-          subst (λ (e : Bool). AreLeft e copy.from copy.to calls) on.extents
-          (subst (λ (t : Place). AreLeft on.way.extents copy.from t calls) on.to (subst (λ (f : Place). AreLeft on.way.extents f on.way.to calls) on.from (all_left on.way copy.board calls leaving))))
-          on.on;
+          left_as on.way copy (copy.options.flush && both.takes_flush on.settled.first.destination) calls on.extents on.from on.to skip (on.is.wants ∙ on.settled.first.settled.flush) (all_left on.way copy.board calls leaving))
+          on.on);
+      whole = λ two. way_whole copy start told well on over two;
     }
   where
     copied_as : (way : Way) (copy : Seen) (calls : List wire.Call) → way.from ≡ copy.from → way.to ≡ copy.to → way.how.skip ≡ copy.options.destination_is_zero → Copied way.from way.to way.how.skip calls → Copied copy.from copy.to copy.options.destination_is_zero calls
@@ -469,10 +486,10 @@ done_whole copy new a b c kept same two done =
     subst (λ (t : Option (List wire.Call)). GrewBy (WereAllDone copy.from copy.to) a t) (sym same) (told_part a b (so.done two))
 
 -- It read no block that was told as zero whole,
-pub done_spares : (copy new : Seen) (a b c : Option (List wire.Call)) → new ≡ record copy { start = new.start; held = new.held; board = new.board; job = new.job } → c ≡ b → copy.from ≢ copy.to → IsDone a b new → GrewBy (SparesTold copy.from copy.to) a c
+pub done_spares : (copy new : Seen) (a b c : Option (List wire.Call)) → new ≡ record copy { start = new.start; held = new.held; board = new.board; job = new.job } → c ≡ b → copy.from ≢ copy.to → IsDone a b new → GrewBy (SparesTold copy.options.extents copy.from copy.to) a c
 done_spares copy new a b c kept same two done =
     let so = subst (λ (s : Seen). IsDone a b s) kept done in
-    subst (λ (t : Option (List wire.Call)). GrewBy (SparesTold copy.from copy.to) a t) (sym same) (told_part a b (so.spares two))
+    subst (λ (t : Option (List wire.Call)). GrewBy (SparesTold copy.options.extents copy.from copy.to) a t) (sym same) (told_part a b (so.spares two))
 
 -- and wrote none that was found to be zero.
 pub done_dense : (copy new : Seen) (a b c : Option (List wire.Call)) → new ≡ record copy { start = new.start; held = new.held; board = new.board; job = new.job } → c ≡ b → copy.from ≢ copy.to → IsDone a b new → GrewBy (SparesFound copy.options copy.from copy.to) a c
@@ -486,11 +503,17 @@ done_flushed copy new a b c kept same two done =
     let so = subst (λ (s : Seen). IsDone a b s) kept done in
     subst (λ (t : Option (List wire.Call)). GrewBy (FlushesWanted copy.options copy.from copy.to) a t) (sym same) (told_part a b (so.flushed two))
 
+-- Nothing is left to do.
+pub done_wholly : (copy new : Seen) (a b c : Option (List wire.Call)) → new ≡ record copy { start = new.start; held = new.held; board = new.board; job = new.job } → c ≡ b → copy.from ≢ copy.to → IsDone a b new → GrewBy (WasCopiedWhole copy.options copy.from copy.to) a c
+done_wholly copy new a b c kept same two done =
+    let so = subst (λ (s : Seen). IsDone a b s) kept done in
+    subst (λ (t : Option (List wire.Call)). GrewBy (WasCopiedWhole copy.options copy.from copy.to) a t) (sym same) (told_part a b (so.whole two))
+
 -- It left each of its links well.
-pub done_left : (copy new : Seen) (a b c : Option (List wire.Call)) → new ≡ record copy { start = new.start; held = new.held; board = new.board; job = new.job } → c ≡ b → IsDone a b new → GrewBy (AreLeft copy.options.extents copy.from copy.to) a c
+pub done_left : (copy new : Seen) (a b c : Option (List wire.Call)) → new ≡ record copy { start = new.start; held = new.held; board = new.board; job = new.job } → c ≡ b → IsDone a b new → GrewBy (AreLeftBy copy.options copy.from copy.to) a c
 done_left copy new a b c kept same done =
     let so = subst (λ (s : Seen). IsDone a b s) kept done in
-    subst (λ (t : Option (List wire.Call)). GrewBy (AreLeft copy.options.extents copy.from copy.to) a t) (sym same) (told_part a b so.left)
+    subst (λ (t : Option (List wire.Call)). GrewBy (AreLeftBy copy.options copy.from copy.to) a t) (sym same) (told_part a b so.left)
 
 -- One handle drove each of its links.
 pub done_driven : (new : Seen) (a b c : Option (List wire.Call)) → c ≡ b → IsDone a b new → GrewBy AreDriven a c

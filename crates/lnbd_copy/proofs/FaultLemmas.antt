@@ -1,5 +1,5 @@
 -- What a copy asked in a turn that fails it asked once, and it asked nothing before its first turn.
-use Rattle.std.proofs.Common.{◌≡◌, ◌≢◌, ◌<◌, ◌≤◌, inl, inr, ℕ, Bool, false, List, ◌++◌, Option, None, ap, sym, subst, ◌∙◌, arith}
+use Rattle.std.proofs.Common.{◌≡◌, ◌≢◌, ◌<◌, ◌≤◌, inl, inr, ℕ, Bool, false, List, ◌++◌, Option, None, slice_get, ap, sym, subst, ◌∙◌, arith}
 use Rattle.lnbd_model.specs.declared.target.Place.{Place}
 use Rattle.lnbd_callbacks.specs.Calls.{Call}
 use Rattle.lnbd_callbacks.specs.Steps.{OneByOne}
@@ -21,6 +21,7 @@ use Rattle.lnbd_course.specs.Between.{Between}
 use Rattle.lnbd_course.specs.Cells.{AreInCells}
 use Rattle.lnbd_course.specs.Flushes.{IsUnflushed, NoneFlushes, OneFlushes}
 use Rattle.lnbd_course.specs.Parts.{FlushesAtMostOnce, PartAsksOnce}
+use Rattle.lnbd_course.specs.Runs.{WritesRuns}
 use Rattle.lnbd_course.specs.Spares.{ReadsNoZeros, WritesNoZeros}
 use Rattle.lnbd_drives.proofs.Exports.{turns_give_none}
 use Rattle.lnbd_course.proofs.Parts.{parts_ask_once}
@@ -28,12 +29,14 @@ use Rattle.lnbd_course.proofs.Quiet.{at_most_stays, dealt_stays, nothing_stays}
 use Rattle.lnbd_copy.specs.Cells.{KeepsToCells}
 use Rattle.lnbd_copy.specs.Copier.{IsOnItsWay}
 use Rattle.lnbd_copy.specs.Copier as copier
-use Rattle.lnbd_copy.specs.Faults.{Behaves, GoesIdly}
+use Rattle.lnbd_copy.specs.Faults.{Behaves, GoesIdly, ReadsWerePassed}
+use Rattle.lnbd_copy.specs.Flushing.{FlushesOnFirst}
 use Rattle.lnbd_copy.specs.Job as job
 use Rattle.lnbd_copy.specs.Giving.{GivesNone}
+use Rattle.lnbd_copy.specs.Runs.{KeepsToRuns}
 use Rattle.lnbd_copy.specs.Settled.{HasSettled, Settled, SparesFound, SparesTold}
 use Rattle.lnbd_copy.specs.Sharing.{IsAlwaysShared}
-use Rattle.lnbd_copy.specs.Statuses.{ReadsAreAnswered}
+use Rattle.lnbd_copy.specs.Statuses.{ReadsAreAnswered, ReadsArePassed, WasPassed}
 use Rattle.lnbd_copy.specs.Terms as both
 use Rattle.lnbd_copy.specs.Way.{IsUnderWay, Told, Way}
 use Rattle.lnbd_copy.proofs.AlikeLemmas.{alike_later, settled_later}
@@ -42,9 +45,12 @@ use Rattle.lnbd_copy.proofs.CellLemmas.{cells_stay, part_in_cells}
 use Rattle.lnbd_copy.proofs.CopierLemmas.{told_as}
 use Rattle.lnbd_copy.proofs.EndLemmas.{planned_once, with_all}
 use Rattle.lnbd_copy.proofs.FailLemmas.{all_stand}
-use Rattle.lnbd_copy.proofs.HeardLemmas.{may_stay}
+use Rattle.lnbd_copy.proofs.FlushedLemmas.{first_turned}
+use Rattle.lnbd_copy.proofs.HeardLemmas.{may_stay, passed_stays}
 use Rattle.lnbd_copy.proofs.IdleLemmas.{StaysIdly, told_idly}
 use Rattle.lnbd_copy.proofs.RefusalLemmas.{turns_connected}
+use Rattle.lnbd_copy.proofs.OrderLemmas.{same_given}
+use Rattle.lnbd_copy.proofs.RunLemmas.{part_runs, runs_stay}
 use Rattle.lnbd_copy.proofs.SettledLemmas.{same_since, settled_with}
 use Rattle.lnbd_copy.proofs.TurnLemmas.{since_on, some_same}
 use Rattle.lnbd_copy.proofs.UntouchedLemmas.{grain_some, part_spares, untouched_stays}
@@ -61,6 +67,21 @@ answered_stays extents from calls more quiet none answered = record {
       may_stay extents from p calls more (answered.each link cookie command (sym (ap (λ (d : Dealt). d.asked link cookie) same) ∙ is) p reads);
 }
 
+passes_stay : (extents : Bool) (from to : Place) → StaysIdly (ReadsWerePassed extents from to)
+passes_stay extents from to calls more quiet none passed = record {
+  source = passed.source;
+  destination = passed.destination;
+  shown = some_longer calls more passed.shown;
+  shown' = some_longer calls more passed.shown';
+  none = passed.none;
+  is = record {
+    each = λ link cookie command is p reads.
+        let same = dealt_stays calls more quiet none from in
+        passed_stays extents (both.grain passed.source passed.destination) from p calls more (passed.is.each link cookie command (sym (ap (λ (d : Dealt). d.asked link cookie) same) ∙ is) p reads);
+  };
+  all = alike_later extents from to passed.source passed.destination calls more none passed.all;
+}
+
 found_stays : (options : CopyOptions) (from to : Place) → StaysIdly (SparesFound options from to)
 found_stays options from to calls more quiet none found = record {
   source = found.source;
@@ -69,7 +90,7 @@ found_stays options from to calls more quiet none found = record {
   shown' = some_longer calls more found.shown';
   none = found.none;
   is = subst (WritesNoZeros (both.how_by options found.source found.destination)) (sym (dealt_stays calls more quiet none to)) found.is;
-  all = alike_later from to found.source found.destination calls more none found.all;
+  all = alike_later options.extents from to found.source found.destination calls more none found.all;
 }
 
 behaves_stays : (options : CopyOptions) (from to : Place) → StaysIdly (Behaves options from to)
@@ -84,12 +105,22 @@ behaves_stays options from to calls more quiet none b = record {
   unflushed = λ unwanted. subst NoneFlushes (sym (dealt_stays calls more quiet none to)) (b.unflushed unwanted);
   untouched = elim b.untouched [
     | inl nothing ↦ inl (nothing_stays calls more quiet nothing)
-    | inr spared ↦ inr (untouched_stays from to calls more quiet none spared)
+    | inr spared ↦ inr (untouched_stays options.extents from to calls more quiet none spared)
   ];
   shared = always_stays options from to calls more quiet none b.shared;
   cut = elim b.cut [
     | inl nothing ↦ inl (nothing_stays calls more quiet nothing)
     | inr kept ↦ inr (cells_stay options from to calls more quiet none kept)
+  ];
+  first = λ link cookie command asks flushes.
+      ap (λ (l : List ℕ). slice_get l 1) (same_given calls more none) ∙ b.first link cookie command (sym (ap (λ (d : Dealt). d.asked link cookie) (dealt_stays calls more quiet none to)) ∙ asks) flushes;
+  passed = elim b.passed [
+    | inl nothing ↦ inl (nothing_stays calls more quiet nothing)
+    | inr passed ↦ inr (passes_stay options.extents from to calls more quiet none passed)
+  ];
+  runs = elim b.runs [
+    | inl nothing ↦ inl (nothing_stays calls more quiet nothing)
+    | inr kept ↦ inr (runs_stay options from to calls more quiet none kept)
   ];
 }
 
@@ -153,7 +184,16 @@ module _ (j : job.Seen) (way : Way) (now now' : board.Seen) (parting : Bool) (ca
     each = λ link cookie command is_asked p reads.
         let low = asked.asked.reads_within link cookie command is_asked p reads in
         let reached = is.heard.planned in
-        may_stay way.extents way.from p calls part (on.hears.answered well two p (is.heard.before p (omega (arith, low, reached))));
+        may_stay way.extents way.from p calls part (on.hears.answered well two j.windows.grain p (is.heard.before p (omega (arith, low, reached))));
+  }
+
+  pub part_passes : ReadsArePassed way.extents j.terms.grain way.from (calls ++ part)
+  part_passes = record {
+    each = λ link cookie command is_asked p reads.
+        let low = asked.asked.reads_within link cookie command is_asked p reads in
+        let reached = is.heard.planned in
+        passed_stays way.extents j.terms.grain way.from p calls part
+        (subst (λ (g : ℕ). WasPassed way.extents g way.from p calls) is.grain (on.hears.passed well two j.windows.grain p (is.heard.before p (omega (arith, low, reached)))));
   }
 
   pub part_dense : WritesNoZeros way.how (dealt_with way.to (calls ++ part))
@@ -177,7 +217,7 @@ module _ (copy : copier.Seen) (now : board.Seen) (held : List (Held Ticket)) (st
 
   abbrev Asked : List wire.Call → Type 0
   Asked calls = HasAskedOnce on.way.how.allocated on.way.how.skip on.way.from on.way.to calls × ReadsAreAnswered on.way.extents on.way.from calls × WritesNoZeros on.way.how (dealt_with on.way.to calls) × FlushesAtMostOnce on.way.to calls × (copy.board.flushing ≡ false → IsUnflushed on.way.to calls) × ReadsNoZeros on.job.terms.grain (dealt_with on.way.from calls)
-      × AreInCells on.job.terms.cell on.job.terms.zero_cell (dealt_with on.way.from calls) (dealt_with on.way.to calls)
+      × AreInCells on.job.terms.cell on.job.terms.zero_cell (dealt_with on.way.from calls) (dealt_with on.way.to calls) × ReadsArePassed on.way.extents on.job.terms.grain on.way.from calls × WritesRuns on.way.how (dealt_with on.way.from calls) (dealt_with on.way.to calls)
 
   turn_asked : Told start b Asked
   turn_asked = record {
@@ -197,6 +237,8 @@ module _ (copy : copier.Seen) (now : board.Seen) (held : List (Held Ticket)) (st
           part_unflushed on.job on.way copy.board now parting since.calls went.calls copy.held held went.after on.is well since.is went.at turn apart,
           part_spares on.job on.way copy.board now parting since.calls went.calls copy.held held went.after on.is well since.is went.at turn.ending turn.turns apart some_grain,
           part_in_cells copy.options on.settled.first.source on.settled.first.destination on.job on.way on.settled.first.settled copy.board now parting since.calls went.calls copy.held held went.after on.is well since.is went.at turn.ending turn.turns apart,
+          part_passes on.job on.way copy.board now parting since.calls went.calls copy.held held went.after on.is well since.is went.at turn apart,
+          part_runs on.job on.way copy.board now parting since.calls went.calls copy.held held went.after on.is well since.is went.at turn.ending turn.turns apart,
         );
   }
 
@@ -227,12 +269,21 @@ module _ (copy : copier.Seen) (now : board.Seen) (held : List (Held Ticket)) (st
       (λ calls is. subst (λ (how : How). WritesNoZeros how (dealt_with copy.to calls)) (on.is.how ∙ turn_settled.first.settled.how) (subst (λ (t : Place). WritesNoZeros on.way.how (dealt_with t calls)) on.to is.2))
       turn_asked)
 
-  turn_spares : Told start b (SparesTold copy.from copy.to)
+  turn_spares : Told start b (SparesTold copy.options.extents copy.from copy.to)
   turn_spares =
       settled_with (λ source destination calls. ReadsNoZeros (both.grain source destination) (dealt_with copy.from calls)) copy.options copy.from copy.to start b on.job.terms
       turn_settled
       (told_as start b
       (λ calls is. subst (λ (block : ℕ). ReadsNoZeros block (dealt_with copy.from calls)) turn_settled.first.settled.grain (subst (λ (f : Place). ReadsNoZeros on.job.terms.grain (dealt_with f calls)) on.from is.5))
+      turn_asked)
+
+  turn_passes : Told start b (ReadsWerePassed copy.options.extents copy.from copy.to)
+  turn_passes =
+      settled_with (λ source destination calls. ReadsArePassed copy.options.extents (both.grain source destination) copy.from calls) copy.options copy.from copy.to start b on.job.terms
+      turn_settled
+      (told_as start b
+      (λ calls is. subst (λ (block : ℕ). ReadsArePassed copy.options.extents block copy.from calls) turn_settled.first.settled.grain
+      (subst (λ (x : Bool). ReadsArePassed x on.job.terms.grain copy.from calls) on.extents (subst (λ (f : Place). ReadsArePassed on.way.extents on.job.terms.grain f calls) on.from is.7)))
       turn_asked)
 
   turn_cells : Told start b (KeepsToCells copy.options copy.from copy.to)
@@ -250,6 +301,17 @@ module _ (copy : copier.Seen) (now : board.Seen) (held : List (Held Ticket)) (st
       (subst (λ (f : Place). AreInCells on.job.terms.cell on.job.terms.zero_cell (dealt_with f calls) (dealt_with on.way.to calls)) on.from is.6))))
       turn_asked)
 
+  turn_runs : Told start b (KeepsToRuns copy.options copy.from copy.to)
+  turn_runs =
+      settled_with (λ source destination calls. WritesRuns (both.how_by copy.options source destination) (dealt_with copy.from calls) (dealt_with copy.to calls)) copy.options copy.from copy.to start b on.job.terms
+      turn_settled
+      (told_as start b
+      (λ calls is.
+      subst (λ (how : How). WritesRuns how (dealt_with copy.from calls) (dealt_with copy.to calls)) (on.is.how ∙ turn_settled.first.settled.how)
+      (subst (λ (t : Place). WritesRuns on.way.how (dealt_with copy.from calls) (dealt_with t calls)) on.to
+      (subst (λ (f : Place). WritesRuns on.way.how (dealt_with f calls) (dealt_with on.way.to calls)) on.from is.8)))
+      turn_asked)
+
   turn_always : Told start a (IsAlwaysShared copy.options copy.from copy.to) → Told start b (IsAlwaysShared copy.options copy.from copy.to)
   turn_always always = record {
     since = λ all is.
@@ -263,8 +325,25 @@ module _ (copy : copier.Seen) (now : board.Seen) (held : List (Held Ticket)) (st
         let was = always.since first.0 first.1 in
         since_on start first.0 all went.calls (grown.2 ∙ ap (λ (l : List wire.Call). l ++ went.calls) same) since
         (always_turned copy start a well on two since.calls went.calls now went.after turn.ending since.is turn.turns
-        (subst (Settled copy.from copy.to (AreTerms copy start a well on two)) (same_since start first.0 settled since) settled.is)
+        (subst (Settled copy.options.extents copy.from copy.to (AreTerms copy start a well on two)) (same_since start first.0 settled since) settled.is)
         (subst (IsAlwaysShared copy.options copy.from copy.to) (same_since start first.0 was since) was.is));
+  }
+
+  turn_first : Told start a (FlushesOnFirst copy.to) → Told start b (FlushesOnFirst copy.to)
+  turn_first was = record {
+    since = λ all is.
+        let first = (goes on.stand.seens on.stand.at).grown all is in
+        let since = on.on.since first.0 first.1 in
+        let went = goes since.is.seens since.is.at in
+        let grown = went.grown all is in
+        let same : grown.0 ≡ first.0 = some_same grown.0 first.0 (sym grown.1 ∙ first.1) in
+        let turn = turns since.is.seens went.calls went.after went.leads in
+        let had = was.since first.0 first.1 in
+        since_on start first.0 all went.calls (grown.2 ∙ ap (λ (l : List wire.Call). l ++ went.calls) same) since
+        (subst (λ (t : Place). FlushesOnFirst t (since.calls ++ went.calls)) on.to
+        (first_turned on.way.from on.way.to on.way.size on.way.how since.is.has on.way.slices copy.board now since.calls went.calls since.is.seens went.after turn.ending since.is.stands.between turn.turns
+        (all_stand copy.held since.is.seens since.is.at) (all_stand held went.after went.at) apart since.is.flushes
+        (subst (λ (t : Place). FlushesOnFirst t since.calls) (sym on.to) (subst (FlushesOnFirst copy.to) (same_since start first.0 had since) had.is))));
   }
 
   pub turn_behaves : Told start a (Behaves copy.options copy.from copy.to) → Told start b (Behaves copy.options copy.from copy.to)
@@ -284,10 +363,13 @@ module _ (copy : copier.Seen) (now : board.Seen) (held : List (Held Ticket)) (st
         untouched = inr is.1.1.0;
         flushes = subst (λ (t : Place). FlushesAtMostOnce t calls) on.to is.0.3;
         unflushed = λ unwanted. subst (λ (t : Place). IsUnflushed t calls) on.to (is.0.4 (on.is.unwanted (on.wished.unflushed unwanted)));
-        shared = is.1.1.1.1;
+        shared = is.1.1.1.1.1.1.0;
         cut = inr is.1.1.1.0;
+        first = is.1.1.1.1.1.1.1;
+        passed = inr is.1.1.1.1.0;
+        runs = inr is.1.1.1.1.1.0;
       })
-      (told_both start b turn_asked (told_both start b turn_dense (told_both start b turn_spares (told_both start b turn_cells (turn_always (told_as start a (λ calls is. is.shared) was))))))
+      (told_both start b turn_asked (told_both start b turn_dense (told_both start b turn_spares (told_both start b turn_cells (told_both start b turn_passes (told_both start b turn_runs (told_both start b (turn_always (told_as start a (λ calls is. is.shared) was)) (turn_first (told_as start a (λ calls is. is.first) was)))))))))
 
 pub whole_behaves : (copy : copier.Seen) (now : board.Seen) (held : List (Held Ticket)) (start a b : Option (List wire.Call)) (f g : ℕ) (turn : Turn) → poll.Goes a b (λ seens. AreAt copy.held seens) (λ seens. AreAt held seens) (λ before calls after. TurnsWhole steps f g turn before copy.board calls after now) →
     copy.board.error ≡ None → IsOnItsWay start a copy → copy.from ≢ copy.to → Told start a (Behaves copy.options copy.from copy.to) → Told start b (Behaves copy.options copy.from copy.to)

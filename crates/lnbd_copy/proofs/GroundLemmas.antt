@@ -1,6 +1,6 @@
 -- What the connections of a copy were told for which it does not end well is told by the calls on the wires.
-use Rattle.std.proofs.Common.{◌≡◌, ◌≤◌, ◌+◌, inl, inr, ℕ, zero, suc, Bool, true, false, List, [], ◌∷◌, length, Option, Some, None, Result, Ok, Err, IfErr, OnErr, slice_get, if◌then◌else◌, refl, ap, sym, subst, ◌∙◌, arith}
-use Rattle.std.proofs.lemmas.Bool.{cases_lt, false≢true}
+use Rattle.std.proofs.Common.{◌≡◌, inl, inr, ℕ, zero, suc, Bool, true, false, List, [], ◌∷◌, Option, Some, None, Result, Ok, Err, IfErr, OnErr, slice_get, if◌then◌else◌, refl, ap, sym, subst, ◌∙◌}
+use Rattle.std.proofs.lemmas.Bool.{false≢true}
 use Rattle.std.specs.Option.{option_map}
 use Rattle.std.specs.Prelude.{IsErrAnd}
 use Rattle.lnbd_model.specs.declared.breach.Broken.TheVariants as broken
@@ -34,15 +34,17 @@ use Rattle.lnbd_copy.specs.declared.sides.Sides.{Sides}
 use Rattle.lnbd_copy.specs.declared.terms.Terms.{Terms}
 use Rattle.lnbd_copy.specs.Copier.{GoesFurther, HasMet, HasNotBegun, IsOnItsWay, beginning}
 use Rattle.lnbd_copy.specs.Copier as copier
-use Rattle.lnbd_copy.specs.Grounds.{AllSame, Answers, AreSame, Differ, Drove, FailsOn, Finds, FindsBeside, FindsDead, FindsOther, Happened, Happens, HasDied, IsDead, IsFound, IsGrounded, IsRefused, IsShown, Lasts, Settle, fault_by, fault_of, first_of, needs_no_ground}
+use Rattle.lnbd_copy.specs.Grounds.{Answers, Differ, Drove, Finds, FindsDead, FindsOther, Happened, Happens, HasDied, IsDead, IsGrounded, IsRefused, IsShown, Lasts, Settle, fault_by, fault_of, first_of, needs_no_ground}
+use Rattle.lnbd_copy.specs.Driven.{beginning_on}
 use Rattle.lnbd_copy.specs.DrivenBy.{DrivenBy}
 use Rattle.lnbd_copy.specs.Firsts.{KnowBoth}
+use Rattle.lnbd_copy.specs.Lasting.{AtSome}
 use Rattle.lnbd_copy.specs.Links.{ConnectTo, LinksGo}
 use Rattle.lnbd_copy.specs.Opening.{Dials}
 use Rattle.lnbd_copy.specs.Settled.{FindsTerms, HasTerms}
 use Rattle.lnbd_copy.specs.Way.{Goes, IsOn, IsUnderWay, Stand, Told, Way, is_source}
-use Rattle.lnbd_copy.proofs.ConnectedLemmas.{connected_begins, goes_connected}
-use Rattle.lnbd_copy.proofs.CopierLemmas.{first_on, kept_then, no_handles, second_connects, second_on, told_as, two_meet_stand, two_on, with_held}
+use Rattle.lnbd_copy.proofs.CopierLemmas.{kept_then, told_as, two_meet_stand, two_on, with_held}
+use Rattle.lnbd_copy.proofs.DrivenLemmas.{went_there}
 use Rattle.lnbd_copy.proofs.LastLemmas.{at_once, told_later}
 use Rattle.lnbd_copy.proofs.SettledLemmas.{told_both}
 use Rattle.lnbd_copy.proofs.TurnLemmas.{told_begins}
@@ -80,22 +82,6 @@ finds_dead handle now death why index all dies same told is = record {
   dead = happens handle (IsDead death) (λ history stands. record { dead = sym (told history stands) ∙ dies }) index all is;
 }
 
--- Each further connection is the same as the first of its side.
-
-pub none_same : (sides : Sides) (held : List (Held Ticket)) → AllSame sides 2 held
-none_same sides held = record { on = λ index some less. absurd (omega (arith, some, less)) }
-
-pub same_more : (sides : Sides) (n : ℕ) (held : List (Held Ticket)) → AllSame sides n held → FindsBeside AreSame sides n held → AllSame sides (n + 1) held
-same_more sides n held all one = record {
-  on = λ index some less. elim (cases_lt index n) [
-    | inl k ↦ all.on index some k
-    | inr k ↦ (let same : n ≡ index = omega (arith, less, k) in subst (λ (m : ℕ). FindsBeside AreSame sides m held) same one)
-  ];
-}
-
-pub same_all : (sides : Sides) (n : ℕ) (held : List (Held Ticket)) → AllSame sides n held → length held ≤ n → AllSame sides (length held) held
-same_all sides n held all end = record { on = λ index some less. all.on index some (omega (arith, less, end)) }
-
 pub answers_free : (now : board.Seen) (why : CopyFault) → needs_no_ground why ≡ true → Answers now why
 answers_free now why free = record { on = inl free }
 
@@ -107,7 +93,7 @@ answers_error now error why told is = record { on = inr (record { error = error;
 some_seen : (seen : Seen Ticket) → None ≡ Some seen → ⊥
 some_seen seen e = cc
 
-seen_same : (one other : Seen Ticket) → Some one ≡ Some other → one ≡ other
+pub seen_same : (one other : Seen Ticket) → Some one ≡ Some other → one ≡ other
 seen_same one other e = cc
 
 -- Each handle that is held drives its link.
@@ -132,13 +118,13 @@ pub given_at : (calls : List wire.Call) (link : ℕ) (b : Bool) → is_given lin
 given_at calls link true is other = is
 given_at calls link false is other = absurd (other is)
 
-first_side : (sides : Sides) (index : ℕ) → is_source sides (first_of sides index) ≡ is_source sides index
+pub first_side : (sides : Sides) (index : ℕ) → is_source sides (first_of sides index) ≡ is_source sides index
 first_side sides index = elim (is_source sides index) as (λ b. is_source sides (if b then 0 else 1) ≡ b) [ true ↦ refl | false ↦ refl ]
 
 -- What happened on a handle happened by the calls on a link to one of the places: to that of its side while all are held.
 module _ (parting : Bool) (way : Way) (now : board.Seen) (calls : List wire.Call) (held : List (Held Ticket)) (on : IsUnderWay parting way now calls held) (Is : History Ticket → Type 0) where
   -- and what is so of its link is so of that one
-  pub drove_on : (index : ℕ) → (h : Happened Is index on.seens) → (P : ℕ → Type 0) → P h.seen.link → (drove : Drove (place_of way.from way.to (on.has h.seen.link)) Is calls) × P drove.link
+  pub drove_on : (index : ℕ) → (h : Happened Is index on.seens) → (P : ℕ → Type 0) → P h.seen.link → (drove : Drove way.extents (place_of way.from way.to (on.has h.seen.link)) Is calls) × P drove.link
   drove_on index h P so =
       let between = on.stands.between in
       let course = between.course in
@@ -150,24 +136,25 @@ module _ (parting : Bool) (way : Way) (now : board.Seen) (calls : List wire.Call
           address = between.placed.address h.seen.link given;
           name = ap (λ (history : History Ticket). name_set history) (sym (one_has index h.seen course.histories on.seens h.there course.held)) ∙ between.placed.name h.seen.link given;
           is = h.is;
+          began = went_there (beginning_on way.extents way.from way.to on.has calls) on.seens index h.seen h.there on.drives.went;
         },
         so,
       )
 
-  drove_has : (index : ℕ) → (h : Happened Is index on.seens) → Drove (place_of way.from way.to (on.has h.seen.link)) Is calls
+  drove_has : (index : ℕ) → (h : Happened Is index on.seens) → Drove way.extents (place_of way.from way.to (on.has h.seen.link)) Is calls
   drove_has index h = (drove_on index h (λ link. Unit {0}) tt).0
 
-pub died : (parting : Bool) (way : Way) (now : board.Seen) (calls : List wire.Call) (held : List (Held Ticket)) (index : ℕ) (death : Cause) → IsUnderWay parting way now calls held → Happens (IsDead death) index held → HasDied way.from way.to death calls
+pub died : (parting : Bool) (way : Way) (now : board.Seen) (calls : List wire.Call) (held : List (Held Ticket)) (index : ℕ) (death : Cause) → IsUnderWay parting way now calls held → Happens (IsDead death) index held → HasDied way.extents way.from way.to death calls
 died parting way now calls held index death on dead =
     let h = dead.on on.seens on.at in
     record { source = on.has h.seen.link; dead = drove_has parting way now calls held on (IsDead death) index h }
 
-drove : (way : Way) (now : board.Seen) (calls : List wire.Call) (held : List (Held Ticket)) (Is : History Ticket → Type 0) (index : ℕ) → IsOn way now calls held → Happens Is index held → Drove (place_of way.from way.to (is_source way.sides index)) Is calls
+drove : (way : Way) (now : board.Seen) (calls : List wire.Call) (held : List (Held Ticket)) (Is : History Ticket → Type 0) (index : ℕ) → IsOn way now calls held → Happens Is index held → Drove way.extents (place_of way.from way.to (is_source way.sides index)) Is calls
 drove way now calls held Is index on happens =
     let h = happens.on on.seens on.at in
-    subst (λ (b : Bool). Drove (place_of way.from way.to b) Is calls) (on.sided index h.seen h.there) (drove_has false way now calls held on Is index h)
+    subst (λ (b : Bool). Drove way.extents (place_of way.from way.to b) Is calls) (on.sided index h.seen h.there) (drove_has false way now calls held on Is index h)
 
-pub settles : (way : Way) (now : board.Seen) (calls : List wire.Call) (held : List (Held Ticket)) (rule : Option Rule) → Finds rule held → IsOn way now calls held → ConnectTo (way.from.to ∷ way.to.to ∷ []) calls → Settle way.from way.to rule calls
+pub settles : (way : Way) (now : board.Seen) (calls : List wire.Call) (held : List (Held Ticket)) (rule : Option Rule) → Finds rule held → IsOn way now calls held → ConnectTo (way.from.to ∷ way.to.to ∷ []) calls → Settle way.extents way.from way.to rule calls
 settles way now calls held rule finds on only = record {
   source = finds.source;
   destination = finds.destination;
@@ -177,42 +164,31 @@ settles way now calls held rule finds on only = record {
   only = only;
 }
 
-pub differs : (way : Way) (now : board.Seen) (calls : List wire.Call) (held : List (Held Ticket)) → FindsOther way.sides held → IsOn way now calls held → Differ way.from way.to calls
+pub differs : (way : Way) (now : board.Seen) (calls : List wire.Call) (held : List (Held Ticket)) → FindsOther way.sides held → IsOn way now calls held → Differ way.extents way.from way.to calls
 differs way now calls held finds on = record {
   source = is_source way.sides finds.index;
   one = finds.beside.one;
   other = finds.beside.other;
-  shown = subst (λ (b : Bool). Drove (place_of way.from way.to b) (IsShown finds.beside.one) calls) (first_side way.sides finds.index) (drove way now calls held (IsShown finds.beside.one) (first_of way.sides finds.index) on finds.beside.shown);
+  shown = subst (λ (b : Bool). Drove way.extents (place_of way.from way.to b) (IsShown finds.beside.one) calls) (first_side way.sides finds.index) (drove way now calls held (IsShown finds.beside.one) (first_of way.sides finds.index) on finds.beside.shown);
   shown' = drove way now calls held (IsShown finds.beside.other) finds.index on finds.beside.shown';
   differ = finds.beside.is;
 }
 
 -- Grounds.
 
-pub none_grounded : (start told : Option (List wire.Call)) (from to : Place) (why : CopyFault) → needs_no_ground why ≡ true → IsGrounded start told from to why
-none_grounded start told from to fault.NoMemory free = record { shown = tt }
-none_grounded start told from to (fault.Link before after) free = record { shown = tt }
-none_grounded start told from to (fault.Broke (broken.Breach breach)) free = absurd (false≢true free)
-none_grounded start told from to (fault.Broke broken.Content) free = absurd (false≢true free)
-none_grounded start told from to (fault.Broke broken.Ended) free = absurd (false≢true free)
-none_grounded start told from to (fault.Broke broken.Differs) free = absurd (false≢true free)
-none_grounded start told from to (fault.Peer None code) free = absurd (false≢true free)
-none_grounded start told from to (fault.Peer (Some option) code) free = absurd (false≢true free)
-none_grounded start told from to (fault.Rule rule) free = absurd (false≢true free)
-none_grounded start told from to (fault.Silent idles) free = record { shown = tt }
+pub none_grounded : (start told : Option (List wire.Call)) (extents : Bool) (from to : Place) (why : CopyFault) → needs_no_ground why ≡ true → IsGrounded start told extents from to why
+none_grounded start told extents from to fault.NoMemory free = record { shown = tt }
+none_grounded start told extents from to (fault.Link before after) free = record { shown = tt }
+none_grounded start told extents from to (fault.Broke (broken.Breach breach)) free = absurd (false≢true free)
+none_grounded start told extents from to (fault.Broke broken.Content) free = absurd (false≢true free)
+none_grounded start told extents from to (fault.Broke broken.Ended) free = absurd (false≢true free)
+none_grounded start told extents from to (fault.Broke broken.Differs) free = absurd (false≢true free)
+none_grounded start told extents from to (fault.Peer None code) free = absurd (false≢true free)
+none_grounded start told extents from to (fault.Peer (Some option) code) free = absurd (false≢true free)
+none_grounded start told extents from to (fault.Rule rule) free = absurd (false≢true free)
+none_grounded start told extents from to (fault.Silent idles) free = record { shown = tt }
 
-pub found_grounded : (way : Way) (now : board.Seen) (held : List (Held Ticket)) (start told : Option (List wire.Call)) (why : CopyFault) → IsFound way.sides held why → Told start told (λ calls. IsOn way now calls held) → IsGrounded start told way.from way.to why
-found_grounded way now held start told fault.NoMemory is on = record { shown = tt }
-found_grounded way now held start told (fault.Link before after) is on = absurd is.found
-found_grounded way now held start told (fault.Broke (broken.Breach breach)) is on = absurd is.found
-found_grounded way now held start told (fault.Broke broken.Content) is on = absurd is.found
-found_grounded way now held start told (fault.Broke broken.Ended) is on = absurd is.found
-found_grounded way now held start told (fault.Broke broken.Differs) is on = record { shown = told_as start told (λ calls at. at_once calls (differs way now calls held is.found at)) on }
-found_grounded way now held start told (fault.Peer option code) is on = absurd is.found
-found_grounded way now held start told (fault.Rule rule) is on = absurd is.found
-found_grounded way now held start told (fault.Silent idles) is on = absurd is.found
-
-refused_grounded : (way : Way) (now : board.Seen) (held : List (Held Ticket)) (start told : Option (List wire.Call)) (why : CopyFault) → IsRefused held why → Told start told (λ calls. IsOn way now calls held) → Told start told (ConnectTo (way.from.to ∷ way.to.to ∷ [])) → IsGrounded start told way.from way.to why
+refused_grounded : (way : Way) (now : board.Seen) (held : List (Held Ticket)) (start told : Option (List wire.Call)) (why : CopyFault) → IsRefused held why → Told start told (λ calls. IsOn way now calls held) → Told start told (ConnectTo (way.from.to ∷ way.to.to ∷ [])) → IsGrounded start told way.extents way.from way.to why
 refused_grounded way now held start told fault.NoMemory is on only = record { shown = tt }
 refused_grounded way now held start told (fault.Link before after) is on only = absurd is.found
 refused_grounded way now held start told (fault.Broke one) is on only = absurd is.found
@@ -222,17 +198,17 @@ refused_grounded way now held start told (fault.Silent idles) is on only = absur
 
 -- The transcript goes on.
 
-pub grounded_later : (start a b : Option (List wire.Call)) (from to : Place) (why : CopyFault) → Lasts a b → IsGrounded start a from to why → IsGrounded start b from to why
-grounded_later start a b from to fault.NoMemory lasts g = record { shown = tt }
-grounded_later start a b from to (fault.Link before after) lasts g = record { shown = tt }
-grounded_later start a b from to (fault.Broke (broken.Breach breach)) lasts g = record { shown = told_later start a b lasts g.shown }
-grounded_later start a b from to (fault.Broke broken.Content) lasts g = record { shown = told_later start a b lasts g.shown }
-grounded_later start a b from to (fault.Broke broken.Ended) lasts g = record { shown = told_later start a b lasts g.shown }
-grounded_later start a b from to (fault.Broke broken.Differs) lasts g = record { shown = told_later start a b lasts g.shown }
-grounded_later start a b from to (fault.Peer None code) lasts g = record { shown = told_later start a b lasts g.shown }
-grounded_later start a b from to (fault.Peer (Some option) code) lasts g = record { shown = told_later start a b lasts g.shown }
-grounded_later start a b from to (fault.Rule rule) lasts g = record { shown = told_later start a b lasts g.shown }
-grounded_later start a b from to (fault.Silent idles) lasts g = record { shown = tt }
+pub grounded_later : (start a b : Option (List wire.Call)) (extents : Bool) (from to : Place) (why : CopyFault) → Lasts a b → IsGrounded start a extents from to why → IsGrounded start b extents from to why
+grounded_later start a b extents from to fault.NoMemory lasts g = record { shown = tt }
+grounded_later start a b extents from to (fault.Link before after) lasts g = record { shown = tt }
+grounded_later start a b extents from to (fault.Broke (broken.Breach breach)) lasts g = record { shown = told_later start a b lasts g.shown }
+grounded_later start a b extents from to (fault.Broke broken.Content) lasts g = record { shown = told_later start a b lasts g.shown }
+grounded_later start a b extents from to (fault.Broke broken.Ended) lasts g = record { shown = told_later start a b lasts g.shown }
+grounded_later start a b extents from to (fault.Broke broken.Differs) lasts g = record { shown = told_later start a b lasts g.shown }
+grounded_later start a b extents from to (fault.Peer None code) lasts g = record { shown = told_later start a b lasts g.shown }
+grounded_later start a b extents from to (fault.Peer (Some option) code) lasts g = record { shown = told_later start a b lasts g.shown }
+grounded_later start a b extents from to (fault.Rule rule) lasts g = record { shown = told_later start a b lasts g.shown }
+grounded_later start a b extents from to (fault.Silent idles) lasts g = record { shown = tt }
 
 pub if_err_leads : {T F : Type 0} {A B : F → Type 0} (r : Result T F) → ((why : F) → A why → B why) → IfErr r A → IfErr r B
 if_err_leads (Ok value) leads a = tt
@@ -248,23 +224,10 @@ pub on_err_so : {T F A : Type 0} (r : Result T F) → A → OnErr r A
 on_err_so (Ok value) a = tt
 on_err_so (Err why) a = a
 
--- A step that keeps a copy on its way, and then one that fails.
-pub fails_then : (parting : Bool) (now now' : board.Seen) (held held' : List (Held Ticket)) (a b c : Option (List wire.Call)) (why : CopyFault) → Goes now held a now' held' b → FailsOn parting now' held' b c why → FailsOn parting now held a c why
-fails_then parting now now' held held' a b c why goes fails = record { on = λ way start s connected on. fails.on way start (goes.stand s) ((goes_connected now now' held held' a b goes s).on start connected) (goes.on parting way start s on) }
-
-pub fails_free : (parting : Bool) (now : board.Seen) (held : List (Held Ticket)) (told told' : Option (List wire.Call)) (why : CopyFault) → needs_no_ground why ≡ true → FailsOn parting now held told told' why
-fails_free parting now held told told' why free = record { on = λ way start s connected on. none_grounded start told' way.from way.to why free }
-
 -- The first connection of each side, and then what both settle.
 
-pub one_side : Sides
+abbrev pub one_side : Sides
 one_side = record { source = 1; destination = 1 }
-
--- A step fails behind the source's first connection,
-pub source_fails : (s0 s1 : copier.Seen) (t u c : Option (List wire.Call)) (why : CopyFault) → s1.board ≡ s0.board → Dials s0.from s0.options.extents s0.board s0.held t s1.held u → HasNotBegun s0 → FailsOn false s1.board s1.held u c why → IsGrounded t c s0.from s0.to why
-source_fails s0 s1 t u c why same first none fails =
-    let how = s0.board.how in
-    fails.on (beginning s0 None how one_side) t (first.stand (no_handles s0 none)) (connected_begins t u first.connected) (subst (λ (b : board.Seen). Told t u (λ calls. IsOn (beginning s0 None how one_side) b calls s1.held)) (sym same) (first_on s0 s1.held t u how one_side none first))
 
 pub goes_first : (s0 s1 s2 : copier.Seen) (u v : Option (List wire.Call)) → s1.board ≡ s0.board → Goes s1.board s1.held u s2.board s2.held v → Goes s0.board s1.held u s2.board s2.held v
 goes_first s0 s1 s2 u v same one = subst (λ (b : board.Seen). Goes b s1.held u s2.board s2.held v) same one
@@ -272,18 +235,10 @@ goes_first s0 s1 s2 u v same one = subst (λ (b : board.Seen). Goes b s1.held u 
 pub dials_second : (s0 s1 s2 s3 : copier.Seen) (v w : Option (List wire.Call)) → s1 ≡ with_held s0 s1 → s2 ≡ with_held s1 s2 → Dials s2.to false s2.board s2.held v s3.held w → Dials s0.to false s2.board s2.held v s3.held w
 dials_second s0 s1 s2 s3 v w k1 k2 second = subst (λ (p : Place). Dials p false s2.board s2.held v s3.held w) (ap (λ (s : copier.Seen). s.to) (kept_then s0 s1 s2 k1 k2)) second
 
--- or behind the destination's,
-pub destination_fails : (s0 s1 s2 s3 : copier.Seen) (t u v w c : Option (List wire.Call)) (why : CopyFault) → s1 ≡ with_held s0 s1 → s2 ≡ with_held s1 s2 → s1.board ≡ s0.board → s3.board ≡ s2.board →
-    Dials s0.from s0.options.extents s0.board s0.held t s1.held u → Goes s1.board s1.held u s2.board s2.held v → Dials s2.to false s2.board s2.held v s3.held w → HasNotBegun s0 → FailsOn false s3.board s3.held w c why → IsGrounded t c s0.from s0.to why
-destination_fails s0 s1 s2 s3 t u v w c why k1 k2 b1 b3 first one second none fails =
-    let how = s0.board.how in
-    let both = second_on s0 s2.board s1.held s2.held s3.held t u v w how one_side none first (goes_first s0 s1 s2 u v b1 one) (dials_second s0 s1 s2 s3 v w k1 k2 second) in
-    fails.on (beginning s0 None how one_side) t both.0 (second_connects s0 s2.board s1.held s2.held s3.held t u v w none first (goes_first s0 s1 s2 u v b1 one) (dials_second s0 s1 s2 s3 v w k1 k2 second)) (subst (λ (b : board.Seen). Told t w (λ calls. IsOn (beginning s0 None how one_side) b calls s3.held)) (sym b3) both.1)
-
 -- or what both were told is refused.
 pub found_fails : (s0 s1 s2 s3 s4 : copier.Seen) (t u v w x : Option (List wire.Call)) (held : List (Held Ticket)) (why : CopyFault) → s1 ≡ with_held s0 s1 → s2 ≡ with_held s1 s2 → s1.board ≡ s0.board → s3.board ≡ s2.board → held ≡ s4.held →
     Dials s0.from s0.options.extents s0.board s0.held t s1.held u → Goes s1.board s1.held u s2.board s2.held v → Dials s2.to false s2.board s2.held v s3.held w → Goes s3.board s3.held w s4.board s4.held x → HasNotBegun s0 → LinksGo (s0.from.to ∷ s0.to.to ∷ []) s0.held t s4.held x → IsRefused held why →
-    IsGrounded t x s0.from s0.to why
+    IsGrounded t x s0.options.extents s0.from s0.to why
 found_fails s0 s1 s2 s3 s4 t u v w x held why k1 k2 b1 b3 same first one second two none connects found =
     let how = s0.board.how in
     let two' : Goes s2.board s3.held w s4.board s4.held x = subst (λ (b : board.Seen). Goes b s3.held w s4.board s4.held x) b3 two in
@@ -297,10 +252,10 @@ pub record AreFound (options : CopyOptions) (from to : Place) (start told : Opti
   pub know : KnowBoth first.source first.destination held
 
 -- What both were told settles the terms.
-pub found_terms : (s0 s1 s2 s3 s4 : copier.Seen) (t u v w x : Option (List wire.Call)) (options : CopyOptions) (terms : Terms) (held : List (Held Ticket)) → s1 ≡ with_held s0 s1 → s2 ≡ with_held s1 s2 → s1.board ≡ s0.board → s3.board ≡ s2.board → held ≡ s4.held →
+pub found_terms : (s0 s1 s2 s3 s4 : copier.Seen) (t u v w x : Option (List wire.Call)) (options : CopyOptions) (terms : Terms) (held : List (Held Ticket)) → s0.options.extents ≡ options.extents → s1 ≡ with_held s0 s1 → s2 ≡ with_held s1 s2 → s1.board ≡ s0.board → s3.board ≡ s2.board → held ≡ s4.held →
     Dials s0.from s0.options.extents s0.board s0.held t s1.held u → Goes s1.board s1.held u s2.board s2.held v → Dials s2.to false s2.board s2.held v s3.held w → Goes s3.board s3.held w s4.board s4.held x → HasNotBegun s0 → (finds : FindsTerms options terms held) →
     (Stand s4.held → KnowBoth finds.source finds.destination s4.held) → AreFound options s0.from s0.to t x terms s4.held
-found_terms s0 s1 s2 s3 s4 t u v w x options terms held k1 k2 b1 b3 same first one second two none finds know =
+found_terms s0 s1 s2 s3 s4 t u v w x options terms held asks k1 k2 b1 b3 same first one second two none finds know =
     let how = s0.board.how in
     let way = beginning s0 None how one_side in
     let two' : Goes s2.board s3.held w s4.board s4.held x = subst (λ (b : board.Seen). Goes b s3.held w s4.board s4.held x) b3 two in
@@ -309,27 +264,16 @@ found_terms s0 s1 s2 s3 s4 t u v w x options terms held k1 k2 b1 b3 same first o
       first = record {
         source = finds.source;
         destination = finds.destination;
-        shown = told_as t x (λ calls at. at_once calls (drove way s4.board calls s4.held (IsShown finds.source) 0 at (subst (λ (l : List (Held Ticket)). Happens (IsShown finds.source) 0 l) same finds.shown))) on;
-        shown' = told_as t x (λ calls at. at_once calls (drove way s4.board calls s4.held (IsShown finds.destination) 1 at (subst (λ (l : List (Held Ticket)). Happens (IsShown finds.destination) 1 l) same finds.shown'))) on;
+        shown = subst (λ (e : Bool). Told t x (AtSome (Drove e s0.from (IsShown finds.source)))) asks (told_as t x (λ calls at. at_once calls (drove way s4.board calls s4.held (IsShown finds.source) 0 at (subst (λ (l : List (Held Ticket)). Happens (IsShown finds.source) 0 l) same finds.shown))) on);
+        shown' = subst (λ (e : Bool). Told t x (AtSome (Drove e s0.to (IsShown finds.destination)))) asks (told_as t x (λ calls at. at_once calls (drove way s4.board calls s4.held (IsShown finds.destination) 1 at (subst (λ (l : List (Held Ticket)). Happens (IsShown finds.destination) 1 l) same finds.shown'))) on);
         none = finds.none;
         settled = finds.settled;
       };
       know = know (two_meet_stand s0 s1 s2 s3 s4 t u v w x first one second two none);
     }
 
--- Further connections.
-
-pub further_fails : (copy mid : copier.Seen) (sides : Sides) (start a b c : Option (List wire.Call)) (why : CopyFault) → GoesFurther copy sides 2 copy.board copy.held a mid.board mid.held b → FailsOn false mid.board mid.held b c why →
-    (terms : Terms) → HasMet copy start a terms → sides ≡ terms.sides → length copy.held ≡ 2 → IsGrounded start c copy.from copy.to why
-further_fails copy mid sides start a b c why further fails terms met same two =
-    fails.on (beginning copy (Some terms.size) terms.how sides) start (further.stand met.stand) ((further.connected met.stand).on start met.connected)
-    (further.on (Some terms.size) terms.how start met.stand two (subst (λ (x : Sides). Told start a (λ calls. IsOn (beginning copy (Some terms.size) terms.how x) copy.board calls copy.held)) (sym same) met.on))
-
-pub same_fails : (copy : copier.Seen) (held : List (Held Ticket)) (start told : Option (List wire.Call)) (terms : Terms) (why : CopyFault) → held ≡ copy.held → HasMet copy start told terms → IsFound terms.sides held why → IsGrounded start told copy.from copy.to why
-same_fails copy held start told terms why same met found =
-    found_grounded (beginning copy (Some terms.size) terms.how terms.sides) copy.board copy.held start told why (subst (λ (l : List (Held Ticket)). IsFound terms.sides l why) same found) met.on
-
 -- Turns.
 
-pub grounded_as : (start told : Option (List wire.Call)) (from from' to to' : Place) (why : CopyFault) → from ≡ from' → to ≡ to' → IsGrounded start told from to why → IsGrounded start told from' to' why
-grounded_as start told from from' to to' why one two g = subst (λ (p : Place). IsGrounded start told from' p why) two (subst (λ (p : Place). IsGrounded start told p to why) one g)
+pub grounded_as : (start told : Option (List wire.Call)) (extents extents' : Bool) (from from' to to' : Place) (why : CopyFault) → extents ≡ extents' → from ≡ from' → to ≡ to' → IsGrounded start told extents from to why → IsGrounded start told extents' from' to' why
+grounded_as start told extents extents' from from' to to' why asks one two g =
+    subst (λ (e : Bool). IsGrounded start told e from' to' why) asks (subst (λ (p : Place). IsGrounded start told extents from' p why) two (subst (λ (p : Place). IsGrounded start told extents p to why) one g))

@@ -8,9 +8,11 @@ use Rattle.lnbd_link.specs.Call as wire
 use Rattle.lnbd_link.specs.Numbers.{given_by, gives, is_given, is_number}
 use Rattle.lnbd_poll.specs.Seen.{Seen}
 use Rattle.lnbd_board.specs.declared.ticket.Ticket.{Ticket}
+use Rattle.lnbd_course.specs.Passed.{WasFirst}
+use Rattle.lnbd_course.specs.Reached.{WasTold}
 use Rattle.lnbd_course.proofs.Answering.{answers_stay}
 use Rattle.lnbd_copy.specs.Begun.{BeganAs, opened}
-use Rattle.lnbd_copy.specs.Statuses.{FirstAgreedNone, Hears, IsFirst, MayBeRead, first_given, first_held, or_later}
+use Rattle.lnbd_copy.specs.Statuses.{FirstAgreedNone, Hears, IsFirst, MayBeRead, WasPassed, WasSoFirst, first_given, first_held, or_later}
 use Rattle.lnbd_copy.proofs.BegunLemmas.{FirstGoes, began_stays, last_began, link_stays}
 
 -- The first number that calls gave.
@@ -104,28 +106,39 @@ pub may_stay : (extents : Bool) (from : Place) (p : ℕ) (calls more : List wire
 may_stay extents from p calls more (inl answered) = inl (answers_stay from p calls more answered)
 may_stay extents from p calls more (inr agreed) = inr (none_stays extents from calls more agreed)
 
+-- What asking passed.
+
+so_stays : (from : Place) (p : ℕ) (Is : List wire.Call → Type 0) (calls more : List wire.Call) → WasSoFirst from p Is calls → WasSoFirst from p Is (calls ++ more)
+so_stays from p Is calls more was = record { before = was.before; after = was.after ++ more; are = ap (λ (l : List wire.Call). l ++ more) was.are ∙ append_assoc was.before was.after more; so = was.so; unread = was.unread }
+
+pub passed_stays : (extents : Bool) (grain : ℕ) (from : Place) (p : ℕ) (calls more : List wire.Call) → WasPassed extents grain from p calls → WasPassed extents grain from p (calls ++ more)
+passed_stays extents grain from p calls more (inl (inl told)) = inl (inl (so_stays from p (WasTold from p) calls more told))
+passed_stays extents grain from p calls more (inl (inr first)) = inl (inr (so_stays from p (WasFirst grain from p) calls more first))
+passed_stays extents grain from p calls more (inr agreed) = inr (none_stays extents from calls more agreed)
+
 -- Between two turns.
 
-module _ (parting extents : Bool) (from to : Place) (heard : ℕ → Bool) (error error' : Option ℕ) (earlier : error' ≡ None → error ≡ None) (calls : List wire.Call) (seens seens' : List (Seen Ticket)) (goes : FirstGoes seens seens')
+module _ (parting extents : Bool) (from to : Place) (heard : (grain p : ℕ) → Bool) (error error' : Option ℕ) (earlier : error' ≡ None → error ≡ None) (calls : List wire.Call) (seens seens' : List (Seen Ticket)) (goes : FirstGoes seens seens')
     (hears : Hears parting extents from to heard error calls seens) where
   -- no call was made
   pub hears_on : Hears parting extents from to heard error' calls seens'
-  hears_on = record { answered = λ well two p h. hears.answered (earlier well) two p h; first = first_same parting calls seens seens' (link_stays seens seens' goes) hears.first; begun = began_stays parting (opened from.name extents) seens seens' goes hears.begun }
+  hears_on = record { passed = λ well two grain p h. hears.passed (earlier well) two grain p h; answered = λ well two grain p h. hears.answered (earlier well) two grain p h; first = first_same parting calls seens seens' (link_stays seens seens' goes) hears.first; begun = began_stays parting (opened from.name extents) seens seens' goes hears.begun }
 
   -- these calls were made
   pub hears_later : (more : List wire.Call) → or_later (first_held seens) (first_given more) ≡ first_held seens → Hears parting extents from to heard error' (calls ++ more) seens'
-  hears_later more still = record { answered = λ well two p h. may_stay extents from p calls more (hears.answered (earlier well) two p h); first = first_later parting calls more seens seens' (link_stays seens seens' goes) still hears.first; begun = began_stays parting (opened from.name extents) seens seens' goes hears.begun }
+  hears_later more still = record { passed = λ well two grain p h. passed_stays extents grain from p calls more (hears.passed (earlier well) two grain p h); answered = λ well two grain p h. may_stay extents from p calls more (hears.answered (earlier well) two grain p h); first = first_later parting calls more seens seens' (link_stays seens seens' goes) still hears.first; begun = began_stays parting (opened from.name extents) seens seens' goes hears.begun }
 
 -- One link more was made, and a handle begins on it.
-pub hears_dialed : (extents : Bool) (from to : Place) (heard : ℕ → Bool) (error : Option ℕ) (calls : List wire.Call) (seens : List (Seen Ticket)) (at : Target) (last : Seen Ticket) → (length seens ≡ 0 → BeganAs (opened from.name extents) last.history) → Hears false extents from to heard error calls seens →
+pub hears_dialed : (extents : Bool) (from to : Place) (heard : (grain p : ℕ) → Bool) (error : Option ℕ) (calls : List wire.Call) (seens : List (Seen Ticket)) (at : Target) (last : Seen Ticket) → (length seens ≡ 0 → BeganAs (opened from.name extents) last.history) → Hears false extents from to heard error calls seens →
     Hears false extents from to heard error (calls ++ wire.Connect at (Some last.link) ∷ []) (seens ++ last ∷ [])
 hears_dialed extents from to heard error calls seens at last only hears = record {
-  answered = λ well two p h. may_stay extents from p calls (wire.Connect at (Some last.link) ∷ []) (hears.answered well two p h);
+  passed = λ well two grain p h. passed_stays extents grain from p calls (wire.Connect at (Some last.link) ∷ []) (hears.passed well two grain p h);
+  answered = λ well two grain p h. may_stay extents from p calls (wire.Connect at (Some last.link) ∷ []) (hears.answered well two grain p h);
   first = given_then calls (wire.Connect at (Some last.link) ∷ []) ∙ ap (λ (o : Option ℕ). or_later o (Some last.link)) hears.first ∙ last_first seens last;
   begun = last_began (opened from.name extents) seens last hears.begun only;
 }
 
 -- While handles are taken out it does not matter which one is the first.
-pub hears_parting : (parting extents : Bool) (from to : Place) (heard : ℕ → Bool) (error error' : Option ℕ) (earlier : error' ≡ None → error ≡ None) (calls : List wire.Call) (seens seens' : List (Seen Ticket)) → Hears parting extents from to heard error calls seens →
+pub hears_parting : (parting extents : Bool) (from to : Place) (heard : (grain p : ℕ) → Bool) (error error' : Option ℕ) (earlier : error' ≡ None → error ≡ None) (calls : List wire.Call) (seens seens' : List (Seen Ticket)) → Hears parting extents from to heard error calls seens →
     Hears true extents from to heard error' calls seens'
-hears_parting parting extents from to heard error error' earlier calls seens seens' hears = record { answered = λ well two p h. hears.answered (earlier well) two p h; first = tt; begun = tt }
+hears_parting parting extents from to heard error error' earlier calls seens seens' hears = record { answered = λ well two grain p h. hears.answered (earlier well) two grain p h; first = tt; begun = tt; passed = λ well two grain p h. hears.passed (earlier well) two grain p h }

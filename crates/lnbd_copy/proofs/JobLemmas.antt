@@ -1,5 +1,5 @@
 -- What a job does keeps a copy on its way: its slices go on and begin, extents are asked for and heard, and in the end all connections part.
-use Rattle.std.proofs.Common.{◌≡◌, ◌≢◌, ◌⊎◌, ◌≤◌, ◌-◌, inl, inr, ◌&&◌, ◌||◌, ℕ, Bool, true, false, List, [], ◌++◌, cond, Option, Some, None, if◌then◌else◌, refl, ap, sym, subst, ◌∙◌, arith, nat_lt}
+use Rattle.std.proofs.Common.{◌≡◌, ◌≢◌, ◌⊎◌, ◌<◌, ◌≤◌, ◌-◌, is_some, inl, inr, ◌&&◌, ◌||◌, ℕ, Bool, true, false, List, [], ◌++◌, cond, Option, Some, None, if◌then◌else◌, refl, ap, sym, subst, ◌∙◌, arith, nat_lt}
 use Rattle.std.proofs.lemmas.Bool.{false≢true}
 use Rattle.std.proofs.lemmas.List.{append-nil, append_assoc}
 use Rattle.lnbd_link.specs.Call as wire
@@ -32,20 +32,24 @@ use Rattle.lnbd_copy.specs.declared.job.Phase.TheVariants.{Copying, Flushing, Pa
 use Rattle.lnbd_copy.specs.declared.sides.Sides.{Sides}
 use Rattle.lnbd_copy.specs.Asked.{IsAsked}
 use Rattle.lnbd_copy.specs.Dealing.{Begins}
-use Rattle.lnbd_copy.specs.Heard.{IsHeardTo, has_position}
+use Rattle.lnbd_copy.specs.Deciding.{AreAlive}
+use Rattle.lnbd_copy.specs.Heard.{IsHeardTo, has_position, passed_heard}
 use Rattle.lnbd_copy.specs.Reached.{IsToldTo, told_heard, told_within}
 use Rattle.lnbd_copy.specs.Job.{Acts, AreOfOne, IsJob, IsOver, Seen, cells_of, with_asked, with_heard, is_parting}
 use Rattle.lnbd_copy.specs.Way.{IsOn, Keeps, Stand, Stands, Way, connection_of, with_slices, is_source}
 use Rattle.lnbd_copy.specs.Leaving.{Parts}
 use Rattle.lnbd_copy.specs.Spared.{IsSpared, whole_heard, whole_within}
-use Rattle.lnbd_copy.specs.Statuses.{MayBeRead}
+use Rattle.lnbd_copy.specs.Statuses.{MayBeRead, WasPassed}
 use Rattle.lnbd_copy.specs.Windows as windows
 use Rattle.lnbd_copy.proofs.AnswerLemmas.{range_may_be_read}
+use Rattle.lnbd_copy.proofs.PassedLemmas.{passed_has, range_was_passed}
 use Rattle.lnbd_copy.proofs.EndLemmas.{planned_once}
 use Rattle.lnbd_copy.proofs.BegunLemmas.{event_first}
 use Rattle.lnbd_copy.proofs.DoneLemmas.{all_is_done, at_end, flush_is_done}
 use Rattle.lnbd_copy.proofs.DrivenLemmas.{drive_event}
 use Rattle.lnbd_copy.proofs.OrderLemmas.{ordered_event}
+use Rattle.lnbd_copy.proofs.FlushedLemmas.{other_flushes_none, second_event}
+use Rattle.lnbd_copy.proofs.QueriedLemmas.{onward_asked, onward_begins, onward_begun, onward_heard, queried_asked}
 use Rattle.lnbd_copy.proofs.UnendedLemmas.{ended_event}
 use Rattle.lnbd_copy.proofs.HeardLemmas.{hears_on}
 use Rattle.lnbd_copy.proofs.SparedLemmas.{spared_none}
@@ -98,9 +102,9 @@ heard_stands way (Some range) some has now calls seens mapped short s =
     hearing_stands way has now calls seens range (λ p. way.zero p || windows.zero_within range now.told p) (λ block p. way.whole block p || whole_within block range now.told p) (λ p. way.reach p || told_within range now.told p) some s mapped short (heard_in way range now)
     (λ block p e. or_first (way.whole block p) _ e) (λ block p e. or_second (way.whole block p) _ e) (λ p e. or_first (way.reach p) _ e) (λ p e. or_second (way.reach p) _ e)
 
-heard_on : (way : Way) (now : board.Seen) (calls : List wire.Call) (held : List (Held Ticket)) → now.mapped ≡ true → now.short ≡ false → (now.error ≡ None → way.from ≢ way.to → (p : ℕ) → has_position way.asked p ≡ true → MayBeRead way.extents way.from p calls) → IsOn way now calls held →
-    IsOn (with_heard now.told way) now calls held
-heard_on way now calls held mapped short may on = record {
+heard_on : (way : Way) (now : board.Seen) (calls : List wire.Call) (held : List (Held Ticket)) → now.mapped ≡ true → now.short ≡ false → (now.error ≡ None → way.from ≢ way.to → (p : ℕ) → has_position way.asked p ≡ true → MayBeRead way.extents way.from p calls) →
+    (now.error ≡ None → way.from ≢ way.to → (grain p : ℕ) → passed_heard grain way.asked now.told p ≡ true → WasPassed way.extents grain way.from p calls) → IsOn way now calls held → IsOn (with_heard now.told way) now calls held
+heard_on way now calls held mapped short may passes on = record {
   has = on.has;
   seens = on.seens;
   at = on.at;
@@ -110,14 +114,17 @@ heard_on way now calls held mapped short may on = record {
   rest = on.rest;
   all = on.all;
   hears = record {
-    answered = λ well two p h. elim (or_heard (way.heard p) (has_position way.asked p) h) [ inl was ↦ on.hears.answered well two p was | inr here ↦ may well two p here ];
+    answered = λ well two grain p h. elim (or_heard (way.heard grain p) (passed_heard grain way.asked now.told p) h) [ inl was ↦ on.hears.answered well two grain p was | inr here ↦ may well two p (passed_has grain way.asked now.told p here) ];
     first = on.hears.first;
     begun = on.hears.begun;
+    passed = λ well two grain p h. elim (or_heard (way.heard grain p) (passed_heard grain way.asked now.told p) h) [ inl was ↦ on.hears.passed well two grain p was | inr here ↦ passes well two grain p here ];
   };
   bound = on.bound;
   drives = on.drives;
   ends = on.ends;
   order = on.order;
+  queried = on.queried;
+  flushes = on.flushes;
 }
 
 -- no slice more was begun
@@ -164,16 +171,18 @@ asked_on way now now' calls held held' offset size few none is asked on =
       at = was.at;
       sided = sided_after way.sides on.has 0 (Issue command) on.seens on.sided;
       begun = on.begun ∙ ap (λ (b : board.Seen). b.begun) (sym is);
-      stands = extents_ask_stand way on.has now now' calls on.seens (offset, size) 0 was.seen command none on.stands was.there (on.sided 0 was.seen was.there) was.spells (extents_ask way.how now now' offset size way.slices is few)
-          (record { asks = record { kind = refl; offset = refl; length_ = refl }; first = refl; done = refl }) (ap (λ (b : board.Seen). b.told) is) (ap (λ (b : board.Seen). b.mapped) is);
+      stands = (let s = extents_ask_stand way on.has now now' calls on.seens (offset, size) 0 was.seen command none on.stands was.there (on.sided 0 was.seen was.there) was.spells (extents_ask way.how now now' offset size way.slices is few)
+          (record { asks = record { kind = refl; offset = refl; length_ = refl }; first = refl; done = refl }) (ap (λ (b : board.Seen). b.told) is) (ap (λ (b : board.Seen). b.mapped) is) in record { between = s.between; told = s.told });
       rest = on.rest;
       all = held_event calls 0 (Issue command) on.seens on.all;
       hears = hears_on false way.extents way.from way.to way.heard now.error now'.error (λ none. sym (ap (λ (b : board.Seen). b.error) is) ∙ none) calls on.seens (with_event 0 (Issue command) on.seens) (event_first 0 (Issue command) on.seens) on.hears;
       bound = asks_bound way on.has now calls on.seens on.stands now' on.begun (λ none. sym (ap (λ (b : board.Seen). b.error) is) ∙ none) on.bound true 0 0 command refl refl
           (binds_none true 0 ticket.Extents now now' extents_differ (ap (λ (b : board.Seen). b.rows) is));
       drives = drive_event way.extents way.from way.to on.has calls 0 (Issue command) on.seens refl on.drives;
-      ends = ended_event way.extents way.how.skip way.flush way.from way.to calls way.ended false 0 (Issue command) on.seens refl on.ends;
+      ends = ended_event way.extents way.how.skip way.flush way.from way.to calls way.ended 0 (Issue command) on.seens refl refl on.ends;
       order = ordered_event (is_source way.sides) on.has calls false 0 (Issue command) on.seens on.order;
+      queried = queried_asked way.queries 0 command on.seens on.queried;
+      flushes = second_event calls 0 (Issue command) on.seens (other_flushes_none command refl) on.flushes;
     }
 
 -- Slices go on.
@@ -191,7 +200,7 @@ acts_keeps job how sides now now' held held' h s copying writes unflushed keeps 
   on = λ way had. record {
     way' = way;
     one = one_same way;
-    job' = record { size = had.size; how = had.how; writes = writes ∙ had.writes; sides = had.sides; ends = had.ends; cells = had.cells; planned = had.planned; grain = had.grain; spared = had.spared; asked = had.asked; over = λ other. absurd (other copying); unwanted = λ no. unflushed ∙ had.unwanted no; unflushed = λ c. unflushed ∙ had.unflushed c; rests = λ other. absurd (other copying); flushed = λ parts. absurd (still_copying job.phase copying parts); heard = had.heard; reached = had.reached; parts = had.parts; wants = had.wants };
+    job' = record { size = had.size; how = had.how; writes = writes ∙ had.writes; sides = had.sides; ends = had.ends; cells = had.cells; planned = had.planned; grain = had.grain; spared = had.spared; asked = had.asked; over = λ other. absurd (other copying); unwanted = λ no. unflushed ∙ had.unwanted no; unflushed = λ c. unflushed ∙ had.unflushed c; rests = λ other. absurd (other copying); flushed = λ parts. absurd (still_copying job.phase copying parts); heard = had.heard; reached = had.reached; parts = had.parts; wants = had.wants; onward = had.onward };
     on = λ calls on. none_on how sides now now' held held' keeps way calls (had.how ∙ sym h) (had.sides ∙ sym s) on;
   };
 }
@@ -202,9 +211,10 @@ pub acts_heard : (job job' : Seen) (windows' : windows.Seen) (now : board.Seen) 
     windows'.plan.cells ≡ job.windows.plan.cells → windows'.size ≡ job.windows.size → windows'.grain ≡ job.windows.grain →
     ((whole : ℕ → Bool) (slices : List Slice) → IsSpared job.windows whole slices → IsSpared windows' (λ p. whole p || whole_heard job.windows.grain (windows.wanted job.windows) now.told p) slices) →
     ((blank : ℕ → Bool) (slices : List Slice) → windows.IsPlanned job.windows blank slices → windows.IsPlanned windows' (λ p. blank p || windows.zero_heard (windows.wanted job.windows) now.told p) slices) →
-    ((heard : ℕ → Bool) → IsHeardTo job.windows heard → IsHeardTo windows' (λ p. heard p || has_position (windows.wanted job.windows) p)) →
-    ((reach : ℕ → Bool) → IsToldTo job.windows reach → IsToldTo windows' (λ p. reach p || told_heard (windows.wanted job.windows) now.told p)) → Acts job job' now now held held
-acts_heard job job' windows' now held copying asked mapped short is cells size grain spares hears reaches tells = subst (λ (j : Seen). Acts job j now now held held) (sym is) (record {
+    ((heard : ℕ → Bool) → IsHeardTo job.windows heard → IsHeardTo windows' (λ p. heard p || passed_heard job.windows.grain (windows.wanted job.windows) now.told p)) →
+    ((reach : ℕ → Bool) → IsToldTo job.windows reach → IsToldTo windows' (λ p. reach p || told_heard (windows.wanted job.windows) now.told p)) →
+    (is_some (windows.wanted job.windows) ≡ true → job.windows.at < windows'.at) → windows'.at ≤ windows'.size → Acts job job' now now held held
+acts_heard job job' windows' now held copying asked mapped short is cells size grain spares hears reaches tells goes inside = subst (λ (j : Seen). Acts job j now now held held) (sym is) (record {
   stand = λ s. s;
   on = λ way had.
       let range : way.asked ≡ windows.wanted job.windows = had.asked ∙ ap (λ (b : Bool). if b then windows.wanted job.windows else None) asked in
@@ -228,12 +238,14 @@ acts_heard job job' windows' now held copying asked mapped short is cells size g
           unflushed = had.unflushed;
           rests = λ other. absurd (other copying);
           flushed = λ parts. absurd (still_copying job.phase copying parts);
-          heard = subst (λ (r : Option (ℕ × ℕ)). IsHeardTo windows' (λ p. way.heard p || has_position r p)) (sym range) (reaches way.heard had.heard);
+          heard = subst (λ (g : ℕ). IsHeardTo windows' (λ p. way.heard g p || passed_heard g way.asked now.told p)) (sym grain)
+              (subst (λ (r : Option (ℕ × ℕ)). IsHeardTo windows' (λ p. way.heard job.windows.grain p || passed_heard job.windows.grain r now.told p)) (sym range) (reaches (way.heard job.windows.grain) had.heard));
           reached = subst (λ (r : Option (ℕ × ℕ)). IsToldTo windows' (λ p. way.reach p || told_heard r now.told p)) (sym range) (tells way.reach had.reached);
           parts = had.parts;
           wants = had.wants;
+          onward = onward_heard job windows' way.queries asked goes inside had.onward;
         };
-        on = λ calls on. heard_on way now calls held mapped short (range_may_be_read way job.terms.size job.windows (told_by 0 had.planned.parts) now calls held had.size range had.heard (planned_once job way now had) mapped on) on;
+        on = λ calls on. heard_on way now calls held mapped short (range_may_be_read way job.terms.size job.windows (told_by 0 had.planned.parts) now calls held had.size range had.heard (planned_once job way now had) mapped on) (range_was_passed way job.terms.size job.windows (told_by 0 had.planned.parts) now calls held had.size range had.heard.planned (planned_once job way now had) mapped on) on;
       };
 })
 
@@ -262,7 +274,7 @@ acts_asked job job' now now' held held' offset size copying none range is forget
       record {
         way' = with_asked (Some (offset, size)) way;
         one = record { from = refl; to = refl; how = refl; sides = refl; extents = refl };
-        job' = record { size = had.size; how = had.how; writes = ap (λ (b : board.Seen). b.how) forgets ∙ had.writes; sides = had.sides; ends = had.ends; cells = had.cells; planned = had.planned; grain = had.grain; spared = had.spared; asked = sym range; over = λ other. absurd (other copying); unwanted = λ no. ap (λ (b : board.Seen). b.flushing) forgets ∙ had.unwanted no; unflushed = λ c. ap (λ (b : board.Seen). b.flushing) forgets ∙ had.unflushed c; rests = λ other. absurd (other copying); flushed = λ parts. absurd (still_copying job.phase copying parts); heard = had.heard; reached = had.reached; parts = had.parts; wants = had.wants };
+        job' = record { size = had.size; how = had.how; writes = ap (λ (b : board.Seen). b.how) forgets ∙ had.writes; sides = had.sides; ends = had.ends; cells = had.cells; planned = had.planned; grain = had.grain; spared = had.spared; asked = sym range; over = λ other. absurd (other copying); unwanted = λ no. ap (λ (b : board.Seen). b.flushing) forgets ∙ had.unwanted no; unflushed = λ c. ap (λ (b : board.Seen). b.flushing) forgets ∙ had.unflushed c; rests = λ other. absurd (other copying); flushed = λ parts. absurd (still_copying job.phase copying parts); heard = had.heard; reached = had.reached; parts = had.parts; wants = had.wants; onward = onward_asked job way.queries (offset, size) none range had.onward };
         on = λ calls on. asked_on way now now' calls held held' offset size (few_wanted job.windows offset size had.heard.planned range) blank forgets asked on;
       };
 })
@@ -296,7 +308,7 @@ handed_spared plan plan' whole slices more handed others spared = subst (λ (w :
 })
 
 handed_heard : (plan plan' : windows.Seen) (heard : ℕ → Bool) → plan' ≡ with_left plan plan'.plan.slices → IsHeardTo plan heard → IsHeardTo plan' heard
-handed_heard plan plan' heard others was = subst (λ (w : windows.Seen). IsHeardTo w heard) (sym others) (record { planned = was.planned; before = was.before })
+handed_heard plan plan' heard others was = subst (λ (w : windows.Seen). IsHeardTo w heard) (sym others) (record { planned = was.planned; before = was.before; blocks = was.blocks; steps = was.steps })
 
 pub acts_begun : (job job' : Seen) (windows' : windows.Seen) (how : How) (sides : Sides) (now now' : board.Seen) (held held' : List (Held Ticket)) → job.phase ≡ Copying → how ≡ job.terms.how → sides ≡ job.terms.sides → job' ≡ record job { windows = windows' } →
     Begins how sides job.windows windows' now now' held held' → Acts job job' now now' held held'
@@ -321,10 +333,11 @@ acts_begun job job' windows' how sides now now' held held' copying h s is begins
       unflushed = λ c. ap (λ (b : board.Seen). b.flushing) begins.begun ∙ had.unflushed c;
       rests = λ other. absurd (other copying);
       flushed = λ parts. absurd (still_copying job.phase copying parts);
-      heard = handed_heard job.windows windows' way.heard begins.others had.heard;
+      heard = subst (λ (g : ℕ). IsHeardTo windows' (way.heard g)) (sym (ap (λ (w : windows.Seen). w.grain) begins.others)) (handed_heard job.windows windows' (way.heard job.windows.grain) begins.others had.heard);
       reached = told_handed job.windows windows' way.reach begins.others had.reached;
       parts = had.parts;
       wants = had.wants;
+      onward = onward_begun job windows' way.queries windows'.plan.slices begins.others had.onward;
     };
     on = λ calls on. begins.keeps.on way calls (had.how ∙ sym h) (had.sides ∙ sym s) on;
   };
@@ -367,6 +380,7 @@ acts_concludes job job' phase' now now' held held' is past copying over same unw
       reached = had.reached;
       parts = refl;
       wants = had.wants;
+      onward = record { few = had.onward.few; some = had.onward.some; inside = had.onward.inside };
     };
     on = λ calls on. at_rest (record way { ended = is_parting phase' }) now now' calls held' (goes way calls had on) (came_to_rest job way now calls held copying over had on);
   };
@@ -376,17 +390,17 @@ parting_past : Parting ≡ Copying → ⊥
 parting_past e = cc
 
 -- All connections are asked to part, where no flush is wanted.
-pub acts_parting : (job job' : Seen) (now : board.Seen) (held held' : List (Held Ticket)) → job.terms.flush ≡ false → job' ≡ record job { phase = Parting } → job.phase ≡ Copying → IsOver job now → now.error ≡ None → Parts now held held' →
+pub acts_parting : (job job' : Seen) (now : board.Seen) (held held' : List (Held Ticket)) → job.terms.flush ≡ false → job' ≡ record job { phase = Parting } → job.phase ≡ Copying → IsOver job now → now.error ≡ None → AreAlive held → Parts now held held' →
     Acts job job' now now held held'
-acts_parting job job' now held held' unwanted is copying over well parts =
+acts_parting job job' now held held' unwanted is copying over well alive parts =
     acts_concludes job job' Parting now now held held' is parting_past copying over refl (λ none. none) (λ parts wanted. absurd (false≢true (sym unwanted ∙ wanted))) parts.stand
     (λ way calls had on.
     parts.on (record way { ended = true }) calls refl (at_end way now calls held (had.parts ∙ ap is_parting copying) (λ two. all_is_done job way now calls held had over well (λ flushing. absurd (false≢true (sym (had.unwanted unwanted) ∙ flushing))) on two)
-    (λ wanted two. absurd (false≢true (sym unwanted ∙ sym had.wants ∙ wanted))) on))
+    (λ wanted two. absurd (false≢true (sym unwanted ∙ sym had.wants ∙ wanted))) alive on))
 
 -- So they are where the flush was answered.
-pub acts_flushed : (job job' : Seen) (now : board.Seen) (held held' : List (Held Ticket)) → now.flushed ≡ true → job' ≡ record job { phase = Parting } → job.phase ≡ Flushing → now.error ≡ None → Parts now held held' → Acts job job' now now held held'
-acts_flushed job job' now held held' answered is flushing well parts =
+pub acts_flushed : (job job' : Seen) (now : board.Seen) (held held' : List (Held Ticket)) → now.flushed ≡ true → job' ≡ record job { phase = Parting } → job.phase ≡ Flushing → now.error ≡ None → AreAlive held → Parts now held held' → Acts job job' now now held held'
+acts_flushed job job' now held held' answered is flushing well alive parts =
     let past : job.phase ≡ Copying → ⊥ = λ e. phases_differ (sym flushing ∙ e) in
     subst (λ (j : Seen). Acts job j now now held held') (sym is) (record {
       stand = parts.stand;
@@ -413,9 +427,10 @@ acts_flushed job job' now held held' answered is flushing well parts =
           reached = had.reached;
           parts = refl;
           wants = had.wants;
+          onward = record { few = had.onward.few; some = had.onward.some; inside = had.onward.inside };
         };
         on = λ calls on.
-            parts.on (record way { ended = true }) calls refl (at_end way now calls held (had.parts ∙ ap is_parting flushing) (λ two. all_is_done job way now calls held had (had.over past) well (λ flushing. answered) on two) (λ wanted two. flush_is_done job way now calls held had well answered on two) on);
+            parts.on (record way { ended = true }) calls refl (at_end way now calls held (had.parts ∙ ap is_parting flushing) (λ two. all_is_done job way now calls held had (had.over past) well (λ flushing. answered) on two) (λ wanted two. flush_is_done job way now calls held had well answered on two) alive on);
       };
     })
 
@@ -448,15 +463,15 @@ acts_flushing job job' now now' held held' wanted is copying over asks asked =
     let begun : now'.begun ≡ now.begun = ap (λ (b : board.Seen). b.begun) asks in
     acts_concludes job job' Flushing now now' held held' is phases_differ copying over (asks ∙ ap (λ (b : board.Seen). record now { flushing = b.flushing }) (sym asks)) (λ none no. absurd (false≢true (sym no ∙ wanted))) (λ parts. absurd (flushing_differs parts)) (stand_asked 1 (flush_of ticket.Flush 0) held held' asked)
     (λ way calls had on. subst (λ (e : Bool). IsOn (record way { ended = e }) now' calls held') (had.parts ∙ ap is_parting copying)
-    (none_on job.terms.how job.terms.sides now now' held held' (destination_keeps job.terms.how job.terms.sides [] (flush_of ticket.Flush 0) now now' held held' (omega (arith, begun)) refl (record { told = ap (λ (b : board.Seen). b.told) asks; mapped = ap (λ (b : board.Seen). b.mapped) asks; short = ap (λ (b : board.Seen). b.short) asks })
+    (none_on job.terms.how job.terms.sides now now' held held' (destination_keeps job.terms.how job.terms.sides [] (flush_of ticket.Flush 0) now now' held held' (omega (arith, begun)) refl refl (record { told = ap (λ (b : board.Seen). b.told) asks; mapped = ap (λ (b : board.Seen). b.mapped) asks; short = ap (λ (b : board.Seen). b.short) asks })
     (λ slices count. flush_asks job.terms.how now now' slices asks (had.unflushed copying))
     (connection_of job.terms.sides 1) (binds_none false (connection_of job.terms.sides 1) ticket.Flush now now' flush_differs (ap (λ (b : board.Seen). b.rows) asks))
-    (record { index = 1; side = refl; here = refl; asked = asked })) way calls had.how had.sides on))
+    (record { index = 1; side = refl; here = refl; asked = asked }) (λ flushes. refl)) way calls had.how had.sides on))
 
 -- A job begins.
 pub job_begins : (job : Seen) (way : Way) (now : board.Seen) → job.asked ≡ false → job.phase ≡ Copying → job.windows.plan.cells ≡ cells_of job.terms → job.windows.size ≡ job.terms.size → job.windows.grain ≡ job.terms.grain → ((blank : ℕ → Bool) → windows.IsPlanned job.windows blank []) →
-    way.size ≡ Some job.terms.size → now.how ≡ job.terms.how → way.how ≡ job.terms.how → way.sides ≡ job.terms.sides → way.slices ≡ [] → way.asked ≡ None → ((block p : ℕ) → way.whole block p ≡ false) → now.flushing ≡ false → IsHeardTo job.windows way.heard → IsToldTo job.windows way.reach → way.ended ≡ false → way.flush ≡ job.terms.flush → IsJob job way now
-job_begins job way now none copying cells ends grain planned z w h s blank asked unknown unflushed heard reached unended wants = record {
+    way.size ≡ Some job.terms.size → now.how ≡ job.terms.how → way.how ≡ job.terms.how → way.sides ≡ job.terms.sides → way.slices ≡ [] → way.asked ≡ None → ((block p : ℕ) → way.whole block p ≡ false) → now.flushing ≡ false → IsHeardTo job.windows (way.heard job.windows.grain) → IsToldTo job.windows way.reach → job.windows.at ≤ job.windows.size → way.ended ≡ false → way.flush ≡ job.terms.flush → way.queries ≡ 0 → IsJob job way now
+job_begins job way now none copying cells ends grain planned z w h s blank asked unknown unflushed heard reached inside unended wants unqueried = record {
   size = z;
   how = h;
   writes = w;
@@ -476,4 +491,5 @@ job_begins job way now none copying cells ends grain planned z w h s blank asked
   reached = reached;
   parts = unended ∙ sym (ap is_parting copying);
   wants = wants;
+  onward = onward_begins job way.queries unqueried none inside;
 }

@@ -18,8 +18,10 @@ pub mod FirstLemmas
 pub mod HeardLemmas
 pub mod DrivenLemmas
 pub mod DrivenTurns
+pub mod SinceLemmas
 pub mod UnendedLemmas
 pub mod OrderLemmas
+pub mod FlushedLemmas
 pub mod ReachLemmas
 pub mod AnswerLemmas
 pub mod TurnLemmas
@@ -32,6 +34,7 @@ pub mod DealingLemmas
 pub mod JobLemmas
 pub mod StepLemmas
 pub mod CopierLemmas
+pub mod WholeLemmas
 pub mod EndLemmas
 pub mod SummedLemmas
 pub mod RestLemmas
@@ -41,8 +44,11 @@ pub mod UnpartedLemmas
 pub mod GroundLemmas
 pub mod PartedLemmas
 pub mod AlikeLemmas
+pub mod TwoLemmas
+pub mod ToldAlikeLemmas
 pub mod FailLemmas
 pub mod DrivingLemmas
+pub mod AliveLemmas
 pub mod EventLemmas
 pub mod DecidedLemmas
 pub mod DecidingLemmas
@@ -68,6 +74,7 @@ pub mod BindingLemmas
 pub mod BoundedLemmas
 pub mod ShareLemmas
 pub mod LinkLemmas
+pub mod LittleLemmas
 pub mod ConnectedLemmas
 pub mod ConnectLemmas
 pub mod DrivenAsLemmas
@@ -76,3 +83,8 @@ pub mod WrittenLemmas
 pub mod MovingLemmas
 pub mod ConductLemmas
 pub mod CellLemmas
+pub mod RunLemmas
+pub mod QueriedLemmas
+pub mod PassedLemmas
+pub mod LeftOutLemmas
+pub mod PatientLemmas

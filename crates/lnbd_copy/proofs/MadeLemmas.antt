@@ -11,29 +11,32 @@ use Rattle.lnbd_course.specs.Driven.{AreDriven}
 use Rattle.lnbd_course.specs.Flushes.{FlushesLast, IsUnflushed}
 use Rattle.lnbd_copy.specs.Connected.{AllConnected}
 use Rattle.lnbd_copy.specs.Connects.{ConnectsAsTold}
-use Rattle.lnbd_copy.specs.Driven.{AreLeft}
-use Rattle.lnbd_copy.specs.DrivenAs.{AreDrivenBy}
+use Rattle.lnbd_copy.specs.DrivenAs.{AreDrivenBy, AreLeftBy}
+use Rattle.lnbd_copy.specs.Flushing.{FlushesOnFirst}
 use Rattle.lnbd_copy.specs.Links.{LinksAreKept}
 use Rattle.lnbd_copy.specs.Made.{IsMade}
 use Rattle.lnbd_copy.specs.Paused.{PausesAreFull}
 use Rattle.lnbd_copy.specs.Pauses.{AtEachPause, WantsOnlyFull}
+use Rattle.lnbd_copy.specs.Runs.{RunsSoFar}
 use Rattle.lnbd_copy.specs.Settled.{FlushesWanted, SparesFound, SparesTold}
 use Rattle.lnbd_copy.specs.Sharing.{IsAlwaysShared}
 use Rattle.lnbd_copy.specs.Statuses.{ReadsAreAnswered}
 use Rattle.lnbd_copy.specs.Vain.{WantsOnlyEmpty}
 use Rattle.lnbd_copy.specs.Waits.{WaitsWell}
 use Rattle.lnbd_copy.specs.Wanted.{WantsSome}
+use Rattle.lnbd_copy.specs.Whole.{WasCopiedWhole}
 
 pub is_made : {F : Type 0} (options : CopyOptions) (from to : Place) (a b : Option (List wire.Call)) (r : Result Summary F)
     → OnOk r (GrewBy (HasAskedOnce options.allocated options.destination_is_zero from to) a b) → OnOk r (GrewBy (WereAllDone from to) a b) → IfOk r (λ summary. GrewBy (Summarizes from to summary) a b)
-    → OnOk r (GrewBy (SparesTold from to) a b) → OnOk r (GrewBy (SparesFound options from to) a b) → GrewBy (ReadsAreAnswered options.extents from) a b
+    → OnOk r (GrewBy (SparesTold options.extents from to) a b) → OnOk r (GrewBy (SparesFound options from to) a b) → GrewBy (ReadsAreAnswered options.extents from) a b
     → IfOk r (λ summary. GrewBy (FlushesLast from to summary) a b) → OnOk r (GrewBy (FlushesWanted options from to) a b) → (options.flush ≡ false → GrewBy (IsUnflushed to) a b)
     → OnOk r (GrewBy AreDriven a b) → GrewBy (PausesAreFull options from to) a b → GrewBy (IsAlwaysShared options from to) a b → GrewBy (AtEachPause WantsOnlyFull) a b → GrewBy (AtEachPause WaitsWell) a b → GrewBy LinksAreKept a b → OnOk r (GrewBy (ConnectsAsTold options from to) a b)
     → GrewBy (AtEachPause WantsOnlyEmpty) a b
     → GrewBy (AtEachPause WantsSome) a b
-    → OnOk r (GrewBy AllConnected a b) → GrewBy (AreDrivenBy options from to) a b → OnOk r (GrewBy (AreLeft options.extents from to) a b)
+    → OnOk r (GrewBy AllConnected a b) → GrewBy (AreDrivenBy options from to) a b → OnOk r (GrewBy (AreLeftBy options from to) a b) → OnOk r (GrewBy (WasCopiedWhole options from to) a b) → GrewBy (FlushesOnFirst to) a b
+    → GrewBy (RunsSoFar options from to) a b
     → IfOk r (λ summary. GrewBy (IsMade options from to summary) a b)
-is_made options from to a b (Ok summary) asks done sums spares dense answered flushes flushed unflushed driven pauses shares writes waits links connects reads wanted connected drives left = λ all part is grown. record {
+is_made options from to a b (Ok summary) asks done sums spares dense answered flushes flushed unflushed driven pauses shares writes waits links connects reads wanted connected drives left whole first runs = λ all part is grown. record {
   asks = asks all part is grown;
   done = done all part is grown;
   sums = sums all part is grown;
@@ -55,5 +58,8 @@ is_made options from to a b (Ok summary) asks done sums spares dense answered fl
   connected = connected all part is grown;
   drives = drives all part is grown;
   left = left all part is grown;
+  whole = whole all part is grown;
+  first = first all part is grown;
+  runs = runs all part is grown;
 }
-is_made options from to a b (Err fault) asks done sums spares dense answered flushes flushed unflushed driven pauses shares writes waits links connects reads wanted connected drives left = tt
+is_made options from to a b (Err fault) asks done sums spares dense answered flushes flushed unflushed driven pauses shares writes waits links connects reads wanted connected drives left whole first runs = tt

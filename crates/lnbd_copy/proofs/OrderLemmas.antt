@@ -20,7 +20,7 @@ given_before : (one : Option ℕ) (links more : List ℕ) → with_given one (li
 given_before None links more = refl
 given_before (Some link) links more = refl
 
-given_more : (calls more : List wire.Call) → given_links (calls ++ more) ≡ given_links calls ++ given_links more
+pub given_more : (calls more : List wire.Call) → given_links (calls ++ more) ≡ given_links calls ++ given_links more
 given_more [] more = refl
 given_more (call ∷ calls) more = ap (with_given (given_by call)) (given_more calls more) ∙ given_before (given_by call) (given_links calls) (given_links more)
 

@@ -30,7 +30,10 @@ use Rattle.lnbd_copy.proofs.BegunLemmas.{event_first}
 use Rattle.lnbd_copy.proofs.DrivenLemmas.{drive_event, drive_without}
 use Rattle.lnbd_copy.proofs.HeardLemmas.{hears_on, hears_parting}
 use Rattle.lnbd_copy.proofs.OrderLemmas.{in_order, ordered_event}
-use Rattle.lnbd_copy.proofs.UnendedLemmas.{ended_anyhow, ended_left}
+use Rattle.lnbd_copy.proofs.FlushedLemmas.{second_event, second_left}
+use Rattle.lnbd_copy.proofs.QueriedLemmas.{queried_event, queried_left}
+use Rattle.lnbd_copy.proofs.SinceLemmas.{leaves_without}
+use Rattle.lnbd_copy.proofs.UnendedLemmas.{ended_disconnect, ended_leaving, ended_left}
 use Rattle.lnbd_copy.proofs.StepLemmas.{others_stand, taking_stands, unasked_moves_stand}
 use Rattle.lnbd_copy.proofs.TurnLemmas.{SameLinks, called, links_stay, none_some, placed_same, some_same, told_on}
 
@@ -95,8 +98,10 @@ parts now index held handle handle' adds is = record {
         hears = hears_on false way.extents way.from way.to way.heard now.error now.error (λ well. well) calls on.seens after (event_first index Disconnect on.seens) on.hears;
         bound = bound_event way.sides now index Disconnect on.seens refl on.bound;
         drives = drive_event way.extents way.from way.to on.has calls index Disconnect on.seens refl on.drives;
-        ends = ended_anyhow way.extents way.how.skip way.flush way.from way.to calls way.ended false false on.seens after ended on.ends;
+        ends = ended_disconnect way.extents way.how.skip way.flush way.from way.to calls way.ended index on.seens ended on.ends;
         order = ordered_event (is_source way.sides) on.has calls false index Disconnect on.seens on.order;
+        queried = queried_event way.queries index Disconnect on.seens (λ before. refl) on.queried;
+        flushes = second_event calls index Disconnect on.seens (λ before none. none) on.flushes;
       };
 }
 
@@ -118,6 +123,8 @@ stays now index held handle handle' same is = record {
     drives = on.drives;
     ends = on.ends;
     order = on.order;
+    queried = on.queried;
+    flushes = on.flushes;
   };
 }
 
@@ -198,8 +205,11 @@ hung_up way now now' calls held index taken parted is unasked filed unanswered n
       hears = hears_parting true way.extents way.from way.to way.heard now.error now'.error filed.error calls on.seens left on.hears;
       bound = tt;
       drives = drive_without way.extents way.from way.to on.has calls on.seens index one.seen one.there one.stands.lawful (subst (λ (s : Seen Ticket). HasParted s.history) (some_same has.seen one.seen (sym has.there ∙ one.there)) has.is) on.stands.between.course.drive on.stands.between.placed.address on.drives;
-      ends = ended_left way.extents way.how.skip way.flush way.from way.to calls way.ended on.seens left on.ends;
+      ends = ended_left way.extents way.how.skip way.flush way.from way.to calls way.ended on.seens left
+          (leaves_without way.extents way.how.skip way.flush way.from way.to on.has calls on.seens index one.seen one.there one.stands.lawful (subst (λ (s : Seen Ticket). HasParted s.history) (some_same has.seen one.seen (sym has.there ∙ one.there)) has.is) on.stands.between.course.drive on.stands.between.placed.address on.drives) on.ends;
       order = on.order;
+      queried = queried_left way.queries index on.seens on.queried;
+      flushes = second_left calls index on.seens on.flushes;
     }
 
 -- A handle is taken out and closed, and its link is shut.
@@ -228,4 +238,4 @@ leaves_then now now2 now3 held held2 held3 a b c one two = record {
 
 -- A copy on its way may leave once its connections were to end.
 pub on_leaving : (way : Way) (now : board.Seen) (calls : List wire.Call) (held : List (Held Ticket)) → way.ended ≡ true → IsOn way now calls held → IsLeaving way now calls held
-on_leaving way now calls held ended on = record { has = on.has; seens = on.seens; at = on.at; sided = tt; begun = on.begun; stands = on.stands; rest = on.rest; all = tt; hears = hears_parting false way.extents way.from way.to way.heard now.error now.error (λ well. well) calls on.seens on.seens on.hears; bound = tt; drives = on.drives; ends = ended_anyhow way.extents way.how.skip way.flush way.from way.to calls way.ended false true on.seens on.seens ended on.ends; order = in_order false way.sides on.has calls on.seens on.sided on.order }
+on_leaving way now calls held ended on = record { has = on.has; seens = on.seens; at = on.at; sided = tt; begun = on.begun; stands = on.stands; rest = on.rest; all = tt; hears = hears_parting false way.extents way.from way.to way.heard now.error now.error (λ well. well) calls on.seens on.seens on.hears; bound = tt; drives = on.drives; ends = ended_leaving way.extents way.how.skip way.flush way.from way.to calls way.ended on.seens ended on.all on.ends; order = in_order false way.sides on.has calls on.seens on.sided on.order; queried = on.queried; flushes = on.flushes }

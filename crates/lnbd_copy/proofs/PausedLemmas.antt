@@ -1,5 +1,5 @@
 -- At each pause of a copy that wants no link for writing a connection negotiates still, or as much is under way as may be.
-use Rattle.std.proofs.Common.{◌≡◌, ◌≢◌, ◌⊎◌, inl, inr, ℕ, zero, suc, true, false, List, [], ◌∷◌, length, Option, Some, None, slice_get, ap, sym, subst}
+use Rattle.std.proofs.Common.{◌≡◌, ◌≢◌, ◌⊎◌, inl, inr, ℕ, zero, suc, Bool, true, false, List, [], ◌∷◌, length, Option, Some, None, slice_get, ap, sym, subst}
 use Rattle.lnbd_callbacks.specs.Calls.{Call}
 use Rattle.lnbd_callbacks.specs.Steps.{OneByOne}
 use Rattle.lnbd_model.specs.declared.state.State.TheVariants as state
@@ -30,6 +30,7 @@ use Rattle.lnbd_copy.specs.declared.terms.Terms.{Terms}
 use Rattle.lnbd_copy.specs.Copier.{GoesFurther, HasMet, HasNotBegun, IsOnItsWay, beginning}
 use Rattle.lnbd_copy.specs.Copier as copier
 use Rattle.lnbd_copy.specs.Full.{HasAllUnderWay}
+use Rattle.lnbd_copy.specs.LeftOut.{WantsAll}
 use Rattle.lnbd_copy.specs.Links.{LinksGo, LinksStand}
 use Rattle.lnbd_copy.specs.Opening.{Dials}
 use Rattle.lnbd_copy.specs.Paused.{IsFullPause, PausesAreFull}
@@ -42,6 +43,7 @@ use Rattle.lnbd_copy.proofs.CopierLemmas.{first_on, kept_then, no_handles, secon
 use Rattle.lnbd_copy.proofs.EndLemmas.{told_part}
 use Rattle.lnbd_copy.proofs.FullLemmas.{turns_unpaused}
 use Rattle.lnbd_copy.proofs.GroundLemmas.{drove_on, happens}
+use Rattle.lnbd_copy.proofs.LeftOutLemmas.{wants_all, way_wants}
 use Rattle.lnbd_copy.proofs.LinkLemmas.{held_open, links_begin}
 use Rattle.lnbd_copy.proofs.PauseLemmas.{no_pauses, one_more, pauses_stay}
 use Rattle.lnbd_copy.proofs.SettledLemmas.{same_since, told_both}
@@ -68,7 +70,7 @@ writes_none [] index seen none is = absurd (no_seen seen is)
 writes_none (first ∷ others) zero seen none is = subst (λ (s : Seen Ticket). direction_after s.history ≢ 3) (seen_same first seen is) none.0
 writes_none (first ∷ others) (suc index) seen none is = writes_none others index seen none.1 is
 
-unready_at : (way : Way) (now : board.Seen) (calls : List wire.Call) (held : List (Held Ticket)) → IsLoud held → NoneForWriting (wants_now held) → IsOn way now calls held → LinksStand held calls → IsNegotiating way.from way.to calls
+unready_at : (way : Way) (now : board.Seen) (calls : List wire.Call) (held : List (Held Ticket)) → IsLoud held → NoneForWriting (wants_now held) → IsOn way now calls held → LinksStand held calls → IsNegotiating way.extents way.from way.to calls
 unready_at way now calls held loud none on links =
     let h = loud.loud.on on.seens on.at in
     let still : state_after h.seen.history ≡ state.Negotiating = elim h.is [
@@ -88,7 +90,7 @@ told_stays {Is} start a b unpaused told = record {
       since_on start made.before all made.more made.now since (pauses_stay Is since.calls made.more made.are since.is);
 }
 
-told_rests : {Is : (before : List wire.Call) → List Want → Type 0} (start a b : Option (List wire.Call)) (wants : List Want) → Adds a b (wire.Pause wants) → Told start a (λ calls. Is calls wants) → Told start a (AtEachPause Is) → Told start b (AtEachPause Is)
+pub told_rests : {Is : (before : List wire.Call) → List Want → Type 0} (start a b : Option (List wire.Call)) (wants : List Want) → Adds a b (wire.Pause wants) → Told start a (λ calls. Is calls wants) → Told start a (AtEachPause Is) → Told start b (AtEachPause Is)
 told_rests {Is} start a b wants adds so told = record {
   since = λ all is.
       let added = adds all is in
@@ -107,7 +109,7 @@ unready_unpaused now held a b unpaused = record { on = λ way start s on links p
 pub unready_rests : (now : board.Seen) (held : List (Held Ticket)) (a b : Option (List wire.Call)) → IsLoud held → AreUnparted held → Adds a b (wire.Pause (wants_now held)) → StaysUnready now held a b
 unready_rests now held a b loud unparted adds = record {
   on = λ way start s on links pauses. told_rests start a b (wants_now held) adds
-      (told_as start a (λ calls both. ((λ none. unready_at way now calls held loud none both.0 both.1), waits_well false way now calls held unparted both.0)) (told_both start a on links)) pauses;
+      (told_as start a (λ calls both. ((λ none. unready_at way now calls held loud none both.0 both.1), waits_well false way now calls held unparted both.0, wants_all false way now calls held both.0 both.1)) (told_both start a on links)) pauses;
 }
 
 pub unready_turn : (a b : Option (List wire.Call)) (f g : ℕ) (turn : Turn) (now now' : board.Seen) (held held' : List (Held Ticket))
@@ -119,7 +121,7 @@ unready_turn a b f g turn now now' held held' goes = record {
         let grown = went.grown all is in
         let was = pauses.since grown.0 grown.1 in
         since_on start grown.0 all went.calls grown.2 was
-        (pauses_stay (IsEarlyPause way.from way.to) was.calls went.calls (turns_unpaused steps s.seens now went.calls went.after now' (Whole went.leads.moved) went.leads.turns) was.is);
+        (pauses_stay (IsEarlyPause way.extents way.from way.to) was.calls went.calls (turns_unpaused steps s.seens now went.calls went.after now' (Whole went.leads.moved) went.leads.turns) was.is);
   };
 }
 
@@ -131,23 +133,23 @@ unready_then now now2 held held2 a b c goes keeps one two = record {
 -- While the first connections are made, and further ones.
 
 -- the first one is dialled
-pub source_dialled : (from to : Place) (t u : Option (List wire.Call)) → Unpaused t u → Told t u (AtEachPause (IsEarlyPause from to))
-source_dialled from to t u dials = told_stays t t u dials (told_begins t (no_pauses (IsEarlyPause from to)))
+pub source_dialled : (extents : Bool) (from to : Place) (t u : Option (List wire.Call)) → Unpaused t u → Told t u (AtEachPause (IsEarlyPause extents from to))
+source_dialled extents from to t u dials = told_stays t t u dials (told_begins t (no_pauses (IsEarlyPause extents from to)))
 
 -- and negotiates
 pub source_unready : (s0 s1 : copier.Seen) (t u v : Option (List wire.Call)) → s1.board ≡ s0.board → Dials s0.from s0.options.extents s0.board s0.held t s1.held u → HasNotBegun s0 → LinksGo (s0.from.to ∷ []) s0.held t s1.held u → Unpaused t u → StaysUnready s1.board s1.held u v →
-    Told t v (AtEachPause (IsEarlyPause s0.from s0.to))
+    Told t v (AtEachPause (IsEarlyPause s0.options.extents s0.from s0.to))
 source_unready s0 s1 t u v b1 first none connects dials settles =
     let sides : Sides = record { source = 1; destination = 1 } in
     let settles' : StaysUnready s0.board s1.held u v = subst (λ (b : board.Seen). StaysUnready b s1.held u v) b1 settles in
     settles'.on (beginning s0 None s0.board.how sides) t (first.stand (no_handles s0 none)) (first_on s0 s1.held t u s0.board.how sides none first)
-    (connects.on t (links_begin s0.held t none.held)) (source_dialled s0.from s0.to t u dials)
+    (connects.on t (links_begin s0.held t none.held)) (source_dialled s0.options.extents s0.from s0.to t u dials)
 
 -- the other one, too
 pub meet_unready : (s0 s1 s2 s3 : copier.Seen) (t u v w x : Option (List wire.Call)) → s1 ≡ with_held s0 s1 → s2 ≡ with_held s1 s2 → s1.board ≡ s0.board → s3.board ≡ s2.board →
     Dials s0.from s0.options.extents s0.board s0.held t s1.held u → Goes s1.board s1.held u s2.board s2.held v → Dials s2.to false s2.board s2.held v s3.held w → HasNotBegun s0 →
     LinksGo (s0.from.to ∷ []) s0.held t s1.held u → (Stand s1.held → LinksGo [] s1.held u s2.held v) → LinksGo (s2.to.to ∷ []) s2.held v s3.held w →
-    Unpaused t u → StaysUnready s1.board s1.held u v → Unpaused v w → StaysUnready s3.board s3.held w x → Told t x (AtEachPause (IsEarlyPause s0.from s0.to))
+    Unpaused t u → StaysUnready s1.board s1.held u v → Unpaused v w → StaysUnready s3.board s3.held w x → Told t x (AtEachPause (IsEarlyPause s0.options.extents s0.from s0.to))
 meet_unready s0 s1 s2 s3 t u v w x k1 k2 b1 b3 first one second none connects keeps connects2 dials settles dials2 settles2 =
     let k02 = kept_then s0 s1 s2 k1 k2 in
     let how : How = s0.board.how in
@@ -161,7 +163,7 @@ meet_unready s0 s1 s2 s3 t u v w x k1 k2 b1 b3 first one second none connects ke
     settles2'.on (beginning s0 None how sides) t both.0 both.1 links (told_stays t v w dials2 met)
 
 pub further_unready : (copy : copier.Seen) (sides : Sides) (to : List Target) (now : board.Seen) (held : List (Held Ticket)) (start a b c d : Option (List wire.Call)) (terms : Terms) → GoesFurther copy sides 2 copy.board copy.held a now held c → LinksGo to copy.held a held c → Unpaused a b → Unpaused b c → StaysUnready now held c d →
-    HasMet copy start a terms → sides ≡ terms.sides → length copy.held ≡ 2 → Told start a (LinksStand copy.held) → Told start a (AtEachPause (IsEarlyPause copy.from copy.to)) → Told start d (AtEachPause (IsEarlyPause copy.from copy.to))
+    HasMet copy start a terms → sides ≡ terms.sides → length copy.held ≡ 2 → Told start a (LinksStand copy.held) → Told start a (AtEachPause (IsEarlyPause copy.options.extents copy.from copy.to)) → Told start d (AtEachPause (IsEarlyPause copy.options.extents copy.from copy.to))
 further_unready copy sides to now held start a b c d terms further connects one two settles met same count links pauses =
     let on : Told start a (λ calls. IsOn (beginning copy (Some terms.size) terms.how sides) copy.board calls copy.held) = subst (λ (s : Sides). Told start a (λ calls. IsOn (beginning copy (Some terms.size) terms.how s) copy.board calls copy.held)) (sym same) met.on in
     settles.on (beginning copy (Some terms.size) terms.how sides) start (further.stand met.stand) (further.on (Some terms.size) terms.how start met.stand count on) (connects.on start links)
@@ -170,7 +172,7 @@ further_unready copy sides to now held start a b c d terms further connects one 
 -- A copy that keeps its places keeps it so.
 
 abbrev StaysEarly : copier.Seen → (a b : Option (List wire.Call)) → Type 0
-StaysEarly copy a b = Told a b (AtEachPause (IsEarlyPause copy.from copy.to))
+StaysEarly copy a b = Told a b (AtEachPause (IsEarlyPause copy.options.extents copy.from copy.to))
 
 pub early_kept : (copy mid : copier.Seen) (a b : Option (List wire.Call)) → mid ≡ record copy { held = mid.held; board = mid.board } → StaysEarly copy a b → StaysEarly mid a b
 early_kept copy mid a b kept early = subst (λ (s : copier.Seen). StaysEarly s a b) (sym kept) early
@@ -178,21 +180,21 @@ early_kept copy mid a b kept early = subst (λ (s : copier.Seen). StaysEarly s a
 pub early_back : (copy mid : copier.Seen) (a b : Option (List wire.Call)) → mid ≡ record copy { held = mid.held; board = mid.board } → StaysEarly mid a b → StaysEarly copy a b
 early_back copy mid a b kept early = subst (λ (s : copier.Seen). StaysEarly s a b) kept early
 
-pub opening_as : (one other : copier.Seen) (a b : Option (List wire.Call)) → one ≡ other → Told a b (AtEachPause (IsOpeningPause one.from one.to)) → Told a b (AtEachPause (IsOpeningPause other.from other.to))
-opening_as one other a b same told = subst (λ (s : copier.Seen). Told a b (AtEachPause (IsOpeningPause s.from s.to))) same told
+pub opening_as : (one other : copier.Seen) (a b : Option (List wire.Call)) → one ≡ other → Told a b (AtEachPause (IsOpeningPause one.options.extents one.from one.to)) → Told a b (AtEachPause (IsOpeningPause other.options.extents other.from other.to))
+opening_as one other a b same told = subst (λ (s : copier.Seen). Told a b (AtEachPause (IsOpeningPause s.options.extents s.from s.to))) same told
 
 -- At each pause while they do both are so.
 
-pub early_opening : (from to : Place) (start told : Option (List wire.Call)) → Told start told (AtEachPause (IsEarlyPause from to)) → Told start told (AtEachPause (IsOpeningPause from to))
-early_opening from to start told early = told_as start told (λ calls each before after wants are. (each before after wants are).0) early
+pub early_opening : (extents : Bool) (from to : Place) (start told : Option (List wire.Call)) → Told start told (AtEachPause (IsEarlyPause extents from to)) → Told start told (AtEachPause (IsOpeningPause extents from to))
+early_opening extents from to start told early = told_as start told (λ calls each before after wants are. (each before after wants are).0) early
 
-pub early_waits : (from to : Place) (start told : Option (List wire.Call)) → Told start told (AtEachPause (IsEarlyPause from to)) → Told start told (AtEachPause WaitsWell)
-early_waits from to start told early = told_as start told (λ calls each before after wants are. (each before after wants are).1) early
+pub early_waits : (extents : Bool) (from to : Place) (start told : Option (List wire.Call)) → Told start told (AtEachPause (IsEarlyPause extents from to)) → Told start told (AtEachPause WaitsWell)
+early_waits extents from to start told early = told_as start told (λ calls each before after wants are. (each before after wants are).1) early
 
 -- From pause to pause.
 
 module _ (options : CopyOptions) (from to : Place) where
-  pub pauses_open : (start told : Option (List wire.Call)) → Told start told (AtEachPause (IsOpeningPause from to)) → Told start told (PausesAreFull options from to)
+  pub pauses_open : (start told : Option (List wire.Call)) → Told start told (AtEachPause (IsOpeningPause options.extents from to)) → Told start told (PausesAreFull options from to)
   pauses_open start told opening = told_as start told (λ calls each before after wants are none. inl (each before after wants are none)) opening
 
   pub pauses_turn : (start a b : Option (List wire.Call)) → Unpaused a b → Told start a (PausesAreFull options from to) → Told start b (PausesAreFull options from to)
@@ -212,7 +214,7 @@ module _ (options : CopyOptions) (from to : Place) where
 abbrev pub IsFine : copier.Seen → (start told : Option (List wire.Call)) → Type 0
 IsFine copy start told = copy.from ≢ copy.to → Told start told (PausesAreFull copy.options copy.from copy.to)
 
-pub fine_open : (old new : copier.Seen) (start told : Option (List wire.Call)) → new ≡ record old { start = new.start; held = new.held; board = new.board; job = new.job } → Told start told (AtEachPause (IsOpeningPause old.from old.to)) → IsFine new start told
+pub fine_open : (old new : copier.Seen) (start told : Option (List wire.Call)) → new ≡ record old { start = new.start; held = new.held; board = new.board; job = new.job } → Told start told (AtEachPause (IsOpeningPause old.options.extents old.from old.to)) → IsFine new start told
 fine_open old new start told kept opening = subst (λ (s : copier.Seen). IsFine s start told) (sym kept) (λ two. pauses_open old.options old.from old.to start told opening)
 
 pub fine_turn : (old new : copier.Seen) (start a b : Option (List wire.Call)) → new ≡ record old { held = new.held; board = new.board; job = new.job } → Unpaused a b → IsFine old start a → IsFine new start b
@@ -238,3 +240,12 @@ done_pauses copy new a b c kept unpaused two fine =
 -- A pause of a copy on its way.
 pub waits_rest : (copy : copier.Seen) (start a b : Option (List wire.Call)) → AreUnparted copy.held → Adds a b (wire.Pause (wants_now copy.held)) → IsOnItsWay start a copy → Told start a (AtEachPause WaitsWell) → Told start b (AtEachPause WaitsWell)
 waits_rest copy start a b unparted adds on told = told_rests start a b (wants_now copy.held) adds (way_waits copy start a unparted on) told
+
+pub wants_rest : (copy now : copier.Seen) (start a b : Option (List wire.Call)) → now.options.extents ≡ copy.options.extents → now.from ≡ copy.from → now.to ≡ copy.to → Adds a b (wire.Pause (wants_now now.held)) → IsOnItsWay start a now → Told start a (LinksStand now.held) →
+    Told start a (AtEachPause (WantsAll copy.options.extents copy.from copy.to)) → Told start b (AtEachPause (WantsAll copy.options.extents copy.from copy.to))
+wants_rest copy now start a b extents from to adds on links told =
+    let wants = wants_now now.held in
+    told_rests start a b wants adds
+    (told_as start a
+    (λ calls is. subst (λ (e : Bool). WantsAll e copy.from copy.to calls wants) extents (subst (λ (t : Place). WantsAll now.options.extents copy.from t calls wants) to (subst (λ (f : Place). WantsAll now.options.extents f now.to calls wants) from is)))
+    (way_wants now start a on links)) told

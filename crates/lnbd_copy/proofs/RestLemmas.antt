@@ -51,4 +51,6 @@ at_rest way was now calls held on rest = record {
   drives = on.drives;
   ends = on.ends;
   order = on.order;
+  queried = on.queried;
+  flushes = on.flushes;
 }

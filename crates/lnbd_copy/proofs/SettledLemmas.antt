@@ -34,7 +34,7 @@ told_both {Is} {Is'} start told one other = record {
 }
 
 pub settled_with : (Is : (source destination : ExportInfo) → List wire.Call → Type 0) (options : CopyOptions) (from to : Place) (start told : Option (List wire.Call)) (terms : Terms) → (s : HasSettled options from to start told terms) → Told start told (Is s.first.source s.first.destination) →
-    Told start told (λ calls. Settled from to (λ source destination. Is source destination calls) calls)
+    Told start told (λ calls. Settled options.extents from to (λ source destination. Is source destination calls) calls)
 settled_with Is options from to start told terms s so = record {
   since = λ all is.
       let one = so.since all is in
@@ -49,18 +49,18 @@ settled_with Is options from to start told terms s so = record {
         is = record {
           source = s.first.source;
           destination = s.first.destination;
-          shown = subst (AtSome (Drove from (IsShown s.first.source))) (same_since start all source one) source.is;
-          shown' = subst (AtSome (Drove to (IsShown s.first.destination))) (same_since start all destination one) destination.is;
+          shown = subst (AtSome (Drove options.extents from (IsShown s.first.source))) (same_since start all source one) source.is;
+          shown' = subst (AtSome (Drove options.extents to (IsShown s.first.destination))) (same_since start all destination one) destination.is;
           none = s.first.none;
           is = one.is;
-          all = subst (AllAlike from to s.first.source s.first.destination) (same_since start all alike one) alike.is;
+          all = subst (AllAlike options.extents from to s.first.source s.first.destination) (same_since start all alike one) alike.is;
         };
       };
 }
 
 -- The same of what the first connections told.
 pub first_with : (Is : (source destination : ExportInfo) → List wire.Call → Type 0) (options : CopyOptions) (from to : Place) (start told : Option (List wire.Call)) (terms : Terms) → (s : HasTerms options from to start told terms) → Told start told (Is s.source s.destination) →
-    Told start told (λ calls. IsToldFirst from to (λ source destination. Is source destination calls) calls)
+    Told start told (λ calls. IsToldFirst options.extents from to (λ source destination. Is source destination calls) calls)
 first_with Is options from to start told terms s so = record {
   since = λ all is.
       let one = so.since all is in
@@ -74,8 +74,8 @@ first_with Is options from to start told terms s so = record {
         is = record {
           source = s.source;
           destination = s.destination;
-          shown = subst (AtSome (Drove from (IsShown s.source))) (same_since start all source one) source.is;
-          shown' = subst (AtSome (Drove to (IsShown s.destination))) (same_since start all destination one) destination.is;
+          shown = subst (AtSome (Drove options.extents from (IsShown s.source))) (same_since start all source one) source.is;
+          shown' = subst (AtSome (Drove options.extents to (IsShown s.destination))) (same_since start all destination one) destination.is;
           none = s.none;
           is = one.is;
         };

@@ -148,6 +148,7 @@ bound_job j bound way now is = record {
   reached = is.reached;
   parts = is.parts;
   wants = is.wants;
+  onward = record { few = is.onward.few; some = is.onward.some; inside = is.onward.inside };
 }
 
 pub acts_bound : (j j' : work.Seen) (bound : Bound) (now now' : board.Seen) (held held' : List (Held Ticket)) → work.Acts j j' now now' held held' → work.Acts j (record j' { bound = bound }) now now' held held'

@@ -29,6 +29,20 @@ told_inside (first ∷ others) p low =
       | false ↦ λ there. told_inside others (p - first.length) (grind (arith, common_steps))
     ] refl
 
+told_below : (list : List Extent) (p : ℕ) → is_told (flags_at list p) ≡ true → p < span list
+told_below [] p e = absurd (false≢true e)
+told_below (first ∷ others) p e = elim (cases_lt p first.length) [
+  | inl low ↦ omega (arith, low)
+  | inr high ↦
+      let test : nat_lt p first.length ≡ false = grind (arith, common_steps) in
+      let rest = told_below others (p - first.length) (sym (ap (λ (b : Bool). is_told (if b then Some first.flags else flags_at others (p - first.length))) test) ∙ e) in
+      omega (arith, rest, high)
+]
+
+-- So they tell of nothing else.
+pub told_only : (told list : List Extent) (index left most : ℕ) → JoinsAll told list index left most → (p : ℕ) → is_told (flags_at list p) ≡ true → is_told (flags_at told p) ≡ true
+told_only told list index left most so p e = so.joins.walks.all p (told_below list p e)
+
 -- The extents that were joined tell of what was told.
 pub told_joined : (told list : List Extent) (index left most : ℕ) → JoinsAll told list index left most → drop index told ≡ [] → (p : ℕ) → p < most → is_told (flags_at told p) ≡ true → is_told (flags_at list p) ≡ true
 told_joined told list index left most so none p low e = told_inside list p (told_before told index (span list) most so.joins.walks none p low e)

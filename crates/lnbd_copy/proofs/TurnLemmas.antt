@@ -44,6 +44,8 @@ use Rattle.lnbd_copy.proofs.FirstLemmas.{AllGo, adds_none, all_stay, gives_none,
 use Rattle.lnbd_copy.specs.Driven.{beginning_on}
 use Rattle.lnbd_copy.proofs.DrivenLemmas.{drive_later}
 use Rattle.lnbd_copy.proofs.OrderLemmas.{ordered_called, ordered_turned}
+use Rattle.lnbd_copy.proofs.FlushedLemmas.{second_called, second_turned}
+use Rattle.lnbd_copy.proofs.QueriedLemmas.{queried_turned}
 use Rattle.lnbd_copy.proofs.RefusalLemmas.{turns_connected}
 use Rattle.lnbd_copy.proofs.UnendedLemmas.{ended_called, ended_turned}
 use Rattle.lnbd_copy.proofs.DrivenTurns.{brought_apart, brought_on, turns_brought}
@@ -235,8 +237,10 @@ turned parting way now now' calls part held held' after moved on turns at =
           (λ index here is. was on.seens after index here led.links is) led.filed.error on.bound;
       drives = drive_later way.extents way.from way.to on.has calls part on.seens after (λ link. turns_give_none steps link part on.seens after now now' (Whole moved) turns) (λ link. brought_apart link on.seens after brought)
           (λ link apart. turns_pass_others steps link part on.seens after now now' (Whole moved) apart turns) (brought_on (beginning_on way.extents way.from way.to on.has calls) on.seens after brought) on.drives;
-      ends = ended_turned way.extents way.how.skip way.flush way.from way.to calls part way.ended parting on.seens after brought on.ends;
+      ends = ended_turned way.extents way.how.skip way.flush way.from way.to calls part (λ link. turns_give_none steps link part on.seens after now now' (Whole moved) turns) way.ended parting on.seens after (λ link apart. turns_pass_others steps link part on.seens after now now' (Whole moved) apart turns) brought on.ends;
       order = ordered_turned (is_source way.sides) on.has calls part parting on.seens after brought (λ link. turns_give_none steps link part on.seens after now now' (Whole moved) turns) on.order;
+      queried = queried_turned way.queries on.seens after brought on.queried;
+      flushes = second_turned calls part on.seens after brought (λ link. turns_give_none steps link part on.seens after now now' (Whole moved) turns) on.flushes;
     }
 
 -- The calls since the start go on.
@@ -303,8 +307,10 @@ called parting way now calls more held none given on = record {
   hears = hears_later parting way.extents way.from way.to way.heard now.error now.error (λ well. well) calls on.seens on.seens (first_stays on.seens) on.hears more (no_more_given more on.seens given);
   bound = on.bound;
   drives = drive_later way.extents way.from way.to on.has calls more on.seens on.seens given (λ link apart. apart) (λ link apart. none link) (λ went. went) on.drives;
-  ends = ended_called way.extents way.how.skip way.flush way.from way.to calls more way.ended parting on.seens on.ends;
+  ends = ended_called way.extents way.how.skip way.flush way.from way.to calls more given way.ended parting on.seens none on.ends;
   order = ordered_called (is_source way.sides) on.has calls parting more on.seens given on.order;
+  queried = on.queried;
+  flushes = second_called calls more on.seens given on.flushes;
 }
 
 -- Where the transcript is told, what a call leads from leads on.

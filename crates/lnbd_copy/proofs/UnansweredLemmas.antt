@@ -1,5 +1,5 @@
 -- While slices are copied, and no handle has anything to write, as much is unanswered by the calls of a copy as may be.
-use Rattle.std.proofs.Common.{◌≡◌, ◌≢◌, ◌<◌, ◌≤◌, ◌⊎◌, inl, inr, ltb-true, ◌+◌, ◌-◌, ℕ, Bool, true, false, not, ◌||◌, ◌==◌, nat_lt, List, [], ◌∷◌, ◌++◌, length, min, Option, Some, None, is_some, if◌then◌else◌, refl, ap, sym, subst, ◌∙◌, arith}
+use Rattle.std.proofs.Common.{◌≡◌, ◌≢◌, ◌<◌, ◌≤◌, ◌⊎◌, inl, inr, ltb-true, ◌+◌, ◌*◌, ◌-◌, ℕ, Bool, true, false, not, ◌||◌, ◌==◌, nat_lt, List, [], ◌∷◌, ◌++◌, length, min, Option, Some, None, is_some, if◌then◌else◌, refl, ap, sym, subst, ◌∙◌, arith}
 use Rattle.std.proofs.lemmas.Bool.{eq-eqb, false≢true}
 use Rattle.lnbd_model.specs.declared.target.Place.{Place}
 use Rattle.lnbd_link.specs.Call as wire
@@ -10,9 +10,7 @@ use Rattle.lnbd_poll.specs.Held.{Held, AreAt, is_on_its_way, is_wanting, want_of
 use Rattle.lnbd_poll.proofs.HeldLemmas.{wants_same}
 use Rattle.lnbd_poll.specs.Seen.{Seen}
 use Rattle.lnbd_asked.specs.Transcript.{dealt_with, is_of}
-use Rattle.lnbd_plan.specs.declared.cells.Cells.{Cells}
 use Rattle.lnbd_plan.specs.declared.grid.Slice.{Slice}
-use Rattle.lnbd_plan.specs.Laws.{windows_slices}
 use Rattle.lnbd_board.specs.declared.how.How.{How}
 use Rattle.lnbd_board.specs.declared.ticket.Ticket.{Ticket}
 use Rattle.lnbd_board.specs.Files as board
@@ -24,13 +22,14 @@ use Rattle.lnbd_course.specs.UnderWay.{AreUnderWay, NoneWrites}
 use Rattle.lnbd_course.proofs.Placed.{links_are_of_sides}
 use Rattle.lnbd_course.proofs.Reached.{told_are_known}
 use Rattle.lnbd_course.proofs.Slices.{ended_are_begun, quiet_are_begun}
-use Rattle.lnbd_course.proofs.Telling.{known_was_told, sides_are_of_source}
+use Rattle.lnbd_course.proofs.Passed.{none_are_awaited}
 use Rattle.lnbd_course.proofs.UnderWay.{quiet_asks, quiet_counts}
 use Rattle.lnbd_copy.specs.declared.job.Phase.{Phase}
 use Rattle.lnbd_copy.specs.declared.job.Phase.TheVariants.{Copying, Flushing, Parting}
 use Rattle.lnbd_copy.specs.Copier.{IsOnItsWay}
 use Rattle.lnbd_copy.specs.Copier as copier
-use Rattle.lnbd_copy.specs.Full.{ArePlannedTo, IsFull, IsFullBy, IsUntold}
+use Rattle.lnbd_copy.specs.Statuses.{WasPassed}
+use Rattle.lnbd_copy.specs.Full.{ArePlannedTo, AsksForNone, AsksForWindow, IsFull, IsFullBy, IsUntold}
 use Rattle.lnbd_copy.specs.Job as work
 use Rattle.lnbd_copy.specs.Unanswered.{HasAllAsked, NoneForWriting}
 use Rattle.lnbd_copy.specs.UnderWay.{AreAwaited, IsBusy}
@@ -42,6 +41,7 @@ use Rattle.lnbd_copy.proofs.CopierLemmas.{told_as}
 use Rattle.lnbd_copy.proofs.EndLemmas.{between_sized}
 use Rattle.lnbd_copy.proofs.FailLemmas.{all_stand}
 use Rattle.lnbd_copy.proofs.SettledLemmas.{settled_with}
+use Rattle.lnbd_copy.proofs.WholeLemmas as whole
 
 -- A pause wants no link for writing where no handle has anything to write.
 
@@ -93,21 +93,18 @@ module _ (j : work.Seen) (way : Way) (now : board.Seen) (calls : List wire.Call)
   of_source : (link : ℕ) → is_of way.from calls link ≡ true → on.has link ≡ true
   of_source = (links_are_of_sides way.from way.to j.terms.size way.how on.has way.slices now calls between two).0.source
 
-  planned_to : ArePlannedTo way.extents j.windows.plan.end way.from j.terms.size (work.cells_of j.terms) (way.slices ++ j.windows.plan.slices) calls
-  planned_to =
-      let within = is.planned.within in
-      let ends = is.ends in
-      let sides = (links_are_of_sides way.from way.to j.terms.size way.how on.has way.slices now calls between two).0 in
-      let source = sides_are_of_source way.from way.to way.how on.has way.slices now calls between.course sides in
-      record {
-        parts = is.planned.parts;
-        are = subst (λ (c : Cells). way.slices ++ j.windows.plan.slices ≡ windows_slices c 0 is.planned.parts) is.cells is.planned.are;
-        ends = is.planned.end;
-        within = omega (arith, within, ends);
-        whole = subst (λ (s : ℕ). windows.AreFullWindows s 0 is.planned.parts) is.ends is.planned.whole;
-        told = λ p zero. known_was_told way.from way.how on.has way.slices now calls way.asked (known_of way) alone.told source p (is.planned.told p zero);
-        answered = λ p low. on.hears.answered well two p (is.heard.before p (let ahead = is.heard.planned in omega (arith, low, ahead)));
-      }
+  -- Asking for extents passed each position before the place where it goes on.
+  was_passed : (p : ℕ) → p < j.windows.at → WasPassed way.extents j.terms.grain way.from p calls
+  was_passed p low = subst (λ (g : ℕ). WasPassed way.extents g way.from p calls) is.grain (on.hears.passed well two j.windows.grain p (is.heard.before p low))
+
+  -- Where no extents are waited for none are asked for.
+  asks_for_none : j.asked ≡ false → AsksForNone way.from calls
+  asks_for_none none =
+      let unasked : way.asked ≡ None = is.asked ∙ ap (λ (b : Bool). if b then windows.wanted j.windows else None) none in
+      none_are_awaited way.from way.how on.has way.slices now calls (known_of way) (subst (λ (o : Option (ℕ × ℕ)). course.Told way.how on.has way.slices now calls [] o (known_of way)) unasked alone.told) well of_source
+
+  planned_to : ArePlannedTo way.extents j.windows.plan.end way.from j.terms.size j.terms.grain (work.cells_of j.terms) (way.slices ++ j.windows.plan.slices) calls
+  planned_to = whole.planned_to j way now calls is on.has alone well two (on.hears.answered well two) (on.hears.passed well two)
 
   -- Once all slices are over nothing is under way, and nothing is left.
   full_over : work.IsOver j now → IsFull way.extents j.terms way.from way.to calls
@@ -126,6 +123,7 @@ module _ (j : work.Seen) (way : Way) (now : board.Seen) (calls : List wire.Call)
         requests = subst (λ (n : ℕ). AreUnderWay way.from way.to n calls) (omega (arith, none)) ended.1;
         extents = λ less left. absurd (omega (arith, left, all));
         untold = λ left. absurd (omega (arith, left, all));
+        asks = inr (asks_for_none over.heard);
       }
 
 -- While slices are copied.
@@ -164,6 +162,31 @@ module _ (j : work.Seen) (way : Way) (now : board.Seen) (calls : List wire.Call)
       let low = is.reached.near p (told_reached p told) (omega (arith, far, ahead)) in
       omega (arith, far, low, grain)
 
+  -- a range is wanted only of a window that is left
+  window_left : is_some (windows.wanted j.windows) ≡ true → j.windows.plan.end < j.terms.size
+  window_left some =
+      let ends = is.ends in
+      let ahead = is.heard.planned in
+      let below = wanted_below j.windows some in
+      omega (arith, ends, ahead, below)
+
+  -- Extents are awaited: they are asked for of what is left of the window under way.
+  asks_for_window : is_some (windows.wanted j.windows) ≡ true → AreAwaited j.asked now → AsksForWindow way.extents j.windows.plan.end way.from j.terms.size j.terms.grain calls
+  asks_for_window some awaited =
+      let ends = is.ends in
+      let wanted : windows.wanted j.windows ≡ Some (j.windows.at, windows.window_end j.windows - j.windows.at) = wanted_is j.windows some in
+      record {
+        at = j.windows.at;
+        ahead = is.heard.planned;
+        inside = subst (λ (size : ℕ). j.windows.at < min (j.windows.plan.end + windows.window) size) ends (wanted_below j.windows some);
+        asks = subst (λ (size : ℕ). AsksExtentsOf (j.windows.at, min (j.windows.plan.end + windows.window) size - j.windows.at) way.from calls) ends
+            (awaits (j.windows.at, windows.window_end j.windows - j.windows.at) (is.asked ∙ ap (λ (b : Bool). if b then windows.wanted j.windows else None) awaited.awaited ∙ wanted) awaited);
+        untold = rest_untold;
+        blocks = is.heard.blocks;
+        steps = is.heard.steps ∙ ap (λ (g : ℕ). j.windows.plan.end + is.heard.blocks * g) is.grain;
+        passed = λ p from_start low. was_passed j way now calls held false is on well two p low;
+      }
+
   full_copying : IsFull way.extents j.terms way.from way.to calls
   full_copying = record {
     begun = way.slices;
@@ -179,17 +202,12 @@ module _ (j : work.Seen) (way : Way) (now : board.Seen) (calls : List wire.Call)
     extents = λ less left.
         let ends = is.ends in
         let some = full.left (omega (arith, left, ends)) in
-        let awaited = full.extents less some in
-        let wanted : windows.wanted j.windows ≡ Some (j.windows.at, windows.window_end j.windows - j.windows.at) = wanted_is j.windows some in
-        record {
-          at = j.windows.at;
-          ahead = is.heard.planned;
-          inside = subst (λ (size : ℕ). j.windows.at < min (j.windows.plan.end + windows.window) size) ends (wanted_below j.windows some);
-          asks = subst (λ (size : ℕ). AsksExtentsOf (j.windows.at, min (j.windows.plan.end + windows.window) size - j.windows.at) way.from calls) ends
-              (awaits (j.windows.at, windows.window_end j.windows - j.windows.at) (is.asked ∙ ap (λ (b : Bool). if b then windows.wanted j.windows else None) awaited.awaited ∙ wanted) awaited);
-          untold = rest_untold;
-        };
+        asks_for_window some (full.extents less some);
     untold = window_untold;
+    asks = elim j.asked as (λ b. j.asked ≡ b → ((j.windows.plan.end < j.terms.size) × AsksForWindow way.extents j.windows.plan.end way.from j.terms.size j.terms.grain calls) ⊎ AsksForNone way.from calls) [
+      | true ↦ λ asked. inl (window_left (is.onward.some asked), asks_for_window (is.onward.some asked) (record { awaited = asked; untold = full.untold asked }))
+      | false ↦ λ none. inr (asks_for_none j way now calls held false is on well two none)
+    ] refl;
   }
 
 copies_or : (phase : Phase) → (phase ≡ Copying) ⊎ (phase ≢ Copying)

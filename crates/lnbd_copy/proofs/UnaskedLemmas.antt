@@ -230,8 +230,11 @@ nothing_behaves options from to calls unasked = record {
   flushes = λ link cookie link' cookie' one other is is' here too. absurd (none_dealt to calls link cookie one unasked.none is);
   unflushed = λ unwanted link cookie command is. absurd (none_dealt to calls link cookie command unasked.none is);
   untouched = inl unasked.none;
+  passed = inl unasked.none;
   shared = always_nothing options from to calls unasked.none;
   cut = inl unasked.none;
+  first = λ link cookie command is flushes. absurd (none_dealt to calls link cookie command unasked.none is);
+  runs = inl unasked.none;
 }
 
 pub told_behaves : (options : CopyOptions) (from to : Place) (start told : Option (List wire.Call)) → Told start told (AsksNothing from to) → Told start told (Behaves options from to)
@@ -248,11 +251,11 @@ begins_unasked copy t none =
     let way = beginning copy None copy.board.how (record { source = 0; destination = 0 }) in
     told_as t t (λ calls fresh. on_unasked way copy.board copy.held calls fresh) (begins_fresh copy copy.board.how (record { source = 0; destination = 0 }) t none)
 
-any_sides : Sides
+pub any_sides : Sides
 any_sides = record { source = 0; destination = 0 }
 
 -- What no call changes is so after more calls.
-told_fact : {A B : Type 0} (start a b : Option (List wire.Call)) → Lasts a b → (A → B) → Told start a (λ calls. A) → Told start b (λ calls. B)
+pub told_fact : {A B : Type 0} (start a b : Option (List wire.Call)) → Lasts a b → (A → B) → Told start a (λ calls. A) → Told start b (λ calls. B)
 told_fact start a b lasts leads told = record {
   since = λ all is.
       let front = lasts.on all is in
@@ -260,7 +263,7 @@ told_fact start a b lasts leads told = record {
       since_on start front.before all front.after front.are since (leads since.is);
 }
 
-fresh_both : (way : Way) (now : board.Seen) (held : List (Held Ticket)) (start told : Option (List wire.Call)) → Told start told (λ calls. IsOn way now calls held) → Told start told (λ calls. AreUnissued held) → Told start told (IsFresh way now held)
+pub fresh_both : (way : Way) (now : board.Seen) (held : List (Held Ticket)) (start told : Option (List wire.Call)) → Told start told (λ calls. IsOn way now calls held) → Told start told (λ calls. AreUnissued held) → Told start told (IsFresh way now held)
 fresh_both way now held start told on none = told_as start told (λ calls both. record { on = both.0; unissued = both.1 }) (told_both start told on none)
 
 unissued_told : (way : Way) (now : board.Seen) (held : List (Held Ticket)) (start told : Option (List wire.Call)) → Told start told (IsFresh way now held) → Told start told (λ calls. AreUnissued held)
@@ -276,12 +279,12 @@ module _ (s0 s1 : copier.Seen) (t u : Option (List wire.Call)) (same : s1.board 
   abbrev way : Way
   way = beginning s0 None s0.board.how any_sides
 
-  first_fresh : Told t u (IsFresh way s1.board s1.held)
+  pub first_fresh : Told t u (IsFresh way s1.board s1.held)
   first_fresh =
       fresh_both way s1.board s1.held t u (subst (λ (b : board.Seen). Told t u (λ calls. IsOn way b calls s1.held)) (sym same) (first_on s0 s1.held t u s0.board.how any_sides none first))
       (told_fact t t u first.lasts unissued1 (unissued_told way s0.board s0.held t t (begins_fresh s0 s0.board.how any_sides t none)))
 
-  first_stand : Stand s1.held
+  pub first_stand : Stand s1.held
   first_stand = first.stand (no_handles s0 none)
 
   pub source_unasked : (c : Option (List wire.Call)) → AsksNone s1.board s1.held u c → Told t c (AsksNothing s0.from s0.to)
@@ -290,10 +293,10 @@ module _ (s0 s1 : copier.Seen) (t u : Option (List wire.Call)) (same : s1.board 
   -- and behind the source's first connection that of the destination
   module _ (s2 s3 : copier.Seen) (v w : Option (List wire.Call)) (k1 : s1 ≡ with_held s0 s1) (k2 : s2 ≡ with_held s1 s2) (b3 : s3.board ≡ s2.board) (one : Goes s1.board s1.held u s2.board s2.held v) (fresh1 : StaysFresh s1.board s1.held u s2.board s2.held v)
       (second : Dials s2.to false s2.board s2.held v s3.held w) (unissued3 : AreUnissued s2.held → AreUnissued s3.held) where
-    both_on : Stand s3.held × Told t w (λ calls. IsOn way s2.board calls s3.held)
+    pub both_on : Stand s3.held × Told t w (λ calls. IsOn way s2.board calls s3.held)
     both_on = second_on s0 s2.board s1.held s2.held s3.held t u v w s0.board.how any_sides none first (goes_first s0 s1 s2 u v same one) (dials_second s0 s1 s2 s3 v w k1 k2 second)
 
-    both_fresh : Told t w (IsFresh way s3.board s3.held)
+    pub both_fresh : Told t w (IsFresh way s3.board s3.held)
     both_fresh =
         fresh_both way s3.board s3.held t w (subst (λ (b : board.Seen). Told t w (λ calls. IsOn way b calls s3.held)) (sym b3) both_on.1)
         (told_fact t v w second.lasts unissued3 (unissued_told way s2.board s2.held t v (fresh1.on way t first_stand first_fresh)))

@@ -1,20 +1,21 @@
 -- No connection is asked to end before all is done: what came on handles stays so, and so does what calls show of it.
-use Rattle.std.proofs.Common.{◌≡◌, inl, inr, ℕ, zero, suc, Bool, true, false, List, [], ◌∷◌, ◌++◌, refl, ap, sym, subst, ◌∙◌, append_assoc}
+use Rattle.std.proofs.Common.{◌≡◌, inl, inr, ℕ, zero, suc, Bool, true, false, List, [], ◌∷◌, ◌++◌, refl, sym, subst, ◌∙◌}
 use Rattle.std.proofs.lemmas.Bool.{false≢true}
 use Rattle.lnbd_model.specs.declared.target.Place.{Place}
 use Rattle.lnbd_history.specs.Events.{Event, History, Set, StrictMode, Start, Opt, Abort, Issue, Refuse, Disconnect, Wrote, Arrived, End, LinkFailed, Retire, ClearLog, Close}
 use Rattle.lnbd_link.specs.Call as wire
 use Rattle.lnbd_link.specs.Numbers.{is_given}
 use Rattle.lnbd_asked.specs.Driven.{is_inward}
-use Rattle.lnbd_poll.specs.Alone.{calls_on}
+use Rattle.lnbd_poll.specs.Alone.{AreApart, calls_on}
 use Rattle.lnbd_poll.specs.Seen.{Seen}
 use Rattle.lnbd_drives.specs.Driving.{with_event}
 use Rattle.lnbd_board.specs.declared.ticket.Ticket.{Ticket}
 use Rattle.lnbd_course.proofs.Address.{given_stays}
 use Rattle.lnbd_copy.specs.Begun.{opened}
-use Rattle.lnbd_copy.specs.Driven.{AllUnended, EndAfter, EndLast, HasEnded, IsUnended, WasUnended, is_disconnect}
+use Rattle.lnbd_copy.specs.Driven.{AllUnended, EndLast, HasEnded, IsUnended, LeavesSince, WasUnended, is_disconnect, may_come}
 use Rattle.lnbd_copy.proofs.DrivenLemmas.{driven_later}
-use Rattle.lnbd_copy.proofs.DrivenTurns.{AllBrought, AreOfLink, Brought}
+use Rattle.lnbd_copy.proofs.DrivenTurns.{AllBrought, AreOfLink, Brought, brought_apart, brought_on}
+use Rattle.lnbd_copy.proofs.SinceLemmas.{end_later, leaves_later, leaves_none, since_event, since_later}
 
 -- One history.
 
@@ -66,17 +67,6 @@ more_unended (seen ∷ others) last unended one = (unended.0, more_unended other
 
 -- Calls.
 
--- all was done by the first of them
-end_later : (extents blank flush : Bool) (from to : Place) (calls more : List wire.Call) → EndAfter extents blank flush from to calls → EndAfter extents blank flush from to (calls ++ more)
-end_later extents blank flush from to calls more end = record {
-  before = end.before;
-  after = end.after ++ more;
-  are = ap (λ (l : List wire.Call). l ++ more) end.are ∙ append_assoc end.before end.after more;
-  unended = end.unended;
-  done = end.done;
-  flushed = end.flushed;
-}
-
 unended_later : (extents : Bool) (from to : Place) (source : Bool) (link : ℕ) (calls more : List wire.Call) → calls_on link more ≡ [] → ((n : ℕ) → is_given n more ≡ false) → WasUnended extents from to source link calls → WasUnended extents from to source link (calls ++ more)
 unfolding driven_later
 unended_later extents from to source link calls more quiet none u = record { driven = driven_later extents from to source link calls more quiet none u.driven; unended = u.unended }
@@ -84,7 +74,7 @@ unended_later extents from to source link calls more quiet none u = record { dri
 -- these read and write no link, and give none
 pub ends_stay : (extents blank flush : Bool) (from to : Place) (calls more : List wire.Call) → ((link : ℕ) → calls_on link more ≡ []) → ((link : ℕ) → is_given link more ≡ false) → EndLast extents blank flush from to calls → EndLast extents blank flush from to (calls ++ more)
 ends_stay extents blank flush from to calls more quiet none (inl unended) = inl (record { has = unended.has; each = λ link given. unended_later extents from to (unended.has link) link calls more (quiet link) none (unended.each link (sym (given_stays link calls more (none link)) ∙ given)) })
-ends_stay extents blank flush from to calls more quiet none (inr end) = inr (end_later extents blank flush from to calls more end)
+ends_stay extents blank flush from to calls more quiet none (inr end) = inr (end_later extents blank flush from to calls more none end)
 
 -- Between two turns.
 
@@ -93,38 +83,43 @@ module _ (extents blank flush : Bool) (from to : Place) (calls : List wire.Call)
   ended_begins true not = absurd (false≢true (sym not))
   ended_begins false not = tt
 
-  -- where connections were to end before, it does not matter what comes on handles
-  pub ended_anyhow : (ended parting parting' : Bool) (seens seens' : List (Seen Ticket)) → ended ≡ true → HasEnded ended parting extents blank flush from to calls seens → HasEnded ended parting' extents blank flush from to calls seens'
-  ended_anyhow true parting parting' seens seens' is ends = ends
-  ended_anyhow false parting parting' seens seens' is ends = absurd (false≢true is)
+  pub ended_event : (ended : Bool) (index : ℕ) (event : Event Ticket) (seens : List (Seen Ticket)) → is_disconnect event ≡ false → may_come event ≡ true → HasEnded ended false extents blank flush from to calls seens → HasEnded ended false extents blank flush from to calls (with_event index event seens)
+  ended_event true index event seens other may ends = since_event extents blank flush from to calls index event seens may ends
+  ended_event false index event seens other may ends = event_unended index event seens other ends
 
-  pub ended_event : (ended parting : Bool) (index : ℕ) (event : Event Ticket) (seens : List (Seen Ticket)) → is_disconnect event ≡ false → HasEnded ended parting extents blank flush from to calls seens → HasEnded ended parting extents blank flush from to calls (with_event index event seens)
-  ended_event true parting index event seens other ends = ends
-  ended_event false false index event seens other ends = event_unended index event seens other ends
-  ended_event false true index event seens other ends = ends
+  -- a handle is asked for the end of its connection where these were to end
+  pub ended_disconnect : (ended : Bool) (index : ℕ) (seens : List (Seen Ticket)) → ended ≡ true → HasEnded ended false extents blank flush from to calls seens → HasEnded ended false extents blank flush from to calls (with_event index Disconnect seens)
+  ended_disconnect true index seens is ends = since_event extents blank flush from to calls index Disconnect seens refl ends
+  ended_disconnect false index seens is ends = absurd (false≢true is)
+
+  -- no handle is taken out yet
+  pub ended_leaving : (ended : Bool) (seens : List (Seen Ticket)) → ended ≡ true → ((link : ℕ) → AreApart link seens → is_given link calls ≡ false) → HasEnded ended false extents blank flush from to calls seens → HasEnded ended true extents blank flush from to calls seens
+  ended_leaving true seens is all ends = leaves_none extents blank flush from to calls seens all ends
+  ended_leaving false seens is all ends = absurd (false≢true is)
 
   -- handles are taken out
-  pub ended_left : (ended : Bool) (seens left : List (Seen Ticket)) → HasEnded ended true extents blank flush from to calls seens → HasEnded ended true extents blank flush from to calls left
-  ended_left true seens left ends = ends
-  ended_left false seens left ends = ends
+  pub ended_left : (ended : Bool) (seens left : List (Seen Ticket)) → (LeavesSince extents blank flush from to calls seens → LeavesSince extents blank flush from to calls left) → HasEnded ended true extents blank flush from to calls seens → HasEnded ended true extents blank flush from to calls left
+  ended_left true seens left leaves ends = leaves ends
+  ended_left false seens left leaves ends = ends
 
-  module _ (more : List wire.Call) where
-    pub ended_turned : (ended parting : Bool) (before after : List (Seen Ticket)) → AllBrought before after → HasEnded ended parting extents blank flush from to calls before → HasEnded ended parting extents blank flush from to (calls ++ more) after
-    ended_turned true parting before after all ends = end_later extents blank flush from to calls more ends
-    ended_turned false false before after all ends = turn_unended before after all ends
-    ended_turned false true before after all ends = ends
+  module _ (more : List wire.Call) (none : (link : ℕ) → is_given link more ≡ false) where
+    pub ended_turned : (ended parting : Bool) (before after : List (Seen Ticket)) → ((link : ℕ) → AreApart link before → calls_on link more ≡ []) → AllBrought before after → HasEnded ended parting extents blank flush from to calls before → HasEnded ended parting extents blank flush from to (calls ++ more) after
+    ended_turned true false before after quiet all ends = since_later extents blank flush from to calls more before after none (λ first. brought_on first before after all) ends
+    ended_turned true true before after quiet all ends = leaves_later extents blank flush from to calls more before after none (λ link. brought_apart link before after all) quiet (λ first. brought_on first before after all) ends
+    ended_turned false false before after quiet all ends = turn_unended before after all ends
+    ended_turned false true before after quiet all ends = ends
 
-    pub ended_called : (ended parting : Bool) (seens : List (Seen Ticket)) → HasEnded ended parting extents blank flush from to calls seens → HasEnded ended parting extents blank flush from to (calls ++ more) seens
-    ended_called true parting seens ends = end_later extents blank flush from to calls more ends
-    ended_called false false seens ends = ends
-    ended_called false true seens ends = ends
+    pub ended_called : (ended parting : Bool) (seens : List (Seen Ticket)) → ((link : ℕ) → calls_on link more ≡ []) → HasEnded ended parting extents blank flush from to calls seens → HasEnded ended parting extents blank flush from to (calls ++ more) seens
+    ended_called true false seens quiet ends = since_later extents blank flush from to calls more seens seens none (λ first went. went) ends
+    ended_called true true seens quiet ends = leaves_later extents blank flush from to calls more seens seens none (λ link apart. apart) (λ link apart. quiet link) (λ first went. went) ends
+    ended_called false false seens quiet ends = ends
+    ended_called false true seens quiet ends = ends
 
-    -- one handle more begins
-    pub ended_dialed : (ended parting : Bool) (seens : List (Seen Ticket)) (link : ℕ) (name : List ℕ) (asks : Bool) → HasEnded ended parting extents blank flush from to calls seens →
-        HasEnded ended parting extents blank flush from to (calls ++ more) (seens ++ record { link = link; history = opened name asks; unread = [] } ∷ [])
-    ended_dialed true parting seens link name asks ends = end_later extents blank flush from to calls more ends
-    ended_dialed false false seens link name asks ends = more_unended seens (record { link = link; history = opened name asks; unread = [] }) ends (opened_unended name asks)
-    ended_dialed false true seens link name asks ends = ends
+  -- one handle more begins
+  pub ended_dialed : (more : List wire.Call) (ended : Bool) (seens : List (Seen Ticket)) (link : ℕ) (name : List ℕ) (asks : Bool) → ended ≡ false → HasEnded ended false extents blank flush from to calls seens →
+      HasEnded ended false extents blank flush from to (calls ++ more) (seens ++ record { link = link; history = opened name asks; unread = [] } ∷ [])
+  ended_dialed more true seens link name asks not ends = absurd (false≢true (sym not))
+  ended_dialed more false seens link name asks not ends = more_unended seens (record { link = link; history = opened name asks; unread = [] }) ends (opened_unended name asks)
 
 -- while no connection is to end, it does not matter whether a flush is wanted, nor whether the destination is zero
 pub ended_wanting : (extents blank blank' flush flush' : Bool) (from to : Place) (calls : List wire.Call) (ended : Bool) (seens : List (Seen Ticket)) → ended ≡ false → HasEnded ended false extents blank flush from to calls seens → HasEnded ended false extents blank' flush' from to calls seens

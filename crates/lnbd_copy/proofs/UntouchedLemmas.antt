@@ -52,15 +52,15 @@ grain_some source destination = let one = least_some source.blocks in omega (ari
 some_longer : {Is : List wire.Call → Type 0} (calls more : List wire.Call) → AtSome Is calls → AtSome Is (calls ++ more)
 some_longer calls more s = record { before = s.before; after = s.after ++ more; are = ap (λ (l : List wire.Call). l ++ more) s.are ∙ append_assoc s.before s.after more; is = s.is }
 
-pub untouched_stays : (from to : Place) → StaysIdly (SparesTold from to)
-untouched_stays from to calls more quiet none spared = record {
+pub untouched_stays : (extents : Bool) (from to : Place) → StaysIdly (SparesTold extents from to)
+untouched_stays extents from to calls more quiet none spared = record {
   source = spared.source;
   destination = spared.destination;
   shown = some_longer calls more spared.shown;
   shown' = some_longer calls more spared.shown';
   none = spared.none;
   is = subst (ReadsNoZeros (both.grain spared.source spared.destination)) (sym (dealt_stays calls more quiet none from)) spared.is;
-  all = alike_later from to spared.source spared.destination calls more none spared.all;
+  all = alike_later extents from to spared.source spared.destination calls more none spared.all;
 }
 
 -- A turn, whole or short.

@@ -2,6 +2,7 @@
 -- here alone.
 use Rattle.std.proofs.Common.{◌≡◌, ℕ, zero, suc, ◌+◌, Bool, true, false, List, [], ◌∷◌, ◌++◌, length, Some, None, slice_get, refl, ap, sym, subst, ◌∙◌, length-append}
 use Rattle.std.proofs.lemmas.List.{append-nil, append_assoc}
+use Rattle.lnbd_model.specs.Kind.{is_status}
 use Rattle.lnbd_link.specs.Call as wire
 use Rattle.lnbd_history.specs.Commands.{Command}
 use Rattle.lnbd_history.specs.Events.{Event, Issue}
@@ -16,7 +17,7 @@ use Rattle.lnbd_board.specs.Asks as asks
 use Rattle.lnbd_board.specs.Files as board
 use Rattle.lnbd_board.specs.Requests.{Request}
 use Rattle.lnbd_tracks.specs.Mapping.{ToldAlike, asks_extents}
-use Rattle.lnbd_course.specs.Counted.{CountsSame}
+use Rattle.lnbd_course.specs.Counted.{CountsSame, is_flush}
 use Rattle.lnbd_course.specs.Laws.{AsksSource, AsksDestination}
 use Rattle.lnbd_course.specs.Taken.{without_buffer}
 use Rattle.lnbd_copy.specs.declared.sides.Sides.{Sides}
@@ -28,6 +29,8 @@ use Rattle.lnbd_copy.proofs.BindingLemmas.{Binds, SameBindings, asks_bound, rows
 use Rattle.lnbd_copy.proofs.BegunLemmas.{event_first, first_stays}
 use Rattle.lnbd_copy.proofs.DrivenLemmas.{drive_event}
 use Rattle.lnbd_copy.proofs.OrderLemmas.{ordered_event}
+use Rattle.lnbd_copy.proofs.FlushedLemmas.{second_asked}
+use Rattle.lnbd_copy.proofs.QueriedLemmas.{other_asks_none, queried_event}
 use Rattle.lnbd_copy.proofs.UnendedLemmas.{ended_event}
 use Rattle.lnbd_copy.proofs.HeardLemmas.{hears_on}
 use Rattle.lnbd_copy.proofs.StepLemmas.{board_moves_stand, destination_asks_stand, source_asks_stand}
@@ -52,9 +55,9 @@ sided_after sides has index event seens sided = λ at now there. sided_event (is
 
 -- A handle took a command, and the course goes on with it.
 asked_on : (way : Way) (calls : List wire.Call) (more : List Slice) (now now' : board.Seen) (held held' : List (Held Ticket)) (index : ℕ) (command : Command Ticket) →
-    (on : IsOn way now calls held) → now'.begun ≡ now.begun + length more → WasAsked index command on.seens held' →
+    (on : IsOn way now calls held) → is_status (without_buffer command).kind ≡ false → now'.begun ≡ now.begun + length more → WasAsked index command on.seens held' → (is_flush (without_buffer command).kind ≡ true → index ≡ 1) →
     Stands (with_slices more way) on.has now' calls (with_event index (Issue (without_buffer command)) on.seens) → (now'.error ≡ None → now.error ≡ None) → AreBound way.sides now' (with_event index (Issue (without_buffer command)) on.seens) → IsOn (with_slices more way) now' calls held'
-asked_on way calls more now now' held held' index command on begun was stands earlier bound = record {
+asked_on way calls more now now' held held' index command on unqueried begun was second stands earlier bound = record {
   has = on.has;
   seens = with_event index (Issue (without_buffer command)) on.seens;
   at = was.at;
@@ -66,8 +69,10 @@ asked_on way calls more now now' held held' index command on begun was stands ea
   hears = hears_on false way.extents way.from way.to way.heard now.error now'.error earlier calls on.seens (with_event index (Issue (without_buffer command)) on.seens) (event_first index (Issue (without_buffer command)) on.seens) on.hears;
   bound = bound;
   drives = drive_event way.extents way.from way.to on.has calls index (Issue (without_buffer command)) on.seens refl on.drives;
-  ends = ended_event way.extents way.how.skip way.flush way.from way.to calls way.ended false index (Issue (without_buffer command)) on.seens refl on.ends;
+  ends = ended_event way.extents way.how.skip way.flush way.from way.to calls way.ended index (Issue (without_buffer command)) on.seens refl refl on.ends;
   order = ordered_event (is_source way.sides) on.has calls false index (Issue (without_buffer command)) on.seens on.order;
+  queried = queried_event way.queries index (Issue (without_buffer command)) on.seens (other_asks_none (without_buffer command) unqueried) on.queried;
+  flushes = second_asked calls index (without_buffer command) on.seens on.order second on.flushes;
 }
 
 -- The board went on, and nothing was asked.
@@ -87,6 +92,8 @@ moved_on way calls now now' held on begun stands earlier bound = record {
   drives = on.drives;
   ends = on.ends;
   order = on.order;
+  queried = on.queried;
+  flushes = on.flushes;
 }
 
 -- as far as with no slices more
@@ -114,27 +121,27 @@ module _ (how : How) (sides : Sides) where
         (subst (λ (w : How). (source destination : List Request) → asks.Keeps w now.rows source destination now'.rows source destination) (sym h) goes) alike) (λ none. sym error ∙ none) (rows_bound way on.has now calls on.seens on.stands now' (λ none. sym error ∙ none) bindings on.bound));
   }
 
-  pub source_keeps : (more : List Slice) (command : Command Ticket) (now now' : board.Seen) (held held' : List (Held Ticket)) → now'.begun ≡ now.begun + length more → asks_extents (Issue (without_buffer command)) ≡ false → ToldAlike now now' →
-      ((slices : List Slice) → length slices ≡ now.begun → AsksSource how (without_buffer command) slices (slices ++ more) now now') → (connection : ℕ) → Binds true connection (without_buffer command).done now now' → IsAskedOf sides true connection command held held' → Keeps how sides more now now' held held'
-  source_keeps more command now now' held held' begun other alike says connection binds asked = record {
+  pub source_keeps : (more : List Slice) (command : Command Ticket) (now now' : board.Seen) (held held' : List (Held Ticket)) → now'.begun ≡ now.begun + length more → asks_extents (Issue (without_buffer command)) ≡ false → is_status (without_buffer command).kind ≡ false → ToldAlike now now' →
+      ((slices : List Slice) → length slices ≡ now.begun → AsksSource how (without_buffer command) slices (slices ++ more) now now') → (connection : ℕ) → Binds true connection (without_buffer command).done now now' → (asked : IsAskedOf sides true connection command held held') → (is_flush (without_buffer command).kind ≡ true → asked.index ≡ 1) → Keeps how sides more now now' held held'
+  source_keeps more command now now' held held' begun other unqueried alike says connection binds asked second = record {
     stand = λ s. record { seens = with_event asked.index (Issue (without_buffer command)) s.seens; at = (asked.asked.on s.seens s.at).at };
     on = λ way calls h s on.
         let was : WasAsked asked.index command on.seens held' = asked.asked.on on.seens on.at in
         let side : on.has was.seen.link ≡ true = on.sided asked.index was.seen was.there ∙ ap (λ (x : Sides). is_source x asked.index) s ∙ asked.side in
-        asked_on way calls more now now' held held' asked.index command on begun was
+        asked_on way calls more now now' held held' asked.index command on unqueried begun was second
         (source_asks_stand way on.has (way.slices ++ more) now now' calls on.seens asked.index was.seen (without_buffer command) on.stands was.there side was.spells
         (subst (λ (w : How). AsksSource w (without_buffer command) way.slices (way.slices ++ more) now now') (sym h) (says way.slices on.begun)) other alike) (says way.slices on.begun).earlier
         (asks_bound way on.has now calls on.seens on.stands now' on.begun (says way.slices on.begun).earlier on.bound true connection asked.index (without_buffer command) (ap (λ (x : Sides). is_source x asked.index) s ∙ asked.side) (ap (λ (x : Sides). connection_of x asked.index) s ∙ asked.here) binds);
   }
 
-  pub destination_keeps : (more : List Slice) (command : Command Ticket) (now now' : board.Seen) (held held' : List (Held Ticket)) → now'.begun ≡ now.begun + length more → asks_extents (Issue (without_buffer command)) ≡ false → ToldAlike now now' →
-      ((slices : List Slice) → length slices ≡ now.begun → AsksDestination how (without_buffer command) slices (slices ++ more) now now') → (connection : ℕ) → Binds false connection (without_buffer command).done now now' → IsAskedOf sides false connection command held held' → Keeps how sides more now now' held held'
-  destination_keeps more command now now' held held' begun other alike says connection binds asked = record {
+  pub destination_keeps : (more : List Slice) (command : Command Ticket) (now now' : board.Seen) (held held' : List (Held Ticket)) → now'.begun ≡ now.begun + length more → asks_extents (Issue (without_buffer command)) ≡ false → is_status (without_buffer command).kind ≡ false → ToldAlike now now' →
+      ((slices : List Slice) → length slices ≡ now.begun → AsksDestination how (without_buffer command) slices (slices ++ more) now now') → (connection : ℕ) → Binds false connection (without_buffer command).done now now' → (asked : IsAskedOf sides false connection command held held') → (is_flush (without_buffer command).kind ≡ true → asked.index ≡ 1) → Keeps how sides more now now' held held'
+  destination_keeps more command now now' held held' begun other unqueried alike says connection binds asked second = record {
     stand = λ s. record { seens = with_event asked.index (Issue (without_buffer command)) s.seens; at = (asked.asked.on s.seens s.at).at };
     on = λ way calls h s on.
         let was : WasAsked asked.index command on.seens held' = asked.asked.on on.seens on.at in
         let side : on.has was.seen.link ≡ false = on.sided asked.index was.seen was.there ∙ ap (λ (x : Sides). is_source x asked.index) s ∙ asked.side in
-        asked_on way calls more now now' held held' asked.index command on begun was
+        asked_on way calls more now now' held held' asked.index command on unqueried begun was second
         (destination_asks_stand way on.has (way.slices ++ more) now now' calls on.seens asked.index was.seen (without_buffer command) on.stands was.there side was.spells
         (subst (λ (w : How). AsksDestination w (without_buffer command) way.slices (way.slices ++ more) now now') (sym h) (says way.slices on.begun)) other alike) (says way.slices on.begun).earlier
         (asks_bound way on.has now calls on.seens on.stands now' on.begun (says way.slices on.begun).earlier on.bound false connection asked.index (without_buffer command) (ap (λ (x : Sides). is_source x asked.index) s ∙ asked.side) (ap (λ (x : Sides). connection_of x asked.index) s ∙ asked.here) binds);

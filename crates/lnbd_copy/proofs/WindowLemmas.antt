@@ -17,6 +17,7 @@ use Rattle.lnbd_plan.specs.Laws.{Window, windows_slices, windows_end, told_by, L
 use Rattle.lnbd_plan.proofs.LongestLaws.{longest}
 use Rattle.lnbd_plan.proofs.OnceLaws.{ends_up}
 use Rattle.lnbd_asked.specs.Transcript.{is_zero, zero_in}
+use Rattle.lnbd_tracks.specs.Saying.{is_told}
 use Rattle.lnbd_copy.specs.Windows.{Seen, IsPlanned, AreFit, AreKept, AreFullWindows, zero_within, zero_heard, wanted, window, window_end}
 
 -- Windows one behind the other.
@@ -122,13 +123,14 @@ window_kept plan new start at size grain n last held kept ends inside is = recor
 
 -- Extents laid end to end.
 
--- Of these extents some were passed: the positions behind them are those of the rest, as far as positions are asked for.
+-- Of these extents some were passed: the positions behind them are those of the rest, as far as positions are asked for, and each before was told of.
 pub record Walks (told : List Extent) (index reached most : ℕ) : Type 0 where
   pub inside : reached ≤ most
   pub rest : reached < most → (q : ℕ) → flags_at told (reached + q) ≡ flags_at (drop index told) q
+  pub all : (p : ℕ) → p < reached → is_told (flags_at told p) ≡ true
 
 pub walk_begins : (told : List Extent) (most : ℕ) → Walks told 0 0 most
-walk_begins told most = record { inside = omega arith; rest = λ some q. ap (flags_at told) (omega arith) }
+walk_begins told most = record { inside = omega arith; rest = λ some q. ap (flags_at told) (omega arith); all = λ p low. absurd (omega (arith, low)) }
 
 pub next_any : (told : List Extent) (index : ℕ) (d : Extent) → index < length told → drop index told ≡ get_or told index d ∷ drop (index + 1) told
 next_any told index d within = let more : index + 1 ≡ suc index = omega arith in rw more (drop-cons told index d within)
@@ -140,6 +142,11 @@ later_flags : (item : Extent) (others : List Extent) (q : ℕ) → flags_at (ite
 later_flags item others q = let test : nat_lt (item.length + q) item.length ≡ false = grind (arith, common_steps) in rw test (ap (flags_at others) (omega arith))
 
 module _ (told : List Extent) (index reached most : ℕ) (item : Extent) (walks : Walks told index reached most) (is : drop index told ≡ item ∷ drop (index + 1) told) (n : ℕ) (as_many : n ≡ min item.length (most - reached)) where
+  pub walk_here : (q : ℕ) → q < n → flags_at told (reached + q) ≡ Some item.flags
+  walk_here q l =
+      let inside = walks.inside in
+      walks.rest (omega arith) q ∙ ap (λ (l : List Extent). flags_at l q) is ∙ first_flags item (drop (index + 1) told) q (omega arith)
+
   pub walk_on : Walks told (index + 1) (reached + n) most
   walk_on =
       let inside = walks.inside in
@@ -149,12 +156,13 @@ module _ (told : List Extent) (index reached most : ℕ) (item : Extent) (walks 
             let whole : n ≡ item.length = omega arith in
             let place : reached + n + q ≡ reached + (item.length + q) = omega arith in
             ap (flags_at told) place ∙ walks.rest (omega arith) (item.length + q) ∙ ap (λ (l : List Extent). flags_at l (item.length + q)) is ∙ later_flags item (drop (index + 1) told) q;
+        all = λ p low. elim (cases_lt p reached) [
+          | inl before ↦ walks.all p before
+          | inr behind ↦
+              let place : p ≡ reached + (p - reached) = omega (arith, behind) in
+              ap (λ (q : ℕ). is_told (flags_at told q)) place ∙ ap (λ (o : Option ℕ). is_told o) (walk_here (p - reached) (omega (arith, low, behind)))
+        ];
       }
-
-  pub walk_here : (q : ℕ) → q < n → flags_at told (reached + q) ≡ Some item.flags
-  walk_here q l =
-      let inside = walks.inside in
-      walks.rest (omega arith) q ∙ ap (λ (l : List Extent). flags_at l q) is ∙ first_flags item (drop (index + 1) told) q (omega arith)
 
 -- The zero flag alone is zero where the flags are.
 flag_alone : (flags : ℕ) → has_bit 2 (bit_and flags 2) ≡ true → has_bit 2 flags ≡ true

@@ -6,7 +6,10 @@ use Rattle.lnbd_plan.specs.declared.options.CopyOptions.{CopyOptions}
 use Rattle.lnbd_copy.specs.Connects.{ConnectsWithin}
 use Rattle.lnbd_copy.specs.DrivenAs.{AreDrivenBy}
 use Rattle.lnbd_copy.specs.Faults.{Behaves}
+use Rattle.lnbd_copy.specs.LeftOut.{WantsAll}
 use Rattle.lnbd_copy.specs.Links.{LinksAreKept}
+use Rattle.lnbd_copy.specs.Little.{WroteLittle}
+use Rattle.lnbd_copy.specs.Patient.{PausesWithin}
 use Rattle.lnbd_copy.specs.Paused.{PausesAreFull}
 use Rattle.lnbd_copy.specs.Pauses.{AtEachPause, WantsOnlyFull}
 use Rattle.lnbd_copy.specs.Tried.{TriedBefore}
@@ -34,3 +37,9 @@ pub record Conducts (options : CopyOptions) (from to : Place) (calls : List wire
   pub drives : AreDrivenBy options from to calls
   -- and whatever a pause wanted was tried before the next
   pub tries : AtEachPause TriedBefore calls
+  -- and by each pause little was written on the links that it wants
+  pub little : AtEachPause (WroteLittle options.extents from to) calls
+  -- and no pause left out a link that was waited for
+  pub wants_all : AtEachPause (WantsAll options.extents from to) calls
+  -- and it paused no more often than is borne
+  pub patient : PausesWithin calls

@@ -29,13 +29,13 @@ one_each = record { source = 1; destination = 1 }
 -- These calls connect to both places alone, to each once or as often as the options and what both sides told say; not all of these connections need be made.
 pub record ConnectsWithin (options : CopyOptions) (from to : Place) (calls : List wire.Call) : Type 0 where
   pub sides : Sides
-  pub many : (sides ≡ one_each) ⊎ IsToldFirst from to (λ source destination. sides ≡ both.sides_by options source destination) calls
+  pub many : (sides ≡ one_each) ⊎ IsToldFirst options.extents from to (λ source destination. sides ≡ both.sides_by options source destination) calls
   pub others : List Target
   pub are : connected_to from to sides ≡ targets calls ++ others
 
 -- They connect to each place as often as the options and what both sides told say.
 abbrev pub ConnectsAsTold : CopyOptions → (from to : Place) → List wire.Call → Type 0
-ConnectsAsTold options from to calls = IsToldFirst from to (λ source destination. ConnectTo (connected_to from to (both.sides_by options source destination)) calls) calls
+ConnectsAsTold options from to calls = IsToldFirst options.extents from to (λ source destination. ConnectTo (connected_to from to (both.sides_by options source destination)) calls) calls
 
 -- Both sides settled so many connections.
 pub record HasSettledOn (options : CopyOptions) (from to : Place) (told told' : Option (List wire.Call)) (sides : Sides) : Type 0 where

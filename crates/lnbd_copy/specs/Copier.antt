@@ -24,13 +24,14 @@ use Rattle.lnbd_copy.specs.Connected.{AllConnected}
 use Rattle.lnbd_copy.specs.Connects.{StaysConnected}
 use Rattle.lnbd_copy.specs.Dealt.{HasDealt}
 use Rattle.lnbd_copy.specs.Job as work
-use Rattle.lnbd_copy.specs.Driven.{AreLeft}
+use Rattle.lnbd_copy.specs.DrivenAs.{AreLeftBy}
 use Rattle.lnbd_copy.specs.Firsts.{KnowBoth}
 use Rattle.lnbd_copy.specs.Lasting.{Lasts}
 use Rattle.lnbd_copy.specs.Limit.{IsLimited}
 use Rattle.lnbd_copy.specs.Settled.{FlushesWanted, HasSettled, HasTerms, SparesFound, SparesTold}
 use Rattle.lnbd_copy.specs.Statuses.{ReadsAreAnswered}
 use Rattle.lnbd_copy.specs.Way.{Filed, IsOn, IsUnderWay, Stand, Told, Way}
+use Rattle.lnbd_copy.specs.Whole.{WasCopiedWhole}
 
 pub record Seen : Type 0 where
   pub options : CopyOptions
@@ -55,7 +56,7 @@ pub record HasNotBegun (copy : Seen) : Type 0 where
 
 -- no slice is begun, of a copy that writes so
 abbrev pub beginning : Seen → (size : Option ℕ) → How → Sides → Way
-beginning copy size how sides = record { from = copy.from; to = copy.to; size = size; how = how; sides = sides; slices = []; zero = λ p. false; whole = λ block p. false; asked = None; rested = None; heard = λ p. false; extents = copy.options.extents; reach = λ p. false; ended = false; flush = true }
+beginning copy size how sides = record { from = copy.from; to = copy.to; size = size; how = how; sides = sides; slices = []; zero = λ p. false; whole = λ block p. false; asked = None; rested = None; heard = λ grain p. false; extents = copy.options.extents; reach = λ p. false; ended = false; flush = true; queries = 0 }
 
 -- No slice was begun, and no flush asked for.
 pub record IsBlank (now : board.Seen) : Type 0 where
@@ -126,18 +127,20 @@ pub record IsParting (copy : Seen) : Type 0 where
   pub parts : work.is_parting job.phase ≡ true
 
 -- It is finished: each connection has parted, and its calls copied, asked nothing twice, and all of it was done, block statuses and flushes too, if it was from one place to another. Where its options want no flush none was asked for, and where one is wanted that the destination can make, it is done. One handle drove each link, and left it as a copy does.
+-- Each slice to the source's end is finished.
 pub record IsDone (start told : Option (List wire.Call)) (copy : Seen) : Type 0 where
   pub parted : copy.held ≡ []
   pub asked : copy.from ≢ copy.to → Told start told (HasAskedOnce copy.options.allocated copy.options.destination_is_zero copy.from copy.to)
   pub done : copy.from ≢ copy.to → Told start told (WereAllDone copy.from copy.to)
-  pub spares : copy.from ≢ copy.to → Told start told (SparesTold copy.from copy.to)
+  pub spares : copy.from ≢ copy.to → Told start told (SparesTold copy.options.extents copy.from copy.to)
   pub copied : copy.from ≢ copy.to → Told start told (Copied copy.from copy.to copy.options.destination_is_zero)
   pub unflushed : copy.options.flush ≡ false → copy.from ≢ copy.to → Told start told (IsUnflushed copy.to)
   pub flushed : copy.from ≢ copy.to → Told start told (FlushesWanted copy.options copy.from copy.to)
   pub dense : copy.from ≢ copy.to → Told start told (SparesFound copy.options copy.from copy.to)
   pub answered : copy.from ≢ copy.to → Told start told (ReadsAreAnswered copy.options.extents copy.from)
   pub driven : Told start told AreDriven
-  pub left : Told start told (AreLeft copy.options.extents copy.from copy.to)
+  pub left : Told start told (AreLeftBy copy.options copy.from copy.to)
+  pub whole : copy.from ≢ copy.to → Told start told (WasCopiedWhole copy.options copy.from copy.to)
 
 -- After a turn it is on its way still, or it is finished.
 abbrev pub HasTurned : (start told : Option (List wire.Call)) → Seen → Progress → Type 0

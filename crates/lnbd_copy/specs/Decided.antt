@@ -1,37 +1,33 @@
 -- Which event a copy ends by, where it does not end well: the first one in its calls for which it ends.
-use Rattle.std.specs.Prelude.{◌≡◌, ◌≢◌, ◌⊎◌, ◌==◌, ℕ, Bool, true, false, ◌&&◌, List, [], ◌∷◌, ◌++◌, Option, Some, None}
+use Rattle.std.specs.Prelude.{◌≡◌, ◌⊎◌, ◌==◌, ℕ, Bool, true, false, ◌&&◌, List, [], ◌∷◌, ◌++◌, Option, Some, None}
 use Rattle.std.specs.List.{list_any}
 use Rattle.lnbd_model.specs.declared.breach.Broken.{Broken}
 use Rattle.lnbd_model.specs.declared.breach.Broken.TheVariants as broken
 use Rattle.lnbd_model.specs.declared.errors.TheConstants.{EPROTO}
 use Rattle.lnbd_model.specs.declared.failure.Origin.TheVariants as origin
-use Rattle.lnbd_model.specs.declared.state.Cause.{Cause}
 use Rattle.lnbd_model.specs.declared.state.Cause.TheVariants as cause
-use Rattle.lnbd_model.specs.declared.state.State.TheVariants as state
 use Rattle.lnbd_model.specs.declared.target.Place.{Place}
 use Rattle.lnbd_model.specs.declared.target.Target.{Target}
 use Rattle.lnbd_link.specs.Call.{Call, Connect, Listen, Accept, Read, Write, Pause, Shut, WriteTold, Sent, Full, WriteFault}
 use Rattle.lnbd_link.specs.Listed.{has_failed}
 use Rattle.lnbd_link.specs.Numbers.{is_given}
-use Rattle.lnbd_history.specs.Answers.{state_after}
 use Rattle.lnbd_history.specs.Events.{History}
 use Rattle.lnbd_plan.specs.declared.fault.CopyFault.{CopyFault}
 use Rattle.lnbd_plan.specs.declared.fault.CopyFault.TheVariants as fault
+use Rattle.lnbd_plan.specs.declared.options.CopyOptions.{CopyOptions}
 use Rattle.lnbd_poll.specs.Alone.{link_of}
 use Rattle.lnbd_board.specs.declared.ticket.Ticket.{Ticket}
 use Rattle.lnbd_course.specs.Failed.{SideFails}
 use Rattle.lnbd_course.specs.Unfailed.{NothingFails}
 use Rattle.lnbd_copy.specs.Connected.{AllConnected}
-use Rattle.lnbd_copy.specs.Driven.{WasDriven}
+use Rattle.lnbd_copy.specs.Driven.{EndAfter, WasDriven, WasUnendedAlive, WentOn}
+pub use Rattle.lnbd_copy.specs.Driven.{IsAlive}
 use Rattle.lnbd_copy.specs.Grounds.{Differ, HasDied, Settle, needs_no_ground}
+use Rattle.lnbd_copy.specs.Settled.{IsFlushSettled}
+use Rattle.lnbd_copy.specs.ToldAlike.{AreToldAlike}
 use Rattle.lnbd_copy.specs.Way.{Told}
 
 -- Before it.
-
--- The handle on which this happened is not dead: its peer kept to the protocol, refused no option and did not end the connection before it was asked to, and its
--- link did not fail.
-abbrev pub IsAlive : History Ticket → Type 0
-IsAlive history = (why : Cause) → state_after history ≢ state.Dead why
 
 -- A link was driven as a copy drives it, by a handle that is not dead, and to which all had come that was read.
 pub record IsDrivenAlive (extents : Bool) (from to : Place) (link : ℕ) (calls : List Call) : Type 0 where
@@ -40,15 +36,33 @@ pub record IsDrivenAlive (extents : Bool) (from to : Place) (link : ℕ) (calls 
   pub alive : IsAlive driven.history
   pub arrived : driven.unread ≡ []
 
--- So was each link that these calls gave.
-abbrev pub AreDrivenAlive : (extents : Bool) → (from to : Place) → List Call → Type 0
-AreDrivenAlive extents from to calls = (link : ℕ) → is_given link calls ≡ true → IsDrivenAlive extents from to link calls
+-- So was each link that these calls gave, by a handle that was not asked for the end of its connection.
+pub record AreUnendedAlive (extents : Bool) (from to : Place) (calls : List Call) : Type 0 where
+  -- what came on the handle of each link
+  pub was : ℕ → History Ticket
+  pub each : (link : ℕ) → is_given link calls ≡ true → WasUnendedAlive (was link) extents from to link calls
 
--- By these calls nothing came for which a copy ends: each link that they gave was driven so, each connect gave one, and no command came to an error.
-pub record IsUntroubled (extents : Bool) (from to : Place) (calls : List Call) : Type 0 where
-  pub alive : AreDrivenAlive extents from to calls
+-- A link was driven so, by a handle on which this had come at first, and went on from there.
+pub record IsAliveSince (first : History Ticket) (extents : Bool) (from to : Place) (link : ℕ) (calls : List Call) : Type 0 where
+  pub alive : IsDrivenAlive extents from to link calls
+  pub went : WentOn first alive.driven.history
+
+-- Each was driven so, and what came on its handle went on from what had come when all was done, when the handle had not been asked for the end of its connection, and was not dead.
+pub record AreAliveSince (extents blank flush : Bool) (from to : Place) (calls : List Call) : Type 0 where
+  pub end : EndAfter extents blank flush from to calls
+  pub each : (link : ℕ) → is_given link calls ≡ true → IsAliveSince (end.was link) extents from to link calls
+
+-- No connection died, and none ended before all was done.
+abbrev pub AreAliveToEnd : (extents blank flush : Bool) → (from to : Place) → List Call → Type 0
+AreAliveToEnd extents blank flush from to calls = AreUnendedAlive extents from to calls ⊎ AreAliveSince extents blank flush from to calls
+
+-- By these calls nothing came for which a copy ends: no connection died, nor ended before all was done, each connect gave a link, no command came to an error, the connections to one
+-- place that were told of its export were all told the same, and no rule is broken between what both were told.
+pub record IsUntroubled (extents blank flush : Bool) (from to : Place) (calls : List Call) : Type 0 where
+  pub alive : AreAliveToEnd extents blank flush from to calls
   pub well : NothingFails from to calls
   pub connected : AllConnected calls
+  pub alike : AreToldAlike extents from to calls
 
 -- The event.
 
@@ -113,23 +127,23 @@ OnlyShut (call ∷ calls) = (is_shut call ≡ true) × OnlyShut calls
 -- What the calls show that end with the event: of a breach, an end and a refused option, a connection that died of it; of faulty content and an error that was
 -- told, a command that came to it; of a rule, that it is the first that does not hold between what the first connections were told; and that two connections of one
 -- side were told different exports. Of a link that failed and of silence the counts of the wires tell.
-abbrev pub ShowBreak : (from to : Place) → Broken → List Call → Type 0
-ShowBreak from to (broken.Breach breach) calls = HasDied from to (cause.Broke breach) calls
-ShowBreak from to broken.Content calls = SideFails from to (record { origin = origin.Content; error = EPROTO }) calls
-ShowBreak from to broken.Ended calls = HasDied from to cause.Ended calls
-ShowBreak from to broken.Differs calls = Differ from to calls
+abbrev pub ShowBreak : (extents : Bool) → (from to : Place) → Broken → List Call → Type 0
+ShowBreak extents from to (broken.Breach breach) calls = HasDied extents from to (cause.Broke breach) calls
+ShowBreak extents from to broken.Content calls = SideFails from to (record { origin = origin.Content; error = EPROTO }) calls
+ShowBreak extents from to broken.Ended calls = HasDied extents from to cause.Ended calls
+ShowBreak extents from to broken.Differs calls = Differ extents from to calls
 
-abbrev pub ShowRefusal : (from to : Place) → Option ℕ → (code : ℕ) → List Call → Type 0
-ShowRefusal from to None code calls = SideFails from to (record { origin = origin.Told; error = code }) calls
-ShowRefusal from to (Some option) code calls = HasDied from to (cause.Refused option code) calls
+abbrev pub ShowRefusal : (extents : Bool) → (from to : Place) → Option ℕ → (code : ℕ) → List Call → Type 0
+ShowRefusal extents from to None code calls = SideFails from to (record { origin = origin.Told; error = code }) calls
+ShowRefusal extents from to (Some option) code calls = HasDied extents from to (cause.Refused option code) calls
 
-abbrev pub Show : (from to : Place) → CopyFault → List Call → Type 0
-Show from to fault.NoMemory calls = Unit {0}
-Show from to (fault.Link before after) calls = Unit {0}
-Show from to (fault.Broke one) calls = ShowBreak from to one calls
-Show from to (fault.Peer option code) calls = ShowRefusal from to option code calls
-Show from to (fault.Rule rule) calls = Settle from to (Some rule) calls
-Show from to (fault.Silent idles) calls = Unit {0}
+abbrev pub Show : (extents : Bool) → (from to : Place) → CopyFault → List Call → Type 0
+Show extents from to fault.NoMemory calls = Unit {0}
+Show extents from to (fault.Link before after) calls = Unit {0}
+Show extents from to (fault.Broke one) calls = ShowBreak extents from to one calls
+Show extents from to (fault.Peer option code) calls = ShowRefusal extents from to option code calls
+Show extents from to (fault.Rule rule) calls = Settle extents from to (Some rule) calls
+Show extents from to (fault.Silent idles) calls = Unit {0}
 
 -- the fault is a link that failed
 abbrev pub is_of_link : CopyFault → Bool
@@ -170,17 +184,17 @@ is_of_content (fault.Silent idles) = false
 
 -- The calls end with one event and what shuts the links. Before the event nothing had come for which a copy ends, and with it the calls show the fault. Of what one event
 -- brought, a call that failed is told before all else, then faulty content that a command came to, and a command's error only where no connection died.
-pub record IsDecidedBy (extents : Bool) (from to : Place) (why : CopyFault) (calls : List Call) : Type 0 where
+pub record IsDecidedBy (extents blank flush : Bool) (from to : Place) (why : CopyFault) (calls : List Call) : Type 0 where
   pub before : List Call
   pub event : List Call
   pub after : List Call
   pub are : calls ≡ before ++ event ++ after
-  pub untroubled : IsUntroubled extents from to before
+  pub untroubled : IsUntroubled extents blank flush from to before
   pub one : IsOneEvent event
   pub shut : OnlyShut after
-  pub shows : Show from to why (before ++ event)
+  pub shows : Show extents from to why (before ++ event)
   pub failed : is_of_link why ≡ false → list_any has_failed event ≡ false
-  pub answered : is_of_answer why ≡ true → AreDrivenAlive extents from to (before ++ event)
+  pub answered : is_of_answer why ≡ true → AreAliveToEnd extents blank flush from to (before ++ event)
   pub whole : needs_no_ground why ≡ false → is_of_content why ≡ false → ¬ SideFails from to (record { origin = origin.Content; error = EPROTO }) (before ++ event)
 
 abbrev pub is_of_memory : CopyFault → Bool
@@ -192,5 +206,14 @@ is_of_memory (fault.Rule rule) = false
 is_of_memory (fault.Silent idles) = false
 
 -- So it is since some start, unless it is of want of memory, which may come at any time.
-pub record IsDecided (start told : Option (List Call)) (extents : Bool) (from to : Place) (why : CopyFault) : Type 0 where
-  pub on : is_of_memory why ≡ false → Told start told (IsDecidedBy extents from to why)
+pub record IsDecidedTo (start told : Option (List Call)) (extents blank flush : Bool) (from to : Place) (why : CopyFault) : Type 0 where
+  pub on : is_of_memory why ≡ false → Told start told (IsDecidedBy extents blank flush from to why)
+
+-- So it is of a copy with these options, whose destination is flushed before connections end unless these or what it told want no flush.
+pub record IsDecidedAs (options : CopyOptions) (from to : Place) (why : CopyFault) (calls : List Call) : Type 0 where
+  pub flush : Bool
+  pub wanted : IsFlushSettled options from to flush calls
+  pub by : IsDecidedBy options.extents options.destination_is_zero flush from to why calls
+
+pub record IsDecided (start told : Option (List Call)) (options : CopyOptions) (from to : Place) (why : CopyFault) : Type 0 where
+  pub on : is_of_memory why ≡ false → Told start told (IsDecidedAs options from to why)

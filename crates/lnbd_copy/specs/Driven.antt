@@ -1,5 +1,6 @@
 -- How a copy drives its links, whatever it comes to.
 use Rattle.std.specs.Prelude.{◌≡◌, ◌≢◌, ◌⊎◌, ℕ, Bool, true, false, ◌&&◌, List, [], ◌∷◌, ◌++◌, map, Option, Some, None, slice_get}
+use Rattle.lnbd_model.specs.declared.state.Cause.{Cause}
 use Rattle.lnbd_model.specs.declared.state.State.TheVariants as state
 use Rattle.lnbd_model.specs.declared.target.Place.{Place}
 use Rattle.lnbd_link.specs.Call.{Call}
@@ -18,6 +19,7 @@ use Rattle.lnbd_course.specs.Between.{place_of}
 use Rattle.lnbd_course.specs.Copied.{Copied}
 use Rattle.lnbd_course.specs.Flushes.{IsFlushed}
 use Rattle.lnbd_copy.specs.Begun.{opened}
+use Rattle.lnbd_copy.specs.Finished.{AreAllFinished}
 use Rattle.lnbd_copy.specs.Statuses.{first_given}
 
 -- One handle.
@@ -107,17 +109,36 @@ pub record AreUnended (extents : Bool) (from to : Place) (calls : List Call) : T
   pub has : ℕ → Bool
   pub each : (link : ℕ) → is_given link calls ≡ true → WasUnended extents from to (has link) link calls
 
--- By these calls all is copied, zeros too unless the destination is told to be zero, and none of their requests is unanswered or came to an error, no block status and no flush either.
+-- By these calls all is copied, zeros too unless the destination is told to be zero, and none of their requests is unanswered or came to an error, no block status and no flush either. Each slice
+-- to the source's end is finished, also of a source that contradicts itself.
 pub record IsAllDone (blank : Bool) (from to : Place) (calls : List Call) : Type 0 where
   pub copied : Copied from to blank calls
   pub done : WereAllDone from to calls
+  pub whole : AreAllFinished blank from to calls
 
--- By the first of these calls all was done, and the destination flushed where that is wanted; and by these no handle had been asked for the end of its connection. (The two exports are two.)
+-- The handle on which this happened is not dead: its peer kept to the protocol, refused no option and did not end the connection before it was asked to, and its
+-- link did not fail.
+abbrev pub IsAlive : History Ticket → Type 0
+IsAlive history = (why : Cause) → state_after history ≢ state.Dead why
+
+-- A link was driven so, by a handle that was not asked for the end of its connection, is not dead, and to which all had come that was read. This is what came on it.
+pub record WasUnendedAlive (history : History Ticket) (extents : Bool) (from to : Place) (link : ℕ) (calls : List Call) : Type 0 where
+  pub source : Bool
+  pub driven : WasDriven extents from to source link calls
+  pub is : driven.history ≡ history
+  pub unended : IsUnended driven.history
+  pub alive : IsAlive driven.history
+  pub arrived : driven.unread ≡ []
+
+-- By the first of these calls all was done, and the destination flushed where that is wanted; and by these each link that any of the calls gave was driven by a handle
+-- that had not been asked for the end of its connection, and was not dead. So no connection had ended. (The two exports are two.)
 pub record EndAfter (extents blank flush : Bool) (from to : Place) (calls : List Call) : Type 0 where
   pub before : List Call
   pub after : List Call
   pub are : calls ≡ before ++ after
-  pub unended : AreUnended extents from to before
+  -- what had come by then on the handle of each link
+  pub was : ℕ → History Ticket
+  pub unended : (link : ℕ) → is_given link calls ≡ true → WasUnendedAlive (was link) extents from to link before
   pub done : from ≢ to → IsAllDone blank from to before
   pub flushed : flush ≡ true → from ≢ to → IsFlushed to before
 
@@ -160,11 +181,17 @@ pub record WasLeft (extents : Bool) (from to : Place) (source : Bool) (link : �
   pub parted : HasParted driven.history
   pub arrived : driven.unread ≡ []
 
--- So it is with each link that these calls gave.
-pub record AreLeft (extents : Bool) (from to : Place) (calls : List Call) : Type 0 where
-  -- the links of the source
-  pub has : ℕ → Bool
-  pub each : (link : ℕ) → is_given link calls ≡ true → WasLeft extents from to (has link) link calls
+-- So it was by a handle on which this had come at first, and went on from there.
+pub record WasLeftSince (first : History Ticket) (extents : Bool) (from to : Place) (link : ℕ) (calls : List Call) : Type 0 where
+  pub source : Bool
+  pub left : WasLeft extents from to source link calls
+  pub went : WentOn first left.driven.history
+
+-- No connection ended before all was done: each link that these calls gave was left so, and what came on its handle went on from what had come when all was done, when the handle
+-- had not been asked for the end of its connection, and was not dead.
+pub record AreLeft (extents blank flush : Bool) (from to : Place) (calls : List Call) : Type 0 where
+  pub end : EndAfter extents blank flush from to calls
+  pub each : (link : ℕ) → is_given link calls ≡ true → WasLeftSince (end.was link) extents from to link calls
 
 -- Between two turns.
 
@@ -188,9 +215,20 @@ abbrev pub AllUnended : List (Seen Ticket) → Type 0
 AllUnended [] = Unit {0}
 AllUnended (seen ∷ others) = IsUnended seen.history × AllUnended others
 
--- So it is until all is done, and no handle is taken out before.
+-- All was done by a front of these calls, and what came on each handle that is held went on from what had come then.
+pub record EndsSince (extents blank flush : Bool) (from to : Place) (calls : List Call) (seens : List (Seen Ticket)) : Type 0 where
+  pub end : EndAfter extents blank flush from to calls
+  pub went : AllWentOn end.was seens
+
+-- And each other link that was given was left by a handle on which it did so too.
+pub record LeavesSince (extents blank flush : Bool) (from to : Place) (calls : List Call) (seens : List (Seen Ticket)) : Type 0 where
+  pub ends : EndsSince extents blank flush from to calls seens
+  pub left : (link : ℕ) → AreApart link seens → is_given link calls ≡ true → WasLeftSince (ends.end.was link) extents from to link calls
+
+-- No handle is asked for the end of its connection until all is done, and none is taken out before.
 abbrev pub HasEnded : (ended parting extents blank flush : Bool) → (from to : Place) → List Call → List (Seen Ticket) → Type 0
-HasEnded true parting extents blank flush from to calls seens = EndAfter extents blank flush from to calls
+HasEnded true false extents blank flush from to calls seens = EndsSince extents blank flush from to calls seens
+HasEnded true true extents blank flush from to calls seens = LeavesSince extents blank flush from to calls seens
 HasEnded false false extents blank flush from to calls seens = AllUnended seens
 HasEnded false true extents blank flush from to calls seens = ⊥
 

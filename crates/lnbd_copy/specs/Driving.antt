@@ -1,5 +1,5 @@
 -- Steps of a copy drive its links as a copy does, whatever the steps come to.
-use Rattle.std.specs.Prelude.{◌≡◌, ℕ, Bool, true, List, length, Option}
+use Rattle.std.specs.Prelude.{◌≡◌, ℕ, Bool, true, false, List, length, Option}
 use Rattle.lnbd_model.specs.declared.target.Place.{Place}
 use Rattle.lnbd_link.specs.Call as wire
 use Rattle.lnbd_poll.specs.Held.{Held}
@@ -19,9 +19,9 @@ pub record DrivesOn (now : board.Seen) (held : List (Held Ticket)) (told told' :
   pub lasts : Stand held → Lasts told told'
 
 -- So does one that is to hold one handle more, connected to this place, if that is where the copy's next handle is to be connected to; and if the first one, and no
--- other, asks for extents where the copy wants them.
+-- other, asks for extents where the copy wants them, and no connection was to end.
 pub record DrivesOneMore (place : Place) (extents : Bool) (now : board.Seen) (held : List (Held Ticket)) (told told' : Option (List wire.Call)) : Type 0 where
-  pub on : (way : Way) (start : Option (List wire.Call)) → place_of way (length held) ≡ place → (length held ≡ 0 → way.extents ≡ extents) → (extents ≡ true → length held ≡ 0) →
+  pub on : (way : Way) (start : Option (List wire.Call)) → place_of way (length held) ≡ place → (length held ≡ 0 → way.extents ≡ extents) → (extents ≡ true → length held ≡ 0) → way.ended ≡ false →
       Told start told (λ calls. IsOn way now calls held) → Told start told' (AreDrivenTo (is_source way.sides) way.extents way.how.skip way.flush way.from way.to)
 
 -- So do further connections, made where so many were made before.

@@ -24,12 +24,13 @@ use Rattle.lnbd_board.specs.Files as board
 use Rattle.lnbd_course.specs.Between.{place_of}
 use Rattle.lnbd_course.specs.Failed.{SideFails}
 use Rattle.lnbd_copy.specs.declared.sides.Sides.{Sides}
-use Rattle.lnbd_copy.specs.Connected.{AllConnected}
+use Rattle.lnbd_copy.specs.Begun.{opened}
+use Rattle.lnbd_copy.specs.Driven.{WentOn, asks_extents_on}
 use Rattle.lnbd_copy.specs.DrivenBy.{DrivenBy}
 pub use Rattle.lnbd_copy.specs.Lasting.{AtSome, Lasts}
 use Rattle.lnbd_copy.specs.Links.{ConnectTo}
 use Rattle.lnbd_copy.specs.Terms.{broken_rule}
-use Rattle.lnbd_copy.specs.Way.{IsUnderWay, Stand, Told, Way, is_source}
+use Rattle.lnbd_copy.specs.Way.{Told, is_source}
 
 -- What happened on a handle.
 
@@ -105,61 +106,63 @@ pub record FindsDead (why : CopyFault) (held : List (Held Ticket)) : Type 0 wher
 
 -- By calls on the wires.
 
--- By these calls a handle drove a link to this place, and asked for the export there; and what happened on it is so.
-pub record Drove (place : Place) (Is : History Ticket → Type 0) (calls : List wire.Call) : Type 0 where
+-- By these calls a handle drove a link to this place, and asked for the export there; and what happened on it is so. It began as a copy's handle begins: by asking for extended headers and structured
+-- replies, and for base:allocation on the first link where extents are wanted; and only what may come did since.
+pub record Drove (extents : Bool) (place : Place) (Is : History Ticket → Type 0) (calls : List wire.Call) : Type 0 where
   pub link : ℕ
   pub history : History Ticket
   pub drives : DrivenBy link history calls
   pub address : target_of link calls ≡ Some place.to
   pub name : name_set history ≡ place.name
   pub is : Is history
+  pub began : WentOn (opened place.name (asks_extents_on link extents calls)) history
 
 -- Between what was told of both places, when one connection to each had been made and no other, this is the first rule that does not hold; or all hold.
-pub record Settle (from to : Place) (rule : Option Rule) (calls : List wire.Call) : Type 0 where
+pub record Settle (extents : Bool) (from to : Place) (rule : Option Rule) (calls : List wire.Call) : Type 0 where
   pub source : ExportInfo
   pub destination : ExportInfo
-  pub shown : Drove from (IsShown source) calls
-  pub shown' : Drove to (IsShown destination) calls
+  pub shown : Drove extents from (IsShown source) calls
+  pub shown' : Drove extents to (IsShown destination) calls
   pub first : broken_rule source destination ≡ rule
   pub only : ConnectTo (from.to ∷ to.to ∷ []) calls
 
 -- Two connections to the same side were told of different exports.
-pub record Differ (from to : Place) (calls : List wire.Call) : Type 0 where
+pub record Differ (extents : Bool) (from to : Place) (calls : List wire.Call) : Type 0 where
   pub source : Bool
   pub one : ExportInfo
   pub other : ExportInfo
-  pub shown : Drove (place_of from to source) (IsShown one) calls
-  pub shown' : Drove (place_of from to source) (IsShown other) calls
+  pub shown : Drove extents (place_of from to source) (IsShown one) calls
+  pub shown' : Drove extents (place_of from to source) (IsShown other) calls
   pub differ : AreSame one other → ⊥
 
 -- A connection of one of the sides died so.
-pub record HasDied (from to : Place) (why : Cause) (calls : List wire.Call) : Type 0 where
+pub record HasDied (extents : Bool) (from to : Place) (why : Cause) (calls : List wire.Call) : Type 0 where
   pub source : Bool
-  pub dead : Drove (place_of from to source) (IsDead why) calls
+  pub dead : Drove extents (place_of from to source) (IsDead why) calls
 
 -- What the calls of the transcript show of a fault: for a rule, that it is the first that does not hold between what the first connections of both sides were told; that connections
 -- differ, by two of one side that were told different exports; of a breach, an end and a refused option, a connection that died of it; and of faulty content and
 -- an error that was told, a command of one of the places that came to it.
-abbrev pub BreakOf : (start told : Option (List wire.Call)) → (from to : Place) → Broken → Type 0
-BreakOf start told from to (broken.Breach breach) = Told start told (AtSome (HasDied from to (cause.Broke breach)))
-BreakOf start told from to broken.Content = Told start told (AtSome (SideFails from to (record { origin = origin.Content; error = EPROTO })))
-BreakOf start told from to broken.Ended = Told start told (AtSome (HasDied from to cause.Ended))
-BreakOf start told from to broken.Differs = Told start told (AtSome (Differ from to))
+abbrev pub BreakOf : (start told : Option (List wire.Call)) → (extents : Bool) → (from to : Place) → Broken → Type 0
+BreakOf start told extents from to (broken.Breach breach) = Told start told (AtSome (HasDied extents from to (cause.Broke breach)))
+BreakOf start told extents from to broken.Content = Told start told (AtSome (SideFails from to (record { origin = origin.Content; error = EPROTO })))
+BreakOf start told extents from to broken.Ended = Told start told (AtSome (HasDied extents from to cause.Ended))
+BreakOf start told extents from to broken.Differs = Told start told (AtSome (Differ extents from to))
 
-abbrev pub RefusalOf : (start told : Option (List wire.Call)) → (from to : Place) → Option ℕ → (code : ℕ) → Type 0
-RefusalOf start told from to None code = Told start told (AtSome (SideFails from to (record { origin = origin.Told; error = code })))
-RefusalOf start told from to (Some option) code = Told start told (AtSome (HasDied from to (cause.Refused option code)))
+abbrev pub RefusalOf : (start told : Option (List wire.Call)) → (extents : Bool) → (from to : Place) → Option ℕ → (code : ℕ) → Type 0
+RefusalOf start told extents from to None code = Told start told (AtSome (SideFails from to (record { origin = origin.Told; error = code })))
+RefusalOf start told extents from to (Some option) code = Told start told (AtSome (HasDied extents from to (cause.Refused option code)))
 
-abbrev pub GroundOf : (start told : Option (List wire.Call)) → (from to : Place) → CopyFault → Type 0
-GroundOf start told from to fault.NoMemory = Unit {0}
-GroundOf start told from to (fault.Link before after) = Unit {0}
-GroundOf start told from to (fault.Broke one) = BreakOf start told from to one
-GroundOf start told from to (fault.Peer option code) = RefusalOf start told from to option code
-GroundOf start told from to (fault.Rule rule) = Told start told (AtSome (Settle from to (Some rule)))
-GroundOf start told from to (fault.Silent idles) = Unit {0}
+abbrev pub GroundOf : (start told : Option (List wire.Call)) → (extents : Bool) → (from to : Place) → CopyFault → Type 0
+GroundOf start told extents from to fault.NoMemory = Unit {0}
+GroundOf start told extents from to (fault.Link before after) = Unit {0}
+GroundOf start told extents from to (fault.Broke one) = BreakOf start told extents from to one
+GroundOf start told extents from to (fault.Peer option code) = RefusalOf start told extents from to option code
+GroundOf start told extents from to (fault.Rule rule) = Told start told (AtSome (Settle extents from to (Some rule)))
+GroundOf start told extents from to (fault.Silent idles) = Unit {0}
 
-pub record IsGrounded (start told : Option (List wire.Call)) (from to : Place) (why : CopyFault) : Type 0 where
-  pub shown : GroundOf start told from to why
+pub record IsGrounded (start told : Option (List wire.Call)) (extents : Bool) (from to : Place) (why : CopyFault) : Type 0 where
+  pub shown : GroundOf start told extents from to why
 
 -- a fault of which nothing is to be shown so
 abbrev pub needs_no_ground : CopyFault → Bool
@@ -169,24 +172,6 @@ needs_no_ground (fault.Broke one) = false
 needs_no_ground (fault.Peer option code) = false
 needs_no_ground (fault.Rule rule) = false
 needs_no_ground (fault.Silent idles) = true
-
--- A difference is found among the handles that are held; but for want of memory nothing else is told.
-abbrev pub FindsBreak : Sides → List (Held Ticket) → Broken → Type 0
-FindsBreak sides held (broken.Breach breach) = ⊥
-FindsBreak sides held broken.Content = ⊥
-FindsBreak sides held broken.Ended = ⊥
-FindsBreak sides held broken.Differs = FindsOther sides held
-
-abbrev pub FindsFault : Sides → List (Held Ticket) → CopyFault → Type 0
-FindsFault sides held fault.NoMemory = Unit {0}
-FindsFault sides held (fault.Link before after) = ⊥
-FindsFault sides held (fault.Broke one) = FindsBreak sides held one
-FindsFault sides held (fault.Peer option code) = ⊥
-FindsFault sides held (fault.Rule rule) = ⊥
-FindsFault sides held (fault.Silent idles) = ⊥
-
-pub record IsFound (sides : Sides) (held : List (Held Ticket)) (why : CopyFault) : Type 0 where
-  pub found : FindsFault sides held why
 
 -- A rule that is told is the first that does not hold by the first two handles that are held; but for want of memory nothing else is told.
 abbrev pub RefusesFault : List (Held Ticket) → CopyFault → Type 0
@@ -213,7 +198,3 @@ pub record IsOfError (now : board.Seen) (why : CopyFault) : Type 0 where
 -- It is so, or nothing is to be shown of it.
 pub record Answers (now : board.Seen) (why : CopyFault) : Type 0 where
   pub on : (needs_no_ground why ≡ true) ⊎ IsOfError now why
-
--- A step with calls on the wires fails on grounds, wherever on its way the copy was, if each connect gave a link before.
-pub record FailsOn (parting : Bool) (now : board.Seen) (held : List (Held Ticket)) (told told' : Option (List wire.Call)) (why : CopyFault) : Type 0 where
-  pub on : (way : Way) (start : Option (List wire.Call)) → Stand held → Told start told AllConnected → Told start told (λ calls. IsUnderWay parting way now calls held) → IsGrounded start told' way.from way.to why

@@ -1,5 +1,5 @@
 -- What is under way in a copy whose connections stand.
-use Rattle.std.specs.Prelude.{◌≡◌, ◌≢◌, ◌||◌, ℕ, Bool, true, false, List, [], not, Option, Some, None, if◌then◌else◌}
+use Rattle.std.specs.Prelude.{◌≡◌, ◌≢◌, ◌≤◌, ◌||◌, ℕ, ◌+◌, Bool, true, false, List, [], not, Option, Some, None, is_some, if◌then◌else◌}
 use Rattle.lnbd_link.specs.Call as wire
 use Rattle.lnbd_model.specs.declared.export.Extent.{Extent}
 use Rattle.lnbd_plan.specs.declared.cells.Cells.{Cells}
@@ -11,7 +11,8 @@ use Rattle.lnbd_copy.specs.declared.job.Phase.TheVariants.{Copying, Flushing, Pa
 use Rattle.lnbd_copy.specs.declared.sides.Sides.{Sides}
 use Rattle.lnbd_copy.specs.declared.terms.Terms.{Terms}
 use Rattle.lnbd_copy.specs.Bound.{Bound}
-use Rattle.lnbd_copy.specs.Heard.{IsHeardTo, has_position}
+use Rattle.lnbd_copy.specs.Heard.{IsHeardTo, passed_heard}
+use Rattle.lnbd_copy.specs.Links.{once_if}
 use Rattle.lnbd_copy.specs.Reached.{IsToldTo, told_heard}
 use Rattle.lnbd_copy.specs.Spared.{IsSpared, whole_heard}
 use Rattle.lnbd_copy.specs.Way.{Way, IsOn, Stand}
@@ -52,6 +53,12 @@ pub record RestsSince (rested : Option board.Seen) (now : board.Seen) : Type 0 w
   pub written : now.written ≡ was.written
   pub zeroed : now.zeroed ≡ was.zeroed
 
+-- Extents were asked for once at most for each byte before the place where asking goes on, and once more while they are not heard: then a range is wanted.
+pub record AsksOnward (job : Seen) (queries : ℕ) : Type 0 where
+  pub few : queries ≤ job.windows.at + once_if job.asked
+  pub some : job.asked ≡ true → is_some (windows.wanted job.windows) ≡ true
+  pub inside : job.windows.at ≤ job.windows.size
+
 -- A copy that is so far has this job.
 pub record IsJob (job : Seen) (way : Way) (now : board.Seen) : Type 0 where
   pub size : way.size ≡ Some job.terms.size
@@ -70,10 +77,11 @@ pub record IsJob (job : Seen) (way : Way) (now : board.Seen) : Type 0 where
   pub rests : job.phase ≢ Copying → RestsSince way.rested now
   -- the connections part only once the flush that is wanted was answered
   pub flushed : job.phase ≡ Parting → job.terms.flush ≡ true → now.flushed ≡ true
-  pub heard : IsHeardTo job.windows way.heard
+  pub heard : IsHeardTo job.windows (way.heard job.windows.grain)
   pub reached : IsToldTo job.windows way.reach
   pub parts : way.ended ≡ is_parting job.phase
   pub wants : way.flush ≡ job.terms.flush
+  pub onward : AsksOnward job way.queries
 
 -- What was settled of a copy holds of its windows and of the connections that slices are bound to.
 pub record IsSettled (terms : Terms) (planned : windows.Seen) (sides : Sides) : Type 0 where
@@ -103,8 +111,8 @@ pub record Acts (job job' : Seen) (now now' : board.Seen) (held held' : List (He
 
 -- the extents were heard that had been asked for
 abbrev pub with_heard : List Extent → Way → Way
-with_heard told way = record way { zero = λ p. way.zero p || windows.zero_heard way.asked told p; whole = λ block p. way.whole block p || whole_heard block way.asked told p; heard = λ p. way.heard p || has_position way.asked p; asked = None; reach = λ p. way.reach p || told_heard way.asked told p }
+with_heard told way = record way { zero = λ p. way.zero p || windows.zero_heard way.asked told p; whole = λ block p. way.whole block p || whole_heard block way.asked told p; heard = λ grain p. way.heard grain p || passed_heard grain way.asked told p; asked = None; reach = λ p. way.reach p || told_heard way.asked told p }
 
 -- extents of this range are asked for
 abbrev pub with_asked : Option (ℕ × ℕ) → Way → Way
-with_asked range way = record way { asked = range }
+with_asked range way = record way { asked = range; queries = way.queries + 1 }

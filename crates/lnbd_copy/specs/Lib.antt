@@ -8,7 +8,9 @@ pub mod DrivenBy
 pub mod Giving
 pub mod Firsts
 pub mod Statuses
+pub mod Finished
 pub mod Driven
+pub mod Flushing
 pub mod Bound
 pub mod Way
 pub mod Links
@@ -27,6 +29,7 @@ pub mod Leaving
 pub mod Agreed
 pub mod Grounds
 pub mod Alike
+pub mod ToldAlike
 pub mod Settled
 pub mod DrivenAs
 pub mod Connects
@@ -39,6 +42,7 @@ pub mod Summed
 pub mod Ended
 pub mod Flushed
 pub mod Full
+pub mod Whole
 pub mod Unanswered
 pub mod Vain
 pub mod Pauses
@@ -54,3 +58,7 @@ pub mod Made
 pub mod Written
 pub mod Conduct
 pub mod Cells
+pub mod Runs
+pub mod Little
+pub mod LeftOut
+pub mod Patient

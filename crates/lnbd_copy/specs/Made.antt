@@ -11,17 +11,19 @@ use Rattle.lnbd_course.specs.Driven.{AreDriven}
 use Rattle.lnbd_course.specs.Flushes.{FlushesLast, IsUnflushed}
 use Rattle.lnbd_copy.specs.Connected.{AllConnected}
 use Rattle.lnbd_copy.specs.Connects.{ConnectsAsTold}
-use Rattle.lnbd_copy.specs.Driven.{AreLeft}
-use Rattle.lnbd_copy.specs.DrivenAs.{AreDrivenBy}
+use Rattle.lnbd_copy.specs.DrivenAs.{AreDrivenBy, AreLeftBy}
+use Rattle.lnbd_copy.specs.Flushing.{FlushesOnFirst}
 use Rattle.lnbd_copy.specs.Links.{LinksAreKept}
 use Rattle.lnbd_copy.specs.Paused.{PausesAreFull}
 use Rattle.lnbd_copy.specs.Pauses.{AtEachPause, WantsOnlyFull}
+use Rattle.lnbd_copy.specs.Runs.{RunsSoFar}
 use Rattle.lnbd_copy.specs.Settled.{FlushesWanted, SparesFound, SparesTold}
 use Rattle.lnbd_copy.specs.Sharing.{IsAlwaysShared}
 use Rattle.lnbd_copy.specs.Statuses.{ReadsAreAnswered}
 use Rattle.lnbd_copy.specs.Vain.{WantsOnlyEmpty}
 use Rattle.lnbd_copy.specs.Waits.{WaitsWell}
 use Rattle.lnbd_copy.specs.Wanted.{WantsSome}
+use Rattle.lnbd_copy.specs.Whole.{WasCopiedWhole}
 
 -- By these calls a copy was made from one place to another, as its options say, of which the summary tells.
 pub record IsMade (options : CopyOptions) (from to : Place) (summary : Summary) (calls : List wire.Call) : Type 0 where
@@ -31,7 +33,7 @@ pub record IsMade (options : CopyOptions) (from to : Place) (summary : Summary) 
   -- how many bytes were read, written, zeroed and passed over
   pub sums : Summarizes from to summary calls
   -- nothing was read that was told as zero, nor before it was told of, where that could be asked, and nothing written as bytes that was found to be zero
-  pub spares : SparesTold from to calls
+  pub spares : SparesTold options.extents from to calls
   pub dense : SparesFound options from to calls
   pub answered : ReadsAreAnswered options.extents from calls
   -- the destination was flushed last, where that is wanted, and not where it isn't
@@ -55,6 +57,12 @@ pub record IsMade (options : CopyOptions) (from to : Place) (summary : Summary) 
   pub wanted : AtEachPause WantsSome calls
   -- each connect gave a link
   pub connected : AllConnected calls
-  -- each link that it made was driven as a copy does, and left well
+  -- each link that it made was driven as a copy does, and left well, once all was done and not before
   pub drives : AreDrivenBy options from to calls
-  pub left : AreLeft options.extents from to calls
+  pub left : AreLeftBy options from to calls
+  -- and nothing is left to do: each slice to the source's end is finished, whatever the source told meanwhile
+  pub whole : WasCopiedWhole options from to calls
+  -- and it flushed on the destination's first connection alone
+  pub first : FlushesOnFirst to calls
+  -- and each change was a longest run of what was read, or had only what was told as zero, if anything was asked
+  pub runs : RunsSoFar options from to calls

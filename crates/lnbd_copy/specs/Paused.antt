@@ -11,7 +11,7 @@ use Rattle.lnbd_copy.specs.Unready.{IsNegotiating}
 
 -- At a pause that wants no link for writing a connection negotiates still, or as much is under way as may be, by the calls before it.
 abbrev pub IsFullPause : CopyOptions → (from to : Place) → (before : List wire.Call) → List Want → Type 0
-IsFullPause options from to before wants = NoneForWriting wants → IsNegotiating from to before ⊎ HasAllUnderWay options from to before
+IsFullPause options from to before wants = NoneForWriting wants → IsNegotiating options.extents from to before ⊎ HasAllUnderWay options from to before
 
 -- So it is at each pause.
 abbrev pub PausesAreFull : CopyOptions → (from to : Place) → List wire.Call → Type 0

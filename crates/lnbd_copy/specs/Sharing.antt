@@ -20,7 +20,7 @@ pub record IsSharedBy (options : CopyOptions) (from to : Place) (source destinat
   pub few : AreFewOnEach (rounded_up terms.limit terms.sides.source) (rounded_up terms.limit terms.sides.destination) from to calls
 
 abbrev pub IsShared : CopyOptions → (from to : Place) → List wire.Call → Type 0
-IsShared options from to calls = Settled from to (λ source destination. IsSharedBy options from to source destination calls) calls
+IsShared options from to calls = Settled options.extents from to (λ source destination. IsSharedBy options from to source destination calls) calls
 
 -- So it is at every moment, in the middle of a turn too: by each front of these calls nothing was asked yet, or it is shared so.
 pub record IsAlwaysShared (options : CopyOptions) (from to : Place) (calls : List wire.Call) : Type 0 where

@@ -15,8 +15,10 @@ use Rattle.lnbd_asked.specs.Transcript.{dealt_with}
 use Rattle.lnbd_poll.specs.Seen.{Seen}
 use Rattle.lnbd_board.specs.declared.ticket.Ticket.{Ticket}
 use Rattle.lnbd_board.specs.Requests.{reads}
-use Rattle.lnbd_course.specs.Answered.{WasAnsweredFirst}
+use Rattle.lnbd_course.specs.Answered.{IsUnread, WasAnsweredFirst}
 use Rattle.lnbd_course.specs.Asks.{EachAsked}
+use Rattle.lnbd_course.specs.Passed.{WasFirst}
+use Rattle.lnbd_course.specs.Reached.{WasTold}
 use Rattle.lnbd_copy.specs.Begun.{BeganAs, opened}
 use Rattle.lnbd_copy.specs.DrivenBy.{DrivenBy}
 
@@ -68,6 +70,25 @@ MayBeRead extents from p calls = WasAnsweredFirst from p calls ⊎ FirstAgreedNo
 pub record ReadsAreAnswered (extents : Bool) (from : Place) (calls : List Call) : Type 0 where
   pub each : EachAsked (λ command. (p : ℕ) → reads command p ≡ true → MayBeRead extents from p calls) (dealt_with from calls)
 
+-- What asking passes.
+
+-- By a front of the calls it was so, and the position of the source was not read yet.
+pub record WasSoFirst (from : Place) (p : ℕ) (Is : List Call → Type 0) (calls : List Call) : Type 0 where
+  pub before : List Call
+  pub after : List Call
+  pub are : calls ≡ before ++ after
+  pub so : Is before
+  pub unread : IsUnread (dealt_with from before) p
+
+-- Asking for extents passed the position before it was read: a BLOCK_STATUS of the source that is done told of it, or the position is in the first block, of this
+-- size, of what one that is done asked for; or none could be asked for.
+abbrev pub WasPassed : (extents : Bool) (grain : ℕ) (from : Place) (p : ℕ) → List Call → Type 0
+WasPassed extents grain from p calls = (WasSoFirst from p (WasTold from p) calls ⊎ WasSoFirst from p (WasFirst grain from p) calls) ⊎ FirstAgreedNone extents from calls
+
+-- So it is with each position of each READ of the source.
+pub record ReadsArePassed (extents : Bool) (grain : ℕ) (from : Place) (calls : List Call) : Type 0 where
+  pub each : EachAsked (λ command. (p : ℕ) → reads command p ≡ true → WasPassed extents grain from p calls) (dealt_with from calls)
+
 -- Between two turns.
 
 -- the link of the first handle that is held
@@ -86,8 +107,9 @@ FirstBegan false first [] = Unit {0}
 FirstBegan false first (seen ∷ others) = BeganAs first seen.history
 FirstBegan true first seens = Unit {0}
 
--- The positions that count as heard may be read. (No error was told, and the two exports are two.)
-pub record Hears (parting extents : Bool) (from to : Place) (heard : ℕ → Bool) (error : Option ℕ) (calls : List Call) (seens : List (Seen Ticket)) : Type 0 where
-  pub answered : error ≡ None → from ≢ to → (p : ℕ) → heard p ≡ true → MayBeRead extents from p calls
+-- The positions that count as heard, by the size of blocks, may be read, and asking passed them. (No error was told, and the two exports are two.)
+pub record Hears (parting extents : Bool) (from to : Place) (heard : (grain p : ℕ) → Bool) (error : Option ℕ) (calls : List Call) (seens : List (Seen Ticket)) : Type 0 where
+  pub answered : error ≡ None → from ≢ to → (grain p : ℕ) → heard grain p ≡ true → MayBeRead extents from p calls
   pub first : IsFirst parting calls seens
   pub begun : FirstBegan parting (opened from.name extents) seens
+  pub passed : error ≡ None → from ≢ to → (grain p : ℕ) → heard grain p ≡ true → WasPassed extents grain from p calls

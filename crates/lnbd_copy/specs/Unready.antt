@@ -11,6 +11,7 @@ use Rattle.lnbd_board.specs.declared.ticket.Ticket.{Ticket}
 use Rattle.lnbd_board.specs.Files as board
 use Rattle.lnbd_course.specs.Between.{place_of}
 use Rattle.lnbd_copy.specs.Grounds.{Drove, Happens}
+use Rattle.lnbd_copy.specs.LeftOut.{WantsAll}
 use Rattle.lnbd_copy.specs.Links.{LinksStand}
 use Rattle.lnbd_copy.specs.Pauses.{AtEachPause}
 use Rattle.lnbd_copy.specs.Unanswered.{NoneForWriting}
@@ -18,18 +19,18 @@ use Rattle.lnbd_copy.specs.Waits.{WaitsWell}
 use Rattle.lnbd_copy.specs.Way.{IsOn, Stand, Told, Way}
 
 -- By these calls a link to one of both places is open, and the handle that drove it, and asked for the export there, negotiates still.
-pub record IsNegotiating (from to : Place) (calls : List wire.Call) : Type 0 where
+pub record IsNegotiating (extents : Bool) (from to : Place) (calls : List wire.Call) : Type 0 where
   pub source : Bool
-  pub drove : Drove (place_of from to source) (λ history. state_after history ≡ state.Negotiating) calls
+  pub drove : Drove extents (place_of from to source) (λ history. state_after history ≡ state.Negotiating) calls
   pub opened : is_open drove.link calls ≡ true
 
 -- Where a pause wants no link for writing a connection negotiates still.
-abbrev pub IsOpeningPause : (from to : Place) → (before : List wire.Call) → List Want → Type 0
-IsOpeningPause from to before wants = NoneForWriting wants → IsNegotiating from to before
+abbrev pub IsOpeningPause : (extents : Bool) → (from to : Place) → (before : List wire.Call) → List Want → Type 0
+IsOpeningPause extents from to before wants = NoneForWriting wants → IsNegotiating extents from to before
 
--- A pause while connections negotiate: it wants a link only where its handle waits for it, and where it wants none for writing a connection negotiates still.
-abbrev pub IsEarlyPause : (from to : Place) → (before : List wire.Call) → List Want → Type 0
-IsEarlyPause from to before wants = IsOpeningPause from to before wants × WaitsWell before wants
+-- A pause while connections negotiate: it wants a link only where its handle waits for it, and leaves out none that is waited for, and where it wants none for writing a connection negotiates still.
+abbrev pub IsEarlyPause : (extents : Bool) → (from to : Place) → (before : List wire.Call) → List Want → Type 0
+IsEarlyPause extents from to before wants = IsOpeningPause extents from to before wants × WaitsWell before wants × WantsAll extents from to before wants
 
 -- One of these handles negotiates still, or has something to write.
 pub record IsLoud (held : List (Held Ticket)) : Type 0 where
@@ -39,4 +40,4 @@ pub record IsLoud (held : List (Held Ticket)) : Type 0 where
 -- A step that makes calls pauses only while a connection negotiates, and waits for what its handles wait for, wherever on its way the copy was.
 pub record StaysUnready (now : board.Seen) (held : List (Held Ticket)) (told told' : Option (List wire.Call)) : Type 0 where
   pub on : (way : Way) (start : Option (List wire.Call)) → Stand held → Told start told (λ calls. IsOn way now calls held) → Told start told (LinksStand held) →
-      Told start told (AtEachPause (IsEarlyPause way.from way.to)) → Told start told' (AtEachPause (IsEarlyPause way.from way.to))
+      Told start told (AtEachPause (IsEarlyPause way.extents way.from way.to)) → Told start told' (AtEachPause (IsEarlyPause way.extents way.from way.to))

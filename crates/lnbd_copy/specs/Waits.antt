@@ -1,5 +1,5 @@
 -- What the pauses of a copy wait for.
-use Rattle.std.specs.Prelude.{◌≡◌, ◌≢◌, ℕ, List, [], ◌∷◌, Some, slice_get}
+use Rattle.std.specs.Prelude.{◌≡◌, ◌≢◌, ℕ, Bool, List, [], ◌∷◌, Some, slice_get}
 use Rattle.lnbd_model.specs.declared.state.State.TheVariants as state
 use Rattle.lnbd_handle.specs.Histories.{ForEach}
 use Rattle.lnbd_machine.specs.Machine.{Machine}
@@ -9,9 +9,11 @@ use Rattle.lnbd_link.specs.Call as wire
 use Rattle.lnbd_link.specs.declared.wires.Want.{Want}
 use Rattle.lnbd_poll.specs.Held.{Held, want_of}
 use Rattle.lnbd_board.specs.declared.ticket.Ticket.{Ticket}
+use Rattle.lnbd_copy.specs.Begun.{opened}
+use Rattle.lnbd_copy.specs.Driven.{WentOn}
 use Rattle.lnbd_copy.specs.DrivenBy.{DrivenBy}
 
--- By these calls a handle drove this link, and it waits for it in this direction: it negotiates, has commands in flight, has bytes to write, or asked for the end of
+-- By these calls a handle drove this link, which began as a copy's handle begins, for base:allocation or not, and it waits for it in this direction: it negotiates, has commands in flight, has bytes to write, or asked for the end of
 -- its connection. It may read, and where it waits to read alone, which 1 stands for, it did not ask for that end: a link is shut once that is written.
 pub record IsWaitedFor (calls : List wire.Call) (want : Want) : Type 0 where
   pub history : History Ticket
@@ -19,6 +21,9 @@ pub record IsWaitedFor (calls : List wire.Call) (want : Want) : Type 0 where
   pub wants : want_of want.link (state_after history) (in_flight_after history) (direction_after history) ≡ Some want
   pub reads : want.direction ≢ 0
   pub parts : want.direction ≡ 1 → state_after history ≢ state.Closing
+  pub name : List ℕ
+  pub asks : Bool
+  pub began : WentOn (opened name asks) history
 
 -- A pause wants a link only where its handle waits for it, and in that handle's direction.
 abbrev pub WaitsWell : (before : List wire.Call) → List Want → Type 0

@@ -1,8 +1,11 @@
 -- What stands between two steps of a copy: by what its handles were asked and told so far, what its board holds is so.
-use Rattle.std.specs.Prelude.{◌≡◌, ◌≢◌, ◌≤◌, ℕ, ◌-◌, Bool, true, false, ◌&&◌, ◌||◌, ◌==◌, nat_lt, nat_le, List, [], ◌++◌, length, Option, Some, None, slice_get, if◌then◌else◌}
+use Rattle.std.specs.Prelude.{◌≡◌, ◌≢◌, ◌⊎◌, ◌≤◌, ℕ, ◌-◌, Bool, true, false, ◌&&◌, ◌||◌, ◌==◌, nat_lt, nat_le, List, [], ◌∷◌, ◌++◌, length, Option, Some, None, slice_get, if◌then◌else◌}
 use Rattle.lnbd_model.specs.declared.export.ExportInfo.{ExportInfo}
 use Rattle.lnbd_model.specs.declared.target.Place.{Place}
 use Rattle.lnbd_link.specs.Call as wire
+use Rattle.lnbd_history.specs.Commands.{Request}
+use Rattle.lnbd_history.specs.Events.{History}
+use Rattle.lnbd_history.specs.History.{request}
 use Rattle.lnbd_poll.specs.Held.{Held, AreAt}
 use Rattle.lnbd_poll.specs.Seen.{Seen}
 use Rattle.lnbd_plan.specs.declared.grid.Slice.{Slice}
@@ -11,14 +14,16 @@ use Rattle.lnbd_board.specs.declared.row.Row.{Row}
 use Rattle.lnbd_board.specs.declared.ticket.Ticket.{Ticket}
 use Rattle.lnbd_board.specs.Files as board
 use Rattle.lnbd_course.specs.Between.{Between}
+use Rattle.lnbd_course.specs.Counted.{is_flush}
 use Rattle.lnbd_course.specs.Counts.{summary_of}
 use Rattle.lnbd_course.specs.Flushes.{CameToRest}
+use Rattle.lnbd_course.specs.Little.{extents_asked}
 use Rattle.lnbd_course.specs.Spread.{AllCount}
 use Rattle.lnbd_course.specs.Told as course
 use Rattle.lnbd_course.specs.UnderWay.{AllHeld}
 use Rattle.lnbd_copy.specs.declared.sides.Sides.{Sides}
 use Rattle.lnbd_copy.specs.Bound.{on_destination, on_source}
-use Rattle.lnbd_copy.specs.Driven.{AllDriveOn, HasEnded, HasOrder}
+use Rattle.lnbd_copy.specs.Driven.{AllDriveOn, HasEnded, HasOrder, given_links}
 use Rattle.lnbd_copy.specs.Firsts.{KnowBoth}
 use Rattle.lnbd_copy.specs.Giving.{GivesNone}
 use Rattle.lnbd_copy.specs.Lasting.{Lasts}
@@ -88,8 +93,8 @@ pub record Way : Type 0 where
   pub asked : Option (ℕ × ℕ)
   -- its board, when all was asked and done
   pub rested : Option board.Seen
-  -- the positions of the source that count as heard
-  pub heard : ℕ → Bool
+  -- the positions of the source that count as heard, by the size of blocks
+  pub heard : (grain p : ℕ) → Bool
   -- extents are wanted
   pub extents : Bool
   -- the positions of the source that were told of
@@ -98,6 +103,8 @@ pub record Way : Type 0 where
   pub ended : Bool
   -- a flush is wanted before, unless it is settled that none is
   pub flush : Bool
+  -- how often extents were asked for
+  pub queries : ℕ
 
 -- what is known of the source's extents
 abbrev pub known_of : Way → course.Known
@@ -113,6 +120,20 @@ pub record Stands (way : Way) (has : ℕ → Bool) (now : board.Seen) (calls : L
 abbrev pub HasRested : (from to : Place) → Option ℕ → Option board.Seen → List wire.Call → Type 0
 HasRested from to size None calls = Unit {0}
 HasRested from to size (Some was) calls = (bytes : ℕ) → size ≡ Some bytes → bytes ≤ 18446744073709551615 → was.error ≡ None → from ≢ to → CameToRest from to (summary_of bytes was) calls
+
+-- Each handle that is held was asked for extents so often at most.
+abbrev pub WereQueried : (most : ℕ) → List (Seen Ticket) → Type 0
+WereQueried most [] = Unit {0}
+WereQueried most (seen ∷ others) = (extents_asked seen.history ≤ most) × WereQueried most others
+
+-- A handle was asked for no flush.
+abbrev pub AsksNoFlush : History Ticket → Type 0
+AsksNoFlush history = (cookie : ℕ) (asks : Request Ticket) → request history cookie ≡ Some asks → is_flush asks.kind ≡ false
+
+-- Of the handles that are held, none was asked for a flush but that of the link which was given second.
+abbrev pub SecondFlushes : List wire.Call → List (Seen Ticket) → Type 0
+SecondFlushes calls [] = Unit {0}
+SecondFlushes calls (seen ∷ others) = ((slice_get (given_links calls) 1 ≡ Some seen.link) ⊎ AsksNoFlush seen.history) × SecondFlushes calls others
 
 -- After these calls of its own a copy is so far, its board is this, and these are its handles. Once it is parting they are taken out one by one.
 pub record IsUnderWay (parting : Bool) (way : Way) (now : board.Seen) (calls : List wire.Call) (held : List (Held Ticket)) : Type 0 where
@@ -130,6 +151,8 @@ pub record IsUnderWay (parting : Bool) (way : Way) (now : board.Seen) (calls : L
   pub drives : AllDriveOn way.extents way.from way.to has calls seens
   pub ends : HasEnded way.ended parting way.extents way.how.skip way.flush way.from way.to calls seens
   pub order : HasOrder parting (is_source way.sides) has calls seens
+  pub queried : WereQueried way.queries seens
+  pub flushes : SecondFlushes calls seens
 
 -- So it is while each connection that was made is held,
 abbrev pub IsOn : Way → board.Seen → List wire.Call → List (Held Ticket) → Type 0

@@ -8,12 +8,13 @@ ghost use Rattle.lnbd_model.specs.declared.state.State.TheVariants as state;
 ghost use Rattle.lnbd_copy.specs.Agreed.{AreAgreed, AreQuiet, Tells};
 ghost use Rattle.lnbd_copy.specs.Causes.{tells_no_count};
 ghost use Rattle.lnbd_copy.specs.Decided.{is_of_answer};
-ghost use Rattle.lnbd_copy.specs.Grounds.{AllSame, Answers, AreSame, Happens, IsFound, IsRefused, IsShown};
+ghost use Rattle.lnbd_copy.specs.Grounds.{Answers, AreSame, FindsOther, Happens, IsRefused, IsShown};
 ghost use Rattle.lnbd_copy.specs.Settled.{FindsTerms};
 ghost use Rattle.lnbd_copy.specs.Statuses.{HasNoContext};
+ghost use Rattle.lnbd_copy.specs.ToldAlike.{AreAlike, AreFitting, FindsUnfit, IsAlikeAt, IsUntold};
 
 use crate::counts::of_failure;
-use crate::sides::{FIRST_DESTINATION, FIRST_SOURCE};
+use crate::sides::{FIRST_DESTINATION, FIRST_SOURCE, Sides};
 use crate::terms::{Terms, broken_rule, settled};
 use lnbd_board::{Board, Ticket};
 use lnbd_handle::Handle;
@@ -65,7 +66,7 @@ pub(crate) fn are_quiet(handles: &Handles<Ticket>) -> bool
     true
 }
 
-/// What both sides settle, once the first connection of each has negotiated.
+/// What both sides settle, once the first connection of each has negotiated. A rule that is broken was told before, as soon as both had told.
 pub(crate) fn agree(handles: &Handles<Ticket>, options: CopyOptions) -> Result<Terms, CopyFault>
     requires both { 1 < length handles.now }
     requires quiet { AreQuiet handles.now }
@@ -104,20 +105,89 @@ fn is_same(one: &ExportInfo, other: &ExportInfo) -> bool
     one.size == other.size && one.flags == other.flags && one.blocks == other.blocks
 }
 
-/// A further connection tells another export than the first of its side, if so.
-pub(crate) fn check_same(handles: &Handles<Ticket>, terms: Terms) -> Result<(), CopyFault>
-    requires { AreQuiet handles.now }
-    ensures free { IfErr result (λ told. tells_no_count told ≡ true) }
-    ensures same { OnOk result (AllSame terms.sides (length handles.now) handles.now) }
-    ensures found { IfErr result (λ told. IsFound terms.sides handles.now told) }
+/// Whether a connection negotiates still.
+fn is_negotiating(handles: &Handles<Ticket>, index: usize) -> bool
+    requires { index < length handles.now }
+    ensures { result ≡ true → Happens (λ history. state_after history ≡ state.Negotiating) index handles.now }
 {
-    'further: for index in 2..handles.len() {
-        let first = terms.sides.first(index);
-        if !is_same(info_of(handles, first)?, info_of(handles, index)?) {
+    matches!(handles.get(index).state(), State::Negotiating)
+}
+
+/// What a connection tells of its export once it may make requests. While connections are made one that neither negotiates nor may make
+/// requests is dead, and has ended the copy: it would count as want of memory.
+fn told_by(handles: &Handles<Ticket>, index: usize) -> Result<&ExportInfo, NoMemory>
+    requires { index < length handles.now }
+    ensures { IfOk result (λ info. Happens (IsShown info.now) index handles.now) }
+{
+    let handle = handles.get(index);
+    match (handle.state(), handle.info()) {
+        (State::Ready, Some(info)) => Ok(info),
+        _ => Err(NoMemory),
+    }
+}
+
+/// Whether a connection negotiates still, or tells the same export as the first of its side.
+fn is_alike(handles: &Handles<Ticket>, index: usize, sides: Sides) -> Result<bool, NoMemory>
+    requires { index < length handles.now }
+    ensures alike { IfOk result (λ is. is ≡ true → IsAlikeAt sides index handles.now) }
+    ensures differs { IfOk result (λ is. is ≡ false → FindsOther sides handles.now) }
+{
+    if is_negotiating(handles, index) {
+        return Ok(true);
+    }
+    let one = told_by(handles, sides.first(index))?;
+    let other = told_by(handles, index)?;
+    Ok(is_same(one, other))
+}
+
+/// A connection tells another export than the first of its side, if so. One that negotiates still tells nothing.
+pub(crate) fn check_alike(handles: &Handles<Ticket>, sides: Sides) -> Result<(), CopyFault>
+    ensures free { IfErr result (λ told. tells_no_count told ≡ true) }
+    ensures alike { OnOk result (AreAlike sides handles.now) }
+    ensures found { IfErr result (λ told. FindsUnfit (Some sides) handles.now told) }
+    ensures other { IfErr result (λ told. is_of_answer told ≡ false) }
+{
+    'handles: for index in 0..handles.len() {
+        if !is_alike(handles, index, sides)? {
             return Err(CopyFault::Broke(Broken::Differs));
         }
     }
     Ok(())
+}
+
+/// Whether the first connection of each side has negotiated.
+fn have_both_told(handles: &Handles<Ticket>) -> bool
+    ensures both { result ≡ true → 1 < length handles.now }
+    ensures still { result ≡ false → IsUntold handles.now }
+{
+    if handles.len() < 2 {
+        return false;
+    }
+    !is_negotiating(handles, FIRST_SOURCE) && !is_negotiating(handles, FIRST_DESTINATION)
+}
+
+/// The first rule that does not hold between what both sides told, once both did, if so. Further connections are made only where all
+/// hold, so that one which is broken then would count as want of memory.
+pub(crate) fn check_rules(handles: &Handles<Ticket>) -> Result<(), CopyFault>
+    ensures free { IfErr result (λ told. tells_no_count told ≡ true) }
+    ensures fit { OnOk result (AreFitting handles.now) }
+    ensures found { IfErr result (λ told. (sides : Sides) → FindsUnfit (Some sides) handles.now told) }
+    ensures other { IfErr result (λ told. is_of_answer told ≡ false) }
+{
+    if !have_both_told(handles) {
+        return Ok(());
+    }
+    let source = told_by(handles, FIRST_SOURCE)?;
+    let destination = told_by(handles, FIRST_DESTINATION)?;
+    match broken_rule(source, destination) {
+        None => Ok(()),
+        Some(rule) => {
+            if handles.len() == 2 {
+                return Err(CopyFault::Rule(rule));
+            }
+            Err(CopyFault::NoMemory)
+        }
+    }
 }
 
 /// Memory was there for all that was told.

@@ -20,22 +20,27 @@ ghost use Rattle.lnbd_copy.specs.Connected.{AllConnected};
 ghost use Rattle.lnbd_copy.specs.Connects.{ConnectsAsTold, ConnectsWithin, LinksGoAsTold, LinksGoWithin, StaysConnected, one_each};
 ghost use Rattle.lnbd_copy.specs.declared.copier.Progress.TheVariants as progress;
 ghost use Rattle.lnbd_copy.specs.Copier.{GoesFurther, HasJob, HasMet, HasNotBegun, HasTurned, IsDone, IsGoing, IsOnItsWay, IsParting, Seen};
-ghost use Rattle.lnbd_copy.specs.Decided.{IsDecided};
-ghost use Rattle.lnbd_copy.specs.Deciding.{DecidesFurther, DecidesOn, GoesShut, IsCalm, WasUntroubled};
-ghost use Rattle.lnbd_copy.specs.Driven.{AreDrivenTo, AreLeft};
-ghost use Rattle.lnbd_copy.specs.DrivenAs.{AreDrivenBy};
+ghost use Rattle.lnbd_copy.specs.Decided.{IsDecided, is_of_memory};
+ghost use Rattle.lnbd_copy.specs.Deciding.{DecidesFurther, DecidesOn, GoesShut, IsCalm, WasUntroubledAs};
+ghost use Rattle.lnbd_copy.specs.Driven.{AreDrivenTo};
+ghost use Rattle.lnbd_copy.specs.DrivenAs.{AreDrivenBy, AreLeftBy};
 ghost use Rattle.lnbd_copy.specs.Ended.{EndsWell};
 ghost use Rattle.lnbd_copy.specs.Driving.{DrivesFurther, DrivesOn, DrivesOneMore};
-ghost use Rattle.lnbd_copy.specs.Faults.{AreUnissued, AsksNone, AsksNothing, Behaves, GoesIdly, SparesSoFar, StaysFresh, StaysUnasked, UntouchedSoFar};
+ghost use Rattle.lnbd_copy.specs.Faults.{AreUnissued, AsksNone, AsksNothing, Behaves, GoesIdly, PassedSoFar, SparesSoFar, StaysFresh, StaysUnasked, UntouchedSoFar};
 ghost use Rattle.lnbd_copy.specs.Flushed.{HasFlushed};
-ghost use Rattle.lnbd_copy.specs.Grounds.{AllSame, FailsOn, IsGrounded, Lasts, needs_no_ground};
+ghost use Rattle.lnbd_copy.specs.Flushing.{FlushesOnFirst};
+ghost use Rattle.lnbd_copy.specs.Grounds.{AllSame, IsGrounded, Lasts, needs_no_ground};
 ghost use Rattle.lnbd_copy.specs.declared.terms.Terms.{Terms as Settled};
 ghost use Rattle.lnbd_copy.specs.Made.{IsMade};
+ghost use Rattle.lnbd_copy.specs.LeftOut.{WantsAll};
 ghost use Rattle.lnbd_copy.specs.Links.{HaveSameLinks, LinksAreKept, LinksGo, LinksGoTo, LinksStand};
+ghost use Rattle.lnbd_copy.specs.Little.{StaysLittle, WroteHandshakes, WroteLittle};
 ghost use Rattle.lnbd_copy.specs.Moving.{HasMoved, SomethingHappens, Stirs, TurnsInVain};
 ghost use Rattle.lnbd_copy.specs.Opening.{Dials};
 ghost use Rattle.lnbd_copy.specs.Paused.{PausesAreFull};
+ghost use Rattle.lnbd_copy.specs.Patient.{HasWaited, PausesLess, PausesWithin, StaysPatient, may_end_waiting};
 ghost use Rattle.lnbd_copy.specs.Pauses.{AtEachPause, Pauses, Unpaused, WantsInVain, WantsOnlyFull};
+ghost use Rattle.lnbd_copy.specs.Runs.{RunsSoFar};
 ghost use Rattle.lnbd_copy.specs.Settled.{FlushesWanted, SparesFound, SparesTold};
 ghost use Rattle.lnbd_copy.specs.Spread.{AreSpread};
 ghost use Rattle.lnbd_copy.specs.Sharing.{IsAlwaysShared, IsShared};
@@ -49,13 +54,14 @@ ghost use Rattle.lnbd_copy.specs.Vain.{WantsOnlyEmpty};
 ghost use Rattle.lnbd_copy.specs.Waits.{AreUnparted, WaitsWell};
 ghost use Rattle.lnbd_copy.specs.Wanted.{WantsSome};
 ghost use Rattle.lnbd_copy.specs.Way.{Goes, Stand, Told, is_source};
+ghost use Rattle.lnbd_copy.specs.Whole.{WasCopiedWhole};
 
-use crate::agreeing::{agree, check_same, check_well, tells_extents};
-use crate::counts::{Counts, check_counts};
-use crate::dialing::{MAX_TURNS, dial, settle, wait};
+use crate::agreeing::{agree, check_well, tells_extents};
+use crate::counts::{Counts, check_counts, check_idles};
+use crate::dialing::{dial, settle, wait};
 use crate::job::Job;
 use crate::parting::{shut_all, shut_parted};
-use crate::sides::Sides;
+use crate::sides::{ONE_EACH, Sides};
 use crate::telling::progress_of;
 use crate::terms::{Terms, UNKNOWN};
 use crate::turning::{check_calm, turn};
@@ -150,7 +156,7 @@ impl Copier {
         ensures connects { OnOk result (LinksGoAsTold self.old.options self.old.from self.old.to self.old.held (W.told wires.old) self.new.held (W.told wires.new)) }
 
         // Whatever came of it, it paused only while a connection negotiated, unless it waited to write.
-        ensures unready { Told (W.told wires.old) (W.told wires.new) (AtEachPause (IsOpeningPause self.old.from self.old.to)) }
+        ensures unready { Told (W.told wires.old) (W.told wires.new) (AtEachPause (IsOpeningPause self.old.options.extents self.old.from self.old.to)) }
         // At each pause a link was wanted for writing only where a write on it took nothing, and nothing happened since on any link.
         ensures writes { Told (W.told wires.old) (W.told wires.new) (AtEachPause WantsOnlyFull) }
         // It was wanted for reading only where a read on it told that nothing is there yet, and nothing happened since on any link.
@@ -159,15 +165,23 @@ impl Copier {
         ensures waits { Told (W.told wires.old) (W.told wires.new) (AtEachPause WaitsWell) }
         // At least one link was.
         ensures wanted { Told (W.told wires.old) (W.told wires.new) (AtEachPause WantsSome) }
+        // By then no more was written on each than a handshake has.
+        ensures little { Told (W.told wires.old) (W.told wires.new) (AtEachPause WroteHandshakes) }
+        // No link was left out whose handle waited for anything.
+        ensures wants_all { Told (W.told wires.old) (W.told wires.new) (AtEachPause (WantsAll self.old.options.extents self.old.from self.old.to)) }
         // Each was tried before the next pause, and where all connections stand also since the last.
         ensures tries { Told (W.told wires.old) (W.told wires.new) (AtEachPause TriedBefore) }
         ensures tried { OnOk result (Told (W.told wires.old) (W.told wires.new) (TriedBut NoneLeft)) }
 
         // What the calls show of a fault.
-        ensures grounds { IfErr result (λ told. IsGrounded (W.told wires.old) (W.told wires.new) self.old.from self.old.to told) }
+        ensures grounds { IfErr result (λ told. IsGrounded (W.told wires.old) (W.told wires.new) self.old.options.extents self.old.from self.old.to told) }
 
         // The first event decided it for which a copy ends: before that nothing of the kind had come.
-        ensures decides { IfErr result (λ told. IsDecided (W.told wires.old) (W.told wires.new) self.old.options.extents self.old.from self.old.to told) }
+        ensures decides { IfErr result (λ told. IsDecided (W.told wires.old) (W.told wires.new) self.old.options self.old.from self.old.to told) }
+
+        // The wires counted each of its pauses, of which there were no more than are borne; and where it ends neither by silence nor for want of memory, fewer.
+        ensures patient { OnOk result (Told (W.told wires.old) (W.told wires.new) (HasWaited false (W.idles wires.old) (W.idles wires.new))) }
+        ensures impatient { IfErr result (λ told. Told (W.told wires.old) (W.told wires.new) (HasWaited (may_end_waiting told) (W.idles wires.old) (W.idles wires.new))) }
 
         // The counts, and what they show of a fault.
         ensures causes { IfErr result (λ told. HasCause self.new.start (W.faults wires.new) (W.idles wires.new) told) }
@@ -190,22 +204,24 @@ impl Copier {
         ensures kept { self.new ≡ record self.old { held = self.new.held; board = self.new.board; job = self.new.job } }
         ensures begins { OnOk result (IsOnItsWay (W.told wires.old) (W.told wires.new) self.new) }
         ensures unasked { Told (W.told wires.old) (W.told wires.new) (AsksNothing self.old.from self.old.to) }
-        ensures unready { Told (W.told wires.old) (W.told wires.new) (AtEachPause (IsEarlyPause self.old.from self.old.to)) }
+        ensures unready { Told (W.told wires.old) (W.told wires.new) (AtEachPause (IsEarlyPause self.old.options.extents self.old.from self.old.to)) }
         ensures vain { Pauses WantsInVain (W.told wires.old) (W.told wires.new) }
         ensures wanted { Pauses WantsSome (W.told wires.old) (W.told wires.new) }
+        ensures little { Told (W.told wires.old) (W.told wires.new) (AtEachPause WroteHandshakes) }
         ensures tries { Tries AnyLeft (W.told wires.old) (W.told wires.new) }
         ensures tried { OnOk result (Tries NoneLeft (W.told wires.old) (W.told wires.new)) }
         ensures causes { IfErr result (λ told. HasCause self.old.start (W.faults wires.new) (W.idles wires.new) told) }
-        ensures grounds { IfErr result (λ told. IsGrounded (W.told wires.old) (W.told wires.new) self.old.from self.old.to told) }
+        ensures grounds { IfErr result (λ told. IsGrounded (W.told wires.old) (W.told wires.new) self.old.options.extents self.old.from self.old.to told) }
         ensures counts { GoesOn (W.faults wires.old) (W.faults wires.new) (W.idles wires.old) (W.idles wires.new) (W.contents wires.old) (W.contents wires.new) }
         ensures links { LinksGoWithin self.old.options self.old.from self.old.to self.old.held (W.told wires.old) self.new.held (W.told wires.new) }
         ensures connects { OnOk result (LinksGoAsTold self.old.options self.old.from self.old.to self.old.held (W.told wires.old) self.new.held (W.told wires.new)) }
         ensures drives { Told (W.told wires.old) (W.told wires.new) (AreDrivenBy self.old.options self.old.from self.old.to) }
-        ensures decides { IfErr result (λ told. IsDecided (W.told wires.old) (W.told wires.new) self.old.options.extents self.old.from self.old.to told) }
+        ensures decides { IfErr result (λ told. IsDecided (W.told wires.old) (W.told wires.new) self.old.options self.old.from self.old.to told) }
+        ensures patient { OnOk result (StaysPatient false self.old.start.idles (W.told wires.old) (W.idles wires.old) (W.told wires.new) (W.idles wires.new)) }
+        ensures impatient { IfErr result (λ told. StaysPatient (may_end_waiting told) self.old.start.idles (W.told wires.old) (W.idles wires.old) (W.told wires.new) (W.idles wires.new)) }
     {
         let terms = self.meet(wires)?;
         self.dial_further(wires, terms.sides)?;
-        check_same(&self.handles, terms)?;
         check_well(&self.board)?;
         Ok(self.set_up(terms)?)
     }
@@ -224,25 +240,28 @@ impl Copier {
         ensures size { IfOk result (λ terms. terms.size ≤ 2 ^ 63) }
         ensures unasked { Told (W.told wires.old) (W.told wires.new) (AsksNothing self.old.from self.old.to) }
         ensures unissued { OnOk result (Told (W.told wires.old) (W.told wires.new) (λ calls. AreUnissued self.new.held)) }
-        ensures unready { Told (W.told wires.old) (W.told wires.new) (AtEachPause (IsEarlyPause self.old.from self.old.to)) }
+        ensures unready { Told (W.told wires.old) (W.told wires.new) (AtEachPause (IsEarlyPause self.old.options.extents self.old.from self.old.to)) }
         ensures vain { Pauses WantsInVain (W.told wires.old) (W.told wires.new) }
         ensures wanted { Pauses WantsSome (W.told wires.old) (W.told wires.new) }
+        ensures little { Told (W.told wires.old) (W.told wires.new) (AtEachPause WroteHandshakes) }
         ensures tries { Tries AnyLeft (W.told wires.old) (W.told wires.new) }
         ensures tried { OnOk result (Tries NoneLeft (W.told wires.old) (W.told wires.new)) }
         ensures causes { IfErr result (λ told. HasCause self.old.start (W.faults wires.new) (W.idles wires.new) told) }
-        ensures grounds { IfErr result (λ told. IsGrounded (W.told wires.old) (W.told wires.new) self.old.from self.old.to told) }
+        ensures grounds { IfErr result (λ told. IsGrounded (W.told wires.old) (W.told wires.new) self.old.options.extents self.old.from self.old.to told) }
         ensures counts { GoesOn (W.faults wires.old) (W.faults wires.new) (W.idles wires.old) (W.idles wires.new) (W.contents wires.old) (W.contents wires.new) }
         ensures links { LinksGoTo (self.old.from.to ∷ self.old.to.to ∷ []) self.old.held (W.told wires.old) self.new.held (W.told wires.new) }
         ensures connects { OnOk result (LinksGo (self.old.from.to ∷ self.old.to.to ∷ []) self.old.held (W.told wires.old) self.new.held (W.told wires.new)) }
         ensures connected { OnOk result (StaysConnected (W.told wires.old) (W.told wires.new)) }
         ensures drives { Told (W.told wires.old) (W.told wires.new) (AreDrivenTo (is_source one_each) self.old.options.extents self.old.options.destination_is_zero true self.old.from self.old.to) }
-        ensures decides { IfErr result (λ told. IsDecided (W.told wires.old) (W.told wires.new) self.old.options.extents self.old.from self.old.to told) }
+        ensures decides { IfErr result (λ told. IsDecided (W.told wires.old) (W.told wires.new) self.old.options self.old.from self.old.to told) }
+        ensures patient { OnOk result (StaysPatient false self.old.start.idles (W.told wires.old) (W.idles wires.old) (W.told wires.new) (W.idles wires.new)) }
+        ensures impatient { IfErr result (λ told. StaysPatient (may_end_waiting told) self.old.start.idles (W.told wires.old) (W.idles wires.old) (W.told wires.new) (W.idles wires.new)) }
     {
         let extents = self.options.extents;
-        self.dial_source(wires, extents)?;
-        self.settle(wires)?;
-        self.dial_destination(wires)?;
-        self.settle(wires)?;
+        self.dial_source(wires, extents, ONE_EACH)?;
+        self.settle(wires, ONE_EACH)?;
+        self.dial_destination(wires, ONE_EACH)?;
+        self.settle(wires, ONE_EACH)?;
         agree(&self.handles, self.options)
     }
 
@@ -265,7 +284,12 @@ impl Copier {
     }
 
     /// One connection more to the source.
-    fn dial_source<W: Wires>(&mut self, wires: &mut W, extents: bool) -> Result<(), CopyFault>
+    fn dial_source<W: Wires>(
+        &mut self,
+        wires: &mut W,
+        extents: bool,
+        sides: Sides,
+    ) -> Result<(), CopyFault>
         requires faults { self.old.start.faults ≤ W.faults wires.old }
         ensures kept { self.new ≡ record self.old { held = self.new.held; board = self.new.board } }
         ensures dials { OnOk result (Dials self.old.from extents self.old.board self.old.held (W.told wires.old) self.new.held (W.told wires.new)) }
@@ -280,7 +304,7 @@ impl Copier {
         ensures connects { OnOk result (LinksGo (self.old.from.to ∷ []) self.old.held (W.told wires.old) self.new.held (W.told wires.new)) }
         ensures connected { OnOk result (StaysConnected (W.told wires.old) (W.told wires.new)) }
         ensures drives { DrivesOneMore self.old.from extents self.old.board self.old.held (W.told wires.old) (W.told wires.new) }
-        ensures decides { IfErr result (λ told. DecidesOn false self.old.board self.old.held (W.told wires.old) (W.told wires.new) told) }
+        ensures decides { IfErr result (λ told. DecidesOn (Some sides) false self.old.board self.old.held (W.told wires.old) (W.told wires.new) told) }
     {
         dial(
             self.alloc,
@@ -290,11 +314,12 @@ impl Copier {
             &self.from,
             extents,
             self.start,
+            sides,
         )
     }
 
     /// One connection more to the destination.
-    fn dial_destination<W: Wires>(&mut self, wires: &mut W) -> Result<(), CopyFault>
+    fn dial_destination<W: Wires>(&mut self, wires: &mut W, sides: Sides) -> Result<(), CopyFault>
         requires faults { self.old.start.faults ≤ W.faults wires.old }
         ensures kept { self.new ≡ record self.old { held = self.new.held; board = self.new.board } }
         ensures dials { OnOk result (Dials self.old.to false self.old.board self.old.held (W.told wires.old) self.new.held (W.told wires.new)) }
@@ -309,7 +334,7 @@ impl Copier {
         ensures connects { OnOk result (LinksGo (self.old.to.to ∷ []) self.old.held (W.told wires.old) self.new.held (W.told wires.new)) }
         ensures connected { OnOk result (StaysConnected (W.told wires.old) (W.told wires.new)) }
         ensures drives { DrivesOneMore self.old.to false self.old.board self.old.held (W.told wires.old) (W.told wires.new) }
-        ensures decides { IfErr result (λ told. DecidesOn false self.old.board self.old.held (W.told wires.old) (W.told wires.new) told) }
+        ensures decides { IfErr result (λ told. DecidesOn (Some sides) false self.old.board self.old.held (W.told wires.old) (W.told wires.new) told) }
     {
         dial(
             self.alloc,
@@ -319,11 +344,12 @@ impl Copier {
             &self.to,
             false,
             self.start,
+            sides,
         )
     }
 
     /// Waits until all have negotiated.
-    fn settle<W: Wires>(&mut self, wires: &mut W) -> Result<(), CopyFault>
+    fn settle<W: Wires>(&mut self, wires: &mut W, sides: Sides) -> Result<(), CopyFault>
         requires faults { self.old.start.faults ≤ W.faults wires.old }
         requires idles { self.old.start.idles ≤ W.idles wires.old }
         ensures kept { self.new ≡ record self.old { held = self.new.held; board = self.new.board } }
@@ -334,17 +360,19 @@ impl Copier {
         ensures unready { StaysUnready self.old.board self.old.held (W.told wires.old) (W.told wires.new) }
         ensures vain { Stand self.old.held → Pauses WantsInVain (W.told wires.old) (W.told wires.new) }
         ensures wanted { Stand self.old.held → Pauses WantsSome (W.told wires.old) (W.told wires.new) }
+        ensures little { StaysLittle self.old.board self.old.held (W.told wires.old) (W.told wires.new) }
         ensures tries { Stand self.old.held → Tries AnyLeft (W.told wires.old) (W.told wires.new) }
         ensures tried { OnOk result (Stand self.old.held → Tries NoneLeft (W.told wires.old) (W.told wires.new)) }
         ensures causes { IfErr result (λ told. HasCause self.old.start (W.faults wires.new) (W.idles wires.new) told) }
-        ensures fails { IfErr result (λ told. FailsOn false self.old.board self.old.held (W.told wires.old) (W.told wires.new) told) }
         ensures counts { GoesOn (W.faults wires.old) (W.faults wires.new) (W.idles wires.old) (W.idles wires.new) (W.contents wires.old) (W.contents wires.new) }
         ensures links { Stand self.old.held → LinksGo [] self.old.held (W.told wires.old) self.new.held (W.told wires.new) }
         ensures drives { DrivesOn self.old.board self.old.held (W.told wires.old) (W.told wires.new) }
-        ensures decides { IfErr result (λ told. DecidesOn false self.old.board self.old.held (W.told wires.old) (W.told wires.new) told) }
-        ensures calm { OnOk result (IsCalm self.new.board self.new.held) }
+        ensures decides { IfErr result (λ told. DecidesOn (Some sides) false self.old.board self.old.held (W.told wires.old) (W.told wires.new) told) }
+        ensures calm { OnOk result (IsCalm (Some sides) self.new.board self.new.held) }
+        ensures patient { OnOk result (Stand self.old.held → StaysPatient false self.old.start.idles (W.told wires.old) (W.idles wires.old) (W.told wires.new) (W.idles wires.new)) }
+        ensures impatient { IfErr result (λ told. Stand self.old.held → StaysPatient (may_end_waiting told) self.old.start.idles (W.told wires.old) (W.idles wires.old) (W.told wires.new) (W.idles wires.new)) }
     {
-        settle(&mut self.handles, &mut self.board, wires, self.start)
+        settle(&mut self.handles, &mut self.board, wires, self.start, sides)
     }
 
     /// Makes the further connections, the source's first.
@@ -357,24 +385,27 @@ impl Copier {
         ensures further { OnOk result (GoesFurther self.old sides 2 self.old.board self.old.held (W.told wires.old) self.new.board self.new.held (W.told wires.new)) }
         ensures quiet { OnOk result (AreQuiet self.new.held) }
         ensures unasked { (start : Option (List Call)) (terms : Settled) → HasMet self.old start (W.told wires.old) terms → sides ≡ terms.sides → Told start (W.told wires.old) (λ calls. AreUnissued self.old.held) → length self.old.held ≡ 2 → Told start (W.told wires.new) (AsksNothing self.old.from self.old.to) }
-        ensures unready { (start : Option (List Call)) (terms : Settled) → HasMet self.old start (W.told wires.old) terms → sides ≡ terms.sides → length self.old.held ≡ 2 → Told start (W.told wires.old) (LinksStand self.old.held) → Told start (W.told wires.old) (AtEachPause (IsEarlyPause self.old.from self.old.to)) → Told start (W.told wires.new) (AtEachPause (IsEarlyPause self.old.from self.old.to)) }
+        ensures unready { (start : Option (List Call)) (terms : Settled) → HasMet self.old start (W.told wires.old) terms → sides ≡ terms.sides → length self.old.held ≡ 2 → Told start (W.told wires.old) (LinksStand self.old.held) → Told start (W.told wires.old) (AtEachPause (IsEarlyPause self.old.options.extents self.old.from self.old.to)) → Told start (W.told wires.new) (AtEachPause (IsEarlyPause self.old.options.extents self.old.from self.old.to)) }
         ensures vain { Stand self.old.held → Pauses WantsInVain (W.told wires.old) (W.told wires.new) }
         ensures wanted { Stand self.old.held → Pauses WantsSome (W.told wires.old) (W.told wires.new) }
+        ensures little { (start : Option (List Call)) (terms : Settled) → HasMet self.old start (W.told wires.old) terms → sides ≡ terms.sides → Told start (W.told wires.old) (λ calls. AreUnissued self.old.held) → length self.old.held ≡ 2 → Told start (W.told wires.old) (AtEachPause WroteHandshakes) → Told start (W.told wires.new) (AtEachPause WroteHandshakes) }
         ensures tries { Stand self.old.held → Tries AnyLeft (W.told wires.old) (W.told wires.new) }
         ensures tried { OnOk result (Stand self.old.held → Tries NoneLeft (W.told wires.old) (W.told wires.new)) }
         ensures causes { IfErr result (λ told. HasCause self.old.start (W.faults wires.new) (W.idles wires.new) told) }
-        ensures grounds { IfErr result (λ told. (start : Option (List Call)) (terms : Settled) → HasMet self.old start (W.told wires.old) terms → sides ≡ terms.sides → length self.old.held ≡ 2 → IsGrounded start (W.told wires.new) self.old.from self.old.to told) }
+        ensures grounds { IfErr result (λ told. (start : Option (List Call)) (terms : Settled) → HasMet self.old start (W.told wires.old) terms → sides ≡ terms.sides → length self.old.held ≡ 2 → IsGrounded start (W.told wires.new) self.old.options.extents self.old.from self.old.to told) }
         ensures counts { GoesOn (W.faults wires.old) (W.faults wires.new) (W.idles wires.old) (W.idles wires.new) (W.contents wires.old) (W.contents wires.new) }
         ensures links { Stand self.old.held → LinksGoTo (replicate (sides.source - 1) self.old.from.to ++ replicate (sides.destination - 1) self.old.to.to) self.old.held (W.told wires.old) self.new.held (W.told wires.new) }
         ensures connects { OnOk result (Stand self.old.held → LinksGo (replicate (sides.source - 1) self.old.from.to ++ replicate (sides.destination - 1) self.old.to.to) self.old.held (W.told wires.old) self.new.held (W.told wires.new)) }
         ensures connected { OnOk result (Stand self.old.held → StaysConnected (W.told wires.old) (W.told wires.new)) }
         ensures drives { (start : Option (List Call)) (terms : Settled) → HasMet self.old start (W.told wires.old) terms → sides ≡ terms.sides → length self.old.held ≡ 2 → Told start (W.told wires.new) (AreDrivenTo (is_source sides) self.old.options.extents self.old.options.destination_is_zero true self.old.from self.old.to) }
-        ensures calm { OnOk result (IsCalm self.new.board self.new.held) }
-        ensures decides { IfErr result (λ told. (start : Option (List Call)) (terms : Settled) → HasMet self.old start (W.told wires.old) terms → sides ≡ terms.sides → length self.old.held ≡ 2 → IsDecided start (W.told wires.new) self.old.options.extents self.old.from self.old.to told) }
+        ensures calm { OnOk result (IsCalm (Some sides) self.new.board self.new.held) }
+        ensures decides { IfErr result (λ told. (start : Option (List Call)) (terms : Settled) → HasMet self.old start (W.told wires.old) terms → sides ≡ terms.sides → length self.old.held ≡ 2 → IsDecided start (W.told wires.new) self.old.options self.old.from self.old.to told) }
+        ensures patient { OnOk result (Stand self.old.held → StaysPatient false self.old.start.idles (W.told wires.old) (W.idles wires.old) (W.told wires.new) (W.idles wires.new)) }
+        ensures impatient { IfErr result (λ told. Stand self.old.held → StaysPatient (may_end_waiting told) self.old.start.idles (W.told wires.old) (W.idles wires.old) (W.told wires.new) (W.idles wires.new)) }
     {
         self.dial_sources(wires, sides)?;
         self.dial_destinations(wires, sides)?;
-        self.settle(wires)
+        self.settle(wires, sides)
     }
 
     #[tactic(auto, using(crate::proofs::CauseLemmas::goes_same, crate::proofs::CauseLemmas::goes_then, crate::proofs::CauseLemmas::cause_later, crate::proofs::CauseLemmas::cause_free, crate::proofs::PauseLemmas::unpaused_none, crate::proofs::LinkLemmas::links_none))]
@@ -397,7 +428,7 @@ impl Copier {
         ensures decides { IfErr result (λ told. DecidesFurther self.old sides 2 (W.told wires.old) (W.told wires.new) told) }
     {
         'further: for connection in 1..sides.source {
-            self.dial_source(wires, false)?;
+            self.dial_source(wires, false, sides)?;
         }
         Ok(())
     }
@@ -420,7 +451,7 @@ impl Copier {
         ensures decides { IfErr result (λ told. DecidesFurther self.old sides (sides.source + 1) (W.told wires.old) (W.told wires.new) told) }
     {
         'further: for connection in 1..sides.destination {
-            self.dial_destination(wires)?;
+            self.dial_destination(wires, sides)?;
         }
         Ok(())
     }
@@ -453,6 +484,8 @@ impl Copier {
         ensures under_way { OnOk result ((start : Option (List Call)) → IsOnItsWay start (W.told wires.old) self.old → self.new.from ≢ self.new.to → HasAllAsked start (W.told wires.new) self.new) }
         // On no connection more is unanswered than its share of what may be.
         ensures shares { OnOk result ((start : Option (List Call)) → IsOnItsWay start (W.told wires.old) self.old → self.new.from ≢ self.new.to → Told start (W.told wires.new) (IsShared self.new.options self.new.from self.new.to)) }
+        // By its calls little was written on the links that a pause for its connections would want.
+        ensures little { OnOk result ((start : Option (List Call)) → IsOnItsWay start (W.told wires.old) self.old → Told start (W.told wires.new) (λ calls. WroteLittle self.new.options.extents self.new.from self.new.to calls (wants_now self.new.held))) }
 
         // Nothing was asked twice so far, and nothing past the source's end.
         ensures asks { OnOk result ((start : Option (List Call)) → IsOnItsWay start (W.told wires.old) self.old → self.new.from ≢ self.new.to → Told start (W.told wires.new) (HasAskedOnce self.new.options.allocated self.new.options.destination_is_zero self.new.from self.new.to)) }
@@ -476,11 +509,11 @@ impl Copier {
         ensures fair { (start : Option (List Call)) → IsOnItsWay start (W.told wires.old) self.old → self.old.from ≢ self.old.to → Told start (W.told wires.old) (Behaves self.old.options self.old.from self.old.to) → Told start (W.told wires.new) (Behaves self.old.options self.old.from self.old.to) }
 
         // What the calls show of a fault.
-        ensures grounds { IfErr result (λ told. (start : Option (List Call)) → IsOnItsWay start (W.told wires.old) self.old → IsGrounded start (W.told wires.new) self.old.from self.old.to told) }
+        ensures grounds { IfErr result (λ told. (start : Option (List Call)) → IsOnItsWay start (W.told wires.old) self.old → IsGrounded start (W.told wires.new) self.old.options.extents self.old.from self.old.to told) }
         // The first event decided it for which a copy ends: before that nothing of the kind had come.
-        ensures decides { IfErr result (λ told. (start : Option (List Call)) → IsOnItsWay start (W.told wires.old) self.old → IsDecided start (W.told wires.new) self.old.options.extents self.old.from self.old.to told) }
+        ensures decides { IfErr result (λ told. (start : Option (List Call)) → IsOnItsWay start (W.told wires.old) self.old → IsDecided start (W.told wires.new) self.old.options self.old.from self.old.to told) }
         // Where it goes on nothing of the kind came yet.
-        ensures untroubled { OnOk result ((start : Option (List Call)) → IsOnItsWay start (W.told wires.old) self.old → Told start (W.told wires.new) (WasUntroubled self.old.options.extents self.old.from self.old.to)) }
+        ensures untroubled { OnOk result ((start : Option (List Call)) → IsOnItsWay start (W.told wires.old) self.old → Told start (W.told wires.new) (WasUntroubledAs self.old.options self.old.from self.old.to)) }
         // The counts, and what they show of a fault; where it is finished they show none.
         ensures causes { IfErr result (λ told. HasCause self.old.start (W.faults wires.new) (W.idles wires.new) told) }
         ensures counts { GoesOn (W.faults wires.old) (W.faults wires.new) (W.idles wires.old) (W.idles wires.new) (W.contents wires.old) (W.contents wires.new) }
@@ -506,6 +539,7 @@ impl Copier {
         ensures spread { OnOk result (AreSpread self.new.job self.new.board) }
         ensures under_way { OnOk result ((start : Option (List Call)) → IsOnItsWay start (W.told wires.old) self.old → self.new.from ≢ self.new.to → HasAllAsked start (W.told wires.new) self.new) }
         ensures shares { OnOk result ((start : Option (List Call)) → IsOnItsWay start (W.told wires.old) self.old → self.new.from ≢ self.new.to → Told start (W.told wires.new) (IsShared self.new.options self.new.from self.new.to)) }
+        ensures little { OnOk result ((start : Option (List Call)) → IsOnItsWay start (W.told wires.old) self.old → Told start (W.told wires.new) (λ calls. WroteLittle self.new.options.extents self.new.from self.new.to calls (wants_now self.new.held))) }
         ensures flushes { IfOk result (λ told. (start : Option (List Call)) → IsOnItsWay start (W.told wires.old) self.old → HasFlushed start (W.told wires.new) self.new told) }
         ensures asks { OnOk result ((start : Option (List Call)) → IsOnItsWay start (W.told wires.old) self.old → self.new.from ≢ self.new.to → Told start (W.told wires.new) (HasAskedOnce self.new.options.allocated self.new.options.destination_is_zero self.new.from self.new.to)) }
         ensures answered { OnOk result ((start : Option (List Call)) → IsOnItsWay start (W.told wires.old) self.old → self.new.from ≢ self.new.to → Told start (W.told wires.new) (ReadsAreAnswered self.new.options.extents self.new.from)) }
@@ -515,13 +549,13 @@ impl Copier {
         ensures moved { IfOk result (λ told. (count : ℕ) → told ≡ progress.Moved count → HasMoved self.old self.new (W.told wires.old) (W.told wires.new)) }
         ensures fair { (start : Option (List Call)) → IsOnItsWay start (W.told wires.old) self.old → self.old.from ≢ self.old.to → Told start (W.told wires.old) (Behaves self.old.options self.old.from self.old.to) → Told start (W.told wires.new) (Behaves self.old.options self.old.from self.old.to) }
         ensures causes { IfErr result (λ told. HasCause self.old.start (W.faults wires.new) (W.idles wires.new) told) }
-        ensures grounds { IfErr result (λ told. (start : Option (List Call)) → IsOnItsWay start (W.told wires.old) self.old → IsGrounded start (W.told wires.new) self.old.from self.old.to told) }
+        ensures grounds { IfErr result (λ told. (start : Option (List Call)) → IsOnItsWay start (W.told wires.old) self.old → IsGrounded start (W.told wires.new) self.old.options.extents self.old.from self.old.to told) }
         ensures counts { GoesOn (W.faults wires.old) (W.faults wires.new) (W.idles wires.old) (W.idles wires.new) (W.contents wires.old) (W.contents wires.new) }
         ensures links { LinksGo [] self.old.held (W.told wires.old) self.new.held (W.told wires.new) }
         ensures well { IfOk result (λ told. EndsWell self.old.start (W.faults wires.new) (W.idles wires.new) told) }
         ensures drives { (start : Option (List Call)) → IsOnItsWay start (W.told wires.old) self.old → Told start (W.told wires.new) (AreDrivenBy self.old.options self.old.from self.old.to) }
-        ensures decides { IfErr result (λ told. (start : Option (List Call)) → IsOnItsWay start (W.told wires.old) self.old → IsDecided start (W.told wires.new) self.old.options.extents self.old.from self.old.to told) }
-        ensures untroubled { OnOk result ((start : Option (List Call)) → IsOnItsWay start (W.told wires.old) self.old → Told start (W.told wires.new) (WasUntroubled self.old.options.extents self.old.from self.old.to)) }
+        ensures decides { IfErr result (λ told. (start : Option (List Call)) → IsOnItsWay start (W.told wires.old) self.old → IsDecided start (W.told wires.new) self.old.options self.old.from self.old.to told) }
+        ensures untroubled { OnOk result ((start : Option (List Call)) → IsOnItsWay start (W.told wires.old) self.old → Told start (W.told wires.new) (WasUntroubledAs self.old.options self.old.from self.old.to)) }
     {
         let moved = self.take_turn(wires)?;
         let acted = self.act()?;
@@ -548,15 +582,15 @@ impl Copier {
         ensures moved { IfOk result (λ told. (count : ℕ) → told ≡ turned.Moved count → Stand self.old.held → Stirs self.old.held (W.told wires.old) (W.told wires.new)) }
         ensures fair { (start : Option (List Call)) → IsOnItsWay start (W.told wires.old) self.old → self.old.from ≢ self.old.to → Told start (W.told wires.old) (Behaves self.old.options self.old.from self.old.to) → Told start (W.told wires.new) (Behaves self.old.options self.old.from self.old.to) }
         ensures causes { IfErr result (λ told. HasCause self.old.start (W.faults wires.new) (W.idles wires.new) told) }
-        ensures grounds { IfErr result (λ told. (start : Option (List Call)) → IsOnItsWay start (W.told wires.old) self.old → IsGrounded start (W.told wires.new) self.old.from self.old.to told) }
+        ensures grounds { IfErr result (λ told. (start : Option (List Call)) → IsOnItsWay start (W.told wires.old) self.old → IsGrounded start (W.told wires.new) self.old.options.extents self.old.from self.old.to told) }
         ensures counts { GoesOn (W.faults wires.old) (W.faults wires.new) (W.idles wires.old) (W.idles wires.new) (W.contents wires.old) (W.contents wires.new) }
         ensures links { Stand self.old.held → LinksGo [] self.old.held (W.told wires.old) self.new.held (W.told wires.new) }
         ensures drives { (start : Option (List Call)) → IsOnItsWay start (W.told wires.old) self.old → Told start (W.told wires.new) (AreDrivenBy self.old.options self.old.from self.old.to) }
-        ensures decides { IfErr result (λ told. (start : Option (List Call)) → IsOnItsWay start (W.told wires.old) self.old → IsDecided start (W.told wires.new) self.old.options.extents self.old.from self.old.to told) }
-        ensures untroubled { OnOk result ((start : Option (List Call)) → IsOnItsWay start (W.told wires.old) self.old → Told start (W.told wires.new) (WasUntroubled self.old.options.extents self.old.from self.old.to)) }
+        ensures decides { IfErr result (λ told. (start : Option (List Call)) → IsOnItsWay start (W.told wires.old) self.old → IsDecided start (W.told wires.new) self.old.options self.old.from self.old.to told) }
+        ensures untroubled { OnOk result ((start : Option (List Call)) → IsOnItsWay start (W.told wires.old) self.old → Told start (W.told wires.new) (WasUntroubledAs self.old.options self.old.from self.old.to)) }
     {
-        check_calm(&self.handles, &self.board)?;
-        let moved = turn(&mut self.handles, &mut self.board, wires, self.start)?;
+        check_calm(&self.handles, &self.board, None)?;
+        let moved = turn(&mut self.handles, &mut self.board, wires, self.start, None)?;
         Ok(moved)
     }
 
@@ -627,130 +661,27 @@ impl Copier {
         self.board.summary(size)
     }
 
-    /// Copies, from the first connection to the end.
-    ///
-    /// # Errors
-    ///
-    /// Those of `begin` and `turn`.
-    #[tactic(auto, using(crate::proofs::CauseLemmas::goes_same, crate::proofs::CauseLemmas::goes_then, crate::proofs::CauseLemmas::cause_later, crate::proofs::CauseLemmas::cause_free))]
-    pub fn run<W: Wires>(self, wires: &mut W) -> Result<Summary, CopyFault>
-        requires { HasNotBegun self }
-
-        // Over honest exports the destination then holds the source's bytes.
-        ensures copies { self.from ≢ self.to → OnOk result (Copies self.from self.to self.options.destination_is_zero (W.told wires.old) (W.told wires.new)) }
-        // Nothing was asked twice, and nothing past the source's end; and all of it was done: no request of any kind came to an error.
-        ensures asks { self.from ≢ self.to → OnOk result (GrewBy (HasAskedOnce self.options.allocated self.options.destination_is_zero self.from self.to) (W.told wires.old) (W.told wires.new)) }
-        // Nor was it where the copy ends with a fault: nothing was asked yet, or the source had told its size and all was asked once.
-        ensures asked { self.from ≢ self.to → GrewBy (AsksAtMostOnce self.options.allocated self.options.destination_is_zero self.from self.to) (W.told wires.old) (W.told wires.new) }
-        ensures done { self.from ≢ self.to → OnOk result (GrewBy (WereAllDone self.from self.to) (W.told wires.old) (W.told wires.new)) }
-        // The summary has the bytes that were asked to be read, written and zeroed, and those that nothing was asked for.
-        ensures summary { self.from ≢ self.to → IfOk result (λ told. GrewBy (Summarizes self.from self.to told) (W.told wires.old) (W.told wires.new)) }
-        // For blocks of the size that both sides told: none was read of the source that one answer told as zero whole, and where zeros are looked for, no write had a whole block of them.
-        ensures spares { self.from ≢ self.to → OnOk result (GrewBy (SparesTold self.from self.to) (W.told wires.old) (W.told wires.new)) }
-        ensures dense { self.from ≢ self.to → OnOk result (GrewBy (SparesFound self.options self.from self.to) (W.told wires.old) (W.told wires.new)) }
-        // So it is with each WRITE also where the copy ends with a fault, once anything was asked.
-        ensures spared { self.from ≢ self.to → GrewBy (SparesSoFar self.options self.from self.to) (W.told wires.old) (W.told wires.new) }
-        // And so it is with each READ, also where the copy ends in the middle of a turn.
-        ensures untouched { self.from ≢ self.to → GrewBy (UntouchedSoFar self.from self.to) (W.told wires.old) (W.told wires.new) }
-        // Whatever it comes to, each position that was read was read after a block status had been answered for it, or the source's
-        // first connection agreed no meta context, though base:allocation had been asked for where extents are wanted.
-        ensures answered { self.from ≢ self.to → GrewBy (ReadsAreAnswered self.options.extents self.from) (W.told wires.old) (W.told wires.new) }
-        // The destination was asked to flush once at most, and only when all else was asked and done: it was, and that is done, where it is wanted and the destination told that it can be flushed.
-        // Whatever it comes to, it was once at most, and not at all where it is not wanted.
-        ensures flushes { self.from ≢ self.to → IfOk result (λ told. GrewBy (FlushesLast self.from self.to told) (W.told wires.old) (W.told wires.new)) }
-        ensures flushed { self.from ≢ self.to → OnOk result (GrewBy (FlushesWanted self.options self.from self.to) (W.told wires.old) (W.told wires.new)) }
-        ensures at_most_once { self.from ≢ self.to → GrewBy (FlushesAtMostOnce self.to) (W.told wires.old) (W.told wires.new) }
-        ensures unflushed { self.options.flush ≡ false → self.from ≢ self.to → GrewBy (IsUnflushed self.to) (W.told wires.old) (W.told wires.new) }
-        // Whatever came of it, at each pause that wants no link for writing a connection negotiates still, or just as many READ, WRITE and WRITE_ZEROES are unanswered as planned slices are not
-        // finished, up to the limit, and one BLOCK_STATUS where that is not reached.
-        ensures pauses { self.from ≢ self.to → GrewBy (PausesAreFull self.options self.from self.to) (W.told wires.old) (W.told wires.new) }
-        // At no moment, not even in the middle of a turn, are more unanswered on a connection than that limit divided by the number of its side's connections, rounded up.
-        ensures shares { self.from ≢ self.to → GrewBy (IsAlwaysShared self.options self.from self.to) (W.told wires.old) (W.told wires.new) }
-        // One handle drove each link, if any did.
-        ensures driven { OnOk result (GrewBy AreDriven (W.told wires.old) (W.told wires.new)) }
-        // Whatever came of it, each link that it made was driven by one handle, as a copy does: it asked for its side's export, on the first link for base:allocation too where extents are wanted, and
-        // then for nothing but commands that no rule refuses, and for the end, but that only when all was done, and the destination flushed where it is to be. The links were given to both sides in
-        // turn, to each as many as its options and what both sides told say; and no other link was read or written.
-        ensures drives { GrewBy (AreDrivenBy self.options self.from self.to) (W.told wires.old) (W.told wires.new) }
-        // On success each was left well: its handle had asked for the end, and that was written or the peer ended the connection then.
-        ensures left { OnOk result (GrewBy (AreLeft self.options.extents self.from self.to) (W.told wires.old) (W.told wires.new)) }
-        // Whatever came of it: each link that it read, wrote or shut was one that it had made and not shut, in the end it had shut each, and it listened for no peer.
-        ensures links { GrewBy LinksAreKept (W.told wires.old) (W.told wires.new) }
-        // It connected to the source and to the destination, and then again to the source and again to the destination, to each as often as its options and what both sides told say. Where it failed
-        // it may not have come to all of these, and to none of the further ones unless both had told.
-        ensures within { GrewBy (ConnectsWithin self.options self.from self.to) (W.told wires.old) (W.told wires.new) }
-        ensures connects { OnOk result (GrewBy (ConnectsAsTold self.options self.from self.to) (W.told wires.old) (W.told wires.new)) }
-        // Where the copy is made, each of them gave a link.
-        ensures connected { OnOk result (GrewBy AllConnected (W.told wires.old) (W.told wires.new)) }
-        // Whatever came of it, at each pause a link was wanted for writing only where a write on it took nothing, and nothing happened since on any link.
-        ensures writes { GrewBy (AtEachPause WantsOnlyFull) (W.told wires.old) (W.told wires.new) }
-        // It was wanted for reading only where a read on it told that nothing is there yet, and nothing happened since on any link.
-        ensures reads { GrewBy (AtEachPause WantsOnlyEmpty) (W.told wires.old) (W.told wires.new) }
-        // It was wanted only where its handle negotiated, had commands in flight, had bytes to write, or had asked for the end of its
-        // connection, and in that handle's direction; where that end was asked for never to read alone.
-        ensures waits { GrewBy (AtEachPause WaitsWell) (W.told wires.old) (W.told wires.new) }
-        // At least one link was, so that no pause waits for nothing.
-        ensures wanted { GrewBy (AtEachPause WantsSome) (W.told wires.old) (W.told wires.new) }
-        // Whatever a pause wanted was tried before the next: a link that it wanted to read alone was read, and one that it wanted for writing was written.
-        ensures tries { GrewBy (AtEachPause TriedBefore) (W.told wires.old) (W.told wires.new) }
-        // All of this together, where the copy is made.
-        ensures made { self.from ≢ self.to → IfOk result (λ told. GrewBy (IsMade self.options self.from self.to told) (W.told wires.old) (W.told wires.new)) }
-        // And all of it that is so whatever came of it.
-        ensures conducts { GrewBy (Conducts self.options self.from self.to) (W.told wires.old) (W.told wires.new) }
-        // What the calls show of a fault.
-        ensures grounds { IfErr result (λ told. IsGrounded (W.told wires.old) (W.told wires.new) self.from self.to told) }
-        // The first event decided it for which a copy ends: before that nothing of the kind had come.
-        ensures decides { IfErr result (λ told. IsDecided (W.told wires.old) (W.told wires.new) self.options.extents self.from self.to told) }
-        // The counts, and what they show of a fault.
-        ensures causes { IfErr result (λ told. HasCause (record { faults = W.faults wires.old; idles = W.idles wires.old }) (W.faults wires.new) (W.idles wires.new) told) }
-        ensures counts { GoesOn (W.faults wires.old) (W.faults wires.new) (W.idles wires.old) (W.idles wires.new) (W.contents wires.old) (W.contents wires.new) }
-        // Where the copy is made they show none: no call failed, and the wires waited for less than is borne.
-        ensures well { OnOk result (¬ Rises 1 (W.faults wires.old) (W.faults wires.new)) }
-        ensures patient { OnOk result (¬ Rises patience (W.idles wires.old) (W.idles wires.new)) }
+    /// The wires waited for as long as is borne, if so. That something else had come before, for which the copy ends, would count as want
+    /// of memory: it has ended the copy.
+    pub(crate) fn check_patience<W: Wires>(&self, wires: &W) -> Result<(), CopyFault>
+        requires idles { self.now.start.idles ≤ W.idles wires.now }
+        ensures well { OnOk result (¬ Rises patience self.now.start.idles (W.idles wires.now)) }
+        ensures causes { IfErr result (λ told. HasCause self.now.start (W.faults wires.now) (W.idles wires.now) told) }
+        ensures free { IfErr result (λ told. needs_no_ground told ≡ true) }
+        ensures silent { IfErr result (λ told. may_end_waiting told ≡ true) }
+        ensures calm { IfErr result (λ told. is_of_memory told ≡ false → IsCalm None self.now.board self.now.held) }
     {
-        let mut copier = self;
-        let told = copier.copy(wires);
-        copier.end(wires);
-        told
-    }
-
-    /// Begins, and takes turns until the copy is finished, with a pause after each in which nothing happened.
-    #[tactic(auto, using(crate::proofs::CauseLemmas::goes_same, crate::proofs::CauseLemmas::goes_then, crate::proofs::CauseLemmas::cause_later, crate::proofs::CauseLemmas::cause_free, crate::proofs::GroundLemmas::none_grounded, crate::proofs::DecidingLemmas::memory_decided))]
-    fn copy<W: Wires>(&mut self, wires: &mut W) -> Result<Summary, CopyFault>
-        requires { HasNotBegun self.old }
-        ensures kept { self.new ≡ record self.old { start = self.new.start; held = self.new.held; board = self.new.board; job = self.new.job } }
-        ensures done { OnOk result (IsDone (W.told wires.old) (W.told wires.new) self.new) }
-        ensures sums { IfOk result (λ told. self.new.from ≢ self.new.to → Told (W.told wires.old) (W.told wires.new) (Summarizes self.new.from self.new.to told)) }
-        ensures flushes { IfOk result (λ told. self.new.from ≢ self.new.to → Told (W.told wires.old) (W.told wires.new) (FlushesLast self.new.from self.new.to told)) }
-        ensures fair { self.old.from ≢ self.old.to → Told (W.told wires.old) (W.told wires.new) (Behaves self.old.options self.old.from self.old.to) }
-        ensures pauses { self.new.from ≢ self.new.to → Told (W.told wires.old) (W.told wires.new) (PausesAreFull self.new.options self.new.from self.new.to) }
-        ensures writes { Told (W.told wires.old) (W.told wires.new) (AtEachPause WantsOnlyFull) }
-        ensures reads { Told (W.told wires.old) (W.told wires.new) (AtEachPause WantsOnlyEmpty) }
-        ensures waits { Told (W.told wires.old) (W.told wires.new) (AtEachPause WaitsWell) }
-        ensures wanted { Told (W.told wires.old) (W.told wires.new) (AtEachPause WantsSome) }
-        ensures tries { Told (W.told wires.old) (W.told wires.new) (AtEachPause TriedBefore) }
-        ensures causes { IfErr result (λ told. HasCause (record { faults = W.faults wires.old; idles = W.idles wires.old }) (W.faults wires.new) (W.idles wires.new) told) }
-        ensures grounds { IfErr result (λ told. IsGrounded (W.told wires.old) (W.told wires.new) self.old.from self.old.to told) }
-        ensures counts { GoesOn (W.faults wires.old) (W.faults wires.new) (W.idles wires.old) (W.idles wires.new) (W.contents wires.old) (W.contents wires.new) }
-        ensures links { LinksGoWithin self.old.options self.old.from self.old.to self.old.held (W.told wires.old) self.new.held (W.told wires.new) }
-        ensures connects { OnOk result (LinksGoAsTold self.old.options self.old.from self.old.to self.old.held (W.told wires.old) self.new.held (W.told wires.new)) }
-        ensures well { OnOk result (AreWell (record { faults = W.faults wires.old; idles = W.idles wires.old }) (W.faults wires.new) (W.idles wires.new)) }
-        ensures drives { Told (W.told wires.old) (W.told wires.new) (AreDrivenBy self.old.options self.old.from self.old.to) }
-        ensures decides { IfErr result (λ told. IsDecided (W.told wires.old) (W.told wires.new) self.old.options.extents self.old.from self.old.to told) }
-    {
-        self.begin(wires)?;
-        'turns: for _ in 0..MAX_TURNS {
-            match self.turn(wires)? {
-                Progress::Moved(_) => {}
-                Progress::Still => self.rest(wires)?,
-                Progress::Finished(summary) => return Ok(summary),
+        match check_idles(wires, self.start) {
+            Ok(()) => Ok(()),
+            Err(silent) => {
+                check_calm(&self.handles, &self.board, None)?;
+                Err(silent)
             }
         }
-        Err(CopyFault::NoMemory)
     }
 
     /// Waits, unless that was borne for as long as it is.
-    fn rest<W: Wires>(&mut self, wires: &mut W) -> Result<(), CopyFault>
+    pub(crate) fn rest<W: Wires>(&mut self, wires: &mut W) -> Result<(), CopyFault>
         requires idles { self.old.start.idles ≤ W.idles wires.old }
         ensures kept { self.new ≡ record self.old { held = self.new.held } }
         ensures on { OnOk result ((start : Option (List Call)) → IsOnItsWay start (W.told wires.old) self.old → IsOnItsWay start (W.told wires.new) self.new) }
@@ -764,6 +695,7 @@ impl Copier {
         ensures free { IfErr result (λ told. needs_no_ground told ≡ true) }
         ensures counts { GoesOn (W.faults wires.old) (W.faults wires.new) (W.idles wires.old) (W.idles wires.new) (W.contents wires.old) (W.contents wires.new) }
         ensures links { LinksGo [] self.old.held (W.told wires.old) self.new.held (W.told wires.new) }
+        ensures patient { StaysPatient true self.old.start.idles (W.told wires.old) (W.idles wires.old) (W.told wires.new) (W.idles wires.new) }
     {
         wait(&mut self.handles, wires, self.start)
     }

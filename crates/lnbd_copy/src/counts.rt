@@ -5,6 +5,7 @@ ghost use Rattle.lnbd_link.specs.Count.{Rises};
 ghost use Rattle.lnbd_copy.specs.Causes.{AreWell, HasCause, patience, tells_no_count};
 ghost use Rattle.lnbd_copy.specs.Decided.{is_of_link};
 ghost use Rattle.lnbd_copy.specs.Grounds.{fault_by, fault_of, needs_no_ground};
+ghost use Rattle.lnbd_copy.specs.Patient.{may_end_waiting};
 
 use lnbd_link::Wires;
 use lnbd_model::{Broken, Cause, ENOTCONN, EPROTO};
@@ -77,6 +78,7 @@ pub(crate) fn check_idles<W: Wires>(wires: &W, start: Counts) -> Result<(), Copy
     ensures well { OnOk result (¬ Rises patience start.idles (W.idles wires.now)) }
     ensures causes { IfErr result (λ told. HasCause start (W.faults wires.now) (W.idles wires.now) told) }
     ensures free { IfErr result (λ told. needs_no_ground told ≡ true) }
+    ensures silent { IfErr result (λ told. may_end_waiting told ≡ true) }
 {
     let idles = wires.idles();
     if is_long(start.idles, idles) {

@@ -1,6 +1,6 @@
 //! The connections of a copy: they are made one after another, and negotiate side by side.
 
-ghost use Rattle.std.specs.Prelude.{◌≡◌, ◌⊎◌, ◌≤◌, ◌++◌, ◌∷◌, [], true, false, IfErr, List, OnErr, OnOk, Option};
+ghost use Rattle.std.specs.Prelude.{◌≡◌, ◌⊎◌, ◌≤◌, ◌++◌, ◌∷◌, [], true, false, IfErr, List, OnErr, OnOk, Option, Some};
 ghost use Rattle.lnbd_link.specs.Call.{Call, Pause};
 ghost use Rattle.lnbd_link.specs.Part.{Adds};
 ghost use Rattle.lnbd_poll.specs.Held.{wants_now};
@@ -13,10 +13,12 @@ ghost use Rattle.lnbd_copy.specs.Connects.{StaysConnected};
 ghost use Rattle.lnbd_copy.specs.Deciding.{DecidesOn, IsCalm};
 ghost use Rattle.lnbd_copy.specs.Driving.{DrivesOn, DrivesOneMore};
 ghost use Rattle.lnbd_copy.specs.Faults.{AreUnissued, AsksNone, GoesIdly, StaysFresh, StaysUnasked};
-ghost use Rattle.lnbd_copy.specs.Grounds.{FailsOn, needs_no_ground};
+ghost use Rattle.lnbd_copy.specs.Grounds.{needs_no_ground};
 ghost use Rattle.lnbd_copy.specs.Links.{LinksGo, LinksGoTo};
+ghost use Rattle.lnbd_copy.specs.Little.{StaysLittle};
 ghost use Rattle.lnbd_copy.specs.Moving.{TurnsInVain};
 ghost use Rattle.lnbd_copy.specs.Opening.{Dials};
+ghost use Rattle.lnbd_copy.specs.Patient.{StaysPatient, may_end_waiting};
 ghost use Rattle.lnbd_copy.specs.Pauses.{Pauses, Unpaused, WantsInVain};
 ghost use Rattle.lnbd_copy.specs.Tried.{AnyLeft, NoneLeft, RestsEarly, Tries};
 ghost use Rattle.lnbd_copy.specs.Unready.{StaysUnready};
@@ -27,6 +29,7 @@ ghost use Rattle.lnbd_copy.specs.Way.{Goes, Stand};
 use crate::agreeing::are_quiet;
 use crate::counts::{Counts, check_idles};
 use crate::opening::open;
+use crate::sides::Sides;
 use crate::turning::{check_calm, turn};
 use crate::wanting::{check_loud, check_unparted, check_wanted};
 use lnbd_board::{Board, Ticket};
@@ -85,6 +88,7 @@ pub(crate) fn dial<W: Wires>(
     place: &Place,
     extents: bool,
     start: Counts,
+    sides: Sides,
 ) -> Result<(), CopyFault>
     requires counted { start.faults ≤ W.faults wires.old }
     ensures dials { OnOk result (Dials place.now extents board.old handles.old (W.told wires.old) handles.new (W.told wires.new)) }
@@ -99,9 +103,9 @@ pub(crate) fn dial<W: Wires>(
     ensures unissued { OnOk result (AreUnissued handles.old → AreUnissued handles.new) }
     ensures connected { OnOk result (StaysConnected (W.told wires.old) (W.told wires.new)) }
     ensures drives { DrivesOneMore place.now extents board.old handles.old (W.told wires.old) (W.told wires.new) }
-    ensures decides { IfErr result (λ told. DecidesOn false board.old handles.old (W.told wires.old) (W.told wires.new) told) }
+    ensures decides { IfErr result (λ told. DecidesOn (Some sides) false board.old handles.old (W.told wires.old) (W.told wires.new) told) }
 {
-    check_calm(handles, board)?;
+    check_calm(handles, board, Some(sides))?;
     let handle = open(alloc, &place.name, extents, board)?;
     match wires.connect(&place.to) {
         Ok(link) => Ok(hold(handles, board, wires, link, handle)?),
@@ -116,7 +120,7 @@ pub(crate) fn dial<W: Wires>(
 }
 
 /// Waits, unless that was borne for as long as it is.
-#[tactic(auto, using(crate::proofs::LinkLemmas::links_none, crate::proofs::LinkLemmas::links_then, crate::proofs::IdleLemmas::idly_none, crate::proofs::IdleLemmas::idly_paused, crate::proofs::PauseLemmas::pauses_none))]
+#[tactic(auto, using(crate::proofs::LinkLemmas::links_none, crate::proofs::LinkLemmas::links_then, crate::proofs::IdleLemmas::idly_none, crate::proofs::IdleLemmas::idly_paused, crate::proofs::PauseLemmas::pauses_none, crate::proofs::PatientLemmas::patient_none))]
 pub(crate) fn wait<W: Wires>(
     handles: &mut Handles<Ticket>,
     wires: &mut W,
@@ -134,6 +138,7 @@ pub(crate) fn wait<W: Wires>(
     ensures same { handles.new ≡ handles.old }
     ensures wanted { Pauses WantsSome (W.told wires.old) (W.told wires.new) }
     ensures unparted { OnOk result (AreUnparted handles.old) }
+    ensures patient { StaysPatient true start.idles (W.told wires.old) (W.idles wires.old) (W.told wires.new) (W.idles wires.new) }
 {
     check_idles(wires, start)?;
     check_wanted(handles)?;
@@ -143,7 +148,7 @@ pub(crate) fn wait<W: Wires>(
 }
 
 /// Waits where nothing happened in a turn and a connection still negotiates.
-#[tactic(auto, using(crate::proofs::CauseLemmas::goes_same, crate::proofs::TurnLemmas::goes_none, crate::proofs::LinkLemmas::links_none, crate::proofs::LinkLemmas::links_then, crate::proofs::IdleLemmas::idly_none, crate::proofs::PauseLemmas::pauses_none))]
+#[tactic(auto, using(crate::proofs::CauseLemmas::goes_same, crate::proofs::TurnLemmas::goes_none, crate::proofs::LinkLemmas::links_none, crate::proofs::LinkLemmas::links_then, crate::proofs::IdleLemmas::idly_none, crate::proofs::PauseLemmas::pauses_none, crate::proofs::PatientLemmas::patient_none))]
 fn rest<W: Wires>(
     handles: &mut Handles<Ticket>,
     wires: &mut W,
@@ -161,8 +166,10 @@ fn rest<W: Wires>(
     ensures idly { GoesIdly (W.told wires.old) (W.told wires.new) }
     ensures same { handles.new ≡ handles.old }
     ensures wanted { Pauses WantsSome (W.told wires.old) (W.told wires.new) }
+    ensures little { (now : Seen) → StaysLittle now handles.old (W.told wires.old) (W.told wires.new) }
     ensures rests { OnOk result (RestsEarly handles.old (told ≡ turned.Still) (W.told wires.old) (W.told wires.new)) }
     ensures still { OnErr result (W.told wires.new ≡ W.told wires.old) }
+    ensures patient { StaysPatient true start.idles (W.told wires.old) (W.idles wires.old) (W.told wires.new) (W.idles wires.new) }
 {
     match told {
         Turn::Still => {
@@ -176,13 +183,16 @@ fn rest<W: Wires>(
     }
 }
 
-/// Takes turns until all handles have negotiated and written all that they did, with a pause after each in which nothing happened.
-#[tactic(auto, using(crate::proofs::CauseLemmas::goes_same, crate::proofs::CauseLemmas::goes_then, crate::proofs::CauseLemmas::cause_later, crate::proofs::CauseLemmas::cause_free, crate::proofs::TurnLemmas::goes_none, crate::proofs::GroundLemmas::fails_free, crate::proofs::UnaskedLemmas::fresh_none, crate::proofs::UnaskedLemmas::fresh_asks_none, crate::proofs::PauseLemmas::pauses_none, crate::proofs::LinkLemmas::links_none, crate::proofs::LinkLemmas::links_then, crate::proofs::DecidingLemmas::decides_memory))]
+/// Takes turns until all handles have negotiated and written all that they did, with a pause after each in which nothing happened. What
+/// they tell is held against what was told before at once. What the wires counted is looked at behind each pause: where that was the last
+/// that is borne, nothing that comes later is told.
+#[tactic(auto, using(crate::proofs::CauseLemmas::goes_same, crate::proofs::CauseLemmas::goes_then, crate::proofs::CauseLemmas::cause_later, crate::proofs::CauseLemmas::cause_free, crate::proofs::TurnLemmas::goes_none, crate::proofs::UnaskedLemmas::fresh_none, crate::proofs::UnaskedLemmas::fresh_asks_none, crate::proofs::PauseLemmas::pauses_none, crate::proofs::LinkLemmas::links_none, crate::proofs::LinkLemmas::links_then, crate::proofs::DecidingLemmas::decides_memory))]
 pub(crate) fn settle<W: Wires>(
     handles: &mut Handles<Ticket>,
     board: &mut Board,
     wires: &mut W,
     start: Counts,
+    sides: Sides,
 ) -> Result<(), CopyFault>
     requires faults { start.faults ≤ W.faults wires.old }
     requires idles { start.idles ≤ W.idles wires.old }
@@ -191,24 +201,27 @@ pub(crate) fn settle<W: Wires>(
     ensures unready { StaysUnready board.old handles.old (W.told wires.old) (W.told wires.new) }
     ensures vain { Stand handles.old → Pauses WantsInVain (W.told wires.old) (W.told wires.new) }
     ensures causes { IfErr result (λ told. HasCause start (W.faults wires.new) (W.idles wires.new) told) }
-    ensures fails { IfErr result (λ told. FailsOn false board.old handles.old (W.told wires.old) (W.told wires.new) told) }
     ensures counts { GoesOn (W.faults wires.old) (W.faults wires.new) (W.idles wires.old) (W.idles wires.new) (W.contents wires.old) (W.contents wires.new) }
     ensures links { Stand handles.old → LinksGo [] handles.old (W.told wires.old) handles.new (W.told wires.new) }
     ensures asks { AsksNone board.old handles.old (W.told wires.old) (W.told wires.new) }
     ensures fresh { OnOk result (StaysFresh board.old handles.old (W.told wires.old) board.new handles.new (W.told wires.new)) }
     ensures wanted { Stand handles.old → Pauses WantsSome (W.told wires.old) (W.told wires.new) }
+    ensures little { StaysLittle board.old handles.old (W.told wires.old) (W.told wires.new) }
     ensures drives { DrivesOn board.old handles.old (W.told wires.old) (W.told wires.new) }
-    ensures decides { IfErr result (λ told. DecidesOn false board.old handles.old (W.told wires.old) (W.told wires.new) told) }
-    ensures calm { OnOk result (IsCalm board.new handles.new) }
+    ensures decides { IfErr result (λ told. DecidesOn (Some sides) false board.old handles.old (W.told wires.old) (W.told wires.new) told) }
+    ensures calm { OnOk result (IsCalm (Some sides) board.new handles.new) }
     ensures tries { Stand handles.old → Tries AnyLeft (W.told wires.old) (W.told wires.new) }
     ensures tried { OnOk result (Stand handles.old → Tries NoneLeft (W.told wires.old) (W.told wires.new)) }
+    ensures patient { OnOk result (Stand handles.old → StaysPatient false start.idles (W.told wires.old) (W.idles wires.old) (W.told wires.new) (W.idles wires.new)) }
+    ensures impatient { IfErr result (λ told. Stand handles.old → StaysPatient (may_end_waiting told) start.idles (W.told wires.old) (W.idles wires.old) (W.told wires.new) (W.idles wires.new)) }
 {
     'turns: for _ in 0..MAX_TURNS {
-        check_calm(handles, board)?;
+        check_calm(handles, board, Some(sides))?;
+        check_idles(wires, start)?;
         if are_quiet(handles) {
             return Ok(());
         }
-        let told = turn(handles, board, wires, start)?;
+        let told = turn(handles, board, wires, start, Some(sides))?;
         rest(handles, wires, start, told)?;
     }
     Err(CopyFault::NoMemory)

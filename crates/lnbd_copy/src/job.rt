@@ -1,7 +1,7 @@
 //! What a copy does once both sides are known: slices are begun and go on, extents are asked for, and in the end the
 //! destination is flushed and all connections part. How bytes move is not known here.
 
-ghost use Rattle.std.specs.Prelude.{◌≡◌, ◌≢◌, ◌<◌, ◌≤◌, ◌^◌, ℕ, true, false, not, List, [], length, Bool, Some, None, IfOk, OnOk};
+ghost use Rattle.std.specs.Prelude.{◌≡◌, ◌≢◌, ◌<◌, ◌≤◌, ◌^◌, ℕ, true, false, not, List, [], length, Bool, Some, None, IfOk, OnErr, OnOk};
 ghost use Rattle.lnbd_poll.specs.Held.{Held};
 ghost use Rattle.lnbd_board.specs.declared.ticket.Ticket.{Ticket as Tag};
 ghost use Rattle.lnbd_board.specs.Files.{Seen as Kept};
@@ -12,6 +12,7 @@ ghost use Rattle.lnbd_copy.specs.Reached.{IsToldTo};
 ghost use Rattle.lnbd_copy.specs.Job.{cells_of};
 ghost use Rattle.lnbd_copy.specs.UnderWay.{HasAsked, HasFilled, HaveLooked, IsPast, IsWantedOf, Refills, unfinished};
 ghost use Rattle.lnbd_copy.specs.Dealing.{HasGoneOn};
+ghost use Rattle.lnbd_copy.specs.Deciding.{AreAlive};
 ghost use Rattle.lnbd_copy.specs.Leaving.{Parts};
 ghost use Rattle.lnbd_copy.specs.Links.{HaveSameLinks};
 ghost use Rattle.lnbd_copy.specs.Moving.{AsksFor, HasChanged, HasHeard};
@@ -21,6 +22,7 @@ ghost use Rattle.lnbd_copy.specs.Windows.{IsPlanned};
 use crate::dealing::{Bindings, ask_extents, ask_flush};
 use crate::parting::part;
 use crate::terms::Terms;
+use crate::turning::check_alive;
 use crate::windows::Windows;
 use lnbd_board::{Board, Ticket};
 use lnbd_model::NoMemory;
@@ -72,7 +74,7 @@ impl Job {
         ensures terms { IfOk result (λ job. job.terms ≡ terms) }
         ensures begins { IfOk result (λ job. job.phase ≡ phase.Copying) }
         ensures dealt { IfOk result (λ job. AreDealt terms.limit terms.sides job.bound []) }
-        ensures job { IfOk result (λ job. (way : Way) (now : Kept) → way.size ≡ Some terms.size → now.how ≡ terms.how → way.how ≡ terms.how → way.sides ≡ terms.sides → way.slices ≡ [] → way.asked ≡ None → ((block p : ℕ) → way.whole block p ≡ false) → now.flushing ≡ false → (extents ≡ false → (p : ℕ) → way.heard p ≡ true) → ((p : ℕ) → way.reach p ≡ false) → way.ended ≡ false → way.flush ≡ terms.flush → IsJob job way now) }
+        ensures job { IfOk result (λ job. (way : Way) (now : Kept) → way.size ≡ Some terms.size → now.how ≡ terms.how → way.how ≡ terms.how → way.sides ≡ terms.sides → way.slices ≡ [] → way.asked ≡ None → ((block p : ℕ) → way.whole block p ≡ false) → now.flushing ≡ false → (extents ≡ false → (grain p : ℕ) → way.heard grain p ≡ true) → ((p : ℕ) → way.reach p ≡ false) → way.ended ≡ false → way.flush ≡ terms.flush → way.queries ≡ 0 → IsJob job way now) }
     {
         let bindings = Bindings::new(alloc, terms)?;
         let windows = first_windows(alloc, terms, extents)?;
@@ -124,7 +126,7 @@ impl Job {
     {
         match self.phase {
             Phase::Copying => self.copy(alloc, handles, board),
-            Phase::Flushing => Ok(self.flushed(handles, board)),
+            Phase::Flushing => self.flushed(handles, board),
             Phase::Parting => Ok(false),
         }
     }
@@ -302,38 +304,42 @@ impl Job {
             self.phase = Phase::Flushing;
             return Ok(());
         }
-        self.leave(handles);
-        Ok(())
+        self.leave(handles)
     }
 
     /// Asks for the end, where the flush was answered.
     #[tactic(auto, using(crate::proofs::JobLemmas::acts_none, crate::proofs::LinkLemmas::same_none))]
-    fn flushed(&mut self, handles: &mut Handles<Ticket>, board: &Board) -> bool
+    fn flushed(&mut self, handles: &mut Handles<Ticket>, board: &Board) -> Result<bool, NoMemory>
         requires flushing { self.old.phase ≡ phase.Flushing }
         requires well { board.now.error ≡ None }
-        ensures acts { Acts self.old self.new board.now board.now handles.old handles.new }
+        ensures acts { OnOk result (Acts self.old self.new board.now board.now handles.old handles.new) }
         ensures terms { self.new.terms ≡ self.old.terms }
         ensures phase { self.new.phase ≢ phase.Copying }
-        ensures still { result ≡ false → handles.new ≡ handles.old }
-        ensures acted { result ≡ true → self.new.phase ≢ self.old.phase }
+        ensures still { IfOk result (λ acted. acted ≡ false → handles.new ≡ handles.old) }
+        ensures acted { IfOk result (λ acted. acted ≡ true → self.new.phase ≢ self.old.phase) }
         ensures bound { self.new.bound ≡ self.old.bound }
         ensures links { HaveSameLinks handles.old handles.new }
     {
         if board.is_flushed() {
-            self.leave(handles);
-            return true;
+            self.leave(handles)?;
+            return Ok(true);
         }
-        false
+        Ok(false)
     }
 
-    /// Asks for the end.
-    fn leave(&mut self, handles: &mut Handles<Ticket>)
-        ensures parts { (now : Kept) → Parts now handles.old handles.new }
-        ensures others { self.new ≡ record self.old { phase = phase.Parting } }
+    /// Asks for the end. No connection is dead by then: the turn in which one died has ended the copy.
+    #[tactic(auto, using(crate::proofs::LinkLemmas::same_none))]
+    fn leave(&mut self, handles: &mut Handles<Ticket>) -> Result<(), NoMemory>
+        ensures alive { OnOk result (AreAlive handles.old) }
+        ensures parts { OnOk result ((now : Kept) → Parts now handles.old handles.new) }
+        ensures others { OnOk result (self.new ≡ record self.old { phase = phase.Parting }) }
+        ensures stays { OnErr result (self.new ≡ self.old) }
         ensures links { HaveSameLinks handles.old handles.new }
     {
+        check_alive(handles)?;
         part(handles);
         self.phase = Phase::Parting;
+        Ok(())
     }
 }
 
@@ -347,6 +353,7 @@ fn first_windows(alloc: Global, terms: Terms, extents: bool) -> Result<Windows, 
     ensures cells { IfOk result (λ windows. windows.plan.cells ≡ cells_of terms) }
     ensures heard { IfOk result (λ windows. (heard : ℕ → Bool) → (extents ≡ false → (p : ℕ) → heard p ≡ true) → IsHeardTo windows heard) }
     ensures reached { IfOk result (λ windows. (reach : ℕ → Bool) → ((p : ℕ) → reach p ≡ false) → IsToldTo windows reach) }
+    ensures inside { IfOk result (λ windows. windows.at ≤ windows.size) }
 {
     let mut windows = Windows::new(alloc, terms);
     if extents {

@@ -12,6 +12,7 @@ mod job;
 mod laws;
 mod opening;
 mod parting;
+mod running;
 mod sides;
 mod telling;
 mod terms;

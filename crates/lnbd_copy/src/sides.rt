@@ -17,6 +17,12 @@ pub(crate) const FIRST_SOURCE: usize = 0;
 
 pub(crate) const FIRST_DESTINATION: usize = 1;
 
+/// One connection to each side: so many there are until it is settled how many are to be made.
+pub(crate) const ONE_EACH: Sides = Sides {
+    source: 1,
+    destination: 1,
+};
+
 impl Sides {
     /// The handle of a connection of the source.
     pub(crate) fn source(self, connection: usize) -> usize
@@ -52,6 +58,7 @@ impl Sides {
     /// The first handle of the side that this one is on.
     pub(crate) fn first(self, index: usize) -> usize
         ensures few { result ≤ 1 }
+        ensures before { result ≤ index }
         ensures value { result ≡ first_of self index }
     {
         if self.is_source(index) {

@@ -1,7 +1,7 @@
 //! The windows of a copy: how far the source's extents were asked for and told, and the slices that are planned of it.
 //! One window after another is asked for; which connection is asked, and when, is not known here.
 
-ghost use Rattle.std.specs.Prelude.{◌≡◌, ◌<◌, ◌≤◌, ◌+◌, ◌-◌, ◌*◌, ◌/◌, ◌^◌, ℕ, Bool, true, false, not, ◌&&◌, ◌||◌, ◌==◌, ◌↔◌, nat_lt, min, length, List, [], ◌++◌, IfSome, IsSome, is_some, IfOk, OnOk, OnErr, None, option_to_list};
+ghost use Rattle.std.specs.Prelude.{◌≡◌, ◌<◌, ◌≤◌, ◌⊎◌, ◌+◌, ◌-◌, ◌*◌, ◌/◌, ◌^◌, ℕ, Bool, true, false, not, ◌&&◌, ◌||◌, ◌==◌, ◌↔◌, nat_lt, min, length, List, [], ◌++◌, IfSome, IsSome, is_some, IfOk, OnOk, OnErr, None, option_to_list};
 ghost use Rattle.std.specs.Option.{option_map};
 ghost use Rattle.lnbd_extents.specs.Positions.{within, holds};
 ghost use Rattle.lnbd_extents.specs.Lists.{flags_at, AreJoined};
@@ -55,7 +55,7 @@ impl Model for Windows {
 
 impl Windows {
     ghost use Rattle.lnbd_plan.specs.declared.grid.Slice.{Slice};
-    ghost use Rattle.lnbd_copy.specs.Heard.{IsHeardTo, has_position};
+    ghost use Rattle.lnbd_copy.specs.Heard.{IsHeardTo, passed_heard};
     ghost use Rattle.lnbd_copy.specs.Reached.{IsToldTo, told_heard};
     ghost use Rattle.lnbd_copy.specs.Spared.{IsSpared, whole_heard};
     ghost use Rattle.lnbd_copy.specs.Windows.{wanted, zero_heard, IsPlanned};
@@ -86,6 +86,7 @@ impl Windows {
         ensures heard { OnOk result ((heard : ℕ → Bool) → ((p : ℕ) → heard p ≡ true) → IsHeardTo self.new heard) }
         ensures reached { OnOk result ((reach : ℕ → Bool) → ((p : ℕ) → reach p ≡ false) → IsToldTo self.new reach) }
         ensures whole { OnOk result (self.new.plan.end ≡ self.old.size) }
+        ensures inside { OnOk result (self.new.at ≤ self.new.size) }
         ensures cells { self.new.plan.cells ≡ self.old.plan.cells }
         ensures size { self.new.size ≡ self.old.size }
         ensures grain { self.new.grain ≡ self.old.grain }
@@ -117,12 +118,14 @@ impl Windows {
             → IsPlanned self.new (λ p. zero p || zero_heard (wanted self.old) told.now p) slices) }
         ensures spared { OnOk result ((whole : ℕ → Bool) (slices : List Slice) → IsSpared self.old whole slices
             → IsSpared self.new (λ p. whole p || whole_heard self.old.grain (wanted self.old) told.now p) slices) }
-        ensures heard { OnOk result ((heard : ℕ → Bool) → IsHeardTo self.old heard → IsHeardTo self.new (λ p. heard p || has_position (wanted self.old) p)) }
+        ensures heard { OnOk result ((heard : ℕ → Bool) → IsHeardTo self.old heard → IsHeardTo self.new (λ p. heard p || passed_heard self.old.grain (wanted self.old) told.now p)) }
         ensures reached { OnOk result ((reach : ℕ → Bool) → IsToldTo self.old reach → IsToldTo self.new (λ p. reach p || told_heard (wanted self.old) told.now p)) }
         ensures cells { self.new.plan.cells ≡ self.old.plan.cells }
         ensures size { self.new.size ≡ self.old.size }
         ensures grain { self.new.grain ≡ self.old.grain }
         ensures unwanted { wanted self.old ≡ None → self.new ≡ self.old }
+        ensures ahead { OnOk result (is_some (wanted self.old) ≡ true → self.old.at < self.new.at) }
+        ensures inside { OnOk result (self.new.at ≤ self.new.size) }
     {
         let end = end_of(self.start, self.size);
         if end <= self.at {
@@ -192,6 +195,7 @@ fn joined(alloc: Global, told: &[Extent], most: u64) -> Result<Vec<Extent>, NoMe
     ensures told { IfOk result (λ list. (p : ℕ) → is_zero (flags_at list.items p) ≡ true → is_zero (flags_at told.now p) ≡ true) }
     ensures all { IfOk result (λ list. (p : ℕ) → p < most → is_zero (flags_at told.now p) ≡ true → is_zero (flags_at list.items p) ≡ true) }
     ensures reach { IfOk result (λ list. (p : ℕ) → p < most → is_told (flags_at told.now p) ≡ true → is_told (flags_at list.items p) ≡ true) }
+    ensures told_so { IfOk result (λ list. (p : ℕ) → is_told (flags_at list.items p) ≡ true → is_told (flags_at told.now p) ≡ true) }
     ensures joined { IfOk result (λ list. AreJoined list.items) }
     ensures one { IfOk result (λ list. HaveOneFlag list.items) }
 {
@@ -225,6 +229,7 @@ fn hold_zeroes(
     requires one { HaveOneFlag told.now }
     ensures reached { IfOk result (λ reached. reached ≤ most) }
     ensures far { IfOk result (λ reached. (p : ℕ) → p < most → is_told (flags_at told.now p) ≡ true → p < reached) }
+    ensures near { IfOk result (λ reached. (p : ℕ) → p < reached → is_told (flags_at told.now p) ≡ true) }
     ensures held { OnOk result ((p : ℕ) → holds zero.new p ≡ true → holds zero.old p || zero_within (from, most) told.now p ≡ true) }
     ensures kept { OnOk result ((p : ℕ) → holds zero.old p ≡ true → holds zero.new p ≡ true) }
     ensures whole { OnOk result ((p : ℕ) → whole_within grain (from, most) told.now p ≡ true → holds zero.new p ≡ true) }
@@ -287,6 +292,9 @@ fn passed(reached: u64, grain: u64, most: u64) -> u64
     ensures inside { result ≤ most }
     ensures whole { reached ≡ most → result ≡ most }
     ensures near { reached < result + grain }
+    ensures some { 0 < most → 0 < result }
+    ensures told { (result ≤ reached) ⊎ (result ≤ grain) }
+    ensures blocks { (result ≡ most) ⊎ (result / grain * grain ≡ result) }
 {
     if reached == most {
         return most;

@@ -25,16 +25,16 @@ use Rattle.lnbd_course.proofs.Listing.{none_end, none_read}
 -- The block status for the range was wholly written, and so it was asked of the export.
 module _ (from : Place) (has : ℕ → Bool) (calls : List Call) (histories : Histories) (says : (link : ℕ) → DrivenSays (histories link) (on_link link calls)) (of : AreOfSource from calls has) (range : ℕ × ℕ) (now : board.Seen)
     (w : IsWanted has histories range now) (mapped : now.mapped ≡ true) where
-  out : nat_le w.cookie (written (histories w.link)) ≡ true
+  pub out : nat_le w.cookie (written (histories w.link)) ≡ true
   out = let done = w.answered mapped in done_is_written (histories w.link) w.cookie done.bytes done.is
 
-  asked_so : asked_on (on_link w.link calls) w.cookie ≡ Some (bare w.asks)
+  pub asked_so : asked_on (on_link w.link calls) w.cookie ≡ Some (bare w.asks)
   asked_so =
       (says w.link).requests w.cookie
       ∙ ap (λ (b : Bool). if b then option_map bare (request (histories w.link) w.cookie) else None) out
       ∙ ap (λ (a : Option (Request Ticket)). option_map bare a) w.asked
 
-  here : is_of from calls w.link ≡ true
+  pub here : is_of from calls w.link ≡ true
   here = of w.link w.cookie (bare w.asks) w.source asked_so
 
   was_answered : (p : ℕ) → within range p ≡ true → WasAnswered (dealt_with from calls) p

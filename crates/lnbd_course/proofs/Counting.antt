@@ -29,7 +29,7 @@ use Rattle.lnbd_tracks.proofs.Unfiled.{request_stays}
 use Rattle.lnbd_course.specs.Counted.{CountsSame, HasNotCounted, IsCounted, bytes_of, flushes_of, is_flush, is_zero, total, up_to_end}
 
 -- the commands of a list
-abbrev commands : List Request → List (Command Nobody)
+abbrev pub commands : List Request → List (Command Nobody)
 commands [] = []
 commands (r ∷ rs) = r.said.command ∷ commands rs
 
@@ -39,11 +39,11 @@ AskAlike one other = (link cookie : ℕ) → commands (under link cookie one) �
 
 -- Keys.
 
-abbrev is_at : (link cookie : ℕ) → Request → Bool
+abbrev pub is_at : (link cookie : ℕ) → Request → Bool
 is_at link cookie r = (r.link == link) && (r.cookie == cookie)
 
 -- it is under this link and cookie, or not
-data Key (link cookie other another : ℕ) : Type 0 where
+pub data Key (link cookie other another : ℕ) : Type 0 where
   Same : link ≡ other → cookie ≡ another → ((link == other) && (cookie == another)) ≡ true → Key link cookie other another
   Apart : ((link == other) && (cookie == another)) ≡ false → Key link cookie other another
 
@@ -51,7 +51,7 @@ and_false : (a : Bool) → (a && false) ≡ false
 and_false true = refl
 and_false false = refl
 
-key : (link cookie other another : ℕ) → Key link cookie other another
+pub key : (link cookie other another : ℕ) → Key link cookie other another
 key link cookie other another = elim (cases_eq link other) [
   | inl l ↦ elim (cases_eq cookie another) [
     | inl c ↦ Same l c (ap (λ (b : Bool). b && (cookie == another)) (eq-eqb link other l) ∙ eq-eqb cookie another c)
@@ -62,28 +62,28 @@ key link cookie other another = elim (cases_eq link other) [
 
 -- Without the first request under a link and a cookie.
 
-less : (link cookie : ℕ) → List Request → List Request
+pub less : (link cookie : ℕ) → List Request → List Request
 less link cookie [] = []
 less link cookie (r ∷ rs) = cond (is_at link cookie r) rs (r ∷ less link cookie rs)
 
-under_here : (link cookie : ℕ) (x : Request) (xs : List Request) → is_at link cookie x ≡ true → under link cookie (x ∷ xs) ≡ x ∷ under link cookie xs
+pub under_here : (link cookie : ℕ) (x : Request) (xs : List Request) → is_at link cookie x ≡ true → under link cookie (x ∷ xs) ≡ x ∷ under link cookie xs
 under_here link cookie x xs e = ap (λ (b : Bool). cond b (x ∷ under link cookie xs) (under link cookie xs)) e
 
-under_other : (link cookie : ℕ) (x : Request) (xs : List Request) → is_at link cookie x ≡ false → under link cookie (x ∷ xs) ≡ under link cookie xs
+pub under_other : (link cookie : ℕ) (x : Request) (xs : List Request) → is_at link cookie x ≡ false → under link cookie (x ∷ xs) ≡ under link cookie xs
 under_other link cookie x xs e = ap (λ (b : Bool). cond b (x ∷ under link cookie xs) (under link cookie xs)) e
 
-less_here : (link cookie : ℕ) (x : Request) (xs : List Request) → is_at link cookie x ≡ true → less link cookie (x ∷ xs) ≡ xs
+pub less_here : (link cookie : ℕ) (x : Request) (xs : List Request) → is_at link cookie x ≡ true → less link cookie (x ∷ xs) ≡ xs
 unfolding less
 less_here link cookie x xs e = ap (λ (b : Bool). cond b xs (x ∷ less link cookie xs)) e
 
-less_other : (link cookie : ℕ) (x : Request) (xs : List Request) → is_at link cookie x ≡ false → less link cookie (x ∷ xs) ≡ x ∷ less link cookie xs
+pub less_other : (link cookie : ℕ) (x : Request) (xs : List Request) → is_at link cookie x ≡ false → less link cookie (x ∷ xs) ≡ x ∷ less link cookie xs
 unfolding less
 less_other link cookie x xs e = ap (λ (b : Bool). cond b xs (x ∷ less link cookie xs)) e
 
-no_first : (c : Command Nobody) (cs : List (Command Nobody)) → [] ≡ c ∷ cs → ⊥
+pub no_first : (c : Command Nobody) (cs : List (Command Nobody)) → [] ≡ c ∷ cs → ⊥
 no_first c cs e = cc
 
-same_first : (c d : Command Nobody) (cs ds : List (Command Nobody)) → c ∷ cs ≡ d ∷ ds → c ≡ d
+pub same_first : (c d : Command Nobody) (cs ds : List (Command Nobody)) → c ∷ cs ≡ d ∷ ds → c ≡ d
 same_first c d cs ds e = cc
 
 same_others : (c d : Command Nobody) (cs ds : List (Command Nobody)) → c ∷ cs ≡ d ∷ ds → cs ≡ ds
@@ -93,7 +93,7 @@ module _ (weight : Command Nobody → ℕ) where
   swap : (a b c : ℕ) → a + (b + c) ≡ b + (a + c)
   swap a b c = omega arith
 
-  total_less : (link cookie : ℕ) (c : Command Nobody) (cs : List (Command Nobody)) (xs : List Request) → commands (under link cookie xs) ≡ c ∷ cs → total weight xs ≡ weight c + total weight (less link cookie xs)
+  pub total_less : (link cookie : ℕ) (c : Command Nobody) (cs : List (Command Nobody)) (xs : List Request) → commands (under link cookie xs) ≡ c ∷ cs → total weight xs ≡ weight c + total weight (less link cookie xs)
   total_less link cookie c cs [] e = absurd (no_first c cs e)
   total_less link cookie c cs (x ∷ xs) e = elim (key x.link x.cookie link cookie) [
     | Same l k is ↦
@@ -105,7 +105,7 @@ module _ (weight : Command Nobody → ℕ) where
         ∙ ap (λ (l : List Request). weight c + total weight l) (sym (less_other link cookie x xs not))
   ]
 
-under_less : (link cookie : ℕ) (c : Command Nobody) (cs : List (Command Nobody)) (xs : List Request) → commands (under link cookie xs) ≡ c ∷ cs → commands (under link cookie (less link cookie xs)) ≡ cs
+pub under_less : (link cookie : ℕ) (c : Command Nobody) (cs : List (Command Nobody)) (xs : List Request) → commands (under link cookie xs) ≡ c ∷ cs → commands (under link cookie (less link cookie xs)) ≡ cs
 under_less link cookie c cs [] e = absurd (no_first c cs e)
 under_less link cookie c cs (x ∷ xs) e = elim (key x.link x.cookie link cookie) [
   | Same l k is ↦ ap (λ (l : List Request). commands (under link cookie l)) (less_here link cookie x xs is)
@@ -115,7 +115,7 @@ under_less link cookie c cs (x ∷ xs) e = elim (key x.link x.cookie link cookie
 ]
 
 -- the others are as they were
-under_beside : (link cookie other another : ℕ) (xs : List Request) → ((link == other) && (cookie == another)) ≡ false → commands (under other another (less link cookie xs)) ≡ commands (under other another xs)
+pub under_beside : (link cookie other another : ℕ) (xs : List Request) → ((link == other) && (cookie == another)) ≡ false → commands (under other another (less link cookie xs)) ≡ commands (under other another xs)
 unfolding less
 under_beside link cookie other another [] d = refl
 under_beside link cookie other another (x ∷ xs) d = elim (key x.link x.cookie link cookie) [
@@ -170,11 +170,11 @@ same_flushes one other h = same_total (λ command. cond (is_flush command.kind) 
 
 -- What handles were asked.
 
-abbrev commands_in : Option (commands_of.Request Ticket) → List (Command Nobody)
+abbrev pub commands_in : Option (commands_of.Request Ticket) → List (Command Nobody)
 commands_in None = []
 commands_in (Some asks) = bare asks ∷ []
 
-told_commands : (link cookie : ℕ) (asks : Option (commands_of.Request Ticket)) (outcome : Outcome) → commands (request_of link cookie asks outcome) ≡ commands_in asks
+pub told_commands : (link cookie : ℕ) (asks : Option (commands_of.Request Ticket)) (outcome : Outcome) → commands (request_of link cookie asks outcome) ≡ commands_in asks
 told_commands link cookie None outcome = refl
 told_commands link cookie (Some asks) outcome = refl
 

@@ -163,10 +163,10 @@ removed_have index histories [] have = tt
 removed_have zero histories (seen ∷ others) have = have.1
 removed_have (suc index) histories (seen ∷ others) have = (have.0, removed_have index histories others have.1)
 
-none_some : (one : Seen Ticket) → None ≡ Some one → ⊥
+pub none_some : (one : Seen Ticket) → None ≡ Some one → ⊥
 none_some one e = cc
 
-some_same : (one other : Seen Ticket) → Some one ≡ Some other → one ≡ other
+pub some_same : (one other : Seen Ticket) → Some one ≡ Some other → one ≡ other
 some_same one other e = cc
 
 -- the history of one of them

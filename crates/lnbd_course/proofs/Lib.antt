@@ -42,3 +42,7 @@ pub mod Unfailed
 pub mod Plain
 pub mod Cells
 pub mod Reached
+pub mod Passed
+pub mod Little
+pub mod Cutting
+pub mod Runs

@@ -55,17 +55,17 @@ unfinished_done bytes e = cc
 
 module _ (from : Place) (how : How) (sources : ℕ → Bool) (slices : List Slice) (now : board.Seen) (calls : List wire.Call) (seens : List (Seen Ticket)) (wanted : Option (ℕ × ℕ)) (known : Known) (t : Told how sources slices now calls seens wanted known)
     (well : now.error ≡ None) (stands : AllStand seens) (all : AllHeld calls seens) (of : (link : ℕ) → is_of from calls link ≡ true → sources link ≡ true) where
-  abbrev histories : Histories
+  abbrev pub histories : Histories
   histories = t.course.histories
 
   -- A link on which something was asked is that of a handle.
-  held : (link cookie : ℕ) (asks : Request Ticket) → request (histories link) cookie ≡ Some asks → IsThere link seens
+  pub held : (link cookie : ℕ) (asks : Request Ticket) → request (histories link) cookie ≡ Some asks → IsThere link seens
   held link cookie asks is = elim (there_or_apart link seens stands) [
     | inl h ↦ h
     | inr apart ↦ absurd (none_some asks (sym (ap (λ (h : History Ticket). request h cookie) (t.course.unused link (all link apart)).blank) ∙ is))
   ]
 
-  says : (link : ℕ) → DrivenSays (histories link) (on_link link calls)
+  pub says : (link : ℕ) → DrivenSays (histories link) (on_link link calls)
   says link = elim (there_or_apart link seens stands) [
     | inl h ↦
         subst (λ (n : ℕ). DrivenSays (histories n) (on_link n calls)) h.same
@@ -75,10 +75,10 @@ module _ (from : Place) (how : How) (sources : ℕ → Bool) (slices : List Slic
   ]
 
   -- what was told of positions on a link, by the history of its handle
-  abbrev TellsSo : (link : ℕ) → History Ticket → Type 0
+  abbrev pub TellsSo : (link : ℕ) → History Ticket → Type 0
   TellsSo link history = (cookie p : ℕ) → nat_le cookie (written history) ≡ true → told_at (on_link link calls) cookie p ≡ said_after is_told history cookie p
 
-  tells_so : (link : ℕ) → IsThere link seens → TellsSo link (histories link)
+  pub tells_so : (link : ℕ) → IsThere link seens → TellsSo link (histories link)
   tells_so link h =
       let one = one_of calls seens h.index h.seen h.there t.course.drive.drive t.course.drive.plain in
       subst (λ (n : ℕ). TellsSo n (histories n)) h.same

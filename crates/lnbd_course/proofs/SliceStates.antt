@@ -15,13 +15,15 @@ use Rattle.lnbd_plan.specs.declared.grid.Slice.{Slice}
 use Rattle.lnbd_board.specs.declared.how.How.{How}
 use Rattle.lnbd_board.specs.declared.row.Stage.{Stage}
 use Rattle.lnbd_board.specs.declared.row.Stage.TheVariants.{Reading, Last, Came, Writing, Holding, Finished}
-use Rattle.lnbd_board.specs.Pieces.{Bytes, Piece, Zeros, ask_of, is_passed, kind_of, spell, spell1, wrote, zeroing_kind}
+use Rattle.lnbd_board.specs.Pieces.{Bytes, Piece, Zeros, ask_of, is_passed, is_told, kind_of, spell, spell1, wrote, zeroing_kind}
 use Rattle.lnbd_board.specs.Requests.{IsIn, Request, Said, done, is_of, over_said, own, reads, waiting}
 use Rattle.lnbd_board.specs.Rows.{IsOnePiece, IsOver, IsRead, Known, KnownBy, StandsAt, is_busy, lies_in}
 use Rattle.lnbd_board.proofs.Lists.{own_first}
 use Rattle.lnbd_board.proofs.Spelling.{ask_kind, Covered, Never, Once, covered, covers_piece, has_piece, within_at, within_true}
 use Rattle.lnbd_tracks.specs.Laws.{IsDone}
-use Rattle.lnbd_course.specs.Slices.{IsAskedWhole, IsAwaited, IsFinished, IsUnfinished, WaitsToChange, WasChanged, WasRead, WasReadZero}
+use Rattle.lnbd_course.specs.Runs.{counts_zero}
+use Rattle.lnbd_course.specs.Slices.{IsAskedWhole, IsAwaited, IsFinished, IsUnfinished, WaitsToChange, WasChanged, WasFoundZero, WasRead}
+use Rattle.lnbd_course.proofs.Cutting.{passed_told}
 
 -- a request of a list that said this
 abbrev pub IsSaid : Said → List Request → Type 0
@@ -167,8 +169,8 @@ module _ (how : How) (i : ℕ) (s : Slice) (source destination : List Request) (
   read_done : (bytes : List ℕ) (known : IsRead s (outcome.Done bytes) (own i source)) → Shown known.command (outcome.Done bytes) reads_of
   read_done bytes known = done_shown (record { command = known.command; outcome = outcome.Done bytes }) bytes source reads_of says (own_first i (record { command = known.command; outcome = outcome.Done bytes }) source known.one) refl
 
-  -- A zero of it is known: it was told so or read.
-  known_zero : (zero : Bool) (bytes : List ℕ) (p : ℕ) → KnownBy zero s bytes (own i source) → lies_in s p ≡ true → get_or bytes (p - s.start) 0 ≡ 0 → (zero ≡ true) ⊎ WasReadZero p reads_of
+  -- A zero of it is known: it was told so or found.
+  known_zero : (zero : Bool) (bytes : List ℕ) (p : ℕ) → KnownBy zero s bytes (own i source) → lies_in s p ≡ true → (zero ≡ false → is_told how s bytes p ≡ true) → (zero ≡ true) ⊎ WasFoundZero how p reads_of
   known_zero true bytes p known here is = inl refl
   known_zero false bytes p known here is =
       let r = read_done bytes known in
@@ -180,13 +182,13 @@ module _ (how : How) (i : ℕ) (s : Slice) (source destination : List Request) (
         asked = r.asked;
         here = reads_here s (outcome.Done bytes) (own i source) known p here;
         done = r.outcome;
-        zero = ap (λ (n : ℕ). get_or bytes (p - n) 0) known.start ∙ is;
+        zero = ap (λ (n : ℕ). counts_zero how n bytes p) known.start ∙ is refl;
       })
 
   -- A position of it that was covered by what was written is changed, or it is a zero that was passed over.
   changed : (zero : Bool) (bytes : List ℕ) (p : ℕ) → KnownBy zero s bytes (own i source) → lies_in s p ≡ true → ((x : Said) → Among x (own i destination) → (q : ℕ) → has x.command q ≡ true → lies_in s q ≡ true) →
-      Covered how p (get_or bytes (p - s.start) 0) (own i destination) → WasChanged s p changes_of ⊎ ((how.skip ≡ true) × ((zero ≡ true) ⊎ WasReadZero p reads_of))
-  changed zero bytes p known here inside (Once at piece one within_it byte) =
+      (over_said p (own i destination) ≡ [] → zero ≡ false → is_told how s bytes p ≡ true) → Covered how p (get_or bytes (p - s.start) 0) (own i destination) → WasChanged s p changes_of ⊎ ((how.skip ≡ true) × ((zero ≡ true) ⊎ WasFoundZero how p reads_of))
+  changed zero bytes p known here inside told (Once at piece one within_it byte) =
       let r = done_shown (done (ask_of how at piece)) (ask_of how at piece).payload destination changes_of says' (own_over p i (done (ask_of how at piece)) destination one) refl in
       inl (record {
         link = r.link;
@@ -197,7 +199,7 @@ module _ (how : How) (i : ℕ) (s : Slice) (source destination : List Request) (
         inside = inside (done (ask_of how at piece)) (over_among p (done (ask_of how at piece)) (own i destination) one);
         done = record { bytes = (ask_of how at piece).payload; is = r.outcome };
       })
-  changed zero bytes p known here inside (Never skips none is) = inr (skips, known_zero zero bytes p known here is)
+  changed zero bytes p known here inside told (Never skips none is) = inr (skips, known_zero zero bytes p known here (told none))
 
   is_covered : (over : IsOver how s (own i source) (own i destination)) (p : ℕ) → lies_in s p ≡ true → Covered how p (get_or over.bytes (p - s.start) 0) (own i destination)
   is_covered over p here =
@@ -210,6 +212,13 @@ module _ (how : How) (i : ℕ) (s : Slice) (source destination : List Request) (
   is_inside over x among q here =
       let len : length (spell over.did) ≡ s.length = ap length over.spelt ∙ over.known.size in
       subst (λ (n : ℕ). within (s.start, n) q ≡ true) len (wrote_inside how s.start over.did x (subst (Among x) over.asked among) q here)
+
+  -- What was passed over was found.
+  is_found : (over : IsOver how s (own i source) (own i destination)) (p : ℕ) → lies_in s p ≡ true → over_said p (own i destination) ≡ [] → s.zero ≡ false → is_told how s over.bytes p ≡ true
+  is_found over p here none untold =
+      let w = within_true s.start s.length p here in
+      let cut = over.cut untold in
+      passed_told how (is_told how s over.bytes) (λ _. false) p s.start (s.start + s.length) over.did cut.between cut.whole w.0 w.1 (ap (over_said p) (sym over.asked) ∙ none)
 
   -- A zero slice was changed by one request.
   zeroed : (over : IsOver how s (own i source) (own i destination)) → IsOnePiece how over.did → IsAskedWhole (zeroing_kind how) s IsDone changes_of
@@ -234,7 +243,7 @@ module _ (how : How) (i : ℕ) (s : Slice) (source destination : List Request) (
   pub is_finished : IsOver how s (own i source) (own i destination) → IsFinished how s reads_of changes_of
   is_finished over = record {
     read = was_read i s over.bytes source reads_of says over.known;
-    changed = λ p here. changed s.zero over.bytes p over.known.by here (is_inside over) (is_covered over p here);
+    changed = λ p here. changed s.zero over.bytes p over.known.by here (is_inside over) (is_found over p here) (is_covered over p here);
     zeroed = λ zero. zeroed over (over.one zero);
   }
 

@@ -70,12 +70,12 @@ and_left true b e = refl
 and_left false b e = e
 
 -- What a link says, where what was read may not have arrived: by a history in which nothing more came for what was over.
-record Says (old : History Ticket) (link : ℕ) (calls : List wire.Call) : Type 0 where
-  history : History Ticket
-  frozen : Frozen old history
-  says : DrivenSays history (on_link link calls)
+pub record Says (old : History Ticket) (link : ℕ) (calls : List wire.Call) : Type 0 where
+  pub history : History Ticket
+  pub frozen : Frozen old history
+  pub says : DrivenSays history (on_link link calls)
 
-says_read : (old : History Ticket) (calls : List wire.Call) (seen : Seen Ticket) → HasHandle seen.history → Runs seen.link calls seen.history seen.unread → Frozen old seen.history → IsRead seen → Says old seen.link calls
+pub says_read : (old : History Ticket) (calls : List wire.Call) (seen : Seen Ticket) → HasHandle seen.history → Runs seen.link calls seen.history seen.unread → Frozen old seen.history → IsRead seen → Says old seen.link calls
 says_read old calls seen stands run frozen (inl none) = record {
   history = seen.history;
   frozen = frozen;
@@ -98,7 +98,7 @@ says_read old calls seen stands run frozen (inr a) = by a.bytes a.answers a.befo
               (Arrives calls before all all [] answers drives (sym (append-nil all)));
         }
 
-read_at : (seens : List (Seen Ticket)) (index : ℕ) (seen : Seen Ticket) → slice_get seens index ≡ Some seen → AllRead seens → IsRead seen
+pub read_at : (seens : List (Seen Ticket)) (index : ℕ) (seen : Seen Ticket) → slice_get seens index ≡ Some seen → AllRead seens → IsRead seen
 read_at [] index seen there all = absurd (none_some seen there)
 read_at (first ∷ others) zero seen there all = subst IsRead (some_same first seen there) all.0
 read_at (first ∷ others) (suc index) seen there all = read_at others index seen there all.1

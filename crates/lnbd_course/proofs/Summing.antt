@@ -97,18 +97,18 @@ module _ (histories : Histories) where
 
 -- The same lists as the board's.
 
-reads_same : (p : ℕ) (xs : List Request) → touching is_read p xs ≡ reads_over p xs
+pub reads_same : (p : ℕ) (xs : List Request) → touching is_read p xs ≡ reads_over p xs
 reads_same p [] = refl
 reads_same p (x ∷ xs) = ap (λ (l : List Said). cond (reads x.said.command p) (x.said ∷ l) l) (reads_same p xs)
 
-over_same : (p : ℕ) (xs : List Request) → touching changes p xs ≡ over p xs
+pub over_same : (p : ℕ) (xs : List Request) → touching changes p xs ≡ over p xs
 over_same p [] = refl
 over_same p (x ∷ xs) = ap (λ (l : List Said). cond (covers x.said.command p) (x.said ∷ l) l) (over_same p xs)
 
-at_most : (n : ℕ) (said other : List Said) → other ≡ said → length said ≤ n → length other ≤ n
+pub at_most : (n : ℕ) (said other : List Said) → other ≡ said → length said ≤ n → length other ≤ n
 at_most n said other same few = subst (λ (l : List Said). length l ≤ n) (sym same) few
 
-is_none : (said : List Said) → said ≡ [] → length said ≤ 0
+pub is_none : (said : List Said) → said ≡ [] → length said ≤ 0
 is_none said none = subst (λ (l : List Said). length l ≤ 0) (sym none) (omega arith)
 
 -- What a destination is asked to change is written or zeroed.

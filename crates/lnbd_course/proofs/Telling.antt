@@ -13,7 +13,7 @@ use Rattle.lnbd_history.specs.Commands.{Request}
 use Rattle.lnbd_history.specs.Events.{Event, History, Issue}
 use Rattle.lnbd_history.specs.History.{request, reading}
 use Rattle.lnbd_asked.specs.Driven.{DrivenSays, written}
-use Rattle.lnbd_asked.specs.Transcript.{bare, is_of, on_link, asked_on, answered, told_zero, zero_in, only_if, dealt_with}
+use Rattle.lnbd_asked.specs.Transcript.{bare, is_of, on_link, asked_on, answered, told_zero, only_if, dealt_with}
 use Rattle.lnbd_poll.specs.Seen.{Seen}
 use Rattle.lnbd_poll.specs.Turns.{Whole}
 use Rattle.lnbd_plan.specs.declared.grid.Slice.{Slice}
@@ -59,7 +59,7 @@ module _ (sources sources2 : ℕ → Bool) (histories : Histories) (same : (link
     offset = m.offset;
     length_ = m.length_;
     others = m.others;
-    zero = m.zero;
+    said = m.said;
     answered = m.answered;
   }
 
@@ -244,7 +244,7 @@ alike_maps has histories (Some range) now now' alike m = record {
   offset = m.offset;
   length_ = m.length_;
   others = m.others;
-  zero = λ p z. m.zero p (ap (λ (l : List Extent). zero_in range.0 l p) (sym alike.told) ∙ z);
+  said = λ test blank p z. m.said test blank p (ap (λ (l : List Extent). said_in test range.0 l p) (sym alike.told) ∙ z);
   answered = λ e. m.answered (sym alike.mapped ∙ e);
 }
 

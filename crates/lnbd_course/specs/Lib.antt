@@ -25,3 +25,6 @@ pub mod Fronts
 pub mod Unfailed
 pub mod Cells
 pub mod Reached
+pub mod Passed
+pub mod Little
+pub mod Runs

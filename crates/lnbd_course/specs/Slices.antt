@@ -1,5 +1,5 @@
 -- How far the slices of a copy are, by its calls.
-use Rattle.std.specs.Prelude.{◌≡◌, ◌≢◌, ◌⊎◌, ℕ, ◌+◌, ◌-◌, Bool, true, false, List, [], ◌∷◌, length, get_or, Option, Some, None}
+use Rattle.std.specs.Prelude.{◌≡◌, ◌≢◌, ◌⊎◌, ℕ, ◌+◌, Bool, true, false, List, [], ◌∷◌, length, Option, Some, None}
 use Rattle.lnbd_model.specs.declared.kind.Kind.{Kind}
 use Rattle.lnbd_model.specs.declared.kind.Kind.TheVariants.{Read}
 use Rattle.lnbd_model.specs.declared.target.Place.{Place}
@@ -21,6 +21,7 @@ use Rattle.lnbd_tracks.specs.Laws.{IsDone}
 use Rattle.lnbd_tracks.specs.Unanswered.{AreUnanswered}
 use Rattle.lnbd_course.specs.Between.{Between}
 use Rattle.lnbd_course.specs.Failed.{AllStand}
+use Rattle.lnbd_course.specs.Runs.{counts_zero}
 use Rattle.lnbd_course.specs.Told.{Known, Told}
 use Rattle.lnbd_course.specs.UnderWay.{AllHeld, AreUnderWay, NoneWrites, is_block_status}
 
@@ -45,8 +46,8 @@ pub record WasChanged (slice : Slice) (p : ℕ) (destination : Dealt) : Type 0 w
   pub inside : (q : ℕ) → has command q ≡ true → lies_in slice q ≡ true
   pub done : IsDone (destination.outcome link cookie)
 
--- A READ of this position is done, and told its byte as zero.
-pub record WasReadZero (p : ℕ) (source : Dealt) : Type 0 where
+-- Where zeros are looked for, a READ of this position is done, and told all as zero that it read of its block.
+pub record WasFoundZero (how : How) (p : ℕ) (source : Dealt) : Type 0 where
   pub link : ℕ
   pub cookie : ℕ
   pub command : Command Nobody
@@ -54,21 +55,21 @@ pub record WasReadZero (p : ℕ) (source : Dealt) : Type 0 where
   pub asked : source.asked link cookie ≡ Some command
   pub here : reads command p ≡ true
   pub done : Done source link cookie bytes
-  pub zero : get_or bytes (p - command.offset) 0 ≡ 0
+  pub zero : counts_zero how command.offset bytes p ≡ true
 
--- The byte of this position is known to be zero: its slice was told as zero, or a READ that is done told it so.
-abbrev pub IsKnownZero : Slice → ℕ → (source : Dealt) → Type 0
-IsKnownZero slice p source = (slice.zero ≡ true) ⊎ WasReadZero p source
+-- The byte of this position is known to be zero: its slice was told as zero, or it was found in a block of zeros.
+abbrev pub IsKnownZero : How → Slice → ℕ → (source : Dealt) → Type 0
+IsKnownZero how slice p source = (slice.zero ≡ true) ⊎ WasFoundZero how p source
 
 -- All of a slice was read by one READ, which is done, unless it was told as zero.
 abbrev pub WasRead : Slice → (source : Dealt) → Type 0
 WasRead slice source = slice.zero ≡ false → IsAskedWhole Read slice IsDone source
 
--- A slice is finished: it was read, and all of it was written or zeroed by requests within it, but for zeros where the destination is known to be zero; each of
+-- A slice is finished: it was read, and all of it was written or zeroed by requests within it, but for blocks of zeros where the destination is known to be zero; each of
 -- these requests is done. One that was told as zero was zeroed by one request.
 pub record IsFinished (how : How) (slice : Slice) (source destination : Dealt) : Type 0 where
   pub read : WasRead slice source
-  pub changed : (p : ℕ) → lies_in slice p ≡ true → WasChanged slice p destination ⊎ ((how.skip ≡ true) × IsKnownZero slice p source)
+  pub changed : (p : ℕ) → lies_in slice p ≡ true → WasChanged slice p destination ⊎ ((how.skip ≡ true) × IsKnownZero how slice p source)
   pub zeroed : slice.zero ≡ true → IsAskedWhole (zeroing_kind how) slice IsDone destination
 
 -- nothing came of a request

@@ -12,7 +12,10 @@ ghost use Rattle.lnbd_course.specs.Laws.{NothingIsOnCourse, OpensOnCourse, Settl
 ghost use Rattle.lnbd_course.specs.Betweens.{NothingIsBetween, OpensBetween, SettlingKeepsBetween, AgreeingSettles, TurnsKeepBetween, CallsKeepBetween, SourceAsksKeepBetween, DestinationAsksKeepBetween, BoardMovesKeepBetween, OthersKeepBetween, TakingKeepsBetween, LinksAreOfSides, EndedCopies};
 ghost use Rattle.lnbd_course.specs.Slices.{EndedAreBegun, QuietAreBegun, QuietAsks};
 ghost use Rattle.lnbd_course.specs.Fronts.{FrontsHaveFew, FrontsHaveNone, NothingWasBefore};
+ghost use Rattle.lnbd_course.specs.Little.{HandlesAreAskedLittle};
 ghost use Rattle.lnbd_course.specs.Parts.{PartsAskOnce};
+ghost use Rattle.lnbd_course.specs.Passed.{HeardWereFirst, HeardWereTold, NoneAreAwaited};
+ghost use Rattle.lnbd_course.specs.Runs.{PartsWriteRuns, RunsAreWhole, RunsThatTouchDiffer};
 ghost use Rattle.lnbd_course.specs.Reached.{ToldAreKnown};
 ghost use Rattle.lnbd_course.specs.Spared.{PartsSpare};
 ghost use Rattle.lnbd_course.specs.Spares.{EndedAreDense, EndedSpares};
@@ -227,6 +230,13 @@ pub fn handles_have_few()
     ensures over { OverHasNone }
 {}
 
+/// Where no error was told and no position is planned twice, a handle was asked to write no more, with the heads of its
+/// requests, than a head and a byte for each byte of the source, a head for each of its questions for extents, and one for a
+/// flush, if each of its commands but a flush has a byte.
+pub fn handles_are_asked_little()
+    ensures { HandlesAreAskedLittle }
+{}
+
 /// A range whose extents were heard was answered; what is not planned yet is not read; and what was answered before it was
 /// read stays so.
 pub fn ended_answers()
@@ -257,6 +267,19 @@ pub fn parts_spare()
     ensures { PartsSpare }
 {}
 
+/// In a turn, whole or short, each change that is asked is a longest run of what a READ told that was done before it, of zeros
+/// that were found or of other bytes; or of what was told as zero.
+pub fn parts_write_runs()
+    ensures { PartsWriteRuns }
+{}
+
+/// Where zeros are not looked for, such a run is a WRITE of all that its READ read; and of two runs of one READ that touch, one
+/// is a WRITE_ZEROES, and the other is not.
+pub fn runs_are_longest()
+    ensures whole { RunsAreWhole }
+    ensures differ { RunsThatTouchDiffer }
+{}
+
 /// At no moment of a turn is more unanswered on a link than rows of the board counted when it began, since nothing is asked in
 /// it, and what is done stays done. And what was asked stays asked.
 pub fn fronts_have_few()
@@ -278,4 +301,12 @@ pub fn turns_tell_content()
 /// Each position that a block status of the source told of is known so, while the extents that are waited for are not answered.
 pub fn told_are_known()
     ensures { ToldAreKnown }
+{}
+
+/// What is heard of extents was told by the calls, and the first positions of its range are the first that were asked for; and
+/// no block status is unanswered while no extents are waited for.
+pub fn heard_were_told()
+    ensures told { HeardWereTold }
+    ensures first { HeardWereFirst }
+    ensures none { NoneAreAwaited }
 {}

@@ -1,6 +1,5 @@
 pub mod Names
 pub mod Telling
-pub mod Written
 pub mod Numbered
 pub mod Apart
 pub mod Rules

@@ -5,16 +5,13 @@ ghost use Rattle.lnbd_link.specs.Call.{read_told, write_told};
 ghost use Rattle.lnbd_link.specs.Call.{Connect, Listen, Accept, Read, Write, Pause, Shut};
 ghost use Rattle.lnbd_link.specs.declared.wires.Accepted.TheVariants.{Failed};
 ghost use Rattle.lnbd_link.specs.Room.{got_len, took_len};
-ghost use Rattle.lnbd_memnet.specs.Log.{AreKept, call_of, count_written};
+ghost use Rattle.lnbd_memnet.specs.Log.{call_of};
 
 use crate::hosted::copied;
 use lnbd_link::{Got, Took, Want};
 use lnbd_model::{NoMemory, Target};
 use std::alloc::Global;
 use std::marker::Model;
-
-/// The most bytes that are kept of all that was written: as many as a session takes of its client. No machine has room for more.
-const MOST_WRITTEN: u64 = 4_611_686_018_427_387_904;
 
 /// One call. Listens and accepts fail, so they have no number.
 #[derive(Debug, Drop)]
@@ -49,41 +46,21 @@ pub(crate) enum Kept {
     },
 }
 
-impl Kept {
-    /// How many bytes the call wrote.
-    fn written(&self) -> u64
-        ensures { result ≡ count_written (call_of self.now) }
-    {
-        match self {
-            Kept::Write {
-                took: Took::Bytes(_),
-                bytes,
-                ..
-            } => bytes.len() as u64,
-            _ => 0,
-        }
-    }
-}
-
 /// Contracts see the calls, the oldest first. A call that finds no memory changes nothing.
 #[derive(Debug, Drop)]
 pub(crate) struct Log {
     alloc: Global,
     kept: Vec<Kept>,
-    // How many bytes they wrote.
-    written: u64,
 }
 
 impl Model for Log {
-    ghost use Rattle.std.specs.Prelude.{◌≡◌, List, map};
+    ghost use Rattle.std.specs.Prelude.{List, map};
     ghost use Rattle.lnbd_link.specs.Call.{Call};
-    ghost use Rattle.lnbd_memnet.specs.Log.{AreKept, all_written, call_of};
+    ghost use Rattle.lnbd_memnet.specs.Log.{call_of};
 
     ghost Value = { List Call };
 
     ghost view = { λ a. map call_of a.kept.items };
-
-    ghost invariant = { λ a. (a.written ≡ all_written (map call_of a.kept.items)) × AreKept (map call_of a.kept.items) };
 }
 
 impl Log {
@@ -93,15 +70,7 @@ impl Log {
         Log {
             alloc,
             kept: Vec::new(alloc),
-            written: 0,
         }
-    }
-
-    /// All that was written is kept.
-    pub fn fits(&self)
-        ensures { AreKept self.now }
-    {
-        let _ = &self.kept;
     }
 
     pub fn connect(&mut self, to: &Target, link: Option<u32>) -> Result<(), NoMemory>
@@ -178,12 +147,7 @@ impl Log {
         ensures ok { OnOk result (self.new ≡ self.old ++ call_of call ∷ []) }
         ensures err { OnErr result (self.new ≡ self.old) }
     {
-        let n = call.written();
-        if MOST_WRITTEN - self.written < n {
-            return Err(NoMemory);
-        }
         self.kept.push(call)?;
-        self.written += n;
         Ok(())
     }
 }

@@ -10,7 +10,6 @@ ghost use Rattle.lnbd_link.specs.Count.{Rises, raised_by};
 ghost use Rattle.lnbd_link.specs.Numbers.{is_given, is_open};
 ghost use Rattle.lnbd_link.specs.Part.{Adds};
 ghost use Rattle.lnbd_export.specs.Export.{size};
-ghost use Rattle.lnbd_memnet.specs.Log.{AreKept};
 ghost use Rattle.lnbd_memnet.specs.Network.{AreApart, export_in, hosted_of, link_in, stored_of};
 ghost use Rattle.lnbd_memnet.specs.Plays.{Connects, IsUnknown, Reads, Writes, all_due, shut_at};
 ghost use Rattle.lnbd_memnet.specs.Schedule.{Moves};
@@ -115,14 +114,6 @@ impl ServedWires {
         ensures { self.now.shorts ≡ 0 → Came self.now.calls self.now.network }
     {
         let _ = &self.network;
-    }
-
-    /// What the calls wrote on all links is kept: no more than one session takes. A write beyond that counts as one for which
-    /// memory ran out.
-    pub fn keeps(&self)
-        ensures { AreKept self.now.calls }
-    {
-        self.log.fits();
     }
 
     fn connect_to(&mut self, to: &Target) -> Result<u32, WireFailed>

@@ -1,20 +1,20 @@
 -- Between two pauses of a copy over served wires the link that the first wanted is tried, and that moves a byte.
 use Rattle.std.proofs.Common.{◌≡◌, ◌≢◌, ◌⊎◌, inl, inr, ◌<◌, ◌≤◌, ◌||◌, ◌==◌, ℕ, zero, suc, Bool, true, false, List, [], ◌∷◌, ◌++◌, length, Any, Some, None, not, if◌then◌else◌, refl, ap, sym, subst, ◌∙◌, append_assoc, arith}
-use Rattle.std.proofs.lemmas.Bool.{eq-eqb, false≢true, lt-ltb}
-use Rattle.std.proofs.lemmas.List.{length-append}
+use Rattle.std.proofs.lemmas.Bool.{cases_lt, eq-eqb, false≢true, lt-ltb}
 use Rattle.std.proofs.lemmas.List.Folds.{list_any-append}
 use Rattle.std.specs.List.{list_any}
+use Rattle.lnbd_model.specs.declared.export.ExportInfo.{ExportInfo}
 use Rattle.lnbd_model.specs.declared.state.State.{State}
 use Rattle.lnbd_model.specs.declared.state.State.TheVariants as state
 use Rattle.lnbd_model.specs.declared.target.Place.{Place}
+use Rattle.lnbd_model.specs.declared.target.Target.{Target}
 use Rattle.lnbd_history.specs.Answers.{direction_after, direction_of, in_flight_after, is_living, out_after, state_after}
 use Rattle.lnbd_history.specs.Events.{History, Set, StrictMode, Start, Opt, Abort, Issue, Refuse, Disconnect, Wrote, Arrived, End, LinkFailed, Retire, ClearLog, Close}
 use Rattle.lnbd_history.specs.History.{reading}
 use Rattle.lnbd_handle.specs.Histories.{max_unretired}
 use Rattle.lnbd_link.specs.Call.{Call, Connect, Listen, Accept, Read, Write, Pause, Shut, ReadTold, Moved, Unready, Ended, ReadFault, WriteTold, Sent, Full, WriteFault}
 use Rattle.lnbd_link.specs.Numbers.{is_given, is_number, is_open, open_after}
-use Rattle.lnbd_link.specs.Room.{sent_by}
-use Rattle.lnbd_link.specs.Traffic.{bytes_written, went_by}
+use Rattle.lnbd_link.specs.Traffic.{bytes_written}
 use Rattle.lnbd_link.specs.declared.wires.Want.{Want}
 use Rattle.lnbd_link.proofs.Openings.{open_after-append}
 use Rattle.lnbd_asked.specs.Link.{Both}
@@ -23,6 +23,7 @@ use Rattle.lnbd_plan.specs.declared.options.CopyOptions.{CopyOptions}
 use Rattle.lnbd_poll.specs.Alone.{calls_on, link_of}
 use Rattle.lnbd_poll.specs.Held.{is_on_its_way, is_wanting}
 use Rattle.lnbd_drives.proofs.Modes.{arrived_mode, end_mode, fault_mode, inward_mode, mode}
+use Rattle.lnbd_spoken.specs.Little.{longest_handshake}
 use Rattle.lnbd_spoken.specs.Speaking.{SaysWell, SpeaksFrom, SpeaksWell}
 use Rattle.lnbd_spoken.proofs.Driving.{driven_speak_well}
 use Rattle.lnbd_board.specs.declared.ticket.Ticket.{Ticket}
@@ -31,6 +32,9 @@ use Rattle.lnbd_copy.specs.Begun.{opened}
 use Rattle.lnbd_copy.specs.Conduct.{Conducts}
 use Rattle.lnbd_copy.specs.Driven.{AllMayCome, AreDrivenTo, asks_extents_on}
 use Rattle.lnbd_copy.specs.DrivenBy.{DrivenBy}
+use Rattle.lnbd_copy.specs.Grounds.{Drove, IsShown}
+use Rattle.lnbd_copy.specs.Lasting.{AtSome}
+use Rattle.lnbd_copy.specs.Little.{WroteAtMost, WroteLittle, most_written}
 use Rattle.lnbd_copy.specs.Tried.{WereTried}
 use Rattle.lnbd_copy.specs.Tried as tries
 use Rattle.lnbd_copy.specs.Vain.{WantsOnlyEmpty, WasReadInVain, has_happened, is_for_reading}
@@ -38,7 +42,6 @@ use Rattle.lnbd_copy.specs.Waits.{IsWaitedFor, WaitsWell}
 use Rattle.lnbd_copy.specs.Way.{is_source}
 use Rattle.lnbd_memnet.specs.declared.link.Link.{Link}
 use Rattle.lnbd_memnet.specs.Laws.{WasWanted, reads_on, writes_on}
-use Rattle.lnbd_memnet.specs.Log.{AreKept, all_written, count_written}
 use Rattle.lnbd_memnet.specs.Network.{Network, export_in, link_in}
 use Rattle.lnbd_memnet.specs.Schedule.{Moves, step_at}
 use Rattle.lnbd_memnet.specs.Wires.{Came, Played}
@@ -47,12 +50,15 @@ use Rattle.lnbd_memnet.proofs.Wanted.{reads_are_let_in}
 use Rattle.lnbd_server.specs.Client.{max_client}
 use Rattle.lnbd_served.proofs.Faces.{face_back, played_face}
 use Rattle.lnbd_served.proofs.Taking.{same_servable}
+use Rattle.lnbd_served.proofs.Targets.{Targets}
 use Rattle.lnbd_lively.specs.Lively.{AreServable, WaitsToRead}
+use Rattle.lnbd_lively.proofs.Answering.{targets_all}
 use Rattle.lnbd_lively.proofs.Parting.{asks_no_end}
 use Rattle.lnbd_lively.proofs.Unnamed.{driven_answer}
-use Rattle.lnbd_rehearsal.specs.Carrying.{BytesAreMoved, CopiesMoveBytes, carries_bytes}
-use Rattle.lnbd_rehearsal.proofs.Cutting.{Paused, all_none, let_in, moves_one, paused_at, played_count, played_schedule}
+use Rattle.lnbd_rehearsal.specs.Carrying.{AreSmall, BytesAreMoved, CopiesMoveBytes, carries_bytes, largest}
+use Rattle.lnbd_rehearsal.proofs.Cutting.{Cut, Paused, all_none, let_in, moves_one, paused_at, played_count, played_cut, played_schedule}
 use Rattle.lnbd_rehearsal.proofs.Sending.{gives_byte, paused_stock, played_stock, stock}
+use Rattle.lnbd_rehearsal.proofs.ToldSizes.{told_size}
 
 -- The clients of a copy's links speak well, at each moment.
 
@@ -254,37 +260,57 @@ servable_before more network after played servable place there =
     at : (place : ℕ) → place < length network.exports → place < length after.exports
     at place there = let same = played_count network more after played in omega (arith, there, same)
 
--- What is written on one link is part of what is written on all.
+-- So it has exports no larger.
+small_before : (more : List Call) (network after : Network) → Played network more after → AreSmall after → AreSmall network
+small_before more network after played small place there =
+    let count = played_count network more after played in
+    let now = small place (omega (arith, there, count)) in
+    let same = (played_face network more after played place).0 in
+    omega (arith, now, same)
 
-call_wrote : (link : ℕ) (call : Call) → length (went_by link call) ≤ count_written call
-call_wrote link (Connect to given) = omega arith
-call_wrote link (Listen at given) = omega arith
-call_wrote link (Accept n answer) = omega arith
-call_wrote link (Read n room answer) = omega arith
-call_wrote link (Write n offered answer) = go (n == link)
+-- What is written by a pause on the first link that it wants is no more than a session takes.
+
+none_target : (to : Target) → None ≡ Some to → ⊥
+none_target to e = cc
+
+-- the size that a handle was told by then is that of an export
+shown_small : (extents : Bool) (place : Place) (info : ExportInfo) (calls : List Call) (network : Network) → Came calls network → AreServable network → AreSmall network → ((l : ℕ) → SpeaksWell l calls) → AtSome (Drove extents place (IsShown info)) calls → info.size ≤ largest
+shown_small extents place info calls network came servable small speaks shown =
+    let size = told_size {K = Ticket} shown.before cut.middle drove.link drove.history info front (servable_before shown.after cut.middle network cut.rest servable) (λ l. speaks_front l untold shown.before shown.after (subst (SpeaksWell l) shown.are (speaks l))) given
+    (record { limit = drove.drives.limit; lawful = drove.drives.lawful; going = drove.drives.going; spelled = drove.drives.spelled; mode = drove.drives.mode; drives = drove.drives.drives }) drove.is.ready drove.is.shown in
+    let most = small_before shown.after cut.middle network cut.rest small (link_in cut.middle.links drove.link).place (targets.hosted drove.link given) in
+    omega (arith, size, most)
   where
-    go : (b : Bool) → length (if b then sent_by answer else []) ≤ length (sent_by answer)
-    go true = omega arith
-    go false = omega arith
-call_wrote link (Pause wants) = omega arith
-call_wrote link (Shut n) = omega arith
+    cut : Cut came.first shown.before shown.after network
+    cut = played_cut came.first calls network came.played shown.before shown.after shown.are
 
-link_wrote : (link : ℕ) (calls : List Call) → length (bytes_written link calls) ≤ all_written calls
-link_wrote link [] = omega arith
-link_wrote link (call ∷ calls) = let one = call_wrote link call in let rest = link_wrote link calls in let both = length-append (went_by link call) (bytes_written link calls) in omega (arith, one, rest, both)
+    drove : Drove extents place (IsShown info) shown.before
+    drove = shown.is
 
-front_wrote : (front more : List Call) → all_written front ≤ all_written (front ++ more)
-front_wrote [] more = omega arith
-front_wrote (call ∷ front) more = let rest = front_wrote front more in omega (arith, rest)
+    front : Came shown.before cut.middle
+    front = record { first = came.first; begins = came.begins; played = cut.front }
 
-few_on : (calls : List Call) → AreKept calls → (front more : List Call) (link : ℕ) → calls ≡ front ++ more → length (bytes_written link front) ≤ max_client
-few_on calls few front more link are =
-    let one = link_wrote link front in
-    let all = front_wrote front more in
-    let same = ap all_written are in
-    omega (arith, one, all, same, few)
+    targets : Targets shown.before cut.middle
+    targets = targets_all came.first shown.before cut.middle came.begins cut.front
 
-module _ (options : CopyOptions) (from to : Place) (calls : List Call) (network : Network) (came : Came calls network) (few : AreKept calls) (moves : Moves network.schedule) (servable : AreServable network) (conducts : Conducts options from to calls) where
+    given : drove.link < length cut.middle.links
+    given = elim (cases_lt drove.link (length cut.middle.links)) [
+      | inl less ↦ less
+      | inr past ↦ absurd (none_target place.to (sym (targets.none drove.link past) ∙ drove.address))
+    ]
+
+first_wrote : (most : ℕ) (before : List Call) (want : Want) (others wants : List Want) → wants ≡ want ∷ others → WroteAtMost most before wants → length (bytes_written want.link before) ≤ most
+first_wrote most before want others wants are wrote = (subst (WroteAtMost most before) are wrote).0
+
+few_wrote : (extents : Bool) (from to : Place) (before : List Call) (network : Network) → Came before network → AreServable network → AreSmall network → ((l : ℕ) → SpeaksWell l before) → (want : Want) (others wants : List Want) → wants ≡ want ∷ others → WroteLittle extents from to before wants
+    → length (bytes_written want.link before) ≤ max_client
+few_wrote extents from to before network came servable small speaks want others wants are (inl early) = let wrote = first_wrote longest_handshake before want others wants are early in omega (arith, wrote)
+few_wrote extents from to before network came servable small speaks want others wants are (inr told) =
+    let wrote = first_wrote (most_written told.source.size) before want others wants are told.is in
+    let size = shown_small extents from told.source before network came servable small speaks told.shown in
+    omega (arith, wrote, size)
+
+module _ (options : CopyOptions) (from to : Place) (calls : List Call) (network : Network) (came : Came calls network) (small : AreSmall network) (moves : Moves network.schedule) (servable : AreServable network) (conducts : Conducts options from to calls) where
   module _ (before earlier later : List Call) (wants : List Want) (want : Want) (others : List Want) (are : wants ≡ want ∷ others) where
     wanted_at : (call : Call) → (p : Paused calls before wants earlier call network) → (link_in p.first.links want.link).opened ≡ true → WasWanted want.link earlier p.then
     wanted_at call p opened = record {
@@ -325,7 +351,9 @@ module _ (options : CopyOptions) (from to : Place) (calls : List Call) (network 
         let is = want_is (is_wanting (state_after waited.history) (in_flight_after waited.history) (direction_after waited.history)) (record { link = want.link; direction = direction_after waited.history }) want waited.wants in
         let direction : direction_after waited.history ≡ want.direction = ap (λ (w : Want). w.direction) is.1 in
         let fits = servable_before p.others p.first network p.back servable in
-        let has = session_answers before p.first want.link waited.history p.came fits speaks open_first (few_on calls few before (Pause wants ∷ earlier ++ Read want.link room told ∷ later) want.link (e ∙ append_assoc before (Pause wants ∷ earlier) (Read want.link room told ∷ later))) waited.drives (direction ∙ alone) is.0 (waited.parts alone) in
+        let little = conducts.little before (earlier ++ Read want.link room told ∷ later) wants (e ∙ append_assoc before (Pause wants ∷ earlier) (Read want.link room told ∷ later)) in
+        let few = few_wrote options.extents from to before p.first p.came fits (small_before p.others p.first network p.back small) speaks want others wants are little in
+        let has = session_answers before p.first want.link waited.history p.came fits speaks open_first few waited.drives (direction ∙ alone) is.0 (waited.parts alone) in
         let paused_has : stock (link_in p.paused.links want.link).session ≡ stock (link_in p.first.links want.link).session = paused_stock want.link p.first p.paused wants p.pauses in
         let then_has = played_stock want.link p.paused earlier p.then p.played off still in
         let moved : 0 < stock (link_in p.then.links want.link).session = subst (λ (n : ℕ). 0 < n) (sym (then_has ∙ paused_has)) has in
@@ -384,4 +412,4 @@ module _ (options : CopyOptions) (from to : Place) (calls : List Call) (network 
       go false is = absurd (some wants refl is)
 
 pub copies_move_bytes : CopiesMoveBytes
-copies_move_bytes options from to calls network came few moves servable conducts = bytes_are_moved options from to calls network came few moves servable conducts
+copies_move_bytes options from to calls network came small moves servable conducts = bytes_are_moved options from to calls network came small moves servable conducts

@@ -56,12 +56,12 @@ ended_of (call ∷ calls) = go (ended_of calls)
 
 -- Networks on the way.
 
-record Cut (start : Network) (calls more : List Call) (network : Network) : Type 0 where
+pub record Cut (start : Network) (calls more : List Call) (network : Network) : Type 0 where
   pub middle : Network
   pub front : Played start calls middle
   pub rest : Played middle more network
 
-played_cut : (start : Network) (all : List Call) (network : Network) → Played start all network → (calls more : List Call) → all ≡ calls ++ more → Cut start calls more network
+pub played_cut : (start : Network) (all : List Call) (network : Network) → Played start all network → (calls more : List Call) → all ≡ calls ++ more → Cut start calls more network
 played_cut start _ _ (None_yet all network none is) calls more e = record {
   middle = network;
   front = None_yet calls network (first_none calls more (sym e ∙ none)) is;

@@ -1,5 +1,5 @@
 -- What stands behind the wires once a rehearsal is over.
-use Rattle.std.proofs.Common.{◌≡◌, ◌≢◌, ℕ, zero, suc, Bool, false, if◌then◌else◌, ◌==◌, List, [], ◌∷◌, get_or, length, map, Option, Some, None, refl, sym, ap, subst, ◌∙◌, arith}
+use Rattle.std.proofs.Common.{◌≡◌, ◌≢◌, ◌≤◌, ℕ, zero, suc, Bool, false, if◌then◌else◌, ◌==◌, List, [], ◌∷◌, get_or, length, map, Option, Some, None, refl, sym, ap, subst, ◌∙◌, arith}
 use Rattle.std.proofs.lemmas.List.{length-replicate}
 use Rattle.lnbd_link.specs.Call.{Call}
 use Rattle.lnbd_link.specs.Contents.{Keeps, Origin, Stored, origin_of}
@@ -9,7 +9,6 @@ use Rattle.lnbd_model.specs.declared.target.Target.TheVariants.{Unix}
 use Rattle.lnbd_export.specs.Generated.{IsGenerated}
 use Rattle.lnbd_memnet.specs.declared.hosted.Hosted.{Hosted}
 use Rattle.lnbd_memnet.specs.declared.hosted.Served.{Served as Handed}
-use Rattle.lnbd_memnet.specs.Log.{AreKept}
 use Rattle.lnbd_memnet.specs.Network.{Network, export_in, hosted_of, stored_of}
 use Rattle.lnbd_memnet.specs.Schedule.{Moves}
 use Rattle.lnbd_memnet.specs.Wires.{Came, Served, contents_of, told_by}
@@ -23,7 +22,8 @@ use Rattle.lnbd_copy.specs.Made.{IsMade}
 use Rattle.lnbd_served.specs.Served.{IsServable}
 use Rattle.lnbd_served.specs.Served as served
 use Rattle.lnbd_lively.specs.Lively.{AreServable}
-use Rattle.lnbd_rehearsal.specs.Rehearsed.{HasRehearsed, IsDestination, IsNoise, IsSource, destination_name, place_of, source_name, usual}
+use Rattle.lnbd_rehearsal.specs.Carrying.{AreSmall, largest}
+use Rattle.lnbd_rehearsal.specs.Rehearsed.{CameFrom, HasRehearsed, IsDestination, IsNoise, IsSource, destination_name, place_of, source_name, usual}
 use Rattle.lnbd_rehearsal.specs.Sums.{sums_of}
 use Rattle.lnbd_rehearsal.proofs.CarryLemmas.{copies_move_bytes}
 use Rattle.lnbd_rehearsal.proofs.EqualLemmas.{AreEqual, are_equal}
@@ -83,6 +83,17 @@ conducts_between options from to a b o f t conducts =
 grown : {Is : List Call → Type 0} (before after : Option (List Call)) (calls : List Call) → before ≡ Some [] → after ≡ Some calls → GrewBy Is before after → Is calls
 grown before after calls none told so = so calls calls told (λ ys is. ([], none, cc (is, told)))
 
+-- The wires came from what they began with.
+pub came_by : (seed n : ℕ) (calls : List Call) (network : Network) → CameFrom seed n calls network → Came calls network
+came_by seed n calls network came = record { first = came.first; begins = came.begins; played = came.played }
+
+-- Those that a stage gives back.
+pub came_there : (seed n seed' n' : ℕ) (wires there : Served) → wires ≡ there → seed' ≡ seed → n' ≡ n → (there.shorts ≡ 0 → CameFrom seed' n' there.calls there.network) → wires.shorts ≡ 0 → CameFrom seed n wires.calls wires.network
+came_there seed n seed' n' wires there same seeds sizes came none =
+    subst (λ (k : ℕ). CameFrom k n wires.calls wires.network) seeds
+    (subst (λ (k : ℕ). CameFrom seed' k wires.calls wires.network) sizes
+    (subst (λ (w : Served). w.shorts ≡ 0 → CameFrom seed' n' w.calls w.network) (sym same) came none))
+
 -- Two exports.
 
 both_there : (both : List Hosted) → length both ≡ 2 → both ≡ export_in both 0 ∷ export_in both 1 ∷ []
@@ -95,6 +106,12 @@ two_servable : (network : Network) → length network.exports ≡ 2 → IsServab
 two_servable network count fits fits' zero there = fits
 two_servable network count fits fits' (suc zero) there = fits'
 two_servable network count fits fits' (suc (suc place)) there = absurd (omega (arith, there, count))
+
+-- no export is larger than both
+two_small : (network : Network) → length network.exports ≡ 2 → length (export_in network.exports 0).export.bytes ≤ largest → length (export_in network.exports 1).export.bytes ≤ largest → AreSmall network
+two_small network count few few' zero there = few
+two_small network count few few' (suc zero) there = few'
+two_small network count few few' (suc (suc place)) there = absurd (omega (arith, there, count))
 
 place_at : (hosted : Hosted) (name : List ℕ) → hosted.at ≡ Unix name → hosted.export.name ≡ name → served.place_of hosted ≡ place_of name
 place_at hosted name at called = ap (λ (t : Target). record { to = t; name = hosted.export.name }) at ∙ ap (λ (x : List ℕ). record { to = Unix name; name = x }) called
@@ -112,15 +129,16 @@ module _ (seed n : ℕ) (source destination : Handed) (at : source.at ≡ Unix s
     pub equal : AreEqual wires.network
     pub conducts : Conducts usual (place_of source_name) (place_of destination_name) wires.calls
     pub servable : AreServable wires.network
+    pub small : AreSmall wires.network
     -- how many bytes the first holds
     pub long : length (export_in wires.network.exports 0).export.bytes ≡ n
 
-  pub ended : (exports : List Handed) (before after : Served) (summary : Summary) → exports ≡ source ∷ destination ∷ []
+  pub ended : (exports : List Handed) (before after : Served) (summary : Summary) → n ≤ 16777216 → exports ≡ source ∷ destination ∷ []
       → contents_of before ≡ Some (map stored_of (map hosted_of exports)) → Keeps (contents_of before) (contents_of after)
       → after.shorts ≡ 0 → length after.network.exports ≡ 2 → Came after.calls after.network → IsServable (export_in after.network.exports 0).export → IsServable (export_in after.network.exports 1).export
       → told_by before ≡ Some [] → Copies (place_of source_name) (place_of destination_name) false (told_by before) (told_by after)
       → GrewBy (IsMade usual (place_of source_name) (place_of destination_name) summary) (told_by before) (told_by after) → GrewBy (Conducts usual (place_of source_name) (place_of destination_name)) (told_by before) (told_by after) → Ended after summary
-  ended exports before after summary are held keeps shorts count came fits fits' none copies makes conducts =
+  ended exports before after summary few are held keeps shorts count came fits fits' none copies makes conducts =
       let both = both_there after.network.exports count in
       let told : contents_of after ≡ Some (map stored_of after.network.exports) = ap (λ (s : ℕ). if s == 0 then Some (map stored_of after.network.exports) else None) shorts in
       let calls : told_by after ≡ Some after.calls = ap (λ (s : ℕ). if s == 0 then Some after.calls else None) shorts in
@@ -140,6 +158,7 @@ module _ (seed n : ℕ) (source destination : Handed) (at : source.at ≡ Unix s
       (place_at (export_in after.network.exports 0) source_name from.at from.name) (place_at (export_in after.network.exports 1) destination_name into.at into.name)
       (ap (λ (b : List ℕ). length b) into.bytes ∙ length-replicate {A = ℕ} n 255 ∙ sym from.size) copied made.asks.asked.looks in
       let long : length (export_in after.network.exports 0).export.bytes ≡ n = ap (λ (b : List ℕ). length b) equal.kept ∙ from.size in
+      let long' : length (export_in after.network.exports 1).export.bytes ≡ n = ap (λ (b : List ℕ). length b) equal.equal ∙ from.size in
       record {
         told = told ∙ ap (λ (es : List Hosted). Some (map stored_of es)) both;
         first = first;
@@ -149,11 +168,25 @@ module _ (seed n : ℕ) (source destination : Handed) (at : source.at ≡ Unix s
         equal = equal;
         conducts = conducted;
         servable = two_servable after.network count fits fits';
+        small = two_small after.network count (omega (arith, long, few)) (omega (arith, long', few));
         long = long;
       }
 
-  pub rehearsed : (wires : Served) (summary : Summary) → wires.shorts ≡ 0 → wires.network.schedule ≡ Seeded seed → Came wires.calls wires.network → AreKept wires.calls → summary ≡ sums_of seed (export_in wires.network.exports 0).export.bytes → Ended wires summary → HasRehearsed seed n summary wires
-  rehearsed wires summary shorts seeded came few right e = record {
+  -- the same of the wires that a stage gives back
+  pub ended_there : (before there after : Served) (summary : Summary) → after ≡ there → n ≤ 16777216
+      → contents_of before ≡ Some (map stored_of (map hosted_of (source ∷ destination ∷ []))) → Keeps (contents_of before) (contents_of there)
+      → after.shorts ≡ 0 → length after.network.exports ≡ 2 → Came after.calls after.network → IsServable (export_in after.network.exports 0).export → IsServable (export_in after.network.exports 1).export
+      → told_by before ≡ Some [] → Copies (place_of source_name) (place_of destination_name) false (told_by before) (told_by there)
+      → GrewBy (IsMade usual (place_of source_name) (place_of destination_name) summary) (told_by before) (told_by there) → GrewBy (Conducts usual (place_of source_name) (place_of destination_name)) (told_by before) (told_by there) → Ended after summary
+  ended_there before there after summary same few held keeps shorts count came fits fits' none copies makes conducts =
+      ended (source ∷ destination ∷ []) before after summary few refl held (subst (λ (w : Served). Keeps (contents_of before) (contents_of w)) (sym same) keeps) shorts count came fits fits' none
+      (subst (λ (w : Served). Copies (place_of source_name) (place_of destination_name) false (told_by before) (told_by w)) (sym same) copies)
+      (subst (λ (w : Served). GrewBy (IsMade usual (place_of source_name) (place_of destination_name) summary) (told_by before) (told_by w)) (sym same) makes)
+      (subst (λ (w : Served). GrewBy (Conducts usual (place_of source_name) (place_of destination_name)) (told_by before) (told_by w)) (sym same) conducts)
+
+  pub rehearsed : (wires : Served) (summary : Summary) → wires.shorts ≡ 0 → wires.network.schedule ≡ Seeded seed → CameFrom seed n wires.calls wires.network → summary ≡ sums_of seed (export_in wires.network.exports 0).export.bytes → Ended wires summary → HasRehearsed seed n summary wires
+  unfolding came_by
+  rehearsed wires summary shorts seeded came right e = record {
     source = stored_of (export_in wires.network.exports 0);
     destination = stored_of (export_in wires.network.exports 1);
     contents = e.told;
@@ -161,11 +194,13 @@ module _ (seed n : ℕ) (source destination : Handed) (at : source.at ≡ Unix s
     to = destination_is n destination (stored_of (export_in wires.network.exports 1)) to noise e.second;
     shorts = shorts;
     seeded = seeded;
-    came = came;
+    came = came_by seed n wires.calls wires.network came;
+    set_up = came.set_up;
     copied = e.copied;
     made = e.made;
     kept = e.equal.kept;
     equal = e.equal.equal;
     sums = right ∙ ap (λ (b : List ℕ). sums_of seed b) e.equal.kept;
-    moved = copies_move_bytes usual (place_of source_name) (place_of destination_name) wires.calls wires.network came few (subst Moves (sym seeded) tt) e.servable e.conducts;
+    conducts = e.conducts;
+    moved = copies_move_bytes usual (place_of source_name) (place_of destination_name) wires.calls wires.network (came_by seed n wires.calls wires.network came) e.small (subst Moves (sym seeded) tt) e.servable e.conducts;
   }

@@ -78,6 +78,7 @@ pub(crate) fn source(alloc: Global, seed: u64, size: u64) -> Result<Served, NoMe
 }
 
 /// An export of as many bytes, none of which is told as zero.
+#[tactic(auto, using(crate::proofs::StageLemmas::noise_of))]
 pub(crate) fn destination(alloc: Global, size: u64) -> Result<Served, NoMemory>
     ensures at { IfOk result (λ served. served.at ≡ Unix destination_name) }
     ensures noise { IfOk result (λ served. IsNoise size served.export) }

@@ -5,6 +5,7 @@
 mod exports;
 mod laws;
 mod rehearsing;
+mod stage;
 mod sums;
 
 pub use laws::copies_move_bytes;

@@ -11,9 +11,10 @@ ghost use Rattle.lnbd_memnet.specs.declared.schedule.Schedule.TheVariants.{Seede
 ghost use Rattle.lnbd_rehearsal.specs.Rehearsed.{HasRehearsed, destination_name, place_of, source_name, usual};
 
 use crate::exports::{destination, from, source, to};
+use crate::stage::Stage;
 use crate::sums::{is_same, sums_of};
 use lnbd_copy::Copier;
-use lnbd_memnet::{Schedule, ServedWires};
+use lnbd_memnet::ServedWires;
 use lnbd_model::NoMemory;
 use lnbd_plan::{CopyOptions, Summary};
 use std::alloc::Global;
@@ -43,15 +44,15 @@ const USUAL: CopyOptions = CopyOptions {
 
 /// The copy over wires that serve both. These servers keep the protocol, tell no error and are never silent, so nothing but
 /// want of memory ends it; no clause says so yet, and every fault counts as that.
-fn copy(alloc: Global, wires: &mut ServedWires) -> Result<Summary, NoMemory>
-    ensures kept { OnOk result (Keeps (contents_of wires.old) (contents_of wires.new)) }
-    ensures copies { OnOk result (Copies (place_of source_name) (place_of destination_name) false (told_by wires.old) (told_by wires.new)) }
-    ensures made { IfOk result (λ summary. GrewBy (IsMade usual (place_of source_name) (place_of destination_name) summary) (told_by wires.old) (told_by wires.new)) }
-    ensures conducts { OnOk result (GrewBy (Conducts usual (place_of source_name) (place_of destination_name)) (told_by wires.old) (told_by wires.new)) }
+fn copy(alloc: Global, stage: &mut Stage) -> Result<Summary, NoMemory>
+    ensures kept { OnOk result (Keeps (contents_of stage.old.wires) (contents_of stage.new.wires)) }
+    ensures copies { OnOk result (Copies (place_of source_name) (place_of destination_name) false (told_by stage.old.wires) (told_by stage.new.wires)) }
+    ensures made { IfOk result (λ summary. GrewBy (IsMade usual (place_of source_name) (place_of destination_name) summary) (told_by stage.old.wires) (told_by stage.new.wires)) }
+    ensures conducts { OnOk result (GrewBy (Conducts usual (place_of source_name) (place_of destination_name)) (told_by stage.old.wires) (told_by stage.new.wires)) }
 {
     let from = from(alloc)?;
     let to = to(alloc)?;
-    match Copier::new(alloc, USUAL, from, to).run(wires) {
+    match Copier::new(alloc, USUAL, from, to).run(stage) {
         Ok(summary) => Ok(summary),
         Err(_) => Err(NoMemory),
     }
@@ -79,14 +80,17 @@ pub fn rehearse(alloc: Global, seed: u64, size: u64) -> Result<Rehearsed, NoMemo
     ensures { IfOk result (λ rehearsed. HasRehearsed seed size rehearsed.summary rehearsed.wires) }
 {
     let source = source(alloc, seed, size)?;
-    let exports = vec![in alloc; source, destination(alloc, size)?]?;
-    let mut wires = ServedWires::new(alloc, exports, Schedule::Seeded(seed))?;
-    let summary = copy(alloc, &mut wires)?;
+    let destination = destination(alloc, size)?;
+    let mut stage = Stage::new(alloc, source, destination, seed, size)?;
+    let summary = copy(alloc, &mut stage)?;
+    if !stage.is_for(seed, size) {
+        return Err(NoMemory);
+    }
+    stage.came();
+    let wires = stage.into_wires();
     if !is_told(&wires, seed) {
         return Err(NoMemory);
     }
-    wires.came();
-    wires.keeps();
     wires.fits(0);
     wires.fits(1);
     if !is_same(summary, sums_of(seed, wires.bytes(0))) {

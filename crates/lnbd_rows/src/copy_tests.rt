@@ -32,6 +32,21 @@ const DESTINATION: Told<'static> = Told::Bytes(
      0003e889045565a9 00000007 00000001 00000000",
 );
 
+/// GO's reply for an export of 768 bytes with the flags 0x101, of which one tells CAN_MULTI_CONN, and its ACK.
+const SHARED_SOURCE: Told<'static> = Told::Bytes(
+    "0003e889045565a9 00000007 00000003 0000000c 0000 0000000000000300 0101 \
+     0003e889045565a9 00000007 00000001 00000000",
+);
+
+/// The same of 512 bytes.
+const OTHER_SOURCE: Told<'static> = Told::Bytes(
+    "0003e889045565a9 00000007 00000003 0000000c 0000 0000000000000200 0101 \
+     0003e889045565a9 00000007 00000001 00000000",
+);
+
+/// ERR_UNKNOWN for GO.
+const REFUSED: Told<'static> = Told::Bytes("0003e889045565a9 00000007 80000006 00000000");
+
 /// One of 512 bytes.
 const SMALLER: Told<'static> = Told::Bytes(
     "0003e889045565a9 00000007 00000003 0000000c 0000 0000000000000200 0041 \
@@ -116,6 +131,11 @@ const SOURCE_OPTIONS: &str = "00000003 49484156454f5054 0000000b 00000000 \
 
 const DESTINATION_OPTIONS: &str = "00000003 49484156454f5054 0000000b 00000000 \
      49484156454f5054 00000008 00000000";
+
+/// The client's flags and the first of these options, and the second one: each waits for the reply to the one before.
+const FIRST_OPTION: &str = "00000003 49484156454f5054 0000000b 00000000";
+
+const SECOND_OPTION: &str = "49484156454f5054 00000008 00000000";
 
 /// GO for the empty name with NAME, DESCRIPTION and BLOCK_SIZE.
 const GO: &str = "49484156454f5054 00000007 0000000c 00000000 0003 0001 0002 0003";
@@ -504,4 +524,80 @@ static NOT_COPIED: [Session<'static>; 5] = [
 #[test]
 fn nbdcopy_tells_why_it_did_not_copy(rt: HostRuntime) -> Result<(), Fail> {
     play_all(&rt, rt.alloc(), &NOT_COPIED)
+}
+
+/// A copy whose source has three connections.
+const SHARED: Session<'static> = Session {
+    words: &["nbdcopy", "-C", "3", "nbd://h/", "nbd://g/"],
+    uncut: true,
+    reads: &[
+        HELLO,
+        SOURCE_AGREED,
+        SHARED_SOURCE,
+        Told::Nothing,
+        Told::Nothing,
+        Told::Nothing,
+        Told::Nothing,
+        Told::Nothing,
+        Told::Nothing,
+        Told::Nothing,
+    ],
+    second: &[
+        HELLO,
+        DESTINATION_AGREED,
+        DESTINATION,
+        Told::Nothing,
+        Told::Nothing,
+        Told::Nothing,
+        Told::Nothing,
+    ],
+    ..SESSION
+};
+
+static FURTHER: [Session<'static>; 2] = [
+    Session {
+        shows: "a further connection differs before the next one is refused",
+        further: &[
+            &[HELLO, DESTINATION_AGREED, OTHER_SOURCE],
+            &[HELLO, DESTINATION_AGREED, REFUSED],
+        ],
+        written: &[
+            SOURCE_OPTIONS,
+            GO,
+            DESTINATION_OPTIONS,
+            GO,
+            FIRST_OPTION,
+            FIRST_OPTION,
+            SECOND_OPTION,
+            GO,
+        ],
+        err: "lnbd: peer broke Differs\n",
+        status: 4,
+        ..SHARED
+    },
+    Session {
+        shows: "a further connection is refused before the next one differs",
+        further: &[
+            &[HELLO, DESTINATION_AGREED, REFUSED],
+            &[HELLO, DESTINATION_AGREED, OTHER_SOURCE],
+        ],
+        written: &[
+            SOURCE_OPTIONS,
+            GO,
+            DESTINATION_OPTIONS,
+            GO,
+            FIRST_OPTION,
+            FIRST_OPTION,
+            SECOND_OPTION,
+            GO,
+        ],
+        err: "lnbd: peer error option 7 code 6\n",
+        status: 3,
+        ..SHARED
+    },
+];
+
+#[test]
+fn nbdcopy_ends_by_what_comes_first(rt: HostRuntime) -> Result<(), Fail> {
+    play_all(&rt, rt.alloc(), &FURTHER)
 }

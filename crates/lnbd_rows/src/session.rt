@@ -38,6 +38,8 @@ pub struct Session<'a> {
     pub reads: &'a [Told<'a>],
     /// What the reads of a second link answer, and `End` after these. Its writes take all.
     pub second: &'a [Told<'a>],
+    /// The same of the links behind these.
+    pub further: &'a [&'a [Told<'a>]],
     /// What the writes of the first link answer; after these each takes all.
     pub writes: &'a [WriteAnswer],
     /// By how much a pause raises the count of waiting.
@@ -61,6 +63,9 @@ pub struct Session<'a> {
     pub waited: u64,
 }
 
+/// No session has more links.
+const MOST_LINKS: usize = 8;
+
 /// An empty script over a link whose peer ends it at once.
 pub const SESSION: Session<'static> = Session {
     shows: "",
@@ -70,6 +75,7 @@ pub const SESSION: Session<'static> = Session {
     unreachable: false,
     reads: &[],
     second: &[],
+    further: &[],
     writes: &[],
     pause: 1,
     input_fails_at: None,
@@ -190,12 +196,25 @@ fn first_link(alloc: Global, session: &Session, cut: usize) -> Result<ListLink, 
     })
 }
 
-fn second_link(alloc: Global, session: &Session) -> Result<ListLink, Fail> {
+/// A link whose writes take all.
+fn taking_link(alloc: Global, reads: &[Told]) -> Result<ListLink, Fail> {
     Ok(ListLink {
         fails: false,
-        reads: answers(alloc, session.second, 0)?,
+        reads: answers(alloc, reads, 0)?,
         writes: Vec::new(alloc),
     })
+}
+
+/// The links of a session, one behind the other.
+fn links_of(alloc: Global, session: &Session, cut: usize) -> Result<Vec<ListLink>, Fail> {
+    let mut links = vec![in alloc;
+        first_link(alloc, session, cut)?,
+        taking_link(alloc, session.second)?,
+    ]?;
+    for reads in session.further {
+        links.push(taking_link(alloc, reads)?)?;
+    }
+    Ok(links)
 }
 
 /// Appends a line, where it isn't empty.
@@ -332,10 +351,8 @@ pub fn play_texts(
     let shows = session.shows;
     let words = words_of(alloc, session.words)?;
     let Texts { script, answers } = texts;
-    let links = vec![in alloc;
-        first_link(alloc, session, cut)?,
-        second_link(alloc, session)?,
-    ]?;
+    let links = links_of(alloc, session, cut)?;
+    assert!(rt; links.len() <= MOST_LINKS);
     let mut wires = Overheard {
         wires: ListWires::new(alloc, links, session.wires_room, session.pause.max(1))?,
         written: Vec::new(alloc),

@@ -60,7 +60,7 @@ module _ {K : Type 0} where
   plain_closed before (Retire cookie) closed p = absurd (false≢true closed)
   plain_closed before ClearLog closed p = absurd (false≢true closed)
 
-  plain_earlier : (limit : ℕ) (before : History K) (one : Event K) → Lawful limit (one ∷ before) → IsPlain (one ∷ before) → IsPlain before
+  pub plain_earlier : (limit : ℕ) (before : History K) (one : Event K) → Lawful limit (one ∷ before) → IsPlain (one ∷ before) → IsPlain before
   plain_earlier limit before one lawful p = go (is_closed (one ∷ before)) refl
     where
       go : (b : Bool) → is_closed (one ∷ before) ≡ b → IsPlain before

@@ -1,3 +1,4 @@
 mod Worked
 pub mod Saying
 pub mod Driving
+pub mod Little

@@ -1,3 +1,4 @@
 pub mod Speaking
 pub mod Driven
 pub mod Laws
+pub mod Little

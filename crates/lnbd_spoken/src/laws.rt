@@ -1,6 +1,7 @@
 //! Laws of clients whose links handles drive. Each is the contract of a function that does nothing.
 
 ghost use Rattle.lnbd_spoken.specs.Laws.{DrivenSpeakWell, DrivenStaySo, UnusedAreDriven};
+ghost use Rattle.lnbd_spoken.specs.Little.{DrivenWriteLittle};
 
 /// A client whose link one handle drives speaks well: its flags once it was greeted, one option after
 /// another, requests once they may be made and in order, and nothing after the end.
@@ -16,4 +17,10 @@ pub fn unused_are_driven<K>()
 /// A link that a handle drove stays so while no call reads or writes it, whatever becomes of the handle.
 pub fn driven_stay_so<K>()
     ensures { DrivenStaySo K }
+{}
+
+/// A handle that isn't in opt mode writes no more on its link than a handshake has and what it was asked: a head
+/// for each command, and the bytes of its writes.
+pub fn driven_write_little<K>()
+    ensures { DrivenWriteLittle K }
 {}

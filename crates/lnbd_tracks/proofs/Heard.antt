@@ -24,21 +24,22 @@ use Rattle.lnbd_history.specs.Entries.{Act, Item, Framed, Lost, Dropped, complet
 use Rattle.lnbd_history.specs.Entries as act
 use Rattle.lnbd_history.specs.Events.{Answer}
 use Rattle.lnbd_history.specs.History.{next_verdict}
-use Rattle.lnbd_asked.specs.Transcript.{is_allocation, extents_in, zero_in}
+use Rattle.lnbd_asked.specs.Transcript.{is_allocation, extents_in}
 use Rattle.lnbd_board.specs.declared.ticket.Ticket.{Ticket}
 use Rattle.lnbd_board.specs.declared.ticket.Ticket.TheVariants as ticket
 use Rattle.lnbd_board.specs.Files.{Seen, filed, filed_done, is_unfit, rows_with, came_with, or_error, content_first, is_map, Files}
 use Rattle.lnbd_board.specs.Files as board
 use Rattle.lnbd_board.specs.Requests.{Each}
 use Rattle.lnbd_tracks.specs.Mapping.{is_extents, first_tells, tells_extents}
+use Rattle.lnbd_tracks.specs.Saying.{said_in}
 
-and_never : (a : Bool) → (a && false) ≡ true → ⊥
-and_never true e = absurd (false≢true e)
-and_never false e = absurd (false≢true e)
+and_second : (a b : Bool) → (a && b) ≡ true → b ≡ true
+and_second true b e = e
+and_second false b e = absurd (false≢true e)
 
 -- no extents tell nothing
-pub none_zero : (start p : ℕ) → zero_in start [] p ≡ true → ⊥
-none_zero start p e = and_never (nat_le start p) e
+pub none_said : (test : Option ℕ → Bool) → test None ≡ false → (start p : ℕ) → said_in test start [] p ≡ true → ⊥
+none_said test blank start p e = false≢true (sym blank ∙ and_second (nat_le start p) (test None) e)
 
 -- the context whose extents are told
 abbrev pub IsAllocation : List ℕ → Type 0
@@ -54,22 +55,22 @@ no_map (ticket.Slice n) context e m = false≢true m
 no_map ticket.Extents context e m = false≢true (sym e)
 no_map ticket.Flush context e m = false≢true m
 
--- A board that holds zeros told from a place on holds this of them, and this where it was told of the answer.
-module _ (start : ℕ) (Z : ℕ → Type 0) (M : Type 0) where
+-- A board that holds extents told from a place on holds this of what they say, and this where it was told of the answer.
+module _ (start : ℕ) (Z : (test : Option ℕ → Bool) → ℕ → Type 0) (M : Type 0) where
   pub record Knows (now : Seen) : Type 0 where
-    pub zero : (p : ℕ) → zero_in start now.told p ≡ true → Z p
+    pub said : (test : Option ℕ → Bool) → test None ≡ false → (p : ℕ) → said_in test start now.told p ≡ true → Z test p
     pub answered : now.mapped ≡ true → M
 
   -- a call tells no other
   abbrev pub Suits : Call Ticket → Type 0
   Suits (Chunk by bytes offset status error heard) = Unit {0}
-  Suits (Extents by context offset entries error heard) = is_map by context ≡ true → (p : ℕ) → zero_in start entries p ≡ true → Z p
+  Suits (Extents by context offset entries error heard) = is_map by context ≡ true → (test : Option ℕ → Bool) → test None ≡ false → (p : ℕ) → said_in test start entries p ≡ true → Z test p
   Suits (Complete by error buf verdict) = is_extents by ≡ true → error ≡ 0 → M
   Suits (Free by) = Unit {0}
 
-  hears_known : (b : Bool) (entries : List Extent) (before after : Seen) → (b ≡ true → (p : ℕ) → zero_in start entries p ≡ true → Z p) → board.Hears b entries before after → Knows before → Knows after
-  hears_known true entries before after s (inl e) k = subst Knows (sym e.1) (record { zero = s refl; answered = k.answered })
-  hears_known true entries before after s (inr e) k = subst Knows (sym e) (record { zero = λ p z. absurd (none_zero start p z); answered = k.answered })
+  hears_known : (b : Bool) (entries : List Extent) (before after : Seen) → (b ≡ true → (test : Option ℕ → Bool) → test None ≡ false → (p : ℕ) → said_in test start entries p ≡ true → Z test p) → board.Hears b entries before after → Knows before → Knows after
+  hears_known true entries before after s (inl e) k = subst Knows (sym e.1) (record { said = s refl; answered = k.answered })
+  hears_known true entries before after s (inr e) k = subst Knows (sym e) (record { said = λ test blank p z. absurd (none_said test blank start p z); answered = k.answered })
   hears_known false entries before after s e k = subst Knows (sym e) k
 
   either_known : (b : Bool) (one other : Seen) → (b ≡ true → Knows one) → (b ≡ false → Knows other) → Knows (if b then one else other)
@@ -79,9 +80,9 @@ module _ (start : ℕ) (Z : ℕ → Type 0) (M : Type 0) where
   done_known : (by : Ticket) (buf : List ℕ) (before : Seen) → (is_extents by ≡ true → M) → Knows before → Knows (filed_done by buf before)
   done_known (ticket.Slice n) buf before m k =
       either_known (is_unfit (value_at n before.rows) buf) (record before { error = or_error before.error 71 }) (record before { rows = rows_with (value_at n before.rows) n buf before.rows; came = came_with (value_at n before.rows) n before.came })
-      (λ e. record { zero = k.zero; answered = k.answered }) (λ e. record { zero = k.zero; answered = k.answered })
-  done_known ticket.Extents buf before m k = record { zero = k.zero; answered = λ e. m refl }
-  done_known ticket.Flush buf before m k = record { zero = k.zero; answered = k.answered }
+      (λ e. record { said = k.said; answered = k.answered }) (λ e. record { said = k.said; answered = k.answered })
+  done_known ticket.Extents buf before m k = record { said = k.said; answered = λ e. m refl }
+  done_known ticket.Flush buf before m k = record { said = k.said; answered = k.answered }
 
   zero_number : (error : ℕ) → (error == 0) ≡ true → error ≡ 0
   zero_number error e = grind (arith, nat_tests, common_steps)
@@ -91,7 +92,7 @@ module _ (start : ℕ) (Z : ℕ → Type 0) (M : Type 0) where
   one_known (Extents by context offset entries error heard) before after f s k = hears_known (is_map by context) entries before after s f.1 k
   one_known (Complete by error buf verdict) before after f s k =
       subst Knows (sym f.1) (either_known (error == 0) (filed_done by buf before) (record before { error = content_first before.error error })
-      (λ e. done_known by buf before (λ t. s t (zero_number error e)) k) (λ e. record { zero = k.zero; answered = k.answered }))
+      (λ e. done_known by buf before (λ t. s t (zero_number error e)) k) (λ e. record { said = k.said; answered = k.answered }))
   one_known (Free by) before after f s k = subst Knows (sym f) k
 
   pub all_known : (calls : List (Call Ticket)) (before after : Seen) → OneByOne Files before calls after → Each Suits calls → Knows before → Knows after
@@ -114,7 +115,7 @@ module _ (start : ℕ) (Z : ℕ → Type 0) (M : Type 0) where
     -- what is told to the callback where that is one of extents
     abbrev pub FirstSuits : Option Hearing → Type 0
     FirstSuits told = (slot : Slot Ticket) (context : MetaContext) (offset : ℕ) (entries : List Extent) (error : ℕ) → flight.first ≡ Some slot → told ≡ Some (hearing_of.Extents context offset entries error) → is_map slot.callback context.name ≡ true →
-        (p : ℕ) → zero_in start entries p ≡ true → Z p
+        (test : Option ℕ → Bool) → test None ≡ false → (p : ℕ) → said_in test start entries p ≡ true → Z test p
 
     first_suits : (first : Option (Slot Ticket)) (told : Option Hearing) (heard : Option Heard) → flight.first ≡ first → FirstSuits told → Each Suits (map call_of (first_acts first told heard))
     first_suits (Some slot) (Some (hearing_of.Chunk bytes offset status error)) (Some heard) e s = (tt, tt)
@@ -158,8 +159,8 @@ module _ (start : ℕ) (Z : ℕ → Type 0) (M : Type 0) where
         (λ t z c. absurd (false≢true (sym parts.1 ∙ t)))
 
 -- it knows what more is known
-pub knows_more : (start : ℕ) (Z Z2 : ℕ → Type 0) (M M2 : Type 0) (now : Seen) → ((p : ℕ) → Z p → Z2 p) → (M → M2) → Knows start Z M now → Knows start Z2 M2 now
-knows_more start Z Z2 M M2 now z m k = record { zero = λ p e. z p (k.zero p e); answered = λ e. m (k.answered e) }
+pub knows_more : (start : ℕ) (Z Z2 : (test : Option ℕ → Bool) → ℕ → Type 0) (M M2 : Type 0) (now : Seen) → ((test : Option ℕ → Bool) (p : ℕ) → Z test p → Z2 test p) → (M → M2) → Knows start Z M now → Knows start Z2 M2 now
+knows_more start Z Z2 M M2 now z m k = record { said = λ test blank p e. z test p (k.said test blank p e); answered = λ e. m (k.answered e) }
 
 -- What a callback is told of extents are those of the reply.
 

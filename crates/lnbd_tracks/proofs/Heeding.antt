@@ -1,5 +1,5 @@
 -- All that is told of extents is held by the board, and then known.
-use Rattle.std.proofs.Common.{◌≡◌, ◌≢◌, ℕ, ◌+◌, ◌*◌, ◌/◌, Bool, true, false, ◌&&◌, ◌||◌, List, [], ◌∷◌, ◌++◌, map, Option, Some, None, is_some, refl, ap, sym, subst, ◌∙◌, arith, ◌⊎◌, inl, inr, if◌then◌else◌, bytes_eq, codes, ◌==◌, nat_lt, nat_le}
+use Rattle.std.proofs.Common.{◌≡◌, ◌≢◌, ℕ, ◌+◌, ◌*◌, ◌/◌, Bool, true, false, ◌&&◌, ◌||◌, List, [], ◌∷◌, ◌++◌, map, Option, Some, None, is_some, refl, ap, sym, subst, ◌∙◌, arith, ◌⊎◌, inl, inr, if◌then◌else◌, bytes_eq, codes, ◌==◌, nat_lt}
 use Rattle.std.proofs.lemmas.Bool.{cases_eq, false≢true}
 use Rattle.lnbd_keyed.specs.Keyed.{value_at}
 use Rattle.lnbd_model.specs.declared.export.Context.{Context as MetaContext}
@@ -30,7 +30,7 @@ use Rattle.lnbd_history.specs.History.{asked, request, next_heard, filing_of, re
 use Rattle.lnbd_history.proofs.Cookies.{request_past}
 use Rattle.lnbd_asked.specs.Driven.{outcome_after, zero_after}
 use Rattle.lnbd_asked.specs.InStep.{silent_pieces}
-use Rattle.lnbd_asked.specs.Transcript.{outcome_of, extents_in, is_allocation, is_zero, zero_in, zero_by, zero_told}
+use Rattle.lnbd_asked.specs.Transcript.{outcome_of, extents_in, is_allocation, is_zero, zero_in, zero_told}
 use Rattle.lnbd_board.specs.declared.ticket.Ticket.{Ticket}
 use Rattle.lnbd_board.specs.declared.ticket.Ticket.TheVariants as ticket
 use Rattle.lnbd_board.specs.Files.{Seen, Files, filed_done, is_map, is_unfit, or_error, content_first, rows_with, came_with}
@@ -43,7 +43,8 @@ use Rattle.lnbd_tracks.specs.Mapping.{Maps, ToldAlike, asks_extents, first_tells
 use Rattle.lnbd_tracks.specs.Tracks.{Histories, Happens, Adds, NoneFails, is_issue}
 use Rattle.lnbd_tracks.proofs.Along.{along}
 use Rattle.lnbd_tracks.proofs.Mapped.{at, asked_at, hearing_maps, told_at, not_issued}
-use Rattle.lnbd_tracks.proofs.Staying.{asked_stays, done_over, ended_more, next_beside, next_here}
+use Rattle.lnbd_tracks.proofs.Heard.{none_said}
+use Rattle.lnbd_tracks.proofs.Staying.{asked_stays, done_over, ended_more, next_beside, next_here, zero_is}
 use Rattle.lnbd_tracks.proofs.Coming.{closed_keeps, event_keeps}
 use Rattle.lnbd_tracks.proofs.Unfiled.{own_same, own_other, unfiled}
 use Rattle.lnbd_tracks.proofs.Outcomes.{NoneFailed, heard_alike, own_well}
@@ -219,22 +220,6 @@ item_said query earlier contexts Dropped e = refl
 -- What is said of positions.
 
 -- no extents say anything
-none_said : (test : Option ℕ → Bool) → test None ≡ false → (start p : ℕ) → said_in test start [] p ≡ true → ⊥
-none_said test blank start p e = false≢true (sym blank ∙ second (nat_le start p) (test None) e)
-  where
-    second : (a b : Bool) → (a && b) ≡ true → b ≡ true
-    second true b e = e
-    second false b e = absurd (false≢true e)
-
-zero_said : (start : ℕ) (all : List Piece) (p : ℕ) → zero_by start all p ≡ said_by is_zero start all p
-zero_said start [] p = refl
-zero_said start (piece ∷ earlier) p = ap (λ (b : Bool). zero_in start (extents_in piece.contexts (content_of piece.item)) p || b) (zero_said start earlier p)
-
--- what is told as zero is said so
-zero_is : {K : Type 0} (asks : Option (Request K)) (filings : List (Filing K)) (p : ℕ) → zero_told asks filings p ≡ said_of is_zero asks filings p
-zero_is None filings p = refl
-zero_is (Some asks) filings p = zero_said asks.offset (pieces filings) p
-
 -- What is over stays as it is.
 
 module _ {K : Type 0} where

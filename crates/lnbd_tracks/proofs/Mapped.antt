@@ -14,24 +14,25 @@ use Rattle.lnbd_history.specs.Entries.{Item, Filing, Entry, Filed, Freed, Cleare
 use Rattle.lnbd_history.specs.Events.{Answer, Event, History, Set, StrictMode, Start, Opt, Abort, Issue, Refuse, Disconnect, Wrote, Arrived, End, LinkFailed, Retire, ClearLog, Close}
 use Rattle.lnbd_history.specs.History.{asked, request, left, filing_of, reading}
 use Rattle.lnbd_asked.specs.Driven.{outcome_after, zero_after}
-use Rattle.lnbd_asked.specs.Transcript.{outcome_of, extents_in, zero_in, zero_by, zero_told}
+use Rattle.lnbd_asked.specs.Transcript.{outcome_of, extents_in, is_zero}
 use Rattle.lnbd_board.specs.declared.ticket.Ticket.{Ticket}
 use Rattle.lnbd_board.specs.Files.{Seen, Files}
 use Rattle.lnbd_tracks.specs.Laws.{IsDone}
 use Rattle.lnbd_tracks.specs.Mapping.{is_extents, tells_extents, is_extents_if, asks_extents, NoneAsked, IsWanted, IsToldZero, HoldsZero, AsksRange, NothingMaps, ComingMaps, OthersMap, AskingMaps, HearingMaps, ZeroesStay}
+use Rattle.lnbd_tracks.specs.Saying.{said_after, said_by, said_in, said_of}
 use Rattle.lnbd_tracks.specs.Tracks.{NoneFails, Histories, Happens, Adds, is_issue}
 use Rattle.lnbd_tracks.proofs.Along.{along}
 use Rattle.lnbd_tracks.proofs.Calling.{files_well, heard_well}
-use Rattle.lnbd_tracks.proofs.Heard.{none_zero, map_context, Knows, all_known, frees_suit, FirstSuits, filing_suits, deaf_suits, knows_more, item_told}
+use Rattle.lnbd_tracks.proofs.Heard.{none_said, map_context, Knows, all_known, frees_suit, FirstSuits, filing_suits, deaf_suits, knows_more, item_told}
 use Rattle.lnbd_tracks.proofs.Outcomes.{own_well, waits, comes_done}
-use Rattle.lnbd_tracks.proofs.Staying.{or_right, or_left, issue_is, next_here, next_beside, asked_stays, ended_more, zero_stays, done_stays, done_over}
+use Rattle.lnbd_tracks.proofs.Staying.{or_right, or_left, issue_is, next_here, next_beside, asked_stays, ended_more, said_stays, zero_is, zero_stays, done_stays, done_over}
 use Rattle.lnbd_tracks.proofs.Unfiled.{own_same, own_other, request_stays}
 
 -- On the link of the block status.
 
 module _ (history : History Ticket) (k start : ℕ) (starts : (q : Request Ticket) → request history k ≡ Some q → start ≡ q.offset) where
-  abbrev Zero : List (Entry Ticket) → ℕ → Type 0
-  Zero entries p = zero_told (request history k) (own k entries) p ≡ true
+  abbrev Said : List (Entry Ticket) → (test : Option ℕ → Bool) → ℕ → Type 0
+  Said entries test p = said_of test (request history k) (own k entries) p ≡ true
 
   abbrev Answered : List (Entry Ticket) → Type 0
   Answered entries = IsDone (outcome_of (request history k) (own k entries))
@@ -39,7 +40,7 @@ module _ (history : History Ticket) (k start : ℕ) (starts : (q : Request Ticke
   record Heard (entries : List (Entry Ticket)) (now : Seen) : Type 0 where
     others : (c : ℕ) (q : Request Ticket) → request history c ≡ Some q → tells_extents q.flight ≡ true → (c ≡ k) ⊎ (is_ended (own c entries) ≡ true)
     well : NoneFails entries
-    knows : Knows start (Zero entries) (Answered entries) now
+    knows : Knows start (Said entries) (Answered entries) now
 
   -- one thing more
   module _ (q : Request Ticket) (c : ℕ) (item : Item) (contexts : List MetaContext) (answers : List Answer) (entries : List (Entry Ticket)) (before after : Seen) (is : request history c ≡ Some q) (going : is_ended (own c entries) ≡ false) (r : Heard entries before) where
@@ -71,11 +72,11 @@ module _ (history : History Ticket) (k start : ℕ) (starts : (q : Request Ticke
         own_k : own k (Filed f ∷ entries) ≡ f ∷ own k entries
         own_k = subst (λ (x : ℕ). own x (Filed f ∷ entries) ≡ f ∷ own x entries) same (own_same f entries)
 
-        zero_now : (p : ℕ) → zero_told (request history k) (own k (Filed f ∷ entries)) p ≡ (zero_in q.offset (extents_in contexts (content_of item)) p || zero_by q.offset (pieces (own k entries)) p)
-        zero_now p = ap (λ a. zero_told a (own k (Filed f ∷ entries)) p) is_k ∙ ap (λ l. zero_told (Some q) l p) own_k
+        said_now : (test : Option ℕ → Bool) (p : ℕ) → said_of test (request history k) (own k (Filed f ∷ entries)) p ≡ (said_in test q.offset (extents_in contexts (content_of item)) p || said_by test q.offset (pieces (own k entries)) p)
+        said_now test p = ap (λ a. said_of test a (own k (Filed f ∷ entries)) p) is_k ∙ ap (λ l. said_of test (Some q) l p) own_k
 
-        zero_more : (p : ℕ) → Zero entries p → Zero (Filed f ∷ entries) p
-        zero_more p z = zero_now p ∙ or_right (zero_in q.offset (extents_in contexts (content_of item)) p) (zero_by q.offset (pieces (own k entries)) p) (sym (ap (λ a. zero_told a (own k entries) p) is_k) ∙ z)
+        said_more : (test : Option ℕ → Bool) (p : ℕ) → Said entries test p → Said (Filed f ∷ entries) test p
+        said_more test p z = said_now test p ∙ or_right (said_in test q.offset (extents_in contexts (content_of item)) p) (said_by test q.offset (pieces (own k entries)) p) (sym (ap (λ a. said_of test a (own k entries) p) is_k) ∙ z)
 
         unfinished : Answered entries → ⊥
         unfinished d = differ (sym (waits q (own k entries) (ap (λ x. is_ended (own x entries)) (sym same) ∙ going)) ∙ sym (ap (λ a. outcome_of a (own k entries)) is_k) ∙ d.is)
@@ -83,11 +84,11 @@ module _ (history : History Ticket) (k start : ℕ) (starts : (q : Request Ticke
             differ : Unfinished ≡ Done d.bytes → ⊥
             differ e = cc
 
-        first_is : FirstSuits start (Zero (Filed f ∷ entries)) (Answered (Filed f ∷ entries)) q.flight (hearing_in q (own c entries) contexts item)
-        first_is slot context offset extents error first heard m p z =
+        first_is : FirstSuits start (Said (Filed f ∷ entries)) (Answered (Filed f ∷ entries)) q.flight (hearing_in q (own c entries) contexts item)
+        first_is slot context offset extents error first heard m test blank p z =
             let are : extents_in contexts (content_of item) ≡ extents = item_told (query_of q) (pieces (own c entries)) contexts item context offset extents error heard (map_context slot.callback context.name m) in
-            zero_now p ∙ or_left (zero_in q.offset (extents_in contexts (content_of item)) p) (zero_by q.offset (pieces (own k entries)) p)
-            (ap (λ (l : List Extent). zero_in q.offset l p) are ∙ sym (ap (λ (n : ℕ). zero_in n extents p) (starts q is_k)) ∙ z)
+            said_now test p ∙ or_left (said_in test q.offset (extents_in contexts (content_of item)) p) (said_by test q.offset (pieces (own k entries)) p)
+            (ap (λ (l : List Extent). said_in test q.offset l p) are ∙ sym (ap (λ (n : ℕ). said_in test n extents p) (starts q is_k)) ∙ z)
 
         finished : is_extents q.flight.done.callback ≡ true → error_in q (f ∷ own c entries) ≡ 0 → completes item ≡ true → Answered (Filed f ∷ entries)
         finished tells none completed = record {
@@ -96,11 +97,11 @@ module _ (history : History Ticket) (k start : ℕ) (starts : (q : Request Ticke
               ∙ comes_done q f (own c entries) completed (well_now.0, own_well c entries r.well) none;
         }
 
-        knows_here : Knows start (Zero (Filed f ∷ entries)) (Answered (Filed f ∷ entries)) after
+        knows_here : Knows start (Said (Filed f ∷ entries)) (Answered (Filed f ∷ entries)) after
         knows_here =
-            all_known start (Zero (Filed f ∷ entries)) (Answered (Filed f ∷ entries)) told before after files
-            (filing_suits start (Zero (Filed f ∷ entries)) (Answered (Filed f ∷ entries)) q.flight (hearing_in q (own c entries) contexts item) item f.heard rest (error_in q (f ∷ own c entries)) (bytes_in q (f ∷ own c entries)) first_is finished)
-            (knows_more start (Zero entries) (Zero (Filed f ∷ entries)) (Answered entries) (Answered (Filed f ∷ entries)) before zero_more (λ d. absurd (unfinished d)) r.knows)
+            all_known start (Said (Filed f ∷ entries)) (Answered (Filed f ∷ entries)) told before after files
+            (filing_suits start (Said (Filed f ∷ entries)) (Answered (Filed f ∷ entries)) q.flight (hearing_in q (own c entries) contexts item) item f.heard rest (error_in q (f ∷ own c entries)) (bytes_in q (f ∷ own c entries)) first_is finished)
+            (knows_more start (Said entries) (Said (Filed f ∷ entries)) (Answered entries) (Answered (Filed f ∷ entries)) before said_more (λ d. absurd (unfinished d)) r.knows)
 
       -- under another cookie
       module _ (differ : c ≢ k) where
@@ -118,18 +119,18 @@ module _ (history : History Ticket) (k start : ℕ) (starts : (q : Request Ticke
         own_k' : own k (Filed f ∷ entries) ≡ own k entries
         own_k' = own_other k f entries differ
 
-        knows_beside : Knows start (Zero (Filed f ∷ entries)) (Answered (Filed f ∷ entries)) after
+        knows_beside : Knows start (Said (Filed f ∷ entries)) (Answered (Filed f ∷ entries)) after
         knows_beside =
-            knows_more start (Zero entries) (Zero (Filed f ∷ entries)) (Answered entries) (Answered (Filed f ∷ entries)) after
-            (λ p z. subst (λ (l : List (Filing Ticket)). zero_told (request history k) l p ≡ true) (sym own_k') z)
+            knows_more start (Said entries) (Said (Filed f ∷ entries)) (Answered entries) (Answered (Filed f ∷ entries)) after
+            (λ test p z. subst (λ (l : List (Filing Ticket)). said_of test (request history k) l p ≡ true) (sym own_k') z)
             (λ d. subst (λ (l : List (Filing Ticket)). IsDone (outcome_of (request history k) l)) (sym own_k') d)
-            (all_known start (Zero entries) (Answered entries) told before after files
-            (deaf_suits start (Zero entries) (Answered entries) q.flight (hearing_in q (own c entries) contexts item) item f.heard rest (error_in q (f ∷ own c entries)) (bytes_in q (f ∷ own c entries)) deaf) r.knows)
+            (all_known start (Said entries) (Answered entries) told before after files
+            (deaf_suits start (Said entries) (Answered entries) q.flight (hearing_in q (own c entries) contexts item) item f.heard rest (error_in q (f ∷ own c entries)) (bytes_in q (f ∷ own c entries)) deaf) r.knows)
 
       heard_filed : Heard (Filed f ∷ entries) after
       heard_filed = record { others = others_now; well = well_now; knows = go (cases_eq c k) }
         where
-          go : (c ≡ k) ⊎ (c ≡ k → ⊥) → Knows start (Zero (Filed f ∷ entries)) (Answered (Filed f ∷ entries)) after
+          go : (c ≡ k) ⊎ (c ≡ k → ⊥) → Knows start (Said (Filed f ∷ entries)) (Answered (Filed f ∷ entries)) after
           go (inl same) = knows_here same
           go (inr differ) = knows_beside differ
 
@@ -137,7 +138,7 @@ module _ (history : History Ticket) (k start : ℕ) (starts : (q : Request Ticke
   heard_freed flight entries before after r files = record {
     others = r.others;
     well = r.well;
-    knows = all_known start (Zero entries) (Answered entries) (map call_of (free_acts flight)) before after files (frees_suit start (Zero entries) (Answered entries) flight) r.knows;
+    knows = all_known start (Said entries) (Answered entries) (map call_of (free_acts flight)) before after files (frees_suit start (Said entries) (Answered entries) flight) r.knows;
   }
 
   heard_cleared : (entries : List (Entry Ticket)) (now : Seen) → Heard entries now → Heard (Cleared ∷ entries) now
@@ -148,7 +149,7 @@ module _ (history : History Ticket) (k start : ℕ) (starts : (q : Request Ticke
 
 -- On another link.
 
-module _ (history : History Ticket) (start : ℕ) (Z : ℕ → Type 0) (M : Type 0) where
+module _ (history : History Ticket) (start : ℕ) (Z : (test : Option ℕ → Bool) → ℕ → Type 0) (M : Type 0) where
   record Unheard (entries : List (Entry Ticket)) (now : Seen) : Type 0 where
     others : (c : ℕ) (q : Request Ticket) → request history c ≡ Some q → tells_extents q.flight ≡ true → is_ended (own c entries) ≡ true
     knows : Knows start Z M now
@@ -213,6 +214,9 @@ module _ (link : ℕ) (event : Event Ticket) (histories histories2 : Histories) 
   zero_at : (other c p : ℕ) (q : Request Ticket) → request (histories other) c ≡ Some q → zero_after (histories other) c p ≡ true → zero_after (histories2 other) c p ≡ true
   zero_at other c p q is z = at other (λ h. (request h c ≡ Some q) × (zero_after h c p ≡ true)) (λ h. zero_after h c p ≡ true) (λ h b. zero_stays h event c p q b.0 b.1) (λ h b. b.1) (is, z)
 
+  said_at : (test : Option ℕ → Bool) (other c p : ℕ) (q : Request Ticket) → request (histories other) c ≡ Some q → said_after test (histories other) c p ≡ true → said_after test (histories2 other) c p ≡ true
+  said_at test other c p q is z = at other (λ h. (request h c ≡ Some q) × (said_after test h c p ≡ true)) (λ h. said_after test h c p ≡ true) (λ h b. said_stays test h event c p q b.0 b.1) (λ h b. b.1) (is, z)
+
   done_at : (other c : ℕ) (q : Request Ticket) → request (histories other) c ≡ Some q → IsDone (outcome_after (histories other) c) → IsDone (outcome_after (histories2 other) c)
   done_at other c q is d = at other (λ h. (request h c ≡ Some q) × IsDone (outcome_after h c)) (λ h. IsDone (outcome_after h c)) (λ h b. done_stays h event c q b.0 b.1) (λ h b. b.1) (is, d)
 
@@ -239,7 +243,7 @@ module _ (link : ℕ) (event : Event Ticket) (histories histories2 : Histories) 
         go (inr done) = inr (done_at link' cookie' other was done)
 
     -- with what the board knows after it
-    still_asked : asks_extents event ≡ false → (after : Seen) → Knows range.0 (λ p. zero_after (histories2 m.link) m.cookie p ≡ true) (IsDone (outcome_after (histories2 m.link) m.cookie)) after → IsWanted sources histories2 range after
+    still_asked : asks_extents event ≡ false → (after : Seen) → Knows range.0 (λ test p. said_after test (histories2 m.link) m.cookie p ≡ true) (IsDone (outcome_after (histories2 m.link) m.cookie)) after → IsWanted sources histories2 range after
     still_asked none after k = record {
       link = m.link;
       cookie = m.cookie;
@@ -250,15 +254,15 @@ module _ (link : ℕ) (event : Event Ticket) (histories histories2 : Histories) 
       offset = m.offset;
       length_ = m.length_;
       others = others_at none;
-      zero = k.zero;
+      said = k.said;
       answered = k.answered;
     }
 
-    knew : Knows range.0 (λ p. zero_after (histories m.link) m.cookie p ≡ true) (IsDone (outcome_after (histories m.link) m.cookie)) before
-    knew = record { zero = m.zero; answered = m.answered }
+    knew : Knows range.0 (λ test p. said_after test (histories m.link) m.cookie p ≡ true) (IsDone (outcome_after (histories m.link) m.cookie)) before
+    knew = record { said = m.said; answered = m.answered }
 
-    knows_still : Knows range.0 (λ p. zero_after (histories2 m.link) m.cookie p ≡ true) (IsDone (outcome_after (histories2 m.link) m.cookie)) before
-    knows_still = record { zero = λ p z. zero_at m.link m.cookie p m.asks m.asked (m.zero p z); answered = λ e. done_at m.link m.cookie m.asks m.asked (m.answered e) }
+    knows_still : Knows range.0 (λ test p. said_after test (histories2 m.link) m.cookie p ≡ true) (IsDone (outcome_after (histories2 m.link) m.cookie)) before
+    knows_still = record { said = λ test blank p z. said_at test m.link m.cookie p m.asks m.asked (m.said test blank p z); answered = λ e. done_at m.link m.cookie m.asks m.asked (m.answered e) }
 
     -- Where it brings bytes or an end, its calls tell of no other extents.
     module _ (other : is_issue event ≡ false) (none : asks_extents event ≡ false) (added : List (Call Ticket)) (after : Seen) (well : NoneFails (reading (histories link)).known.entries) (adds : Adds event (histories link) added) (files : OneByOne Files before added after) where
@@ -286,7 +290,7 @@ module _ (link : ℕ) (event : Event Ticket) (histories histories2 : Histories) 
 
           heard : Heard (histories link) m.cookie range.0 starts (reading then).known.entries after
           heard = heard_after (histories link) m.cookie range.0 starts event added before after
-              (record { others = others; well = well; knows = subst (λ (x : ℕ). Knows range.0 (λ p. zero_after (histories x) m.cookie p ≡ true) (IsDone (outcome_after (histories x) m.cookie)) before) (sym same) knew }) adds files
+              (record { others = others; well = well; knows = subst (λ (x : ℕ). Knows range.0 (λ test p. said_after test (histories x) m.cookie p ≡ true) (IsDone (outcome_after (histories x) m.cookie)) before) (sym same) knew }) adds files
 
           there : histories2 m.link ≡ then
           there = ap histories2 (sym same) ∙ happens.here
@@ -294,10 +298,10 @@ module _ (link : ℕ) (event : Event Ticket) (histories histories2 : Histories) 
           stays : request then m.cookie ≡ request (histories link) m.cookie
           stays = request_stays (histories link) event m.cookie other
 
-          knows_now : Knows range.0 (λ p. zero_after (histories2 m.link) m.cookie p ≡ true) (IsDone (outcome_after (histories2 m.link) m.cookie)) after
+          knows_now : Knows range.0 (λ test p. said_after test (histories2 m.link) m.cookie p ≡ true) (IsDone (outcome_after (histories2 m.link) m.cookie)) after
           knows_now =
-              subst (λ (h : History Ticket). Knows range.0 (λ p. zero_after h m.cookie p ≡ true) (IsDone (outcome_after h m.cookie)) after) (sym there)
-              (subst (λ (a : Option (Request Ticket)). Knows range.0 (λ p. zero_told a (own m.cookie (reading then).known.entries) p ≡ true) (IsDone (outcome_of a (own m.cookie (reading then).known.entries))) after) (sym stays) heard.knows)
+              subst (λ (h : History Ticket). Knows range.0 (λ test p. said_after test h m.cookie p ≡ true) (IsDone (outcome_after h m.cookie)) after) (sym there)
+              (subst (λ (a : Option (Request Ticket)). Knows range.0 (λ test p. said_of test a (own m.cookie (reading then).known.entries) p ≡ true) (IsDone (outcome_of a (own m.cookie (reading then).known.entries))) after) (sym stays) heard.knows)
 
       comes_beside : link ≢ m.link → IsWanted sources histories2 range after
       comes_beside differ = still_asked none after u.knows
@@ -309,8 +313,8 @@ module _ (link : ℕ) (event : Event Ticket) (histories histories2 : Histories) 
               go (inl e) = absurd (differ e.0)
               go (inr done) = done_over (histories link) c q there done
 
-          u : Unheard (histories link) range.0 (λ p. zero_after (histories2 m.link) m.cookie p ≡ true) (IsDone (outcome_after (histories2 m.link) m.cookie)) (reading then).known.entries after
-          u = unheard_after (histories link) range.0 (λ p. zero_after (histories2 m.link) m.cookie p ≡ true) (IsDone (outcome_after (histories2 m.link) m.cookie)) event added before after (record { others = others; knows = knows_still }) adds files
+          u : Unheard (histories link) range.0 (λ test p. said_after test (histories2 m.link) m.cookie p ≡ true) (IsDone (outcome_after (histories2 m.link) m.cookie)) (reading then).known.entries after
+          u = unheard_after (histories link) range.0 (λ test p. said_after test (histories2 m.link) m.cookie p ≡ true) (IsDone (outcome_after (histories2 m.link) m.cookie)) event added before after (record { others = others; knows = knows_still }) adds files
 
       comes : IsWanted sources histories2 range after
       comes = go (cases_eq link m.link)
@@ -355,7 +359,7 @@ others_map sources link event histories histories2 None before after m none happ
 others_map sources link event histories histories2 (Some range) before after m none happens alike =
     let k = knows_still link event histories histories2 happens sources range before m in
     still_asked link event histories histories2 happens sources range before m none after
-    (record { zero = λ p z. k.zero p (ap (λ (l : List Extent). zero_in range.0 l p) (sym alike.told) ∙ z); answered = λ e. k.answered (sym alike.mapped ∙ e) })
+    (record { said = λ test blank p z. k.said test blank p (ap (λ (l : List Extent). said_in test range.0 l p) (sym alike.told) ∙ z); answered = λ e. k.answered (sym alike.mapped ∙ e) })
 
 -- Extents are asked for.
 module _ (sources : ℕ → Bool) (link : ℕ) (command : Command Ticket) (range : ℕ × ℕ) (histories histories2 : Histories) (before after : Seen) (none : NoneAsked histories) (source : sources link ≡ true) (asks : AsksRange range command)
@@ -393,7 +397,7 @@ module _ (sources : ℕ → Bool) (link : ℕ) (command : Command Ticket) (range
     offset = asks.offset;
     length_ = asks.length_;
     others = others_done;
-    zero = λ p z. absurd (none_zero range.0 p (ap (λ (l : List Extent). zero_in range.0 l p) (sym told) ∙ z));
+    said = λ test blank p z. absurd (none_said test blank range.0 p (ap (λ (l : List Extent). said_in test range.0 l p) (sym told) ∙ z));
     answered = λ e. absurd (false≢true (sym unmapped ∙ e));
   }
 
@@ -420,7 +424,7 @@ hearing_maps sources histories range now m answered = (all_done, heard)
       kind = m.kind;
       has = ap (λ (n : ℕ). within (n, m.asks.length) p) m.offset ∙ ap (λ (n : ℕ). within (range.0, n) p) m.length_ ∙ h.has;
       done = m.answered answered;
-      zero = m.zero p h.zero;
+      zero = zero_is (request (histories m.link) m.cookie) (own m.cookie (reading (histories m.link)).known.entries) p ∙ m.said is_zero refl p h.zero;
     }
 
 pub zeroes_stay : ZeroesStay

@@ -1,9 +1,9 @@
 -- What stays of a command whatever happens: what was asked, that it has ended, that it is done, and what it told as zero.
-use Rattle.std.proofs.Common.{◌≡◌, ◌≢◌, ℕ, ◌+◌, Bool, true, false, ◌||◌, List, ◌∷◌, Some, None, refl, ap, sym, subst, ◌∙◌, arith, ◌==◌, ◌⊎◌, inl, inr, if◌then◌else◌}
+use Rattle.std.proofs.Common.{◌≡◌, ◌≢◌, ℕ, ◌+◌, Bool, true, false, ◌||◌, List, [], ◌∷◌, Option, Some, None, refl, ap, sym, subst, ◌∙◌, arith, ◌==◌, ◌⊎◌, inl, inr, if◌then◌else◌}
 use Rattle.std.proofs.lemmas.Bool.{cases_eq, false≢true, eq-eqb, ne_eqb}
 use Rattle.lnbd_model.specs.declared.export.Context.{Context as MetaContext}
 use Rattle.lnbd_outcome.specs.Outcome.{Unfinished, Done}
-use Rattle.lnbd_outcome.specs.Pieces.{content_of}
+use Rattle.lnbd_outcome.specs.Pieces.{Piece, content_of}
 use Rattle.lnbd_history.specs.Commands.{Command, Flight, Request}
 use Rattle.lnbd_history.specs.Commands as commands
 use Rattle.lnbd_history.specs.Entries.{Item, Filing, Entry, Filed, ends, own, is_ended, pieces}
@@ -11,9 +11,10 @@ use Rattle.lnbd_history.specs.Events.{Answer, Event, History, Set, StrictMode, S
 use Rattle.lnbd_history.specs.History.{asked, request, filing_of, reading}
 use Rattle.lnbd_history.proofs.Cookies.{request_past}
 use Rattle.lnbd_asked.specs.Driven.{outcome_after, zero_after}
-use Rattle.lnbd_asked.specs.Transcript.{outcome_of, extents_in, zero_in, zero_by, zero_told}
+use Rattle.lnbd_asked.specs.Transcript.{outcome_of, extents_in, is_zero, zero_in, zero_by, zero_told}
 use Rattle.lnbd_tracks.specs.Tracks.{is_issue}
 use Rattle.lnbd_tracks.specs.Laws.{IsDone}
+use Rattle.lnbd_tracks.specs.Saying.{said_after, said_by, said_in, said_of}
 use Rattle.lnbd_tracks.proofs.Coming.{event_keeps}
 use Rattle.lnbd_tracks.proofs.Outcomes.{waits}
 use Rattle.lnbd_tracks.proofs.Unfiled.{own_other, request_stays}
@@ -25,6 +26,15 @@ or_right false b e = e
 pub or_left : (a b : Bool) → a ≡ true → (a || b) ≡ true
 or_left true b e = refl
 or_left false b e = absurd (false≢true e)
+
+zero_said : (start : ℕ) (all : List Piece) (p : ℕ) → zero_by start all p ≡ said_by is_zero start all p
+zero_said start [] p = refl
+zero_said start (piece ∷ earlier) p = ap (λ (b : Bool). zero_in start (extents_in piece.contexts (content_of piece.item)) p || b) (zero_said start earlier p)
+
+-- what is told as zero is said so
+pub zero_is : {K : Type 0} (asks : Option (Request K)) (filings : List (Filing K)) (p : ℕ) → zero_told asks filings p ≡ said_of is_zero asks filings p
+zero_is None filings p = refl
+zero_is (Some asks) filings p = zero_said asks.offset (pieces filings) p
 
 module _ {K : Type 0} where
   -- the event is that a command is asked
@@ -87,6 +97,19 @@ module _ {K : Type 0} where
       more asks k item contexts answers entries any there going h =
           elim (k == c) as (λ b. zero_by q.offset (pieces (if b then filing_of asks k (own k entries) contexts item answers ∷ own c entries else own c entries)) p ≡ true)
           [ true ↦ or_right (zero_in q.offset (extents_in contexts (content_of item)) p) (zero_by q.offset (pieces (own c entries)) p) h | false ↦ h ]
+
+  -- So does what was said of a position.
+  pub said_stays : (test : Option ℕ → Bool) (before : History K) (event : Event K) (c p : ℕ) (q : Request K) → request before c ≡ Some q → said_after test before c p ≡ true → said_after test (event ∷ before) c p ≡ true
+  said_stays test before event c p q is z =
+      ap (λ a. said_of test a (own c (reading (event ∷ before)).known.entries) p) (asked_stays before event c q is)
+      ∙ event_keeps before (λ entries. said_by test q.offset (pieces (own c entries)) p ≡ true) (λ item. Unit {0}) more (λ item. tt) (λ flight entries h. h) (λ entries h. h) event
+      (sym (ap (λ a. said_of test a (own c (reading before).known.entries) p) is) ∙ z)
+    where
+      more : (asks : Request K) (k : ℕ) (item : Item) (contexts : List MetaContext) (answers : List Answer) (entries : List (Entry K)) → Unit {0} → request before k ≡ Some asks → is_ended (own k entries) ≡ false → said_by test q.offset (pieces (own c entries)) p ≡ true →
+          said_by test q.offset (pieces (own c (Filed (filing_of asks k (own k entries) contexts item answers) ∷ entries))) p ≡ true
+      more asks k item contexts answers entries any there going h =
+          elim (k == c) as (λ b. said_by test q.offset (pieces (if b then filing_of asks k (own k entries) contexts item answers ∷ own c entries else own c entries)) p ≡ true)
+          [ true ↦ or_right (said_in test q.offset (extents_in contexts (content_of item)) p) (said_by test q.offset (pieces (own c entries)) p) h | false ↦ h ]
 
   -- Nothing comes for a command that is done.
 

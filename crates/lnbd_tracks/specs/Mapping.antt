@@ -15,6 +15,7 @@ use Rattle.lnbd_board.specs.declared.ticket.Ticket.{Ticket}
 use Rattle.lnbd_board.specs.declared.ticket.Ticket.TheVariants as ticket
 use Rattle.lnbd_board.specs.Files.{Seen, Files}
 use Rattle.lnbd_tracks.specs.Laws.{IsDone}
+use Rattle.lnbd_tracks.specs.Saying.{said_after, said_in}
 use Rattle.lnbd_tracks.specs.Tracks.{NoneFails, Histories, Happens, Adds, is_issue}
 
 -- Which commands tell extents.
@@ -52,7 +53,7 @@ abbrev pub NoneAsked : Histories → Type 0
 NoneAsked histories = (link cookie : ℕ) (asks : Request Ticket) → request (histories link) cookie ≡ Some asks → tells_extents asks.flight ≡ true → IsDone (outcome_after (histories link) cookie)
 
 -- A block status of the source was asked for this range, its offset and its length. It is the one command that tells extents and may be under way: each other is done. What the
--- board holds as told as zero, from the offset on, that command told as zero; and where the board was told that it was answered, it is done.
+-- board holds of extents, from the offset on, that command told: what is said of a position there, zero or told at all, its answer said; and where the board was told that it was answered, it is done.
 pub record IsWanted (sources : ℕ → Bool) (histories : Histories) (range : ℕ × ℕ) (now : Seen) : Type 0 where
   pub link : ℕ
   pub cookie : ℕ
@@ -64,7 +65,7 @@ pub record IsWanted (sources : ℕ → Bool) (histories : Histories) (range : �
   pub length_ : asks.length ≡ range.1
   pub others : (link' cookie' : ℕ) (other : Request Ticket) → request (histories link') cookie' ≡ Some other → tells_extents other.flight ≡ true →
       ((link' ≡ link) × (cookie' ≡ cookie)) ⊎ IsDone (outcome_after (histories link') cookie')
-  pub zero : (p : ℕ) → zero_in range.0 now.told p ≡ true → zero_after (histories link) cookie p ≡ true
+  pub said : (test : Option ℕ → Bool) → test None ≡ false → (p : ℕ) → said_in test range.0 now.told p ≡ true → said_after test (histories link) cookie p ≡ true
   pub answered : now.mapped ≡ true → IsDone (outcome_after (histories link) cookie)
 
 -- where extents were asked for and not heard yet, or none were

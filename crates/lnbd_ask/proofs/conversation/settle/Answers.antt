@@ -31,8 +31,8 @@ turns-smaller-in-Ok-Moved g c =
 
 pub returns-then-is_long-clause-waits : goal.returns-then-is_long-clause-waits
 returns-then-is_long-clause-waits g c seen at =
-    waiting_silent g.K.Caller.steps _ _ _ _ _ _ _ _ _ seen _ _ _ c.in-Ok-Still.field-0 c.is_awaited.result c.in-Ok-Still.field-0-is c.turns-test.true c.turns.invariant.faults_later c.turn.ensures.faults c.is_awaited.ensures
-    (c.turns.invariant.waiting seen at) c.in-Ok-Still.ensures.ok
+    waiting_silent g.K.Caller.steps _ _ _ _ _ _ _ _ _ _ _ seen _ _ _ c.in-Ok-Still.field-0 c.is_awaited.result c.in-Ok-Still.field-0-is c.turns-test.true c.turns.invariant.faults_later c.turn.ensures.faults c.pause.ensures.faults c.is_awaited.ensures
+    (c.turns.invariant.waiting seen at) c.in-Ok-Still.ensures.ok c.pause.ensures.told c.pause.ensures.wants _ c.pause.ensures.unchanged
 
 pub turns-preserved : goal.turns-preserved
 turns-preserved g c = record {

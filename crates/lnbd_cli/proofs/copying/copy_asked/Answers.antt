@@ -8,6 +8,7 @@ returns-in-Ok-copy-clause-ends g c = record {
   copied = c.in-Ok-copy.ensures.copies;
   made = c.in-Ok-copy.ensures.made;
   conduct = c.copy.ensures.conducts;
+  parted = c.in-Ok-copy.ensures.parted;
 }
 
 pub returns-in-Err-clause-ends : goal.returns-in-Err-clause-ends

@@ -1,5 +1,5 @@
 use Rattle.std.proofs.Common.{arith}
-use Rattle.lnbd_cli.proofs.InfoLemmas.{by_status, done_status, known_status}
+use Rattle.lnbd_cli.proofs.InfoLemmas.{by_status, done_status, ends_well, known_status}
 use Rattle.lnbd_cli.proofs.informing.run_info.Goals as goal
 
 pub returns-clause-ran : goal.returns-clause-ran
@@ -24,3 +24,9 @@ pub returns-clause-complete : goal.returns-clause-complete
 returns-clause-complete g c lawful link silent output =
     done_status c.print_info_end.result c.inform-end.result _ _ (c.inform-end.ensures.accepts lawful) (λ e. link (c.inform-end.ensures.link e)) (λ e. silent (c.inform-end.ensures.silent e)) (λ e. output (c.inform-end.ensures.output e))
     c.print_info_end.ensures
+
+pub returns-clause-well : goal.returns-clause-well
+returns-clause-well g c = ends_well c.print_info_end.result c.inform-end.result _ _ _ c.inform-end.ensures.well c.print_info_end.ensures
+
+pub returns-clause-patient : goal.returns-clause-patient
+returns-clause-patient g c = ends_well c.print_info_end.result c.inform-end.result _ _ _ c.inform-end.ensures.patient c.print_info_end.ensures

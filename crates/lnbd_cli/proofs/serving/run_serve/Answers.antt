@@ -1,5 +1,5 @@
 use Rattle.std.proofs.Common.{arith}
-use Rattle.lnbd_cli.proofs.ServeLemmas.{serve_done, serve_known, serve_status}
+use Rattle.lnbd_cli.proofs.ServeLemmas.{serve_done, serve_known, serve_status, serves_well}
 use Rattle.lnbd_cli.proofs.serving.run_serve.Goals as goal
 
 pub returns-clause-ran : goal.returns-clause-ran
@@ -20,3 +20,6 @@ returns-clause-output_cause g c is = c.serve_asked-end.ensures.output (serve_sta
 pub returns-clause-complete : goal.returns-clause-complete
 returns-clause-complete g c lawful link silent output =
     serve_done c.print_serve_end.result c.serve_asked-end.result _ _ (c.serve_asked-end.ensures.accepts lawful) (λ e. link (c.serve_asked-end.ensures.link e)) (λ e. silent (c.serve_asked-end.ensures.silent e)) (λ e. output (c.serve_asked-end.ensures.output e)) c.print_serve_end.ensures
+
+pub returns-clause-well : goal.returns-clause-well
+returns-clause-well g c = serves_well c.print_serve_end.result c.serve_asked-end.result _ _ _ c.serve_asked-end.ensures.well c.print_serve_end.ensures

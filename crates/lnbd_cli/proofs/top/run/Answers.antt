@@ -2,7 +2,7 @@ use Rattle.std.proofs.Common.{ℕ, List, inl, inr, Err, arith}
 use Rattle.lnbd_script.specs.declared.event.PlayFault.TheVariants as play
 use Rattle.lnbd_cli.specs.declared.fault.Fault.TheVariants as fault
 use Rattle.lnbd_cli.specs.Runs.{Prints}
-use Rattle.lnbd_cli.proofs.RunLemmas.{bad, bad_end, cut, known, line_of, memory_line, only_input, only_output, only_silent, played, short, waited}
+use Rattle.lnbd_cli.proofs.RunLemmas.{bad, bad_end, cut, known, line_of, complete, ends_well, memory_line, of_end, only_input, only_output, played, short, silent_line, waited}
 use Rattle.lnbd_cli.proofs.ServeLemmas.{not_both}
 use Rattle.lnbd_cli.proofs.CopyLemmas.{no_info_copies, no_serve_copies}
 use Rattle.lnbd_cli.proofs.TrialLemmas.{no_copy_tests, no_info_tests, no_serve_tests}
@@ -24,7 +24,7 @@ pub returns-clause-bad : goal.returns-clause-bad
 returns-clause-bad g c other h = (bad c.print_end.result c.tool-end.result _ _ _ _ _ _ _ _ (λ (t : List ℕ). Prints (g.E.Sink.taken c.args.err.now) (g.E.Sink.taken c.print_end.new.err) (g.E.Sink.faults c.args.err.now) (g.E.Sink.faults c.print_end.new.err) t) c.tool-end.ensures.ends c.print_end.ensures h).0
 
 pub returns-clause-silent_line : goal.returns-clause-silent_line
-returns-clause-silent_line g c other h = line_of c.print_end.result 7 c.tool-end.result (Err (fault.Played play.Silent)) (λ (t : List ℕ). Prints (g.E.Sink.taken c.args.err.now) (g.E.Sink.taken c.print_end.new.err) (g.E.Sink.faults c.args.err.now) (g.E.Sink.faults c.print_end.new.err) t) c.print_end.ensures h (λ e. absurd (omega (arith, e))) (only_silent c.tool-end.result)
+returns-clause-silent_line g c other = silent_line c.print_end.result c.tool-end.result (λ (t : List ℕ). Prints (g.E.Sink.taken c.args.err.now) (g.E.Sink.taken c.print_end.new.err) (g.E.Sink.faults c.args.err.now) (g.E.Sink.faults c.print_end.new.err) t) c.print_end.ensures
 
 pub returns-clause-output_line : goal.returns-clause-output_line
 returns-clause-output_line g c other h = line_of c.print_end.result 8 c.tool-end.result (Err (fault.Played play.Output)) (λ (t : List ℕ). Prints (g.E.Sink.taken c.args.err.now) (g.E.Sink.taken c.print_end.new.err) (g.E.Sink.faults c.args.err.now) (g.E.Sink.faults c.print_end.new.err) t) c.print_end.ensures h (λ e. absurd (omega (arith, e))) (only_output c.tool-end.result)
@@ -40,6 +40,23 @@ returns-clause-bad_script g c other calls h = c.tool-end.ensures.bad_script call
 
 pub returns-clause-known : goal.returns-clause-known
 returns-clause-known g c other = known c.print_end.result c.tool-end.result (λ (t : List ℕ). Prints (g.E.Sink.taken c.args.err.now) (g.E.Sink.taken c.print_end.new.err) (g.E.Sink.faults c.args.err.now) (g.E.Sink.faults c.print_end.new.err) t) c.print_end.ensures
+
+pub returns-clause-link_cause : goal.returns-clause-link_cause
+returns-clause-link_cause g c h = of_end c.print_end.result 5 c.tool-end.result (λ (t : List ℕ). Prints (g.E.Sink.taken c.args.err.now) (g.E.Sink.taken c.print_end.new.err) (g.E.Sink.faults c.args.err.now) (g.E.Sink.faults c.print_end.new.err) t) _ c.print_end.ensures h (λ e. absurd (omega (arith, e))) c.tool-end.ensures.link_cause
+
+pub returns-clause-silent_cause : goal.returns-clause-silent_cause
+returns-clause-silent_cause g c h = of_end c.print_end.result 7 c.tool-end.result (λ (t : List ℕ). Prints (g.E.Sink.taken c.args.err.now) (g.E.Sink.taken c.print_end.new.err) (g.E.Sink.faults c.args.err.now) (g.E.Sink.faults c.print_end.new.err) t) _ c.print_end.ensures h (λ e. absurd (omega (arith, e))) c.tool-end.ensures.silent_cause
+
+pub returns-clause-calls_well : goal.returns-clause-calls_well
+returns-clause-calls_well g c other h = ends_well c.print_end.result c.tool-end.result (λ (t : List ℕ). Prints (g.E.Sink.taken c.args.err.now) (g.E.Sink.taken c.print_end.new.err) (g.E.Sink.faults c.args.err.now) (g.E.Sink.faults c.print_end.new.err) t) _ c.print_end.ensures h c.tool-end.ensures.well
+
+pub returns-clause-calls_patient : goal.returns-clause-calls_patient
+returns-clause-calls_patient g c other h = ends_well c.print_end.result c.tool-end.result (λ (t : List ℕ). Prints (g.E.Sink.taken c.args.err.now) (g.E.Sink.taken c.print_end.new.err) (g.E.Sink.faults c.args.err.now) (g.E.Sink.faults c.print_end.new.err) t) _ c.print_end.ensures h c.tool-end.ensures.patient
+
+pub returns-clause-complete : goal.returns-clause-complete
+returns-clause-complete g c other lawful link silent output input =
+    complete c.print_end.result c.tool-end.result (λ (t : List ℕ). Prints (g.E.Sink.taken c.args.err.now) (g.E.Sink.taken c.print_end.new.err) (g.E.Sink.faults c.args.err.now) (g.E.Sink.faults c.print_end.new.err) t) c.print_end.ensures (c.tool-end.ensures.accepts lawful) (λ e. input (c.tool-end.ensures.input_cause e)) (λ e. link (c.tool-end.ensures.link_cause e)) (λ e. silent (c.tool-end.ensures.silent_cause e))
+    (λ e. output (c.tool-end.ensures.output_cause e))
 
 pub returns-then-names_info-clause-played : goal.returns-then-names_info-clause-played
 returns-then-names_info-clause-played g c other = absurd (other (inl (c.names_info.ensures.yes c.if-names_info.true)))

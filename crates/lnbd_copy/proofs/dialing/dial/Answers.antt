@@ -72,7 +72,7 @@ pub returns-in_err-handle-clause-drives : goal.returns-in_err-handle-clause-driv
 returns-in_err-handle-clause-drives g c = one_none _ _ _ _ _
 
 pub returns-in-Err-clause-decides : goal.returns-in-Err-clause-decides
-returns-in-Err-clause-decides g c = decides_refused false _ _ _ _ c.args.place.now.to _ c.in_ok-check_calm.ensures refl c.in-Err.ensures.told
+returns-in-Err-clause-decides g c = decides_refused _ false _ _ _ _ c.args.place.now.to _ c.in_ok-check_calm.ensures refl c.in-Err.ensures.told
 
 pub returns-in_err-check_calm-clause-unasked : goal.returns-in_err-check_calm-clause-unasked
 returns-in_err-check_calm-clause-unasked g c from to there = unasked_none from to _

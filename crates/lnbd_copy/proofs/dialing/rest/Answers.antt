@@ -1,6 +1,7 @@
 use Rattle.std.proofs.Common.{inl, inr, refl}
 use Rattle.std.proofs.lemmas.Result.{on_ok_weaker}
 use Rattle.lnbd_copy.proofs.DealingLemmas.{on_ok_both}
+use Rattle.lnbd_copy.proofs.LittleLemmas.{little_none, little_paused, little_unpaused}
 use Rattle.lnbd_copy.proofs.PauseLemmas.{either_way, pauses_then, pauses_unpaused, unpaused_same}
 use Rattle.lnbd_copy.proofs.PausedLemmas.{unready_none, unready_rests, unready_unpaused}
 use Rattle.lnbd_copy.proofs.VainLemmas.{pauses_vain}
@@ -39,3 +40,16 @@ returns-then-are_quiet-clause-rests g c = inl refl
 
 pub returns-in-Moved-clause-rests : goal.returns-in-Moved-clause-rests
 returns-in-Moved-clause-rests g c = inl refl
+
+pub returns-in_ok-check_loud-in-Still-clause-little : goal.returns-in_ok-check_loud-in-Still-clause-little
+returns-in_ok-check_loud-in-Still-clause-little g c now =
+    either_way c.wait.result c.wait.ensures.pauses c.wait.ensures.still (λ adds. little_paused now c.args.handles.now _ _ adds) (λ same. little_unpaused now c.args.handles.now _ _ (λ stand. unpaused_same _ _ same))
+
+pub returns-in_err-check_loud-in-Still-clause-little : goal.returns-in_err-check_loud-in-Still-clause-little
+returns-in_err-check_loud-in-Still-clause-little g c now = little_none now _ _
+
+pub returns-then-are_quiet-clause-little : goal.returns-then-are_quiet-clause-little
+returns-then-are_quiet-clause-little g c now = little_none now _ _
+
+pub returns-in-Moved-clause-little : goal.returns-in-Moved-clause-little
+returns-in-Moved-clause-little g c now = little_none now _ _

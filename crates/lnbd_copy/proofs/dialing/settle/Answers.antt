@@ -1,12 +1,14 @@
-use Rattle.std.proofs.Common.{false, refl}
+use Rattle.std.proofs.Common.{false, refl, true}
 use Rattle.lnbd_copy.proofs.CauseLemmas.{goes_same, goes_then}
 use Rattle.lnbd_copy.proofs.FullLemmas.{cut_unpaused, turned_unpaused}
-use Rattle.lnbd_copy.proofs.DecidingLemmas.{decides_rests, decides_then}
-use Rattle.lnbd_copy.proofs.GroundLemmas.{fails_then, handed_on}
+use Rattle.lnbd_copy.proofs.DecidingLemmas.{decides_calm, decides_rests, decides_then}
+use Rattle.lnbd_copy.proofs.GroundLemmas.{handed_on}
 use Rattle.lnbd_copy.proofs.PauseLemmas.{pauses_none, pauses_then, pauses_unpaused, unpaused_same}
 use Rattle.lnbd_copy.proofs.PausedLemmas.{unready_none, unready_then, unready_turn, unready_unpaused}
 use Rattle.lnbd_copy.proofs.TurnLemmas.{goes_none, goes_on, turned_goes}
 use Rattle.lnbd_copy.proofs.LinkLemmas.{links_cut, links_none, links_then, links_turned}
+use Rattle.lnbd_copy.proofs.LittleLemmas.{little_none, little_then, little_turn, little_unpaused}
+use Rattle.lnbd_copy.proofs.PatientLemmas.{patient_any, patient_gives, patient_looked, patient_none, patient_then, patient_unpaused}
 use Rattle.lnbd_copy.proofs.UnaskedLemmas.{fresh_asks_none, fresh_none, fresh_on, fresh_rests, none_idly, none_then, cut_unasked, whole_fresh}
 use Rattle.lnbd_copy.proofs.TriedLemmas.{early_ends, early_none, early_rests, early_turned, tries_any, tries_anyhow, turned_heard}
 use Rattle.lnbd_copy.proofs.VainLemmas.{turned_vain}
@@ -22,6 +24,8 @@ turns-init g c = record {
   fresh = fresh_none _ _ _;
   counts = goes_same _ _ _;
   wanted = λ stand. pauses_none _;
+  little = little_none _ _ _;
+  patient = λ stand. patient_none true _ _ _;
   tries = λ stand. early_none _ _;
 }
 
@@ -43,6 +47,12 @@ turns-preserved g c = record {
   wanted = λ stand.
       pauses_then _ _ _ (c.turns.invariant.wanted stand)
       (pauses_then _ _ _ (pauses_unpaused _ _ (turned_unpaused _ _ _ _ c.in_ok-told.told _ _ _ _ c.in_ok-told.ensures.ok (c.turns.invariant.goes.stand stand))) c.rest.ensures.wanted);
+  little =
+      little_then _ _ _ _ _ _ _ c.turns.invariant.goes.stand c.turns.invariant.fresh c.turns.invariant.little
+      (little_then _ _ _ _ _ _ _ (turned_goes _ _ _ _ c.in_ok-told.told _ _ _ _ c.in_ok-told.ensures.ok).stand (whole_fresh _ _ _ _ c.in_ok-told.told _ _ _ _ c.in_ok-told.ensures.ok) (little_turn _ _ _ _ c.in_ok-told.told _ _ _ _ c.in_ok-told.ensures.ok) (c.rest.ensures.little c.turn.new.board));
+  patient = λ stand.
+      patient_then true _ _ _ _ _ _ _ (patient_then false _ _ _ _ _ _ _ (patient_looked true _ _ _ _ _ c.in_ok-check_idles.ensures.well (c.turns.invariant.patient stand))
+      (patient_unpaused _ _ _ _ _ (turned_unpaused _ _ _ _ c.in_ok-told.told _ _ _ _ c.in_ok-told.ensures.ok (c.turns.invariant.goes.stand stand)) c.turn.ensures.counts.idles)) c.rest.ensures.patient;
   tries = λ stand.
       let here = c.turns.invariant.goes.stand stand in
       early_rests _ _ _ _ _ _ c.rest.ensures.same (λ still. turned_heard _ _ _ _ c.in_ok-told.told _ _ _ _ c.in_ok-told.ensures.ok still here) c.in_ok-rest.ensures.rests
@@ -96,6 +106,15 @@ returns-in_err-rest-clause-wanted g c stand =
     pauses_then _ _ _ (c.turns.invariant.wanted stand)
     (pauses_then _ _ _ (pauses_unpaused _ _ (turned_unpaused _ _ _ _ c.in_ok-told.told _ _ _ _ c.in_ok-told.ensures.ok (c.turns.invariant.goes.stand stand))) c.rest.ensures.wanted)
 
+pub returns-in_err-told-clause-little : goal.returns-in_err-told-clause-little
+returns-in_err-told-clause-little g c =
+    little_then _ _ _ _ _ _ _ c.turns.invariant.goes.stand c.turns.invariant.fresh c.turns.invariant.little (little_unpaused _ _ _ _ (cut_unpaused _ _ _ _ _ _ _ _ c.in_err-told.ensures.cut))
+
+pub returns-in_err-rest-clause-little : goal.returns-in_err-rest-clause-little
+returns-in_err-rest-clause-little g c =
+    little_then _ _ _ _ _ _ _ c.turns.invariant.goes.stand c.turns.invariant.fresh c.turns.invariant.little
+    (little_then _ _ _ _ _ _ _ (turned_goes _ _ _ _ c.in_ok-told.told _ _ _ _ c.in_ok-told.ensures.ok).stand (whole_fresh _ _ _ _ c.in_ok-told.told _ _ _ _ c.in_ok-told.ensures.ok) (little_turn _ _ _ _ c.in_ok-told.told _ _ _ _ c.in_ok-told.ensures.ok) (c.rest.ensures.little c.turn.new.board))
+
 pub returns-then-are_quiet-clause-drives : goal.returns-then-are_quiet-clause-drives
 returns-then-are_quiet-clause-drives g c = goes_drive _ _ _ _ _ _ c.turns.invariant.goes
 
@@ -109,22 +128,18 @@ returns-in_err-rest-clause-drives g c =
 pub returns-clause-drives : goal.returns-clause-drives
 returns-clause-drives g c = goes_drive _ _ _ _ _ _ c.turns.invariant.goes
 
-pub returns-in_err-told-clause-fails : goal.returns-in_err-told-clause-fails
-returns-in_err-told-clause-fails g c =
-    handed_on _ c.from_residual-in_err-told.result _ c.from_residual-in_err-told.ensures.1 (fails_then false _ _ _ _ _ _ _ _ c.turns.invariant.goes (c.in_err-told.ensures.fails false))
-
 pub returns-in_err-check_calm-clause-drives : goal.returns-in_err-check_calm-clause-drives
 returns-in_err-check_calm-clause-drives g c = goes_drive _ _ _ _ _ _ c.turns.invariant.goes
 
 pub returns-in_err-told-clause-decides : goal.returns-in_err-told-clause-decides
 returns-in_err-told-clause-decides g c =
-    handed_on _ c.from_residual-in_err-told.result _ c.from_residual-in_err-told.ensures.1 (decides_then false _ _ _ _ _ _ _ _ c.turns.invariant.goes (c.in_err-told.ensures.decides false))
+    handed_on _ c.from_residual-in_err-told.result _ c.from_residual-in_err-told.ensures.1 (decides_then _ false _ _ _ _ _ _ _ _ c.turns.invariant.goes (c.in_err-told.ensures.decides false))
 
 pub returns-in_err-rest-clause-decides : goal.returns-in_err-rest-clause-decides
 returns-in_err-rest-clause-decides g c =
     handed_on _ c.from_residual-in_err-rest.result _ c.from_residual-in_err-rest.ensures.1 (
-    decides_then false _ _ _ _ _ _ _ _ (goes_on _ _ _ _ _ _ _ _ _ c.turns.invariant.goes (turned_goes _ _ _ _ c.in_ok-told.told _ _ _ _ c.in_ok-told.ensures.ok))
-    (decides_rests false _ _ _ _ _ c.in_ok-told.ensures.calm c.in_err-rest.ensures.still c.in_err-rest.ensures.free))
+    decides_then _ false _ _ _ _ _ _ _ _ (goes_on _ _ _ _ _ _ _ _ _ c.turns.invariant.goes (turned_goes _ _ _ _ c.in_ok-told.told _ _ _ _ c.in_ok-told.ensures.ok))
+    (decides_rests _ false _ _ _ _ _ c.in_ok-told.ensures.calm c.in_err-rest.ensures.still c.in_err-rest.ensures.free))
 
 pub returns-then-are_quiet-clause-calm : goal.returns-then-are_quiet-clause-calm
 returns-then-are_quiet-clause-calm g c = c.in_ok-check_calm.ensures
@@ -147,3 +162,37 @@ returns-in_err-rest-clause-tries g c stand =
 
 pub returns-clause-tries : goal.returns-clause-tries
 returns-clause-tries g c stand = tries_anyhow _ _ (c.turns.invariant.tries stand)
+
+pub returns-in_err-check_idles-clause-drives : goal.returns-in_err-check_idles-clause-drives
+returns-in_err-check_idles-clause-drives g c = goes_drive _ _ _ _ _ _ c.turns.invariant.goes
+
+pub returns-in_err-check_idles-clause-decides : goal.returns-in_err-check_idles-clause-decides
+returns-in_err-check_idles-clause-decides g c =
+    handed_on _ c.from_residual-in_err-check_idles.result _ c.from_residual-in_err-check_idles.ensures.1 (
+    decides_then _ false _ _ _ _ _ _ _ _ c.turns.invariant.goes (decides_calm _ false _ _ _ _ c.in_ok-check_calm.ensures c.in_err-check_idles.ensures.free))
+
+pub returns-in_err-check_idles-clause-tries : goal.returns-in_err-check_idles-clause-tries
+returns-in_err-check_idles-clause-tries g c stand = tries_anyhow _ _ (c.turns.invariant.tries stand)
+
+pub returns-in_err-check_idles-clause-impatient : goal.returns-in_err-check_idles-clause-impatient
+returns-in_err-check_idles-clause-impatient g c =
+    handed_on _ c.from_residual-in_err-check_idles.result _ c.from_residual-in_err-check_idles.ensures.1 (λ stand. patient_gives _ _ _ _ _ _ c.in_err-check_idles.ensures.silent (c.turns.invariant.patient stand))
+
+pub returns-then-are_quiet-clause-patient : goal.returns-then-are_quiet-clause-patient
+returns-then-are_quiet-clause-patient g c stand = patient_looked true _ _ _ _ _ c.in_ok-check_idles.ensures.well (c.turns.invariant.patient stand)
+
+pub returns-in_err-told-clause-impatient : goal.returns-in_err-told-clause-impatient
+returns-in_err-told-clause-impatient g c =
+    handed_on _ c.from_residual-in_err-told.result _ c.from_residual-in_err-told.ensures.1
+    (λ stand. patient_any _ _ _ _ _ _ (
+    patient_then false _ _ _ _ _ _ _ (patient_looked true _ _ _ _ _ c.in_ok-check_idles.ensures.well (c.turns.invariant.patient stand))
+    (patient_unpaused _ _ _ _ _ (cut_unpaused _ _ _ _ _ _ _ _ c.in_err-told.ensures.cut (c.turns.invariant.goes.stand stand)) c.turn.ensures.counts.idles)))
+
+pub returns-in_err-rest-clause-impatient : goal.returns-in_err-rest-clause-impatient
+returns-in_err-rest-clause-impatient g c =
+    handed_on _ c.from_residual-in_err-rest.result _ c.from_residual-in_err-rest.ensures.1
+    (λ stand. patient_any _ _ _ _ _ _ (
+    patient_then false _ _ _ _ _ _ _ (patient_looked true _ _ _ _ _ c.in_ok-check_idles.ensures.well (c.turns.invariant.patient stand))
+    (patient_then false _ _ _ _ _ _ _
+    (patient_unpaused _ _ _ _ _ (turned_unpaused _ _ _ _ c.in_ok-told.told _ _ _ _ c.in_ok-told.ensures.ok (c.turns.invariant.goes.stand stand)) c.turn.ensures.counts.idles)
+    (patient_unpaused _ _ _ _ _ (unpaused_same _ _ c.in_err-rest.ensures.still) c.rest.ensures.counts.idles))))

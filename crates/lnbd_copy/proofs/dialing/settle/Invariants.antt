@@ -1,9 +1,11 @@
-use Rattle.std.proofs.Common.{[]}
+use Rattle.std.proofs.Common.{[], true}
 use Rattle.lnbd_copy.specs.Causes.{GoesOn}
+use Rattle.lnbd_copy.specs.Patient.{StaysPatient}
 use Rattle.lnbd_copy.specs.Pauses.{Pauses, WantsInVain}
 use Rattle.lnbd_copy.specs.Way.{Goes, Stand}
 use Rattle.lnbd_copy.specs.Tried.{IsLeftEarly, Tries}
 use Rattle.lnbd_copy.specs.Unready.{StaysUnready}
+use Rattle.lnbd_copy.specs.Little.{StaysLittle}
 use Rattle.lnbd_copy.specs.Wanted.{WantsSome}
 use Rattle.lnbd_copy.specs.Links.{LinksGo}
 use Rattle.lnbd_copy.specs.Faults.{StaysFresh}
@@ -18,5 +20,7 @@ invariant-turns g l = record {
   fresh : StaysFresh l.fn.board l.fn.handles (g.W.Wires.told l.fn.wires) l.board l.handles (g.W.Wires.told l.wires);
   counts : GoesOn (g.W.Wires.faults l.fn.wires) (g.W.Wires.faults l.wires) (g.W.Wires.idles l.fn.wires) (g.W.Wires.idles l.wires) (g.W.Wires.contents l.fn.wires) (g.W.Wires.contents l.wires);
   wanted : Stand l.fn.handles → Pauses WantsSome (g.W.Wires.told l.fn.wires) (g.W.Wires.told l.wires);
+  little : StaysLittle l.fn.board l.fn.handles (g.W.Wires.told l.fn.wires) (g.W.Wires.told l.wires);
+  patient : Stand l.fn.handles → StaysPatient true l.fn.start.idles (g.W.Wires.told l.fn.wires) (g.W.Wires.idles l.fn.wires) (g.W.Wires.told l.wires) (g.W.Wires.idles l.wires);
   tries : Stand l.fn.handles → Tries (IsLeftEarly l.handles) (g.W.Wires.told l.fn.wires) (g.W.Wires.told l.wires);
 }

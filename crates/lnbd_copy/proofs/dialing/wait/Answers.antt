@@ -1,6 +1,7 @@
 use Rattle.std.proofs.Common.{arith}
 use Rattle.lnbd_copy.proofs.TurnLemmas.{paused_goes}
 use Rattle.lnbd_copy.proofs.LinkLemmas.{links_paused}
+use Rattle.lnbd_copy.proofs.PatientLemmas.{patient_paused}
 use Rattle.lnbd_copy.proofs.WantedLemmas.{pauses_wanted}
 use Rattle.lnbd_copy.proofs.dialing.wait.Goals as goal
 
@@ -15,3 +16,6 @@ returns-clause-links g c = links_paused _ _ _ _ _ c.pause.ensures.unchanged c.pa
 
 pub returns-clause-wanted : goal.returns-clause-wanted
 returns-clause-wanted g c = pauses_wanted _ _ _ c.pause.ensures.told c.in_ok-check_wanted.ensures
+
+pub returns-clause-patient : goal.returns-clause-patient
+returns-clause-patient g c = patient_paused _ _ _ _ _ _ c.pause.ensures.told c.pause.ensures.idles c.in_ok-check_idles.ensures.well

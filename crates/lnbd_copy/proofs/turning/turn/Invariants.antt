@@ -13,6 +13,6 @@ abbrev pub invariant-handles : goal.invariant-handles
 invariant-handles g l = record {
   passing : (seen : List (Seen Ticket)) → AreAt l.fn.handles seen → Passing (OneByOne Files) (g.W.Wires.told l.fn.wires) (g.W.Wires.told l.wires) (g.W.Wires.faults l.fn.wires) (g.W.Wires.faults l.wires) l.turn seen l.fn.board l.handles l.index l.board;
   count : length l.handles ≡ length l.fn.handles;
-  calm : IsCalm l.board l.handles;
+  calm : IsCalm l.fn.sides l.board l.handles;
   counts : GoesOn (g.W.Wires.faults l.fn.wires) (g.W.Wires.faults l.wires) (g.W.Wires.idles l.fn.wires) (g.W.Wires.idles l.wires) (g.W.Wires.contents l.fn.wires) (g.W.Wires.contents l.wires);
 }

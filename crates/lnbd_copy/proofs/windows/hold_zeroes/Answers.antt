@@ -48,3 +48,6 @@ returns-clause-whole c =
 pub returns-clause-far : goal.returns-clause-far
 returns-clause-far c =
     told_before c.args.told.now c.extents.extent-index c.extents.reached c.args.most c.extents.invariant.0.walks (drop_of_length-le c.args.told.now c.extents-test.false)
+
+pub returns-clause-near : goal.returns-clause-near
+returns-clause-near c = c.extents.invariant.0.walks.all

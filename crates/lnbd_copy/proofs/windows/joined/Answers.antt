@@ -2,7 +2,7 @@ use Rattle.std.proofs.Common.{get_or}
 use Rattle.std.proofs.Math.ListN.{drop_of_length-le}
 use Rattle.lnbd_model.specs.declared.export.Extent.{Extent}
 use Rattle.lnbd_copy.proofs.SparedLemmas.{all_joined, all_on}
-use Rattle.lnbd_copy.proofs.ToldLemmas.{told_joined}
+use Rattle.lnbd_copy.proofs.ToldLemmas.{told_joined, told_only}
 use Rattle.lnbd_copy.proofs.WindowLemmas.{join_on, next_any}
 use Rattle.lnbd_copy.proofs.windows.joined.Goals as goal
 
@@ -23,3 +23,6 @@ returns-clause-all c =
 pub returns-clause-reach : goal.returns-clause-reach
 returns-clause-reach c =
     told_joined c.args.told.now c.extents.list.items c.extents.extent-index c.extents.left c.args.most c.extents.invariant (drop_of_length-le c.args.told.now c.extents-test.false)
+
+pub returns-clause-told_so : goal.returns-clause-told_so
+returns-clause-told_so c = told_only c.args.told.now c.extents.list.items c.extents.extent-index c.extents.left c.args.most c.extents.invariant

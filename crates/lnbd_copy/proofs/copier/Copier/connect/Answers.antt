@@ -1,9 +1,8 @@
-use Rattle.std.proofs.Common.{refl, ap, sym, subst, ◌∙◌}
-use Rattle.lnbd_copy.specs.Agreed.{AreQuiet}
+use Rattle.std.proofs.Common.{refl, ap}
 use Rattle.lnbd_copy.specs.Copier.{Seen}
 use Rattle.lnbd_copy.proofs.CauseLemmas.{goes_then}
 use Rattle.lnbd_copy.proofs.CopierLemmas.{met_further}
-use Rattle.lnbd_copy.proofs.GroundLemmas.{grounded_as, same_fails, handed_on}
+use Rattle.lnbd_copy.proofs.GroundLemmas.{grounded_as, handed_on}
 use Rattle.lnbd_copy.proofs.PauseLemmas.{pauses_then}
 use Rattle.lnbd_copy.proofs.LinkLemmas.{links_begin, links_same}
 use Rattle.lnbd_copy.proofs.TriedLemmas.{tries_then}
@@ -11,8 +10,10 @@ use Rattle.lnbd_copy.proofs.PausedLemmas.{early_back, early_kept}
 use Rattle.lnbd_copy.proofs.ConnectedLemmas.{connected_begins}
 use Rattle.lnbd_copy.proofs.ConnectLemmas.{told_end, told_met, within_first, within_met, within_told}
 use Rattle.lnbd_copy.proofs.UnaskedLemmas.{unasked_as}
-use Rattle.lnbd_copy.proofs.MeetLemmas.{decided_met, same_decided}
+use Rattle.lnbd_copy.proofs.MeetLemmas.{decided_met}
 use Rattle.lnbd_copy.proofs.DrivenAsLemmas.{first_driven, met_driven}
+use Rattle.lnbd_copy.proofs.ToldAlikeLemmas.{quiet_same}
+use Rattle.lnbd_copy.proofs.PatientLemmas.{always_if_err, patient_any, patient_at, patient_then}
 use Rattle.lnbd_copy.proofs.copier.Copier.connect.Goals as goal
 
 pub returns-clause-begins : goal.returns-clause-begins
@@ -26,33 +27,17 @@ returns-clause-unready g c =
     (c.dial_further.ensures.unready (g.W.Wires.told c.args.wires.now) c.in_ok-terms.terms c.in_ok-terms.ensures.met refl c.in_ok-terms.ensures.two
     (c.in_ok-terms.ensures.connects.on _ (links_begin _ _ c.requires.begun.held)) (early_kept c.args.self.now c.meet.new.self _ _ c.in_ok-terms.ensures.kept c.in_ok-terms.ensures.unready))
 
-pub check_same-requires : goal.check_same-requires
-check_same-requires g c = subst (λ (s : Seen). AreQuiet s.held) (sym c.self.view_is) c.in_ok-dial_further.ensures.quiet
-
 pub returns-in_err-dial_further-clause-grounds : goal.returns-in_err-dial_further-clause-grounds
 returns-in_err-dial_further-clause-grounds g c =
     handed_on _ c.from_residual-in_err-dial_further.result _ c.from_residual-in_err-dial_further.ensures.1 (
-    grounded_as (g.W.Wires.told c.args.wires.now) (g.W.Wires.told c.dial_further.new.wires) _ _ _ _ _ (ap (λ (s : Seen). s.from) c.in_ok-terms.ensures.kept) (ap (λ (s : Seen). s.to) c.in_ok-terms.ensures.kept)
+    grounded_as (g.W.Wires.told c.args.wires.now) (g.W.Wires.told c.dial_further.new.wires) _ _ _ _ _ _ _ (ap (λ (s : Seen). s.options.extents) c.in_ok-terms.ensures.kept) (ap (λ (s : Seen). s.from) c.in_ok-terms.ensures.kept) (ap (λ (s : Seen). s.to) c.in_ok-terms.ensures.kept)
     (c.in_err-dial_further.ensures.grounds (g.W.Wires.told c.args.wires.now) c.in_ok-terms.terms c.in_ok-terms.ensures.met refl c.in_ok-terms.ensures.two))
-
-pub returns-in_err-check_same-clause-grounds : goal.returns-in_err-check_same-clause-grounds
-returns-in_err-check_same-clause-grounds g c =
-    handed_on _ c.from_residual-in_err-check_same.result _ c.from_residual-in_err-check_same.ensures.1 (
-    grounded_as (g.W.Wires.told c.args.wires.now) (g.W.Wires.told c.dial_further.new.wires) _ _ _ _ _
-    (ap (λ (s : Seen). s.from) c.in_ok-dial_further.ensures.kept ∙ ap (λ (s : Seen). s.from) c.in_ok-terms.ensures.kept)
-    (ap (λ (s : Seen). s.to) c.in_ok-dial_further.ensures.kept ∙ ap (λ (s : Seen). s.to) c.in_ok-terms.ensures.kept)
-    (same_fails c.dial_further.new.self c.self.inside.handles (g.W.Wires.told c.args.wires.now) (g.W.Wires.told c.dial_further.new.wires) c.in_ok-terms.terms _ (ap (λ (s : Seen). s.held) c.self.view_is)
-    (met_further c.meet.new.self c.dial_further.new.self _ _ _ c.in_ok-terms.terms c.in_ok-dial_further.ensures.kept c.in_ok-terms.ensures.met c.in_ok-terms.ensures.two c.in_ok-dial_further.ensures.further)
-    c.in_err-check_same.ensures.found))
 
 pub returns-clause-vain : goal.returns-clause-vain
 returns-clause-vain g c = pauses_then _ _ _ c.in_ok-terms.ensures.vain (c.dial_further.ensures.vain c.in_ok-terms.ensures.met.stand)
 
 pub returns-in_err-dial_further-clause-counts : goal.returns-in_err-dial_further-clause-counts
 returns-in_err-dial_further-clause-counts g c = goes_then _ _ _ _ _ _ _ _ _ c.meet.ensures.counts c.dial_further.ensures.counts
-
-pub returns-in_err-check_same-clause-counts : goal.returns-in_err-check_same-clause-counts
-returns-in_err-check_same-clause-counts g c = goes_then _ _ _ _ _ _ _ _ _ c.meet.ensures.counts c.dial_further.ensures.counts
 
 pub returns-in_err-terms-clause-links : goal.returns-in_err-terms-clause-links
 returns-in_err-terms-clause-links g c =
@@ -61,10 +46,6 @@ returns-in_err-terms-clause-links g c =
 pub returns-in_err-dial_further-clause-links : goal.returns-in_err-dial_further-clause-links
 returns-in_err-dial_further-clause-links g c =
     within_met c.args.self.now c.meet.new.self _ _ _ _ c.in_ok-terms.terms c.in_ok-terms.ensures.kept c.in_ok-terms.ensures.met c.in_ok-terms.ensures.connects c.in_err-dial_further.ensures.links
-
-pub returns-in_err-check_same-clause-links : goal.returns-in_err-check_same-clause-links
-returns-in_err-check_same-clause-links g c =
-    within_told _ _ _ _ _ _ _ (told_met c.args.self.now c.meet.new.self _ _ _ _ c.in_ok-terms.terms c.in_ok-terms.ensures.kept c.in_ok-terms.ensures.met c.in_ok-terms.ensures.connects c.in_ok-dial_further.ensures.connects (connected_begins _ _ c.in_ok-terms.ensures.connected) c.in_ok-dial_further.ensures.connected)
 
 pub returns-in_err-check_well-clause-links : goal.returns-in_err-check_well-clause-links
 returns-in_err-check_well-clause-links g c =
@@ -91,15 +72,6 @@ returns-in_err-dial_further-clause-unready g c =
 pub returns-in_err-dial_further-clause-vain : goal.returns-in_err-dial_further-clause-vain
 returns-in_err-dial_further-clause-vain g c = pauses_then _ _ _ c.in_ok-terms.ensures.vain (c.dial_further.ensures.vain c.in_ok-terms.ensures.met.stand)
 
-pub returns-in_err-check_same-clause-unready : goal.returns-in_err-check_same-clause-unready
-returns-in_err-check_same-clause-unready g c =
-    early_back c.args.self.now c.meet.new.self _ _ c.in_ok-terms.ensures.kept
-    (c.dial_further.ensures.unready (g.W.Wires.told c.args.wires.now) c.in_ok-terms.terms c.in_ok-terms.ensures.met refl c.in_ok-terms.ensures.two
-    (c.in_ok-terms.ensures.connects.on _ (links_begin _ _ c.requires.begun.held)) (early_kept c.args.self.now c.meet.new.self _ _ c.in_ok-terms.ensures.kept c.in_ok-terms.ensures.unready))
-
-pub returns-in_err-check_same-clause-vain : goal.returns-in_err-check_same-clause-vain
-returns-in_err-check_same-clause-vain g c = pauses_then _ _ _ c.in_ok-terms.ensures.vain (c.dial_further.ensures.vain c.in_ok-terms.ensures.met.stand)
-
 pub returns-in_err-check_well-clause-unready : goal.returns-in_err-check_well-clause-unready
 returns-in_err-check_well-clause-unready g c =
     early_back c.args.self.now c.meet.new.self _ _ c.in_ok-terms.ensures.kept
@@ -124,14 +96,27 @@ returns-clause-wanted g c = pauses_then _ _ _ c.in_ok-terms.ensures.wanted (c.di
 pub returns-in_err-dial_further-clause-wanted : goal.returns-in_err-dial_further-clause-wanted
 returns-in_err-dial_further-clause-wanted g c = pauses_then _ _ _ c.in_ok-terms.ensures.wanted (c.dial_further.ensures.wanted c.in_ok-terms.ensures.met.stand)
 
-pub returns-in_err-check_same-clause-wanted : goal.returns-in_err-check_same-clause-wanted
-returns-in_err-check_same-clause-wanted g c = pauses_then _ _ _ c.in_ok-terms.ensures.wanted (c.dial_further.ensures.wanted c.in_ok-terms.ensures.met.stand)
-
 pub returns-in_err-check_well-clause-wanted : goal.returns-in_err-check_well-clause-wanted
 returns-in_err-check_well-clause-wanted g c = pauses_then _ _ _ c.in_ok-terms.ensures.wanted (c.dial_further.ensures.wanted c.in_ok-terms.ensures.met.stand)
 
 pub returns-in_err-set_up-clause-wanted : goal.returns-in_err-set_up-clause-wanted
 returns-in_err-set_up-clause-wanted g c = pauses_then _ _ _ c.in_ok-terms.ensures.wanted (c.dial_further.ensures.wanted c.in_ok-terms.ensures.met.stand)
+
+pub returns-clause-little : goal.returns-clause-little
+returns-clause-little g c =
+    c.dial_further.ensures.little _ c.in_ok-terms.terms c.in_ok-terms.ensures.met refl c.in_ok-terms.ensures.unissued c.in_ok-terms.ensures.two c.in_ok-terms.ensures.little
+
+pub returns-in_err-dial_further-clause-little : goal.returns-in_err-dial_further-clause-little
+returns-in_err-dial_further-clause-little g c =
+    c.dial_further.ensures.little _ c.in_ok-terms.terms c.in_ok-terms.ensures.met refl c.in_ok-terms.ensures.unissued c.in_ok-terms.ensures.two c.in_ok-terms.ensures.little
+
+pub returns-in_err-check_well-clause-little : goal.returns-in_err-check_well-clause-little
+returns-in_err-check_well-clause-little g c =
+    c.dial_further.ensures.little _ c.in_ok-terms.terms c.in_ok-terms.ensures.met refl c.in_ok-terms.ensures.unissued c.in_ok-terms.ensures.two c.in_ok-terms.ensures.little
+
+pub returns-in_err-set_up-clause-little : goal.returns-in_err-set_up-clause-little
+returns-in_err-set_up-clause-little g c =
+    c.dial_further.ensures.little _ c.in_ok-terms.terms c.in_ok-terms.ensures.met refl c.in_ok-terms.ensures.unissued c.in_ok-terms.ensures.two c.in_ok-terms.ensures.little
 
 pub returns-in_err-check_well-clause-unasked : goal.returns-in_err-check_well-clause-unasked
 returns-in_err-check_well-clause-unasked g c =
@@ -151,9 +136,6 @@ returns-clause-unasked g c =
 pub returns-in_err-dial_further-clause-drives : goal.returns-in_err-dial_further-clause-drives
 returns-in_err-dial_further-clause-drives g c = met_driven c.args.self.now c.meet.new.self _ _ _ c.in_ok-terms.terms c.in_ok-terms.ensures.kept c.in_ok-terms.ensures.met (c.dial_further.ensures.links c.in_ok-terms.ensures.met.stand).go.lasts (c.dial_further.ensures.drives (g.W.Wires.told c.args.wires.now) c.in_ok-terms.terms c.in_ok-terms.ensures.met refl c.in_ok-terms.ensures.two)
 
-pub returns-in_err-check_same-clause-drives : goal.returns-in_err-check_same-clause-drives
-returns-in_err-check_same-clause-drives g c = met_driven c.args.self.now c.meet.new.self _ _ _ c.in_ok-terms.terms c.in_ok-terms.ensures.kept c.in_ok-terms.ensures.met (c.dial_further.ensures.links c.in_ok-terms.ensures.met.stand).go.lasts (c.dial_further.ensures.drives (g.W.Wires.told c.args.wires.now) c.in_ok-terms.terms c.in_ok-terms.ensures.met refl c.in_ok-terms.ensures.two)
-
 pub returns-in_err-check_well-clause-drives : goal.returns-in_err-check_well-clause-drives
 returns-in_err-check_well-clause-drives g c = met_driven c.args.self.now c.meet.new.self _ _ _ c.in_ok-terms.terms c.in_ok-terms.ensures.kept c.in_ok-terms.ensures.met (c.dial_further.ensures.links c.in_ok-terms.ensures.met.stand).go.lasts (c.dial_further.ensures.drives (g.W.Wires.told c.args.wires.now) c.in_ok-terms.terms c.in_ok-terms.ensures.met refl c.in_ok-terms.ensures.two)
 
@@ -172,15 +154,6 @@ returns-in_err-dial_further-clause-decides g c =
     decided_met c.args.self.now c.meet.new.self _ _ _ c.in_ok-terms.ensures.kept
     (c.in_err-dial_further.ensures.decides (g.W.Wires.told c.args.wires.now) c.in_ok-terms.terms c.in_ok-terms.ensures.met refl c.in_ok-terms.ensures.two))
 
-pub returns-in_err-check_same-clause-decides : goal.returns-in_err-check_same-clause-decides
-returns-in_err-check_same-clause-decides g c =
-    handed_on _ c.from_residual-in_err-check_same.result _ c.from_residual-in_err-check_same.ensures.1 (
-    decided_met c.args.self.now c.meet.new.self _ _ _ c.in_ok-terms.ensures.kept (
-    decided_met c.meet.new.self c.dial_further.new.self _ _ _ c.in_ok-dial_further.ensures.kept (
-    same_decided c.dial_further.new.self c.self.inside.handles (g.W.Wires.told c.args.wires.now) (g.W.Wires.told c.dial_further.new.wires) c.in_ok-terms.terms _ (ap (λ (s : Seen). s.held) c.self.view_is)
-    (met_further c.meet.new.self c.dial_further.new.self _ _ _ c.in_ok-terms.terms c.in_ok-dial_further.ensures.kept c.in_ok-terms.ensures.met c.in_ok-terms.ensures.two c.in_ok-dial_further.ensures.further)
-    c.in_ok-dial_further.ensures.calm c.in_err-check_same.ensures.found)))
-
 pub returns-clause-tries : goal.returns-clause-tries
 returns-clause-tries g c = tries_then _ _ _ c.in_ok-terms.ensures.tried (c.dial_further.ensures.tries c.in_ok-terms.ensures.met.stand)
 
@@ -190,11 +163,26 @@ returns-clause-tried g c = tries_then _ _ _ c.in_ok-terms.ensures.tried (c.in_ok
 pub returns-in_err-dial_further-clause-tries : goal.returns-in_err-dial_further-clause-tries
 returns-in_err-dial_further-clause-tries g c = tries_then _ _ _ c.in_ok-terms.ensures.tried (c.dial_further.ensures.tries c.in_ok-terms.ensures.met.stand)
 
-pub returns-in_err-check_same-clause-tries : goal.returns-in_err-check_same-clause-tries
-returns-in_err-check_same-clause-tries g c = tries_then _ _ _ c.in_ok-terms.ensures.tried (c.dial_further.ensures.tries c.in_ok-terms.ensures.met.stand)
-
 pub returns-in_err-check_well-clause-tries : goal.returns-in_err-check_well-clause-tries
 returns-in_err-check_well-clause-tries g c = tries_then _ _ _ c.in_ok-terms.ensures.tried (c.dial_further.ensures.tries c.in_ok-terms.ensures.met.stand)
 
 pub returns-in_err-set_up-clause-tries : goal.returns-in_err-set_up-clause-tries
 returns-in_err-set_up-clause-tries g c = tries_then _ _ _ c.in_ok-terms.ensures.tried (c.dial_further.ensures.tries c.in_ok-terms.ensures.met.stand)
+
+pub set_up-requires-clause-same : goal.set_up-requires-clause-same
+set_up-requires-clause-same g c =
+    quiet_same c.in_ok-terms.terms.sides c.dial_further.new.self.held (c.in_ok-dial_further.ensures.further.stand c.in_ok-terms.ensures.met.stand) c.in_ok-dial_further.ensures.quiet c.in_ok-dial_further.ensures.calm.fit.0
+
+pub returns-in_err-dial_further-clause-impatient : goal.returns-in_err-dial_further-clause-impatient
+returns-in_err-dial_further-clause-impatient g c =
+    handed_on _ c.from_residual-in_err-dial_further.result _ c.from_residual-in_err-dial_further.ensures.1
+    (patient_then _ _ _ _ _ _ _ _ c.in_ok-terms.ensures.patient (patient_at _ _ _ _ _ _ _ (ap (λ (s : Seen). s.start.idles) c.in_ok-terms.ensures.kept) (c.in_err-dial_further.ensures.impatient c.in_ok-terms.ensures.met.stand)))
+
+pub returns-in_err-check_well-clause-impatient : goal.returns-in_err-check_well-clause-impatient
+returns-in_err-check_well-clause-impatient g c = always_if_err c.from_residual-in_err-check_well.result (λ why. patient_any _ _ _ _ _ _ (patient_then _ _ _ _ _ _ _ _ c.in_ok-terms.ensures.patient (patient_at _ _ _ _ _ _ _ (ap (λ (s : Seen). s.start.idles) c.in_ok-terms.ensures.kept) (c.in_ok-dial_further.ensures.patient c.in_ok-terms.ensures.met.stand))))
+
+pub returns-in_err-set_up-clause-impatient : goal.returns-in_err-set_up-clause-impatient
+returns-in_err-set_up-clause-impatient g c = always_if_err c.from_residual-in_err-set_up.result (λ why. patient_any _ _ _ _ _ _ (patient_then _ _ _ _ _ _ _ _ c.in_ok-terms.ensures.patient (patient_at _ _ _ _ _ _ _ (ap (λ (s : Seen). s.start.idles) c.in_ok-terms.ensures.kept) (c.in_ok-dial_further.ensures.patient c.in_ok-terms.ensures.met.stand))))
+
+pub returns-clause-patient : goal.returns-clause-patient
+returns-clause-patient g c = (patient_then _ _ _ _ _ _ _ _ c.in_ok-terms.ensures.patient (patient_at _ _ _ _ _ _ _ (ap (λ (s : Seen). s.start.idles) c.in_ok-terms.ensures.kept) (c.in_ok-dial_further.ensures.patient c.in_ok-terms.ensures.met.stand)))

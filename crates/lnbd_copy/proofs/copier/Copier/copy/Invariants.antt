@@ -1,6 +1,9 @@
-use Rattle.std.proofs.Common.{◌≡◌, ◌≢◌}
+use Rattle.std.proofs.Common.{◌≡◌, ◌≢◌, true}
 use Rattle.lnbd_copy.specs.Causes.{GoesOn}
 use Rattle.lnbd_copy.specs.Copier.{IsOnItsWay}
+use Rattle.lnbd_copy.specs.LeftOut.{WantsAll}
+use Rattle.lnbd_copy.specs.Little.{WroteLittle}
+use Rattle.lnbd_copy.specs.Patient.{HasWaited}
 use Rattle.lnbd_copy.specs.Paused.{PausesAreFull}
 use Rattle.lnbd_copy.specs.Pauses.{AtEachPause, WantsOnlyFull}
 use Rattle.lnbd_copy.specs.Tried.{IsLeft, TriedBut}
@@ -25,5 +28,8 @@ invariant-turns g l = record {
   counts : GoesOn (g.W.Wires.faults l.fn.wires) (g.W.Wires.faults l.wires) (g.W.Wires.idles l.fn.wires) (g.W.Wires.idles l.wires) (g.W.Wires.contents l.fn.wires) (g.W.Wires.contents l.wires);
   reads : Told (g.W.Wires.told l.fn.wires) (g.W.Wires.told l.wires) (AtEachPause WantsOnlyEmpty);
   wanted : Told (g.W.Wires.told l.fn.wires) (g.W.Wires.told l.wires) (AtEachPause WantsSome);
+  little : Told (g.W.Wires.told l.fn.wires) (g.W.Wires.told l.wires) (AtEachPause (WroteLittle l.fn.self.options.extents l.fn.self.from l.fn.self.to));
+  wants_all : Told (g.W.Wires.told l.fn.wires) (g.W.Wires.told l.wires) (AtEachPause (WantsAll l.fn.self.options.extents l.fn.self.from l.fn.self.to));
+  waited : Told (g.W.Wires.told l.fn.wires) (g.W.Wires.told l.wires) (HasWaited true (g.W.Wires.idles l.fn.wires) (g.W.Wires.idles l.wires));
   tried : Told (g.W.Wires.told l.fn.wires) (g.W.Wires.told l.wires) (TriedBut (IsLeft l.self.held));
 }

@@ -1,10 +1,12 @@
-use Rattle.std.proofs.Common.{◌+◌, ◌-◌, ap, replicate}
+use Rattle.std.proofs.Common.{◌+◌, ◌-◌, ap, replicate, ◌∙◌}
 use Rattle.std.proofs.lemmas.Result.{on_ok_weaker}
 use Rattle.lnbd_copy.proofs.CopierLemmas.{always_on_ok, further_goes, further_kept, further_then}
-use Rattle.lnbd_copy.proofs.GroundLemmas.{further_fails, handed_on, if_err_leads}
+use Rattle.lnbd_copy.proofs.DecidedLemmas.{decided_grounded}
+use Rattle.lnbd_copy.proofs.GroundLemmas.{handed_on, if_err_leads}
 use Rattle.lnbd_copy.proofs.PauseLemmas.{pauses_then, pauses_unpaused, unpaused_then}
 use Rattle.lnbd_copy.proofs.PausedLemmas.{further_unready, told_stays}
 use Rattle.lnbd_copy.proofs.LinkLemmas.{links_end}
+use Rattle.lnbd_copy.proofs.LittleLemmas.{further_little}
 use Rattle.lnbd_copy.proofs.TriedLemmas.{tries_anyhow, tries_then, tries_unpaused}
 use Rattle.lnbd_copy.proofs.ConnectLemmas.{both_made, goes_all, goes_wider, second_fails}
 use Rattle.lnbd_copy.specs.Copier.{Seen}
@@ -12,6 +14,8 @@ use Rattle.lnbd_copy.proofs.UnaskedLemmas.{further_unasked, met_unasked, stays_k
 use Rattle.lnbd_copy.proofs.ConnectedLemmas.{connected_links, connected_then}
 use Rattle.lnbd_copy.proofs.DrivingLemmas.{further_behind, further_driven, further_settled}
 use Rattle.lnbd_copy.proofs.MeetLemmas.{behind_decides, further_decided, further_decides}
+use Rattle.lnbd_copy.proofs.CauseLemmas.{goes_then}
+use Rattle.lnbd_copy.proofs.PatientLemmas.{always_if_err, patient_any, patient_settles, patient_unpaused}
 use Rattle.lnbd_copy.proofs.copier.Copier.dial_further.Goals as goal
 
 pub returns-clause-further : goal.returns-clause-further
@@ -34,7 +38,8 @@ returns-clause-grounds g c =
     let one = c.in_ok-dial_sources.ensures.further in
     let two = further_kept c.args.self.now c.dial_sources.new.self c.args.sides (c.args.sides.source + 1) _ _ _ _ _ _ c.in_ok-dial_sources.ensures.kept c.in_ok-dial_destinations.ensures.further in
     let both = further_then c.args.self.now c.args.sides 2 (c.args.sides.source + 1) _ _ _ _ _ _ _ _ _ one two c.in_ok-dial_sources.ensures.many in
-    if_err_leads c.settle.result (λ why fails start terms met same two. further_fails c.args.self.now c.dial_destinations.new.self c.args.sides start _ _ _ why both fails terms met same two) c.settle.ensures.fails
+    if_err_leads c.settle.result
+    (λ why decides start terms met same two. decided_grounded _ _ _ _ _ why (further_decided c.args.self.now c.args.sides start _ _ why (further_decides c.args.self.now c.args.sides 2 why _ _ _ _ _ both decides) terms met same two)) c.settle.ensures.decides
 
 pub returns-clause-vain : goal.returns-clause-vain
 returns-clause-vain g c stand =
@@ -94,6 +99,20 @@ returns-in_err-dial_sources-clause-wanted g c stand = pauses_unpaused _ _ c.dial
 pub returns-in_err-dial_destinations-clause-wanted : goal.returns-in_err-dial_destinations-clause-wanted
 returns-in_err-dial_destinations-clause-wanted g c stand = pauses_unpaused _ _ (unpaused_then _ _ _ c.dial_sources.ensures.unpaused c.dial_destinations.ensures.unpaused)
 
+pub returns-in_err-dial_sources-clause-little : goal.returns-in_err-dial_sources-clause-little
+returns-in_err-dial_sources-clause-little g c start terms met same none two little = told_stays start _ _ c.dial_sources.ensures.unpaused little
+
+pub returns-in_err-dial_destinations-clause-little : goal.returns-in_err-dial_destinations-clause-little
+returns-in_err-dial_destinations-clause-little g c start terms met same none two little = told_stays start _ _ (unpaused_then _ _ _ c.dial_sources.ensures.unpaused c.dial_destinations.ensures.unpaused) little
+
+pub returns-clause-little : goal.returns-clause-little
+returns-clause-little g c start terms met same none two little =
+    let one = c.in_ok-dial_sources.ensures.further in
+    let second = further_kept c.args.self.now c.dial_sources.new.self c.args.sides (c.args.sides.source + 1) _ _ _ _ _ _ c.in_ok-dial_sources.ensures.kept c.in_ok-dial_destinations.ensures.further in
+    let both = further_then c.args.self.now c.args.sides 2 (c.args.sides.source + 1) _ _ _ _ _ _ _ _ _ one second c.in_ok-dial_sources.ensures.many in
+    further_little c.args.self.now c.dial_destinations.new.self c.args.sides start _ _ _ both c.settle.ensures.little (λ n. c.in_ok-dial_destinations.ensures.unissued (c.in_ok-dial_sources.ensures.unissued n))
+    (unpaused_then _ _ _ c.dial_sources.ensures.unpaused c.dial_destinations.ensures.unpaused) terms met same none two little
+
 pub returns-clause-connected : goal.returns-clause-connected
 returns-clause-connected g c =
     always_on_ok c.settle.result (λ stand. connected_then _ _ _ (connected_then _ _ _ c.in_ok-dial_sources.ensures.connected c.in_ok-dial_destinations.ensures.connected)
@@ -150,3 +169,27 @@ returns-in_err-dial_sources-clause-tries g c stand = tries_anyhow _ _ (tries_unp
 
 pub returns-in_err-dial_destinations-clause-tries : goal.returns-in_err-dial_destinations-clause-tries
 returns-in_err-dial_destinations-clause-tries g c stand = tries_anyhow _ _ (tries_unpaused _ _ (unpaused_then _ _ _ c.dial_sources.ensures.unpaused c.dial_destinations.ensures.unpaused))
+
+pub returns-in_err-dial_sources-clause-impatient : goal.returns-in_err-dial_sources-clause-impatient
+returns-in_err-dial_sources-clause-impatient g c = always_if_err c.from_residual.result (λ why stand. patient_any _ _ _ _ _ _ (patient_unpaused _ _ _ _ _ c.dial_sources.ensures.unpaused c.dial_sources.ensures.counts.idles))
+
+pub returns-in_err-dial_destinations-clause-impatient : goal.returns-in_err-dial_destinations-clause-impatient
+returns-in_err-dial_destinations-clause-impatient g c =
+    always_if_err c.from_residual-in_err-dial_destinations.result
+    (λ why stand. patient_any _ _ _ _ _ _ (patient_unpaused _ _ _ _ _ (unpaused_then _ _ _ c.dial_sources.ensures.unpaused c.dial_destinations.ensures.unpaused) (goes_then _ _ _ _ _ _ _ _ _ c.dial_sources.ensures.counts c.dial_destinations.ensures.counts).idles))
+
+pub returns-clause-patient : goal.returns-clause-patient
+returns-clause-patient g c =
+    on_ok_weaker c.settle.result
+    (λ stays stand. patient_settles _ _ _ _ _ _ _ _ _ (unpaused_then _ _ _ c.dial_sources.ensures.unpaused c.dial_destinations.ensures.unpaused) (goes_then _ _ _ _ _ _ _ _ _ c.dial_sources.ensures.counts c.dial_destinations.ensures.counts).idles
+    (ap (λ (s : Seen). s.start.idles) c.in_ok-dial_destinations.ensures.kept ∙ ap (λ (s : Seen). s.start.idles) c.in_ok-dial_sources.ensures.kept)
+    (stays (c.in_ok-dial_destinations.ensures.further.stand (c.in_ok-dial_sources.ensures.further.stand stand))))
+    c.settle.ensures.patient
+
+pub returns-clause-impatient : goal.returns-clause-impatient
+returns-clause-impatient g c =
+    if_err_leads c.settle.result
+    (λ why stays stand. patient_settles _ _ _ _ _ _ _ _ _ (unpaused_then _ _ _ c.dial_sources.ensures.unpaused c.dial_destinations.ensures.unpaused) (goes_then _ _ _ _ _ _ _ _ _ c.dial_sources.ensures.counts c.dial_destinations.ensures.counts).idles
+    (ap (λ (s : Seen). s.start.idles) c.in_ok-dial_destinations.ensures.kept ∙ ap (λ (s : Seen). s.start.idles) c.in_ok-dial_sources.ensures.kept)
+    (stays (c.in_ok-dial_destinations.ensures.further.stand (c.in_ok-dial_sources.ensures.further.stand stand))))
+    c.settle.ensures.impatient

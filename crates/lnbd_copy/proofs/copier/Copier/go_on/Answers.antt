@@ -17,6 +17,7 @@ use Rattle.lnbd_copy.proofs.SpreadLemmas.{way_spread}
 use Rattle.lnbd_copy.proofs.SummedLemmas.{summed}
 use Rattle.lnbd_copy.proofs.UnansweredLemmas.{way_all_asked}
 use Rattle.lnbd_copy.proofs.LinkLemmas.{links_same, links_then}
+use Rattle.lnbd_copy.proofs.LittleLemmas.{way_little}
 use Rattle.lnbd_copy.proofs.copier.Copier.go_on.Goals.{else-acted, then-acted}
 use Rattle.lnbd_copy.proofs.DecidingLemmas.{was_decided, was_shut}
 use Rattle.lnbd_copy.proofs.GroundLemmas.{handed_on}
@@ -91,6 +92,16 @@ returns-clause-shares g c start on two =
     let left = c.part-parted.ensures.on start (c.in_ok-acted.ensures.on start _ (c.in_ok-moved.ensures.on start on)) in
     way_shares _ start _ (sym (ap (λ (s : Seen). s.board.error) c.self.view_is) ∙ c.in_ok-check_well.ensures) left two
 
+pub returns-then-is_finished-clause-little : goal.returns-then-is_finished-clause-little
+returns-then-is_finished-clause-little g c start on =
+    let left = c.part-parted.ensures.on start (c.in_ok-acted.ensures.on start _ (c.in_ok-moved.ensures.on start on)) in
+    way_little _ start _ (sym (ap (λ (s : Seen). s.board.error) c.self.view_is) ∙ c.in_ok-check_well.ensures) left
+
+pub returns-clause-little : goal.returns-clause-little
+returns-clause-little g c start on =
+    let left = c.part-parted.ensures.on start (c.in_ok-acted.ensures.on start _ (c.in_ok-moved.ensures.on start on)) in
+    way_little _ start _ (sym (ap (λ (s : Seen). s.board.error) c.self.view_is) ∙ c.in_ok-check_well.ensures) left
+
 pub returns-then-is_finished-clause-answered : goal.returns-then-is_finished-clause-answered
 returns-then-is_finished-clause-answered g c start on two =
     let left = c.part-parted.ensures.on start (c.in_ok-acted.ensures.on start _ (c.in_ok-moved.ensures.on start on)) in
@@ -119,6 +130,9 @@ returns-clause-still g c still =
 
 pub returns-in_err-check_well-clause-counts : goal.returns-in_err-check_well-clause-counts
 returns-in_err-check_well-clause-counts g c = goes_then _ _ _ _ _ _ _ _ _ c.take_turn.ensures.counts c.part-parted.ensures.counts
+
+pub returns-in_err-check_counts-clause-counts : goal.returns-in_err-check_counts-clause-counts
+returns-in_err-check_counts-clause-counts g c = goes_then _ _ _ _ _ _ _ _ _ c.take_turn.ensures.counts c.part-parted.ensures.counts
 
 pub returns-then-is_finished-clause-counts : goal.returns-then-is_finished-clause-counts
 returns-then-is_finished-clause-counts g c = goes_then _ _ _ _ _ _ _ _ _ c.take_turn.ensures.counts c.part-parted.ensures.counts

@@ -1,16 +1,18 @@
-use Rattle.std.proofs.Common.{List, ◌∙◌, [], ◌∷◌, ap, sym, subst, arith, length}
+use Rattle.std.proofs.Common.{List, false, ◌∙◌, [], ◌∷◌, ap, sym, subst, arith, length}
 use Rattle.lnbd_copy.specs.Agreed.{AreQuiet}
 use Rattle.lnbd_copy.specs.Copier.{Seen}
 use Rattle.lnbd_copy.proofs.AlikeLemmas.{terms_known}
 use Rattle.lnbd_copy.proofs.CauseLemmas.{goes_then}
 use Rattle.lnbd_copy.proofs.CopierLemmas.{always_on_ok, dials_as, if_ok_both, if_ok_leads, kept_then, meets, two_meet}
-use Rattle.lnbd_copy.proofs.GroundLemmas.{destination_fails, found_fails, found_terms, if_err_leads, source_fails, handed_on}
+use Rattle.lnbd_copy.proofs.DecidedLemmas.{decided_grounded}
+use Rattle.lnbd_copy.proofs.GroundLemmas.{found_fails, found_terms, if_err_leads, handed_on}
 use Rattle.lnbd_poll.specs.Held.{Held}
 use Rattle.lnbd_board.specs.declared.ticket.Ticket.{Ticket}
 use Rattle.lnbd_copy.specs.Way.{Stand}
 use Rattle.lnbd_copy.proofs.PauseLemmas.{pauses_then, pauses_unpaused}
 use Rattle.lnbd_copy.proofs.ConnectLemmas.{both_made, goes_all, goes_wider, second_fails}
 use Rattle.lnbd_copy.proofs.LinkLemmas.{links_end}
+use Rattle.lnbd_copy.proofs.LittleLemmas.{both_little, source_dials, source_little}
 use Rattle.lnbd_copy.proofs.TriedLemmas.{tries_anyhow, tries_then, tries_unpaused}
 use Rattle.lnbd_copy.proofs.TurnLemmas.{none_stand}
 use Rattle.lnbd_copy.proofs.PausedLemmas.{meet_unready, source_dialled, source_unready, told_stays}
@@ -18,6 +20,7 @@ use Rattle.lnbd_copy.proofs.UnaskedLemmas.{both_unasked, both_unissued, source_u
 use Rattle.lnbd_copy.proofs.ConnectedLemmas.{connected_links, connected_then}
 use Rattle.lnbd_copy.proofs.DrivingLemmas.{destination_dialed, destination_settled, one_as, source_dialed, source_settled}
 use Rattle.lnbd_copy.proofs.MeetLemmas.{begins_decided, destination_decided, second_decided, source_decided, terms_decided}
+use Rattle.lnbd_copy.proofs.PatientLemmas.{always_if_err, patient_any, patient_settles, patient_then, patient_unpaused}
 use Rattle.lnbd_copy.proofs.copier.Copier.meet.Goals as goal
 
 pub returns-clause-met : goal.returns-clause-met
@@ -26,6 +29,8 @@ returns-clause-met g c =
     (λ terms agreed finds.
     let dials = dials_as c.args.self.now.options _ _ _ _ _ _ _ (ap (λ (s : Seen). s.options.extents) c.self.view_is) c.in_ok-dial_source.ensures.dials in
     let found = found_terms c.args.self.now c.dial_source.new.self c.settle.new.self c.dial_destination.new.self c.settle-2.new.self _ _ _ _ _ c.self-2.inside.options terms c.self-2.inside.handles
+    (sym (ap (λ (s : Seen). s.options.extents) c.self-2.view_is ∙ ap (λ (s : Seen). s.options.extents) c.in_ok-settle-2.ensures.kept ∙ ap (λ (s : Seen). s.options.extents) c.in_ok-dial_destination.ensures.kept
+    ∙ ap (λ (s : Seen). s.options.extents) c.in_ok-settle.ensures.kept ∙ ap (λ (s : Seen). s.options.extents) c.in_ok-dial_source.ensures.kept))
     c.in_ok-dial_source.ensures.kept c.in_ok-settle.ensures.kept c.in_ok-dial_source.ensures.board c.in_ok-dial_destination.ensures.board (ap (λ (s : Seen). s.held) c.self-2.view_is)
     dials c.in_ok-settle.ensures.goes c.in_ok-dial_destination.ensures.dials c.in_ok-settle-2.ensures.goes c.requires.begun finds
     (terms_known c.self-2.inside.options terms c.self-2.inside.handles c.settle-2.new.self.held (ap (λ (s : Seen). s.held) c.self-2.view_is) finds) in
@@ -67,14 +72,15 @@ agree-requires-clause-quiet g c = subst (λ (s : Seen). AreQuiet s.held) (sym c.
 pub returns-in_err-settle-clause-grounds : goal.returns-in_err-settle-clause-grounds
 returns-in_err-settle-clause-grounds g c =
     handed_on _ c.from_residual-in_err-settle.result _ c.from_residual-in_err-settle.ensures.1 (
-    source_fails c.args.self.now c.dial_source.new.self _ _ _ _ c.in_ok-dial_source.ensures.board (dials_as c.args.self.now.options _ _ _ _ _ _ _ (ap (λ (s : Seen). s.options.extents) c.self.view_is) c.in_ok-dial_source.ensures.dials) c.requires.begun c.in_err-settle.ensures.fails)
+    decided_grounded _ _ _ _ _ _ (
+    source_decided c.args.self.now c.dial_source.new.self _ _ c.in_ok-dial_source.ensures.board (dials_as c.args.self.now.options _ _ _ _ _ _ _ (ap (λ (s : Seen). s.options.extents) c.self.view_is) c.in_ok-dial_source.ensures.dials) c.requires.begun _ _ c.in_err-settle.ensures.decides))
 
 pub returns-in_err-settle-2-clause-grounds : goal.returns-in_err-settle-2-clause-grounds
 returns-in_err-settle-2-clause-grounds g c =
     handed_on _ c.from_residual-in_err-settle-2.result _ c.from_residual-in_err-settle-2.ensures.1 (
-    destination_fails c.args.self.now c.dial_source.new.self c.settle.new.self c.dial_destination.new.self _ _ _ _ _ _
-    c.in_ok-dial_source.ensures.kept c.in_ok-settle.ensures.kept c.in_ok-dial_source.ensures.board c.in_ok-dial_destination.ensures.board
-    (dials_as c.args.self.now.options _ _ _ _ _ _ _ (ap (λ (s : Seen). s.options.extents) c.self.view_is) c.in_ok-dial_source.ensures.dials) c.in_ok-settle.ensures.goes c.in_ok-dial_destination.ensures.dials c.requires.begun c.in_err-settle-2.ensures.fails)
+    decided_grounded _ _ _ _ _ _ (
+    destination_decided c.args.self.now c.dial_source.new.self _ _ c.in_ok-dial_source.ensures.board (dials_as c.args.self.now.options _ _ _ _ _ _ _ (ap (λ (s : Seen). s.options.extents) c.self.view_is) c.in_ok-dial_source.ensures.dials) c.requires.begun c.settle.new.self _ c.in_ok-settle.ensures.goes c.dial_destination.new.self _
+    c.in_ok-dial_source.ensures.kept c.in_ok-settle.ensures.kept c.in_ok-dial_destination.ensures.board c.in_ok-dial_destination.ensures.dials _ _ c.in_err-settle-2.ensures.decides))
 
 pub returns-clause-grounds : goal.returns-clause-grounds
 returns-clause-grounds g c =
@@ -156,7 +162,7 @@ returns-clause-unissued g c =
     c.settle.new.self c.dial_destination.new.self _ _ c.in_ok-dial_source.ensures.kept c.in_ok-settle.ensures.kept c.in_ok-dial_destination.ensures.board c.in_ok-settle.ensures.goes c.in_ok-settle.ensures.fresh c.in_ok-dial_destination.ensures.dials c.in_ok-dial_destination.ensures.unissued _ _ _ c.in_ok-settle-2.ensures.fresh)
 
 pub returns-in_err-dial_source-clause-unready : goal.returns-in_err-dial_source-clause-unready
-returns-in_err-dial_source-clause-unready g c = source_dialled c.args.self.now.from c.args.self.now.to _ _ c.dial_source.ensures.unpaused
+returns-in_err-dial_source-clause-unready g c = source_dialled c.args.self.now.options.extents c.args.self.now.from c.args.self.now.to _ _ c.dial_source.ensures.unpaused
 
 pub returns-in_err-settle-clause-unready : goal.returns-in_err-settle-clause-unready
 returns-in_err-settle-clause-unready g c = source_unready c.args.self.now c.dial_source.new.self _ _ _ c.in_ok-dial_source.ensures.board (dials_as c.args.self.now.options _ _ _ _ _ _ _ (ap (λ (s : Seen). s.options.extents) c.self.view_is) c.in_ok-dial_source.ensures.dials) c.requires.begun c.in_ok-dial_source.ensures.connects c.dial_source.ensures.unpaused c.settle.ensures.unready
@@ -225,6 +231,30 @@ returns-in_err-settle-2-clause-wanted g c =
     let two = c.in_ok-dial_destination.ensures.dials.stand (c.in_ok-settle.ensures.goes.stand one) in
     pauses_then _ _ _ (pauses_then _ _ _ (pauses_unpaused _ _ c.dial_source.ensures.unpaused) (c.settle.ensures.wanted one))
     (pauses_then _ _ _ (pauses_unpaused _ _ c.dial_destination.ensures.unpaused) (c.settle-2.ensures.wanted two))
+
+pub returns-clause-little : goal.returns-clause-little
+returns-clause-little g c =
+    both_little c.args.self.now c.dial_source.new.self _ _ c.in_ok-dial_source.ensures.board (dials_as c.args.self.now.options _ _ _ _ _ _ _ (ap (λ (s : Seen). s.options.extents) c.self.view_is) c.in_ok-dial_source.ensures.dials) c.requires.begun c.in_ok-dial_source.ensures.unissued c.dial_source.ensures.unpaused
+    c.settle.new.self c.dial_destination.new.self _ _ _ c.in_ok-dial_source.ensures.kept c.in_ok-settle.ensures.kept c.in_ok-dial_destination.ensures.board c.in_ok-settle.ensures.goes c.in_ok-settle.ensures.fresh c.in_ok-dial_destination.ensures.dials c.in_ok-dial_destination.ensures.unissued
+    c.settle.ensures.little c.dial_destination.ensures.unpaused c.settle-2.ensures.little
+
+pub returns-in_err-dial_source-clause-little : goal.returns-in_err-dial_source-clause-little
+returns-in_err-dial_source-clause-little g c = source_dials _ _ c.dial_source.ensures.unpaused
+
+pub returns-in_err-settle-clause-little : goal.returns-in_err-settle-clause-little
+returns-in_err-settle-clause-little g c =
+    source_little c.args.self.now c.dial_source.new.self _ _ c.in_ok-dial_source.ensures.board (dials_as c.args.self.now.options _ _ _ _ _ _ _ (ap (λ (s : Seen). s.options.extents) c.self.view_is) c.in_ok-dial_source.ensures.dials) c.requires.begun c.in_ok-dial_source.ensures.unissued c.dial_source.ensures.unpaused _ c.settle.ensures.little
+
+pub returns-in_err-dial_destination-clause-little : goal.returns-in_err-dial_destination-clause-little
+returns-in_err-dial_destination-clause-little g c =
+    told_stays _ _ _ c.dial_destination.ensures.unpaused
+    (source_little c.args.self.now c.dial_source.new.self _ _ c.in_ok-dial_source.ensures.board (dials_as c.args.self.now.options _ _ _ _ _ _ _ (ap (λ (s : Seen). s.options.extents) c.self.view_is) c.in_ok-dial_source.ensures.dials) c.requires.begun c.in_ok-dial_source.ensures.unissued c.dial_source.ensures.unpaused _ c.settle.ensures.little)
+
+pub returns-in_err-settle-2-clause-little : goal.returns-in_err-settle-2-clause-little
+returns-in_err-settle-2-clause-little g c =
+    both_little c.args.self.now c.dial_source.new.self _ _ c.in_ok-dial_source.ensures.board (dials_as c.args.self.now.options _ _ _ _ _ _ _ (ap (λ (s : Seen). s.options.extents) c.self.view_is) c.in_ok-dial_source.ensures.dials) c.requires.begun c.in_ok-dial_source.ensures.unissued c.dial_source.ensures.unpaused
+    c.settle.new.self c.dial_destination.new.self _ _ _ c.in_ok-dial_source.ensures.kept c.in_ok-settle.ensures.kept c.in_ok-dial_destination.ensures.board c.in_ok-settle.ensures.goes c.in_ok-settle.ensures.fresh c.in_ok-dial_destination.ensures.dials c.in_ok-dial_destination.ensures.unissued
+    c.settle.ensures.little c.dial_destination.ensures.unpaused c.settle-2.ensures.little
 
 pub returns-clause-connected : goal.returns-clause-connected
 returns-clause-connected g c =
@@ -321,3 +351,48 @@ returns-clause-tried g c =
     let one = c.in_ok-dial_source.ensures.dials.stand begun in
     let two = c.in_ok-dial_destination.ensures.dials.stand (c.in_ok-settle.ensures.goes.stand one) in
     always_on_ok c.agree.result (tries_then _ _ _ (tries_then _ _ _ (tries_unpaused _ _ c.dial_source.ensures.unpaused) (c.in_ok-settle.ensures.tried one)) (tries_then _ _ _ (tries_unpaused _ _ c.dial_destination.ensures.unpaused) (c.in_ok-settle-2.ensures.tried two)))
+
+pub returns-in_err-dial_source-clause-impatient : goal.returns-in_err-dial_source-clause-impatient
+returns-in_err-dial_source-clause-impatient g c = always_if_err c.from_residual.result (λ why. patient_any _ _ _ _ _ _ (patient_unpaused _ _ _ _ _ c.dial_source.ensures.unpaused c.dial_source.ensures.counts.idles))
+
+pub returns-in_err-settle-clause-impatient : goal.returns-in_err-settle-clause-impatient
+returns-in_err-settle-clause-impatient g c =
+    let begun = subst (λ (l : List (Held Ticket)). Stand l) (sym c.requires.begun.held) none_stand in
+    let one = c.in_ok-dial_source.ensures.dials.stand begun in
+    handed_on _ c.from_residual-in_err-settle.result _ c.from_residual-in_err-settle.ensures.1
+    (patient_settles _ _ _ _ _ _ _ _ _ c.dial_source.ensures.unpaused c.dial_source.ensures.counts.idles (ap (λ (s : Seen). s.start.idles) c.in_ok-dial_source.ensures.kept) (c.in_err-settle.ensures.impatient one))
+
+pub returns-in_err-dial_destination-clause-impatient : goal.returns-in_err-dial_destination-clause-impatient
+returns-in_err-dial_destination-clause-impatient g c =
+    let begun = subst (λ (l : List (Held Ticket)). Stand l) (sym c.requires.begun.held) none_stand in
+    let one = c.in_ok-dial_source.ensures.dials.stand begun in
+    always_if_err c.from_residual-in_err-dial_destination.result
+    (λ why. patient_any _ _ _ _ _ _ (patient_then false _ _ _ _ _ _ _ (patient_settles false _ _ _ _ _ _ _ _ c.dial_source.ensures.unpaused c.dial_source.ensures.counts.idles (ap (λ (s : Seen). s.start.idles) c.in_ok-dial_source.ensures.kept) (c.in_ok-settle.ensures.patient one)) (patient_unpaused _ _ _ _ _ c.dial_destination.ensures.unpaused c.dial_destination.ensures.counts.idles)))
+
+pub returns-in_err-settle-2-clause-impatient : goal.returns-in_err-settle-2-clause-impatient
+returns-in_err-settle-2-clause-impatient g c =
+    let begun = subst (λ (l : List (Held Ticket)). Stand l) (sym c.requires.begun.held) none_stand in
+    let one = c.in_ok-dial_source.ensures.dials.stand begun in
+    let two = c.in_ok-dial_destination.ensures.dials.stand (c.in_ok-settle.ensures.goes.stand one) in
+    handed_on _ c.from_residual-in_err-settle-2.result _ c.from_residual-in_err-settle-2.ensures.1
+    (patient_then _ _ _ _ _ _ _ _ (patient_settles false _ _ _ _ _ _ _ _ c.dial_source.ensures.unpaused c.dial_source.ensures.counts.idles (ap (λ (s : Seen). s.start.idles) c.in_ok-dial_source.ensures.kept) (c.in_ok-settle.ensures.patient one))
+    (patient_settles _ _ _ _ _ _ _ _ _ c.dial_destination.ensures.unpaused c.dial_destination.ensures.counts.idles (ap (λ (s : Seen). s.start.idles) c.in_ok-dial_destination.ensures.kept ∙ ap (λ (s : Seen). s.start.idles) c.in_ok-settle.ensures.kept ∙ ap (λ (s : Seen). s.start.idles) c.in_ok-dial_source.ensures.kept) (c.in_err-settle-2.ensures.impatient two)))
+
+pub returns-clause-patient : goal.returns-clause-patient
+returns-clause-patient g c =
+    let begun = subst (λ (l : List (Held Ticket)). Stand l) (sym c.requires.begun.held) none_stand in
+    let one = c.in_ok-dial_source.ensures.dials.stand begun in
+    let two = c.in_ok-dial_destination.ensures.dials.stand (c.in_ok-settle.ensures.goes.stand one) in
+    always_on_ok c.agree.result
+    (patient_then _ _ _ _ _ _ _ _ (patient_settles false _ _ _ _ _ _ _ _ c.dial_source.ensures.unpaused c.dial_source.ensures.counts.idles (ap (λ (s : Seen). s.start.idles) c.in_ok-dial_source.ensures.kept) (c.in_ok-settle.ensures.patient one))
+    (patient_settles _ _ _ _ _ _ _ _ _ c.dial_destination.ensures.unpaused c.dial_destination.ensures.counts.idles (ap (λ (s : Seen). s.start.idles) c.in_ok-dial_destination.ensures.kept ∙ ap (λ (s : Seen). s.start.idles) c.in_ok-settle.ensures.kept ∙ ap (λ (s : Seen). s.start.idles) c.in_ok-dial_source.ensures.kept) (c.in_ok-settle-2.ensures.patient two)))
+
+pub returns-clause-impatient : goal.returns-clause-impatient
+returns-clause-impatient g c =
+    let begun = subst (λ (l : List (Held Ticket)). Stand l) (sym c.requires.begun.held) none_stand in
+    let one = c.in_ok-dial_source.ensures.dials.stand begun in
+    let two = c.in_ok-dial_destination.ensures.dials.stand (c.in_ok-settle.ensures.goes.stand one) in
+    always_if_err c.agree.result
+    (λ why. patient_any _ _ _ _ _ _
+    (patient_then _ _ _ _ _ _ _ _ (patient_settles false _ _ _ _ _ _ _ _ c.dial_source.ensures.unpaused c.dial_source.ensures.counts.idles (ap (λ (s : Seen). s.start.idles) c.in_ok-dial_source.ensures.kept) (c.in_ok-settle.ensures.patient one))
+    (patient_settles _ _ _ _ _ _ _ _ _ c.dial_destination.ensures.unpaused c.dial_destination.ensures.counts.idles (ap (λ (s : Seen). s.start.idles) c.in_ok-dial_destination.ensures.kept ∙ ap (λ (s : Seen). s.start.idles) c.in_ok-settle.ensures.kept ∙ ap (λ (s : Seen). s.start.idles) c.in_ok-dial_source.ensures.kept) (c.in_ok-settle-2.ensures.patient two))))

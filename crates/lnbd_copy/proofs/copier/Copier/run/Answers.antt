@@ -1,6 +1,6 @@
-use Rattle.std.proofs.Common.{ap}
+use Rattle.std.proofs.Common.{◌<◌, ◌≤◌, ap}
 use Rattle.std.proofs.lemmas.Result.{on_ok_weaker}
-use Rattle.lnbd_copy.proofs.EndLemmas.{done_asks, done_copies, done_dense, done_driven, done_flushed, done_left, done_spares, done_whole, told_part}
+use Rattle.lnbd_copy.proofs.EndLemmas.{done_asks, done_copies, done_dense, done_driven, done_flushed, done_left, done_spares, done_whole, done_wholly, told_part}
 use Rattle.lnbd_copy.specs.Causes.{patience}
 use Rattle.lnbd_copy.proofs.CauseLemmas.{goes_then}
 use Rattle.lnbd_copy.proofs.EndedLemmas.{on_ok_two, still_unrisen}
@@ -16,6 +16,7 @@ use Rattle.lnbd_copy.proofs.ConnectLemmas.{connects_as_told, connects_within, to
 use Rattle.lnbd_copy.proofs.LinkLemmas.{links_kept}
 use Rattle.lnbd_copy.proofs.DecidingLemmas.{decided_shut}
 use Rattle.lnbd_copy.proofs.DrivenAsLemmas.{driven_idly}
+use Rattle.lnbd_copy.proofs.PatientLemmas.{few_stay}
 use Rattle.lnbd_copy.proofs.copier.Copier.run.Goals as goal
 
 pub returns-clause-copies : goal.returns-clause-copies
@@ -52,7 +53,7 @@ pub returns-clause-summary : goal.returns-clause-summary
 returns-clause-summary g c two = done_sums c.args.self c.copy-told.new.self _ _ _ c.copy-told.result c.copy-told.ensures.kept (λ parted. ap g.W.Wires.told (c.end.ensures.parted parted)) two c.copy-told.ensures.done c.copy-told.ensures.sums
 
 pub returns-clause-grounds : goal.returns-clause-grounds
-returns-clause-grounds g c = if_err_leads c.copy-told.result (λ why grounds. grounded_later _ _ _ _ _ why c.end.ensures.lasts grounds) c.copy-told.ensures.grounds
+returns-clause-grounds g c = if_err_leads c.copy-told.result (λ why grounds. grounded_later _ _ _ _ _ _ why c.end.ensures.lasts grounds) c.copy-told.ensures.grounds
 
 pub returns-clause-flushes : goal.returns-clause-flushes
 returns-clause-flushes g c two = done_flushes c.args.self c.copy-told.new.self _ _ _ c.copy-told.result c.copy-told.ensures.kept (λ parted. ap g.W.Wires.told (c.end.ensures.parted parted)) two c.copy-told.ensures.done c.copy-told.ensures.flushes
@@ -99,6 +100,12 @@ returns-clause-answered g c two = told_part _ _ (told_as _ _ (λ calls is. is.an
 pub returns-clause-spared : goal.returns-clause-spared
 returns-clause-spared g c two = told_part _ _ (told_as _ _ (λ calls is. is.dense) (behaves_idly _ _ _ _ _ _ c.end.ensures.idly (c.copy-told.ensures.fair two)))
 
+pub returns-clause-passed : goal.returns-clause-passed
+returns-clause-passed g c two = told_part _ _ (told_as _ _ (λ calls is. is.passed) (behaves_idly _ _ _ _ _ _ c.end.ensures.idly (c.copy-told.ensures.fair two)))
+
+pub returns-clause-runs : goal.returns-clause-runs
+returns-clause-runs g c two = told_part _ _ (told_as _ _ (λ calls is. is.runs) (behaves_idly _ _ _ _ _ _ c.end.ensures.idly (c.copy-told.ensures.fair two)))
+
 pub returns-clause-untouched : goal.returns-clause-untouched
 returns-clause-untouched g c two = told_part _ _ (told_as _ _ (λ calls is. is.untouched) (behaves_idly _ _ _ _ _ _ c.end.ensures.idly (c.copy-told.ensures.fair two)))
 
@@ -107,6 +114,9 @@ returns-clause-counts g c = goes_then _ _ _ _ _ _ _ _ _ c.copy-told.ensures.coun
 
 pub returns-clause-at_most_once : goal.returns-clause-at_most_once
 returns-clause-at_most_once g c two = told_part _ _ (told_as _ _ (λ calls is. is.flushes) (behaves_idly _ _ _ _ _ _ c.end.ensures.idly (c.copy-told.ensures.fair two)))
+
+pub returns-clause-on_first : goal.returns-clause-on_first
+returns-clause-on_first g c two = told_part _ _ (told_as _ _ (λ calls is. is.first) (behaves_idly _ _ _ _ _ _ c.end.ensures.idly (c.copy-told.ensures.fair two)))
 
 pub returns-clause-unflushed : goal.returns-clause-unflushed
 returns-clause-unflushed g c unwanted two = told_part _ _ (told_as _ _ (λ calls is. is.unflushed unwanted) (behaves_idly _ _ _ _ _ _ c.end.ensures.idly (c.copy-told.ensures.fair two)))
@@ -122,6 +132,18 @@ returns-clause-tries g c = told_part _ _ (told_stays _ _ _ c.end.ensures.unpause
 
 pub returns-clause-wanted : goal.returns-clause-wanted
 returns-clause-wanted g c = told_part _ _ (told_stays _ _ _ c.end.ensures.unpaused c.copy-told.ensures.wanted)
+
+pub returns-clause-little : goal.returns-clause-little
+returns-clause-little g c = told_part _ _ (told_stays _ _ _ c.end.ensures.unpaused c.copy-told.ensures.little)
+
+pub returns-clause-wants_all : goal.returns-clause-wants_all
+returns-clause-wants_all g c = told_part _ _ (told_stays _ _ _ c.end.ensures.unpaused c.copy-told.ensures.wants_all)
+
+pub returns-clause-few : goal.returns-clause-few
+returns-clause-few g c = told_part _ _ (few_stay (λ n. n ≤ patience) _ _ _ c.end.ensures.unpaused c.copy-told.ensures.few)
+
+pub returns-clause-less : goal.returns-clause-less
+returns-clause-less g c = if_err_leads c.copy-told.result (λ why less other. told_part _ _ (few_stay (λ n. n < patience) _ _ _ c.end.ensures.unpaused (less other))) c.copy-told.ensures.less
 
 pub returns-clause-connected : goal.returns-clause-connected
 returns-clause-connected g c =
@@ -142,16 +164,23 @@ returns-clause-left g c =
     (λ done. done_left c.args.self c.copy-told.new.self _ _ _ c.copy-told.ensures.kept (ap g.W.Wires.told (c.end.ensures.parted done.parted)) done)
     c.copy-told.ensures.done
 
+pub returns-clause-whole : goal.returns-clause-whole
+returns-clause-whole g c two =
+    on_ok_weaker c.copy-told.result
+    (λ done. done_wholly c.args.self c.copy-told.new.self _ _ _ c.copy-told.ensures.kept (ap g.W.Wires.told (c.end.ensures.parted done.parted)) two done)
+    c.copy-told.ensures.done
+
 pub returns-clause-made : goal.returns-clause-made
 returns-clause-made g c two =
     is_made c.args.self.options c.args.self.from c.args.self.to _ _ c.copy-told.result (returns-clause-asks g c two) (returns-clause-done g c two) (returns-clause-summary g c two) (returns-clause-spares g c two) (returns-clause-dense g c two) (returns-clause-answered g c two)
     (returns-clause-flushes g c two) (returns-clause-flushed g c two) (λ unwanted. returns-clause-unflushed g c unwanted two) (returns-clause-driven g c) (returns-clause-pauses g c two) (returns-clause-shares g c two) (returns-clause-writes g c) (returns-clause-waits g c) (returns-clause-links g c) (returns-clause-connects g c) (returns-clause-reads g c)
-    (returns-clause-wanted g c) (returns-clause-connected g c) (returns-clause-drives g c) (returns-clause-left g c)
+    (returns-clause-wanted g c) (returns-clause-connected g c) (returns-clause-drives g c) (returns-clause-left g c) (returns-clause-whole g c two) (returns-clause-on_first g c two)
+    (returns-clause-runs g c two)
 
 pub returns-clause-conducts : goal.returns-clause-conducts
 returns-clause-conducts g c =
     conducts c.args.self.options c.args.self.from c.args.self.to _ _ (returns-clause-links g c) (returns-clause-within g c) (λ two. told_part _ _ (behaves_idly _ _ _ _ _ _ c.end.ensures.idly (c.copy-told.ensures.fair two))) (returns-clause-pauses g c)
-    (returns-clause-waits g c) (returns-clause-writes g c) (returns-clause-reads g c) (returns-clause-wanted g c) (returns-clause-drives g c) (returns-clause-tries g c)
+    (returns-clause-waits g c) (returns-clause-writes g c) (returns-clause-reads g c) (returns-clause-wanted g c) (returns-clause-drives g c) (returns-clause-tries g c) (returns-clause-little g c) (returns-clause-wants_all g c) (returns-clause-few g c)
 
 pub returns-clause-decides : goal.returns-clause-decides
 returns-clause-decides g c = if_err_leads c.copy-told.result (λ why decides. decided_shut _ _ _ _ _ _ c.end.ensures.shuts why decides) c.copy-told.ensures.decides

@@ -3,7 +3,7 @@ use Rattle.lnbd_copy.specs.Copier.{IsOnItsWay, Seen}
 use Rattle.lnbd_copy.proofs.EndLemmas.{after_turn}
 use Rattle.lnbd_copy.specs.Grounds.{IsGrounded}
 use Rattle.lnbd_copy.specs.Way.{Stand, Told}
-use Rattle.lnbd_copy.proofs.DecidedLemmas.{way_decided, way_failed}
+use Rattle.lnbd_copy.proofs.DecidedLemmas.{decided_grounded, way_decided}
 use Rattle.lnbd_copy.proofs.FullLemmas.{turned_unpaused, cut_unpaused}
 use Rattle.lnbd_copy.specs.Faults.{Behaves}
 use Rattle.lnbd_copy.proofs.FaultLemmas.{cut_behaves, whole_behaves}
@@ -18,7 +18,7 @@ use Rattle.lnbd_copy.proofs.TriedLemmas.{way_tries}
 use Rattle.lnbd_copy.proofs.VainLemmas.{turned_vain}
 use Rattle.lnbd_copy.proofs.DrivingLemmas.{drives_none, goes_drive, cut_drives}
 use Rattle.lnbd_copy.specs.Decided.{IsDecided}
-use Rattle.lnbd_copy.specs.Deciding.{WasUntroubled}
+use Rattle.lnbd_copy.specs.Deciding.{WasUntroubledAs}
 use Rattle.lnbd_copy.proofs.DecidingLemmas.{way_calm}
 use Rattle.lnbd_copy.proofs.DrivenAsLemmas.{way_driven}
 use Rattle.lnbd_copy.specs.DrivenAs.{AreDrivenBy}
@@ -84,20 +84,20 @@ returns-in_err-check_calm-clause-drives g c start on = way_driven c.args.self.no
 pub returns-in_err-moved-clause-grounds : goal.returns-in_err-moved-clause-grounds
 returns-in_err-moved-clause-grounds g c =
     handed_on _ c.from_residual-in_err-moved.result _ c.from_residual-in_err-moved.ensures.1 (λ start on.
-    subst (λ (s : Seen). IsGrounded start (g.W.Wires.told c.turn.new.wires) s.from s.to c.in_err-moved.field-0.0) c.self.view_is
-    (way_failed _ start (g.W.Wires.told c.args.wires.now) (g.W.Wires.told c.turn.new.wires) _ c.in_err-moved.ensures.fails
-    (subst (λ (s : Seen). IsOnItsWay start (g.W.Wires.told c.args.wires.now) s) (sym c.self.view_is) on)))
+    subst (λ (s : Seen). IsGrounded start (g.W.Wires.told c.turn.new.wires) s.options.extents s.from s.to c.in_err-moved.field-0.0) c.self.view_is
+    (decided_grounded _ _ _ _ _ _ (way_decided _ start (g.W.Wires.told c.args.wires.now) (g.W.Wires.told c.turn.new.wires) _ c.in_err-moved.ensures.decides (cut_drives _ _ _ _ _ _ _ _ c.in_err-moved.ensures.cut).lasts
+    (subst (λ (s : Seen). IsOnItsWay start (g.W.Wires.told c.args.wires.now) s) (sym c.self.view_is) on))))
 
 pub returns-in_err-moved-clause-decides : goal.returns-in_err-moved-clause-decides
 returns-in_err-moved-clause-decides g c =
     handed_on _ c.from_residual-in_err-moved.result _ c.from_residual-in_err-moved.ensures.1 (λ start on.
-    subst (λ (s : Seen). IsDecided start (g.W.Wires.told c.turn.new.wires) s.options.extents s.from s.to c.in_err-moved.field-0.0) c.self.view_is
-    (way_decided _ start (g.W.Wires.told c.args.wires.now) (g.W.Wires.told c.turn.new.wires) _ c.in_err-moved.ensures.decides
+    subst (λ (s : Seen). IsDecided start (g.W.Wires.told c.turn.new.wires) s.options s.from s.to c.in_err-moved.field-0.0) c.self.view_is
+    (way_decided _ start (g.W.Wires.told c.args.wires.now) (g.W.Wires.told c.turn.new.wires) _ c.in_err-moved.ensures.decides (cut_drives _ _ _ _ _ _ _ _ c.in_err-moved.ensures.cut).lasts
     (subst (λ (s : Seen). IsOnItsWay start (g.W.Wires.told c.args.wires.now) s) (sym c.self.view_is) on)))
 
 pub returns-clause-untroubled : goal.returns-clause-untroubled
 returns-clause-untroubled g c start on =
-    subst (λ (s : Seen). Told start (g.W.Wires.told c.turn.new.wires) (WasUntroubled s.options.extents s.from s.to)) c.self.view_is
+    subst (λ (s : Seen). Told start (g.W.Wires.told c.turn.new.wires) (WasUntroubledAs s.options s.from s.to)) c.self.view_is
     (way_calm _ start _ _ _ _ (turned_goes _ _ _ _ c.in_ok-moved.moved _ _ _ _ c.in_ok-moved.ensures.ok) c.in_ok-moved.ensures.calm (subst (λ (s : Seen). IsOnItsWay start (g.W.Wires.told c.args.wires.now) s) (sym c.self.view_is) on))
 
 pub returns-clause-tries : goal.returns-clause-tries

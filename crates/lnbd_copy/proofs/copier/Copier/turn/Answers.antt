@@ -11,7 +11,7 @@ use Rattle.lnbd_copy.proofs.copier.Copier.turn.Goals as goal
 
 pub returns-then-is_err-clause-grounds : goal.returns-then-is_err-clause-grounds
 returns-then-is_err-clause-grounds g c =
-    if_err_leads c.go_on-told.result (λ why grounds start on. grounded_later start _ _ _ _ why c.shut_all.ensures.lasts (grounds start on)) c.go_on-told.ensures.grounds
+    if_err_leads c.go_on-told.result (λ why grounds start on. grounded_later start _ _ _ _ _ why c.shut_all.ensures.lasts (grounds start on)) c.go_on-told.ensures.grounds
 
 pub returns-then-is_err-clause-links : goal.returns-then-is_err-clause-links
 returns-then-is_err-clause-links g c = links_then _ _ _ _ _ _ c.go_on-told.ensures.links (subst (λ (s : Seen). LinksGo [] s.held (g.W.Wires.told c.go_on-told.new.wires) c.shut_all.new.handles (g.W.Wires.told c.shut_all.new.wires)) c.self.view_is c.shut_all.ensures.links)

@@ -1,6 +1,7 @@
 use Rattle.std.proofs.Common.{◌||◌, ℕ, false, Bool, List, refl, ap, sym, subst, ◌∙◌}
 use Rattle.lnbd_model.specs.declared.export.Extent.{Extent}
 use Rattle.lnbd_plan.specs.declared.grid.Slice.{Slice}
+use Rattle.lnbd_copy.specs.Heard.{IsHeardTo, passed_heard}
 use Rattle.lnbd_copy.specs.Job.{Acts, Seen}
 use Rattle.lnbd_copy.specs.Reached.{IsToldTo, told_heard}
 use Rattle.lnbd_copy.specs.Spared.{IsSpared, whole_heard}
@@ -21,5 +22,8 @@ returns-clause-acts c = λ held.
     let tells =
     subst (λ (told : List Extent). (reach : ℕ → Bool) → IsToldTo c.self.inside.windows reach → IsToldTo c.hear.new.self (λ p. reach p || told_heard (windows.wanted c.self.inside.windows) told p))
     c.told.ensures c.in_ok-hear.ensures.reached in
+    let goes =
+    subst (λ (told : List Extent). (heard : ℕ → Bool) → IsHeardTo c.self.inside.windows heard → IsHeardTo c.hear.new.self (λ p. heard p || passed_heard c.self.inside.windows.grain (windows.wanted c.self.inside.windows) told p))
+    c.told.ensures c.in_ok-hear.ensures.heard in
     subst (λ (j : Seen). Acts j new c.args.board.now c.args.board.now held held) c.self.view_is
-    (acts_heard was new c.hear.new.self c.args.board.now held (ap (λ (j : Seen). j.phase) c.self.view_is ∙ c.requires) (ap (λ (j : Seen). j.asked) c.self.view_is ∙ c.has_come.ensures.asked c.if-not-has_come.false) (c.has_come.ensures.mapped c.if-not-has_come.false) (sym c.is_short.ensures ∙ c.if-is_short.false) refl c.hear.ensures.cells c.hear.ensures.size c.hear.ensures.grain spares hears c.in_ok-hear.ensures.heard tells)
+    (acts_heard was new c.hear.new.self c.args.board.now held (ap (λ (j : Seen). j.phase) c.self.view_is ∙ c.requires) (ap (λ (j : Seen). j.asked) c.self.view_is ∙ c.has_come.ensures.asked c.if-not-has_come.false) (c.has_come.ensures.mapped c.if-not-has_come.false) (sym c.is_short.ensures ∙ c.if-is_short.false) refl c.hear.ensures.cells c.hear.ensures.size c.hear.ensures.grain spares hears goes tells c.in_ok-hear.ensures.ahead c.in_ok-hear.ensures.inside)

@@ -1,15 +1,16 @@
-use Rattle.std.proofs.Common.{refl, ap, sym, ◌∙◌, true, ◌≡◌, ◌<◌, ◌≤◌, ◌+◌, ◌-◌, ◌||◌, ℕ, Bool, List, subst, arith}
+use Rattle.std.proofs.Common.{is_some, refl, ap, sym, ◌∙◌, true, ◌≡◌, ◌<◌, ◌≤◌, ◌+◌, ◌-◌, ◌||◌, ℕ, Bool, List, subst, arith}
 use Rattle.lnbd_model.specs.declared.export.Extent.{Extent}
 use Rattle.lnbd_extents.specs.Lists.{flags_at}
 use Rattle.lnbd_asked.specs.Transcript.{is_zero}
 use Rattle.lnbd_tracks.specs.Saying.{is_told}
 use Rattle.lnbd_plan.specs.Plans.{Planned}
 use Rattle.lnbd_plan.specs.declared.grid.Slice.{Slice}
-use Rattle.lnbd_copy.specs.Heard.{IsHeardTo, has_position}
+use Rattle.lnbd_copy.specs.Heard.{IsHeardTo, passed_heard}
 use Rattle.lnbd_copy.specs.Reached.{IsToldTo, told_heard}
 use Rattle.lnbd_copy.specs.Windows.{Seen, IsPlanned, wanted, zero_heard}
 use Rattle.lnbd_copy.specs.Spared.{IsSpared, whole_heard}
-use Rattle.lnbd_copy.proofs.ReachLemmas.{heard_further, heard_still}
+use Rattle.lnbd_copy.proofs.QueriedLemmas.{none_wanted}
+use Rattle.lnbd_copy.proofs.ReachLemmas.{all_passed, heard_further, heard_still, steps_partly, steps_wholly}
 use Rattle.lnbd_copy.proofs.SparedLemmas.{spared_partly, spared_wholly}
 use Rattle.lnbd_copy.proofs.ToldLemmas.{told_partly, told_still, told_wholly}
 use Rattle.lnbd_copy.proofs.WindowLemmas.{window_kept, hear_wholly}
@@ -69,10 +70,14 @@ returns-then-at-end-clause-heard c =
     let was : Seen = record { plan = c.self.inside.plan; size = c.self.inside.size; grain = c.self.inside.grain; at = c.self.inside.at; zero = c.self.inside.zero } in
     let now : Seen = record { plan = c.self.inside.plan; size = c.self.inside.size; grain = c.self.inside.grain; at = c.self.inside.at + c.passed.result; zero = c.hold_zeroes.new.zero } in
     let left : c.self.inside.at < c.end_of-end.result = omega arith in
+    let less : c.self.inside.at + c.passed.result < c.end_of-end.result = omega arith in
     let begins = c.self.invariant.begins in
     let ahead = c.self.invariant.ahead in
-    subst (λ (w : Seen). (heard : ℕ → Bool) → IsHeardTo w heard → IsHeardTo now (λ p. heard p || has_position (wanted w) p)) c.self.view_is
-    (heard_further was now c.self.inside.start c.end_of-end.result c.passed.result begins c.end_of-end.ensures.end left c.passed.ensures.inside refl (omega (arith, begins, ahead)))
+    subst (λ (w : Seen). (heard : ℕ → Bool) → IsHeardTo w heard → IsHeardTo now (λ p. heard p || passed_heard w.grain (wanted w) c.args.told.now p)) c.self.view_is
+    (heard_further was now c.self.inside.start c.end_of-end.result c.passed.result c.args.told.now begins c.end_of-end.ensures.end left c.passed.ensures.inside refl (omega (arith, begins, ahead))
+    (all_passed c.args.told.now c.deref.result.now c.self.inside.at c.self.inside.grain c.in_ok-reached.reached c.passed.result c.passed.ensures.told c.in_ok-reached.ensures.near
+    (λ q e. c.in_ok-joined.ensures.told_so q (subst (λ (l : List Extent). is_told (flags_at l q) ≡ true) c.deref.ensures.value e)))
+    (steps_partly was now c.end_of-end.result c.passed.result c.passed.ensures.blocks left less refl refl refl))
 
 pub returns-clause-heard : goal.returns-clause-heard
 returns-clause-heard c =
@@ -81,11 +86,14 @@ returns-clause-heard c =
     let left : c.self.inside.at < c.end_of-end.result = omega arith in
     let ahead = c.self.invariant.ahead in
     let ends = ap (λ (p : Planned). p.end) c.in_ok-window.ensures.ok in
-    subst (λ (w : Seen). (heard : ℕ → Bool) → IsHeardTo w heard → IsHeardTo now (λ p. heard p || has_position (wanted w) p)) c.self.view_is
-    (heard_further was now c.self.inside.start c.end_of-end.result c.passed.result c.self.invariant.begins c.end_of-end.ensures.end left c.passed.ensures.inside refl (omega (arith, ends, ahead)))
+    subst (λ (w : Seen). (heard : ℕ → Bool) → IsHeardTo w heard → IsHeardTo now (λ p. heard p || passed_heard w.grain (wanted w) c.args.told.now p)) c.self.view_is
+    (heard_further was now c.self.inside.start c.end_of-end.result c.passed.result c.args.told.now c.self.invariant.begins c.end_of-end.ensures.end left c.passed.ensures.inside refl (omega (arith, ends, ahead))
+    (all_passed c.args.told.now c.deref.result.now c.self.inside.at c.self.inside.grain c.in_ok-reached.reached c.passed.result c.passed.ensures.told c.in_ok-reached.ensures.near
+    (λ q e. c.in_ok-joined.ensures.told_so q (subst (λ (l : List Extent). is_told (flags_at l q) ≡ true) c.deref.ensures.value e)))
+    (steps_wholly was now (omega (arith, ends, ahead))))
 
 pub returns-then-end-self-clause-heard : goal.returns-then-end-self-clause-heard
-returns-then-end-self-clause-heard c = λ heard was. heard_still c.args.self.now heard was
+returns-then-end-self-clause-heard c = λ heard was. heard_still c.args.self.now c.args.told.now heard was
 
 pub returns-then-at-end-clause-reached : goal.returns-then-at-end-clause-reached
 returns-then-at-end-clause-reached c =
@@ -117,3 +125,23 @@ returns-then-end-self-clause-reached c =
     let past : c.end_of-end.result ≤ c.self.inside.at = omega arith in
     subst (λ (w : Seen). (reach : ℕ → Bool) → IsToldTo w reach → IsToldTo w (λ p. reach p || told_heard (wanted w) c.args.told.now p)) c.self.view_is
     (told_still was c.self.inside.start c.end_of-end.result c.args.told.now c.self.invariant.begins c.end_of-end.ensures.end past)
+
+pub returns-then-end-self-clause-ahead : goal.returns-then-end-self-clause-ahead
+returns-then-end-self-clause-ahead c =
+    let was : Seen = record { plan = c.self.inside.plan; size = c.self.inside.size; grain = c.self.inside.grain; at = c.self.inside.at; zero = c.self.inside.zero } in
+    let past : c.end_of-end.result ≤ c.self.inside.at = omega arith in
+    subst (λ (w : Seen). is_some (wanted w) ≡ true → w.at < w.at) c.self.view_is (λ some. absurd (none_wanted was c.self.inside.start c.end_of-end.result c.self.invariant.begins c.end_of-end.ensures.end past some))
+
+pub returns-then-at-end-clause-ahead : goal.returns-then-at-end-clause-ahead
+returns-then-at-end-clause-ahead c =
+    let was : Seen = record { plan = c.self.inside.plan; size = c.self.inside.size; grain = c.self.inside.grain; at = c.self.inside.at; zero = c.self.inside.zero } in
+    let left : 0 < c.end_of-end.result - c.self.inside.at = omega arith in
+    let more = c.passed.ensures.some left in
+    subst (λ (w : Seen). is_some (wanted w) ≡ true → w.at < c.self.inside.at + c.passed.result) c.self.view_is (λ some. omega (arith, more))
+
+pub returns-clause-ahead : goal.returns-clause-ahead
+returns-clause-ahead c =
+    let was : Seen = record { plan = c.self.inside.plan; size = c.self.inside.size; grain = c.self.inside.grain; at = c.self.inside.at; zero = c.self.inside.zero } in
+    let left : 0 < c.end_of-end.result - c.self.inside.at = omega arith in
+    let more = c.passed.ensures.some left in
+    subst (λ (w : Seen). is_some (wanted w) ≡ true → w.at < c.self.inside.at + c.passed.result) c.self.view_is (λ some. omega (arith, more))
