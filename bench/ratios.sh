@@ -1,16 +1,5 @@
 # Sourced by the scripts that compare a proved program with itself.
 
-# Builds the benchmark crate of this name, and goes where its program is out/NAME.
-built() {
-  local log
-  cd "$(dirname "${BASH_SOURCE[0]}")/../crates/$1" || return 1
-  log=$(mktemp)
-  rt run </dev/null >"$log" 2>&1
-  [ -x "out/$1" ] || cat "$log"
-  rm -f "$log"
-  [ -x "out/$1" ]
-}
-
 # The least processor time of so many runs, in microseconds. What else runs meanwhile hardly counts.
 best() {
   local runs=$1 least= took log

@@ -1,5 +1,5 @@
 // Moves so many bytes over a Unix socket from one of its own links to another, 64 KiB at a time, by
-// sockets that never wait: what crates/bench_wires does.
+// sockets that never wait: what `wires` of crates/bench does.
 // size: 16777216
 // size: 134217728
 // size: 1073741824

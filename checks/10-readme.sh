@@ -1,8 +1,5 @@
-# The README's own commands, block by block as they stand under 'Quick start', print what stands below them. No table there
+# The README's own commands, block by block as they stand under 'Quick start', print what stands below them, on a machine without any server. No table there
 # has a cell above 200 characters, and the toolchain that it names is the one that tools/built wants.
-. checks/need.sh
-need nbdkit nbdkit
-
 dir=$(mktemp -d)
 trap 'kill $(jobs -p) 2>/dev/null; rm -rf "$dir"' EXIT
 
@@ -25,10 +22,6 @@ awk -v dir="$dir" '
   /^```$/ { file = ""; next }
   file { print > file }' README.md
 
-if (exec 3<>/dev/tcp/127.0.0.1/10809) 2>/dev/null; then
-  echo 'skipped: the port 10809 of this machine, which the README uses, is taken'
-  exit 0
-fi
 count=0
 for commands in "$dir"/*.sh; do
   count=$((count + 1))
@@ -39,4 +32,4 @@ for commands in "$dir"/*.sh; do
     echo "failed: block $count of the README's commands printed '$(cat "$dir/out")'"
   fi
 done
-[ "$count" -ge 2 ] || echo "failed: the README has $count blocks of commands"
+[ "$count" -ge 1 ] || echo "failed: the README has $count blocks of commands"

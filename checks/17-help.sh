@@ -22,7 +22,7 @@ planned=$(sed -n '/^Planned/,/^Exit status/s/^  \([a-z]*\) .*/\1/p' "$page")
 for tool in $planned; do
   "$program" "$tool" </dev/null >"$dir/out" 2>"$dir/err"
   code=$?
-  if [ "$code" -eq 1 ] && [ "$(cat "$dir/err")" = 'lnbd: usage' ] && grep -q "^|.*\`$tool\`.*| planned |" README.md; then
+  if [ "$code" -eq 1 ] && [ "$(cat "$dir/err")" = 'lnbd: usage' ] && grep -q "^|.*| planned: \`$tool\`" README.md; then
     echo "ok: $tool is planned, on the page and in the README"
   else
     echo "failed: $tool ended with $code, and the page or the README calls it otherwise"

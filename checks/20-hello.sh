@@ -4,7 +4,8 @@
 . checks/need.sh
 need nbdkit nbdkit
 
-probe=$(tools/built probe_hello) || exit 1
+built probe_hello
+probe=$program
 
 dir=$(mktemp -d)
 servers=()

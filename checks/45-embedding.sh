@@ -3,7 +3,8 @@
 . checks/need.sh
 need nbdkit nbdkit
 
-example=$(tools/built example_embedding) || exit 1
+built example_embedding
+example=$program
 
 dir=$(mktemp -d)
 servers=()

@@ -19,3 +19,17 @@ awaited() {
   done
   return 1
 }
+
+# `built NAME` sets `program` to the path of this program where it was built of what stands here, as the gate does; else it prints a line 'skipped: ..' and
+# ends the check: whoever checks without a prover has lnbd alone. Where PROVE is set, it is proved and built.
+built() {
+  local name=$1
+  for program in "bin/$name" "crates/$name/out/$name"; do
+    [ -x "$program" ] && [ -z "$(find crates.txt crates/*/src crates/*/specs crates/*/proofs -newer "$program" -print -quit)" ] && return 0
+  done
+  if [ -n "$PROVE" ]; then
+    program=$(tools/built "$name") && return 0
+  fi
+  printf 'skipped: %s needs the program %s, which the gate builds\n' "$0" "$name"
+  exit 0
+}

@@ -2,9 +2,11 @@
 //! tool's status, or with that of words that can't be had. Nothing else is decided here.
 #![tactic(auto)]
 
+mod why;
+
 use lnbd_cli::{no_memory, run, usage};
 use lnbd_link::Sink;
-use lnbd_sockets::{PrintSink, ReaderSource, SocketWires};
+use lnbd_sockets::{PrintSink, ReaderSource, SocketWires, fill_streams};
 use std::alloc::Global;
 use std::io::ErrorKind;
 use std::process::ExitCode;
@@ -28,6 +30,14 @@ fn words(rt: &HostRuntime, alloc: Global) -> io::Result<Vec<String>> {
     Ok(words)
 }
 
+/// Whether one more line is to say why.
+fn is_asked(rt: &HostRuntime) -> bool {
+    match env::var(rt, why::NAME) {
+        Ok(value) => value.as_str() == why::YES,
+        Err(_) => false,
+    }
+}
+
 /// Tells why the command line can't be had as words: one of them is not UTF-8, or memory ran out.
 fn no_words<E: Sink>(error: io::Error, err: &mut E) -> u8 {
     match error.kind() {
@@ -38,9 +48,12 @@ fn no_words<E: Sink>(error: io::Error, err: &mut E) -> u8 {
 
 fn main(rt: HostRuntime) -> ExitCode {
     let alloc = rt.alloc();
+    // (where there is no /dev/null they stay as they are)
+    let _streams = fill_streams(alloc, &rt);
     keep_freed(alloc);
+    let is_asked = is_asked(&rt);
     let err_rt = rt.stderr();
-    let mut err = PrintSink::new(&err_rt);
+    let mut err = PrintSink::error(alloc, &rt, &err_rt);
     let words = match words(&rt, alloc) {
         Ok(words) => words,
         Err(error) => return ExitCode::from(no_words(error, &mut err)),
@@ -48,8 +61,19 @@ fn main(rt: HostRuntime) -> ExitCode {
     let Ok(mut wires) = SocketWires::new(alloc, &rt) else {
         return ExitCode::from(no_memory(&mut err));
     };
-    let mut input = ReaderSource::new(rt.reader());
+    if is_asked {
+        err.keep(why::LINE);
+        wires.keep_heard(why::HEARD);
+    }
+    let mut input = ReaderSource::input(alloc, &rt, rt.reader());
     let out_rt = rt.stdout();
-    let mut out = PrintSink::new(&out_rt);
-    ExitCode::from(run(alloc, &words, &mut input, &mut wires, &mut out, &mut err))
+    let mut out = PrintSink::output(alloc, &rt, &out_rt);
+    let status = run(alloc, &words, &mut input, &mut wires, &mut out, &mut err);
+    if is_asked
+        && let Ok(line) = str::from_utf8(err.kept())
+        && let Some(words) = why::why(alloc, line, &wires)
+    {
+        let _ = eprintln!(rt; "why: {words}");
+    }
+    ExitCode::from(status)
 }

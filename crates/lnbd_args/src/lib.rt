@@ -24,6 +24,3 @@ pub use fault::ArgsFault;
 pub use laws::one_reading;
 pub use lnbd_plan::CopyOptions;
 pub use words::read_words;
-
-#[cfg(test)]
-mod tests;

@@ -13,6 +13,3 @@ pub use announced::{Announced, Carrier, look_front};
 pub use chunk::Chunk;
 pub use frame::{Seen, content_size, cookie_in, look_frame};
 pub use replies::Replies;
-
-#[cfg(test)]
-mod tests;

@@ -24,8 +24,3 @@ pub use entries::Entries;
 pub use fault::InfoFault;
 pub use listing::list;
 pub use mapping::map;
-
-#[cfg(test)]
-mod map_tests;
-#[cfg(test)]
-mod tests;

@@ -24,6 +24,3 @@ pub use next::Next;
 pub use pieces::Pieces;
 pub use row::{Row, Stage};
 pub use ticket::Ticket;
-
-#[cfg(test)]
-mod tests;

@@ -11,6 +11,3 @@ mod slot;
 pub use caller::{Caller, Heard, Verdict};
 pub use desk::{Desk, MOST_CALLBACKS};
 pub use slot::Slot;
-
-#[cfg(test)]
-mod tests;

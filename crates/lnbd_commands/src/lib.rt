@@ -20,6 +20,3 @@ pub use commands::Commands;
 pub use laws::files_by_parts;
 pub use lnbd_structured::Told;
 pub use row::{Asked, Waiting};
-
-#[cfg(test)]
-mod tests;

@@ -10,8 +10,6 @@ mod refusals;
 mod request;
 mod spans;
 mod statuses;
-#[cfg(test)]
-mod tests;
 mod zeros;
 
 pub use export::Export;

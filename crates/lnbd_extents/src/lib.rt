@@ -11,8 +11,6 @@ mod laws;
 mod lists;
 mod places;
 mod ranges;
-#[cfg(test)]
-mod tests;
 
 pub use flag_sums::totals;
 pub use laws::{

@@ -31,8 +31,3 @@ pub use kinds::{OptFault, SetFault, Short};
 pub use lnbd_commands::Closed;
 pub use lnbd_history::{Completed, OptAnswer, Peeked};
 pub use strict::StrictFault;
-
-#[cfg(test)]
-mod issue_tests;
-#[cfg(test)]
-mod tests;

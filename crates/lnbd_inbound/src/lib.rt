@@ -6,6 +6,3 @@ mod inbound;
 mod marks;
 
 pub use inbound::InboundWires;
-
-#[cfg(test)]
-mod tests;

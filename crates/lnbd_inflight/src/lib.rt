@@ -11,6 +11,3 @@ mod table;
 
 pub use places::Spot;
 pub use table::Table;
-
-#[cfg(test)]
-mod tests;

@@ -19,6 +19,3 @@ pub use map::{joined, write_map, write_totals};
 pub use map_json::{write_map_json, write_totals_json};
 pub use predicates::is_true;
 pub use told::{Entry, Found};
-
-#[cfg(test)]
-mod tests;

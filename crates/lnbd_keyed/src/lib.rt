@@ -6,8 +6,6 @@
 
 mod laws;
 mod places;
-#[cfg(test)]
-mod tests;
 
 pub use laws::{
     changes_are_found, changes_are_writes, changes_leave_others, first_key_is_the_least,

@@ -19,6 +19,3 @@ pub use fault::ScriptFault;
 pub use line::Line;
 pub use negotiation::{Opt, Switch};
 pub use script::{Script, parse};
-
-#[cfg(test)]
-mod tests;

@@ -22,6 +22,3 @@ pub use list_wires::ListWires;
 pub use sink::{Sink, SinkTook};
 pub use source::{Source, SourceGot};
 pub use wires::{Accepted, Got, Took, Want, WireFailed, Wires};
-
-#[cfg(test)]
-mod tests;

@@ -8,8 +8,6 @@ mod link;
 mod log;
 mod network;
 mod schedule;
-#[cfg(test)]
-mod tests;
 mod wires;
 
 pub use hosted::Served;

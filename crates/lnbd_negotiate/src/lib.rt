@@ -20,6 +20,3 @@ pub use greeting::{Greeted, look_by_name, look_hello};
 pub use kinds::{Config, Next, TalkFault};
 pub use options::{GO, INFO, LIST, SET_META_CONTEXT};
 pub use requests::{abort_request, client_flags};
-
-#[cfg(test)]
-mod tests;

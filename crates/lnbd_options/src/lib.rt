@@ -17,6 +17,3 @@ pub use head::{OptionHead, Read64, read_head};
 pub use law::{head_read_again, requests_read_again};
 pub use put::{put_info, put_meta, put_option};
 pub use reply::{Info, read_context, read_info, read_server};
-
-#[cfg(test)]
-mod tests;

@@ -11,6 +11,3 @@ mod queue;
 pub use laws::{other_writes_may_change, what_is_left_is_offered};
 pub use piece::{Piece, RequestBytes};
 pub use queue::Queue;
-
-#[cfg(test)]
-mod tests;

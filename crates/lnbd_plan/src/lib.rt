@@ -22,6 +22,3 @@ pub use laws::{positions_are_planned_once, slices_are_longest, zero_blocks_are_z
 pub use options::CopyOptions;
 pub use planning::Plan;
 pub use summary::Summary;
-
-#[cfg(test)]
-mod tests;

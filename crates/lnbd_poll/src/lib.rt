@@ -13,6 +13,3 @@ pub use held::Held;
 pub use inbox::Inbox;
 pub use noticed::{Noticed, Turn};
 pub use notify::{notify_read, notify_write, read_placed};
-
-#[cfg(test)]
-mod tests;

@@ -12,6 +12,3 @@ pub use bodies::{payload_is_one, replies_tell_their_fields, requests_ask_their_f
 pub use fields::{put_then_read, read_then_put};
 pub use numbers::{push_u16, push_u32, push_u64, u16_at, u32_at, u64_at};
 pub use prefixes::no_proper_prefix;
-
-#[cfg(test)]
-mod tests;

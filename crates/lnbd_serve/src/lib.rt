@@ -12,6 +12,3 @@ mod serving;
 pub use fault::ServeFault;
 pub use listening::serve;
 pub use serving::serve_on;
-
-#[cfg(test)]
-mod tests;

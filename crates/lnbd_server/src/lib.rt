@@ -9,8 +9,6 @@ mod outbox;
 mod replies;
 mod session;
 mod stage;
-#[cfg(test)]
-mod tests;
 
 pub use lnbd_export::{Export, generate};
 pub use session::{Session, TakeFault};

@@ -10,9 +10,6 @@ ghost use Rattle.lnbd_simple.specs.Settled.{OnDone, IfFailed, IfBroke};
 
 use lnbd_model::{Breach, EPROTO, Kind, told_error};
 
-#[cfg(test)]
-mod tests;
-
 /// What a command comes to by its simple reply.
 #[derive(Clone, Copy, Debug, PartialEq, Eq)]
 pub enum Settled {

@@ -4,11 +4,13 @@
 ghost use Rattle.std.specs.Prelude.{◌<◌, ◌≤◌, length};
 ghost use Rattle.lnbd_link.specs.Answers.{IfMoved, IfSent};
 
-use crate::socket::Socket;
+use crate::door::{Door, SocketFile};
+use crate::socket::{Refusal, Socket, Trouble};
 use lnbd_link::{Got, Took};
 use mio::event::Event;
 use mio::unix::SourceFd;
 use mio::{Interest, Poll, Token};
+use std::alloc::Global;
 use std::io;
 use std::io::ErrorKind;
 
@@ -20,6 +22,16 @@ const ANSWERED: u32 = 2;
 #[derive(Drop)]
 pub struct Held {
     socket: Socket,
+    // A listener of the other family of addresses, under the same number.
+    beside: Option<Socket>,
+    // The file that was made for it.
+    file: Option<SocketFile>,
+    // Whether the peer came to a listener: what becomes of it is then its own matter.
+    was_accepted: bool,
+    // Whether a write found that the peer is gone from the net.
+    is_lost: bool,
+    // Whether the last accept found no descriptor or memory. Nothing tells when there is one again.
+    is_starved: bool,
     // That there may be bytes, a peer or an end to be had, and that bytes may be taken.
     may_read: bool,
     may_write: bool,
@@ -31,35 +43,79 @@ pub struct Held {
     answered: u32,
     // Whether the poll tells of writing too, beside reading.
     tells_writing: bool,
+    // Where it leads to, or listens.
+    place: Option<String>,
+    // Why its last call failed.
+    error: Option<io::Error>,
+    // The last bytes of what came last, as many as there is room for.
+    heard: Vec<u8>,
 }
 
 impl Held {
-    /// Has the poll tell of this socket by its number. None of its calls has been made yet.
-    pub fn new(poll: &Poll, socket: Socket, number: usize) -> io::Result<Held> {
-        let fd = socket.fd().ok_or(ErrorKind::NotConnected)?;
-        poll.registry()
-            .register(&mut SourceFd(&fd), Token(number), Interest::READABLE)?;
+    /// Has the poll tell of a link by its number. None of its calls has been made yet.
+    pub fn link(
+        alloc: Global,
+        poll: &Poll,
+        socket: Socket,
+        number: usize,
+        was_accepted: bool,
+    ) -> io::Result<Held> {
+        register(poll, &socket, number)?;
         Ok(Held {
             socket,
+            beside: None,
+            file: None,
+            was_accepted,
+            is_lost: false,
+            is_starved: false,
             may_read: true,
             may_write: true,
             has_ended: false,
             is_full: false,
             answered: 0,
             tells_writing: false,
+            place: None,
+            error: None,
+            heard: Vec::new(alloc),
         })
     }
 
+    /// Has the poll tell of a listener by its number. No peer has been asked for yet.
+    pub fn door(alloc: Global, poll: &Poll, door: Door, number: usize) -> io::Result<Held> {
+        if let Some(beside) = &door.beside {
+            register(poll, beside, number)?;
+        }
+        let mut held = Held::link(alloc, poll, door.listener, number, false)?;
+        held.beside = door.beside;
+        held.file = door.file;
+        Ok(held)
+    }
+
+    /// What the peer sent, or that it is gone.
     pub fn read(&mut self, into: &mut [u8]) -> Got
         requires { 0 < length into.old }
         ensures { IfMoved result (λ n. (0 < n) × (n ≤ length into.old)) }
     {
+        if self.is_lost {
+            return Got::End;
+        }
         if !self.may_read {
             self.answered = self.answered.saturating_add(1);
             return Got::NotReady;
         }
         let room = into.len();
-        let got = self.socket.read(into);
+        let got = match self.socket.read(into) {
+            Ok(0) => Got::End,
+            Ok(n) => Got::Bytes(n),
+            Err(error) => match Trouble::of(&error, self.was_accepted) {
+                Trouble::Later => Got::NotReady,
+                Trouble::Gone | Trouble::Lost => Got::End,
+                Trouble::Failed => {
+                    self.error = Some(error);
+                    Got::Failed
+                }
+            },
+        };
         self.may_read = match got {
             Got::Bytes(n) => n == room || self.has_ended,
             Got::NotReady => false,
@@ -68,6 +124,8 @@ impl Held {
         got
     }
 
+    /// Hands over bytes for the peer. Those for a peer that reads no more are taken and dropped, as the system does with
+    /// what it took before the peer left: reading then tells the end.
     pub fn write(&mut self, from: &[u8]) -> Took
         requires { 0 < length from.now }
         ensures { IfSent result (λ n. (0 < n) × (n ≤ length from.now)) }
@@ -76,29 +134,79 @@ impl Held {
             self.is_full = false;
             return Took::NotReady;
         }
-        let took = self.socket.write(from);
+        let took = match self.socket.write(from) {
+            Ok(0) => Took::Failed,
+            Ok(n) => Took::Bytes(n),
+            Err(error) => match Trouble::of(&error, self.was_accepted) {
+                Trouble::Later => Took::NotReady,
+                Trouble::Gone => Took::Bytes(from.len()),
+                Trouble::Lost => {
+                    self.is_lost = true;
+                    Took::Bytes(from.len())
+                }
+                Trouble::Failed => {
+                    self.error = Some(error);
+                    Took::Failed
+                }
+            },
+        };
         self.is_full = matches!(took, Took::Bytes(n) if n < from.len());
         self.may_write = !self.is_full && !matches!(took, Took::NotReady);
         took
     }
 
-    /// A link from a peer that waits. The error's kind is `WouldBlock` where none does.
-    pub fn accept(&mut self) -> io::Result<Socket> {
+    /// A link from a peer that waits.
+    pub fn accept(&mut self) -> Result<Socket, Refusal> {
         if !self.may_read {
             self.answered = self.answered.saturating_add(1);
-            return Err(io::Error::from(ErrorKind::WouldBlock));
+            return Err(Refusal::NoPeer);
         }
-        let accepted = self.socket.accept();
-        if let Err(error) = &accepted {
-            self.may_read = !matches!(error.kind(), ErrorKind::WouldBlock);
-        }
+        let accepted = match (self.socket.accept(), &self.beside) {
+            (Err(Refusal::NoPeer), Some(beside)) => beside.accept(),
+            (accepted, _) => accepted,
+        };
+        self.is_starved = matches!(accepted, Err(Refusal::Starved));
+        self.may_read = !matches!(accepted, Err(Refusal::NoPeer | Refusal::Starved));
         accepted
     }
 
-    /// Closes the socket, of which the poll then tells no more.
-    pub fn shut(&mut self) {
+    /// Closes the socket, of which the poll then tells no more, and gives the file that was made for it.
+    pub fn shut(&mut self) -> Option<SocketFile> {
         self.socket = Socket::Shut;
+        self.beside = None;
         self.doubt();
+        self.file.take()
+    }
+
+    /// Keeps where it leads to, and room for so many of the last bytes that come.
+    pub fn remember(&mut self, place: Option<String>, room: usize) {
+        self.place = place;
+        let _ = self.heard.reserve_exact(room);
+    }
+
+    /// Keeps the last of the bytes that came, as many as there is room for.
+    pub fn hear_bytes(&mut self, came: &[u8]) {
+        let kept = came.len().min(self.heard.capacity());
+        self.heard.clear();
+        let _ = self.heard.extend_from_slice(&came[came.len() - kept..]);
+    }
+
+    pub fn place(&self) -> Option<&str> {
+        self.place.as_deref()
+    }
+
+    pub fn heard(&self) -> &[u8] {
+        self.heard.as_slice()
+    }
+
+    /// Why its last call failed, where the system said so.
+    pub fn take_error(&mut self) -> Option<io::Error> {
+        self.error.take()
+    }
+
+    /// Whether a wait for it has to end by itself.
+    pub fn is_starved(&self) -> bool {
+        self.is_starved
     }
 
     /// Nothing is known of it any more, so that its next calls are made.
@@ -113,10 +221,11 @@ impl Held {
         self.answered >= ANSWERED && !self.may_read
     }
 
-    /// The poll was asked. Where it told nothing, nothing is known any more.
+    /// The poll was asked. Where it told nothing, nothing is known any more; nor of what it can't tell.
     pub fn refresh(&mut self, was_told: bool) {
         self.answered = 0;
-        if !was_told {
+        if !was_told || self.is_starved {
+            self.is_starved = false;
             self.doubt();
         }
     }
@@ -173,4 +282,11 @@ impl Held {
         }
         matches!(direction, 1..=3)
     }
+}
+
+// Has the poll tell of reading, or of peers that come.
+fn register(poll: &Poll, socket: &Socket, number: usize) -> io::Result<()> {
+    let fd = socket.fd().ok_or(ErrorKind::NotConnected)?;
+    poll.registry()
+        .register(&mut SourceFd(&fd), Token(number), Interest::READABLE)
 }

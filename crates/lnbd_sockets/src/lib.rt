@@ -2,13 +2,13 @@
 //! their counts alone: what the system does is trusted to be what the traits say. Nothing is decided here.
 #![tactic(auto)]
 
+mod door;
+mod failure;
 mod held;
 mod socket;
 mod streams;
 mod wires;
 
-pub use streams::{PrintSink, ReaderSource};
+pub use failure::{Asked, Failure};
+pub use streams::{PrintSink, ReaderSource, fill_streams};
 pub use wires::SocketWires;
-
-#[cfg(test)]
-mod tests;

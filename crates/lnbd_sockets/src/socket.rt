@@ -1,16 +1,23 @@
-//! One socket of the system, which never waits. Which number it has is no matter here.
+//! One socket of the system, which never waits, and what its errors say of it. Which number it has is no matter here, nor how a
+//! listener's place is taken and given back.
 
-ghost use Rattle.std.specs.Prelude.{◌<◌, ◌≤◌, length};
-ghost use Rattle.lnbd_link.specs.Answers.{IfMoved, IfSent};
+ghost use Rattle.std.specs.Prelude.{◌≤◌, length, IfOk};
 
-use lnbd_link::{Got, Took};
 use lnbd_model::Target;
-use std::fs::Files;
 use std::io;
 use std::io::{ErrorKind, Read, Write};
 use std::net::{Net, TcpListener, TcpStream};
 use std::os::fd::{AsRawFd, RawFd};
 use std::os::unix::net::{UnixListener, UnixStream};
+
+/// The system's numbers of errors by which it lacks descriptors or memory for one more link: errno(3).
+const ENOMEM: i32 = 12;
+
+const ENFILE: i32 = 23;
+
+const EMFILE: i32 = 24;
+
+const ENOBUFS: i32 = 105;
 
 /// A link or a listener. A shut one is closed.
 #[derive(Drop)]
@@ -20,6 +27,70 @@ pub enum Socket {
     TcpListener(TcpListener),
     UnixListener(UnixListener),
     Shut,
+}
+
+/// What an error of the system says of a link.
+#[derive(Clone, Copy, Debug, PartialEq, Eq)]
+pub enum Trouble {
+    /// The call may move bytes later.
+    Later,
+    /// The peer has ended the connection. What it sent before may still lie there.
+    Gone,
+    /// The peer, or the way to it, is gone from the net.
+    Lost,
+    /// The link is of no use.
+    Failed,
+}
+
+impl Trouble {
+    /// A peer that resets the connection has ended it: a server may do so once it was asked to stop. One that was let in
+    /// and then vanishes, or whose net does, has ended its own link and no other; on a link to a peer that was asked for
+    /// that is a fault.
+    pub fn of(error: &io::Error, was_accepted: bool) -> Trouble {
+        match error.kind() {
+            ErrorKind::WouldBlock | ErrorKind::Interrupted => Trouble::Later,
+            ErrorKind::BrokenPipe | ErrorKind::ConnectionReset => Trouble::Gone,
+            ErrorKind::ConnectionAborted
+            | ErrorKind::HostUnreachable
+            | ErrorKind::NetworkDown
+            | ErrorKind::NetworkUnreachable
+            | ErrorKind::NotConnected
+            | ErrorKind::TimedOut
+                if was_accepted => { Trouble::Lost }
+            _ => Trouble::Failed,
+        }
+    }
+}
+
+/// What an error of the system says of a listener.
+#[derive(Clone, Copy, Debug, PartialEq, Eq)]
+pub enum Refusal {
+    /// No peer waits.
+    NoPeer,
+    /// The peer went away before it was let in, or the call was interrupted: another may wait.
+    Again,
+    /// The system has no descriptor or no memory for one more link now.
+    Starved,
+    /// The listener is of no use.
+    Failed,
+}
+
+impl Refusal {
+    /// accept(2), "Error handling": an error of the net that was pending for the new link comes out of the call.
+    pub fn of(error: &io::Error) -> Refusal {
+        match (error.kind(), error.raw_os_error()) {
+            (ErrorKind::WouldBlock, _) => Refusal::NoPeer,
+            (_, Some(ENOMEM | ENFILE | EMFILE | ENOBUFS)) => Refusal::Starved,
+            (ErrorKind::Interrupted, _)
+            | (ErrorKind::ConnectionAborted, _)
+            | (ErrorKind::ConnectionReset, _)
+            | (ErrorKind::HostUnreachable, _)
+            | (ErrorKind::NetworkDown, _)
+            | (ErrorKind::NetworkUnreachable, _)
+            | (ErrorKind::TimedOut, _) => Refusal::Again,
+            _ => Refusal::Failed,
+        }
+    }
 }
 
 impl Socket {
@@ -34,30 +105,7 @@ impl Socket {
                 let stream = TcpStream::connect(net, (host.as_str(), *port))?;
                 Socket::tcp(stream)
             }
-            Target::Unix { path } => {
-                let stream = UnixStream::connect(net, path.as_str())?;
-                stream.set_nonblocking(true)?;
-                Ok(Socket::Unix(stream))
-            }
-        }
-    }
-
-    /// A listener at this address.
-    pub fn listen<R: Net<Listener = TcpListener, Stream = TcpStream> + Files>(
-        net: &R,
-        at: &Target,
-    ) -> io::Result<Socket> {
-        match at {
-            Target::Tcp { host, port } => {
-                let listener = TcpListener::bind(net, (host.as_str(), *port))?;
-                listener.set_nonblocking(true)?;
-                Ok(Socket::TcpListener(listener))
-            }
-            Target::Unix { path } => {
-                let listener = UnixListener::bind(net, path.as_str())?;
-                listener.set_nonblocking(true)?;
-                Ok(Socket::UnixListener(listener))
-            }
+            Target::Unix { path } => Socket::unix(UnixStream::connect(net, path.as_str())?),
         }
     }
 
@@ -68,62 +116,51 @@ impl Socket {
         Ok(Socket::Tcp(stream))
     }
 
-    /// A link from a peer that waits. The error's kind is `WouldBlock` where none does.
-    pub fn accept(&self) -> io::Result<Socket> {
-        match self {
-            Socket::TcpListener(listener) => Socket::tcp(listener.accept()?.0),
-            Socket::UnixListener(listener) => {
-                let stream = listener.accept()?.0;
-                stream.set_nonblocking(true)?;
-                Ok(Socket::Unix(stream))
-            }
-            Socket::Tcp(_) | Socket::Unix(_) | Socket::Shut => {
-                Err(io::Error::from(ErrorKind::NotConnected))
-            }
-        }
+    // Reads and writes don't wait.
+    fn unix(stream: UnixStream) -> io::Result<Socket> {
+        stream.set_nonblocking(true)?;
+        Ok(Socket::Unix(stream))
     }
 
-    /// What the peer sent. A peer that resets the connection has ended it: a server may do so once it
-    /// was asked to stop.
-    pub fn read(&mut self, into: &mut [u8]) -> Got
-        requires { 0 < length into.old }
-        ensures { IfMoved result (λ n. (0 < n) × (n ≤ length into.old)) }
+    /// A link from a peer that waits. One that can't be set up went away meanwhile.
+    pub fn accept(&self) -> Result<Socket, Refusal> {
+        let set_up = match self {
+            Socket::TcpListener(listener) => match listener.accept() {
+                Ok((stream, _)) => Socket::tcp(stream),
+                Err(error) => return Err(Refusal::of(&error)),
+            },
+            Socket::UnixListener(listener) => match listener.accept() {
+                Ok((stream, _)) => Socket::unix(stream),
+                Err(error) => return Err(Refusal::of(&error)),
+            },
+            Socket::Tcp(_) | Socket::Unix(_) | Socket::Shut => return Err(Refusal::Failed),
+        };
+        set_up.map_err(|_| Refusal::Again)
+    }
+
+    /// How many bytes came from the peer; none where it sends no more.
+    pub fn read(&mut self, into: &mut [u8]) -> io::Result<usize>
+        ensures { IfOk result (λ n. n ≤ length into.old) }
     {
-        let read = match self {
+        match self {
             Socket::Tcp(stream) => stream.read(into),
             Socket::Unix(stream) => stream.read(into),
-            Socket::TcpListener(_) | Socket::UnixListener(_) | Socket::Shut => return Got::Failed,
-        };
-        match read {
-            Ok(0) => Got::End,
-            Ok(n) => Got::Bytes(n),
-            Err(error) => match error.kind() {
-                ErrorKind::WouldBlock | ErrorKind::Interrupted => Got::NotReady,
-                ErrorKind::ConnectionReset => Got::End,
-                _ => Got::Failed,
-            },
+            Socket::TcpListener(_) | Socket::UnixListener(_) | Socket::Shut => {
+                Err(io::Error::from(ErrorKind::InvalidInput))
+            }
         }
     }
 
-    /// Hands over bytes for the peer. Those for a peer that reads no more are taken and dropped, as the system does with what it
-    /// took before the peer left: reading then tells the end.
-    pub fn write(&mut self, from: &[u8]) -> Took
-        requires { 0 < length from.now }
-        ensures { IfSent result (λ n. (0 < n) × (n ≤ length from.now)) }
+    /// Hands over bytes for the peer: how many of them were taken.
+    pub fn write(&mut self, from: &[u8]) -> io::Result<usize>
+        ensures { IfOk result (λ n. n ≤ length from.now) }
     {
-        let wrote = match self {
+        match self {
             Socket::Tcp(stream) => stream.write(from),
             Socket::Unix(stream) => stream.write(from),
-            Socket::TcpListener(_) | Socket::UnixListener(_) | Socket::Shut => return Took::Failed,
-        };
-        match wrote {
-            Ok(0) => Took::Failed,
-            Ok(n) => Took::Bytes(n),
-            Err(error) => match error.kind() {
-                ErrorKind::WouldBlock | ErrorKind::Interrupted => Took::NotReady,
-                ErrorKind::BrokenPipe | ErrorKind::ConnectionReset => Took::Bytes(from.len()),
-                _ => Took::Failed,
-            },
+            Socket::TcpListener(_) | Socket::UnixListener(_) | Socket::Shut => {
+                Err(io::Error::from(ErrorKind::InvalidInput))
+            }
         }
     }
 

@@ -14,8 +14,6 @@ mod grammar;
 mod laws;
 mod placing;
 mod status;
-#[cfg(test)]
-mod tests;
 mod told;
 
 pub use assembly::Assembly;

@@ -23,6 +23,3 @@ pub use refusals::{push_refusal, push_refused_state};
 pub use results::{push_completed, push_peeked};
 pub use runs::push_runs;
 pub use states::{push_cause, push_state};
-
-#[cfg(test)]
-mod tests;

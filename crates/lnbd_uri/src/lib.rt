@@ -14,6 +14,3 @@ mod query;
 pub use fault::UriFault;
 pub use laws::{every_place_is_spelled, one_answer};
 pub use place::parse;
-
-#[cfg(test)]
-mod tests;

@@ -21,6 +21,3 @@ pub use law::read_again;
 pub use read::Read;
 pub use request::{RequestHead, put_disconnect, put_request, read_request};
 pub use simple::{SimpleHead, put_simple, read_simple};
-
-#[cfg(test)]
-mod tests;

@@ -1,6 +1,0 @@
-use Rattle.std.proofs.Common.{◌+◌}
-use Rattle.lnbd_keyed.specs.Keyed.{IsBelow}
-use Rattle.bench_table.proofs.issue.Given as goal
-
-abbrev pub invariant-loop-number : goal.invariant-loop-number
-invariant-loop-number l = IsBelow l.table.rows (l.first + l.number)

@@ -1,0 +1,4 @@
+pub mod LineLemmas
+pub mod SaidLemmas
+pub mod ZeroLemmas
+pub mod EndLemmas

@@ -1,4 +1,0 @@
-pub mod TextLemmas
-pub mod FollowLemmas
-pub mod WalkLemmas
-pub mod StandingLemmas

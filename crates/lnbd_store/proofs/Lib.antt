@@ -1,0 +1,4 @@
+pub mod ByteLemmas
+pub mod PlaceLemmas
+pub mod StoreLemmas
+pub mod ToldLemmas

@@ -1,0 +1,477 @@
+//! The one kind of wires over which all runs go: links that answer by lists, clients that ask for links, or exports that are
+//! served. They keep what moved on which link, in order, and one link may not do as it should. They tell nothing of their calls,
+//! and what they answer is no matter here.
+
+ghost use Rattle.std.specs.Prelude.{◌≡◌, ◌≤◌, ◌<◌, None, length, OnErr};
+ghost use Rattle.lnbd_link.specs.Count.{Rises};
+ghost use Rattle.lnbd_link.specs.Answers.{AcceptFailed, IfMoved, IfSent, ReadFailed, WriteFailed};
+
+use crate::report::{Case, Report};
+use crate::served::destination_at;
+use lnbd_cli::run;
+use lnbd_inbound::InboundWires;
+use lnbd_link::{
+    Accepted, Got, ListSink, ListSource, ListWires, Took, Want, WireFailed, Wires, raised,
+};
+use lnbd_memnet::ServedWires;
+use lnbd_model::Target;
+use std::alloc::Global;
+use std::test::Fail;
+
+/// What is behind the wires.
+#[derive(Drop)]
+pub enum Peers {
+    Lists(ListWires),
+    Clients(InboundWires),
+    Exports(ServedWires),
+}
+
+impl Peers {
+    fn connect(&mut self, to: &Target) -> Result<u32, WireFailed> {
+        match self {
+            Peers::Lists(wires) => wires.connect(to),
+            Peers::Clients(wires) => wires.connect(to),
+            Peers::Exports(wires) => wires.connect(to),
+        }
+    }
+
+    fn listen(&mut self, at: &Target) -> Result<u32, WireFailed> {
+        match self {
+            Peers::Lists(wires) => wires.listen(at),
+            Peers::Clients(wires) => wires.listen(at),
+            Peers::Exports(wires) => wires.listen(at),
+        }
+    }
+
+    fn accept(&mut self, listener: u32) -> Accepted {
+        match self {
+            Peers::Lists(wires) => wires.accept(listener),
+            Peers::Clients(wires) => wires.accept(listener),
+            Peers::Exports(wires) => wires.accept(listener),
+        }
+    }
+
+    fn read(&mut self, link: u32, into: &mut [u8]) -> Got
+        requires { 0 < length into.old }
+        ensures { IfMoved result (λ n. (0 < n) × (n ≤ length into.old)) }
+    {
+        match self {
+            Peers::Lists(wires) => wires.read(link, into),
+            Peers::Clients(wires) => wires.read(link, into),
+            Peers::Exports(wires) => wires.read(link, into),
+        }
+    }
+
+    fn write(&mut self, link: u32, from: &[u8]) -> Took
+        requires { 0 < length from.now }
+        ensures { IfSent result (λ n. (0 < n) × (n ≤ length from.now)) }
+    {
+        match self {
+            Peers::Lists(wires) => wires.write(link, from),
+            Peers::Clients(wires) => wires.write(link, from),
+            Peers::Exports(wires) => wires.write(link, from),
+        }
+    }
+
+    fn pause(&mut self, wants: &[Want]) {
+        match self {
+            Peers::Lists(wires) => wires.pause(wants),
+            Peers::Clients(wires) => wires.pause(wants),
+            Peers::Exports(wires) => wires.pause(wants),
+        }
+    }
+
+    fn shut(&mut self, link: u32) {
+        match self {
+            Peers::Lists(wires) => wires.shut(link),
+            Peers::Clients(wires) => wires.shut(link),
+            Peers::Exports(wires) => wires.shut(link),
+        }
+    }
+
+    fn faults(&self) -> u64 {
+        match self {
+            Peers::Lists(wires) => wires.faults(),
+            Peers::Clients(wires) => wires.faults(),
+            Peers::Exports(wires) => wires.faults(),
+        }
+    }
+
+    fn idles(&self) -> u64 {
+        match self {
+            Peers::Lists(wires) => wires.idles(),
+            Peers::Clients(wires) => wires.idles(),
+            Peers::Exports(wires) => wires.idles(),
+        }
+    }
+}
+
+/// What goes wrong.
+#[derive(Clone, Copy)]
+pub enum Fault {
+    Nothing,
+    /// The peer of this link closes it behind so many bytes, its own and those to it together. What is written to it then is lost.
+    Closes { link: u32, bytes: usize },
+    /// The connect of this number, counted from 0, ends at the destination.
+    Strays { connect: u32 },
+}
+
+/// A read or a write, and what it moved. A schedule counts the same calls.
+#[derive(Drop)]
+pub enum Heard {
+    Read { link: u32, bytes: usize },
+    Write { link: u32, bytes: Vec<u8> },
+}
+
+/// Wires, each read and write of theirs, how many bytes moved on the link that closes, and how many connects there were.
+#[derive(Drop)]
+pub struct Outside {
+    alloc: Global,
+    peers: Peers,
+    fault: Fault,
+    moved: usize,
+    connects: u32,
+    faults: u64,
+    idles: u64,
+    pub calls: Vec<Heard>,
+}
+
+impl Outside {
+    pub fn new(alloc: Global, peers: Peers, fault: Fault) -> Outside {
+        Outside {
+            alloc,
+            peers,
+            fault,
+            moved: 0,
+            connects: 0,
+            faults: 0,
+            idles: 0,
+            calls: Vec::new(alloc),
+        }
+    }
+
+    /// How many bytes moved on the link that closes.
+    pub fn moved(&self) -> usize {
+        self.moved
+    }
+
+    /// What the export at this place of the list holds now, if there is one.
+    pub fn exported(&self, place: usize) -> Option<&[u8]> {
+        match &self.peers {
+            Peers::Exports(wires) if place < wires.exports() => Some(wires.bytes(place)),
+            _ => None,
+        }
+    }
+
+    /// How often memory ran out behind the exports.
+    pub fn shorts(&self) -> u64 {
+        match &self.peers {
+            Peers::Exports(wires) => wires.shorts(),
+            _ => 0,
+        }
+    }
+
+    /// All bytes that went out, in order, whatever the link.
+    pub fn written(&self) -> Result<Vec<u8>, Fail> {
+        let mut written = Vec::new(self.alloc);
+        for call in self.calls.iter() {
+            if let Heard::Write { link: _, bytes } = call {
+                written.extend_from_slice(bytes.as_slice())?;
+            }
+        }
+        Ok(written)
+    }
+
+    /// The wires' own count of faults is taken over.
+    fn look(&mut self)
+        ensures rising { self.old.faults ≤ self.new.faults }
+        ensures idles { self.new.idles ≡ self.old.idles }
+    {
+        self.faults = self.faults.max(self.peers.faults());
+    }
+
+    /// A call failed.
+    fn fail(&mut self)
+        ensures cause { Rises 1 self.old.faults self.new.faults }
+        ensures rising { self.old.faults ≤ self.new.faults }
+        ensures idles { self.new.idles ≡ self.old.idles }
+    {
+        self.faults = raised(self.faults, 1);
+    }
+
+    /// What an accept came to is counted.
+    fn judge_accept(&mut self, answer: Accepted)
+        ensures rising { self.old.faults ≤ self.new.faults }
+        ensures cause { AcceptFailed answer → Rises 1 self.old.faults self.new.faults }
+        ensures idles { self.new.idles ≡ self.old.idles }
+    {
+        match answer {
+            Accepted::Failed => self.fail(),
+            Accepted::Link(_) | Accepted::NotReady => self.look(),
+        }
+    }
+
+    /// The same of a read.
+    fn judge_read(&mut self, got: Got)
+        ensures rising { self.old.faults ≤ self.new.faults }
+        ensures cause { ReadFailed got → Rises 1 self.old.faults self.new.faults }
+        ensures idles { self.new.idles ≡ self.old.idles }
+    {
+        match got {
+            Got::Failed => self.fail(),
+            Got::Bytes(_) | Got::NotReady | Got::End => self.look(),
+        }
+    }
+
+    /// The same of a write.
+    fn judge_write(&mut self, took: Took)
+        ensures rising { self.old.faults ≤ self.new.faults }
+        ensures cause { WriteFailed took → Rises 1 self.old.faults self.new.faults }
+        ensures idles { self.new.idles ≡ self.old.idles }
+    {
+        match took {
+            Took::Failed => self.fail(),
+            Took::Bytes(_) | Took::NotReady => self.look(),
+        }
+    }
+
+    /// How many bytes may move on this link before its peer closes it.
+    fn left(&self, link: u32) -> usize {
+        match self.fault {
+            Fault::Closes { link: on, bytes } if on == link => bytes.saturating_sub(self.moved),
+            _ => usize::MAX,
+        }
+    }
+
+    /// So many bytes moved on a link.
+    fn count(&mut self, link: u32, bytes: usize)
+        ensures faults { self.new.faults ≡ self.old.faults }
+        ensures idles { self.new.idles ≡ self.old.idles }
+    {
+        match self.fault {
+            Fault::Closes { link: on, bytes: _ } if on == link => {
+                self.moved = self.moved.saturating_add(bytes);
+            }
+            _ => {}
+        }
+    }
+
+    /// Whether the connect that comes now ends elsewhere.
+    fn strays(&self) -> bool {
+        match self.fault {
+            Fault::Strays { connect } => connect == self.connects,
+            Fault::Nothing | Fault::Closes { .. } => false,
+        }
+    }
+
+    /// A link to this address, or to the one at which it ends.
+    fn dial(&mut self, to: &Target) -> Result<u32, WireFailed>
+        ensures faults { self.new.faults ≡ self.old.faults }
+        ensures idles { self.new.idles ≡ self.old.idles }
+    {
+        let strays = self.strays();
+        self.connects = self.connects.saturating_add(1);
+        if strays {
+            if let Ok(other) = destination_at(self.alloc) {
+                return self.peers.connect(&other);
+            }
+        }
+        self.peers.connect(to)
+    }
+
+    /// What a connect or a listen came to is counted.
+    fn linked(&mut self, answer: Result<u32, WireFailed>) -> Result<u32, WireFailed>
+        ensures rising { self.old.faults ≤ self.new.faults }
+        ensures cause { OnErr result (Rises 1 self.old.faults self.new.faults) }
+        ensures idles { self.new.idles ≡ self.old.idles }
+    {
+        match answer {
+            Ok(link) => {
+                self.look();
+                Ok(link)
+            }
+            Err(failed) => {
+                self.fail();
+                Err(failed)
+            }
+        }
+    }
+}
+
+impl Wires for Outside {
+    ghost told = { λ w. None };
+
+    ghost contents = { λ w. None };
+
+    ghost faults = { λ w. w.faults };
+
+    ghost idles = { λ w. w.idles };
+
+    fn connect(&mut self, to: &Target) -> Result<u32, WireFailed> {
+        let answer = self.dial(to);
+        self.linked(answer)
+    }
+
+    fn listen(&mut self, at: &Target) -> Result<u32, WireFailed> {
+        let answer = self.peers.listen(at);
+        self.linked(answer)
+    }
+
+    fn accept(&mut self, listener: u32) -> Accepted {
+        let answer = self.peers.accept(listener);
+        self.judge_accept(answer);
+        answer
+    }
+
+    fn read(&mut self, link: u32, into: &mut [u8]) -> Got {
+        let left = self.left(link).min(into.len());
+        if left == 0 {
+            return Got::End;
+        }
+        let (front, _) = into.split_at_mut(left);
+        let got = self.peers.read(link, front);
+        self.judge_read(got);
+        let bytes = got.moved();
+        self.count(link, bytes);
+        let _ = self.calls.push(Heard::Read { link, bytes });
+        got
+    }
+
+    fn write(&mut self, link: u32, from: &[u8]) -> Took {
+        let left = self.left(link).min(from.len());
+        if left == 0 {
+            return Took::Bytes(from.len());
+        }
+        let (front, _) = from.split_at(left);
+        let took = self.peers.write(link, front);
+        self.judge_write(took);
+        let count = took.moved();
+        self.count(link, count);
+        keep(&mut self.calls, link, front, count);
+        took
+    }
+
+    fn pause(&mut self, wants: &[Want]) {
+        self.peers.pause(wants);
+        self.look();
+        self.idles = raised(self.idles, 1).max(self.peers.idles());
+    }
+
+    fn shut(&mut self, link: u32) {
+        self.peers.shut(link);
+        self.look();
+    }
+
+    fn faults(&self) -> u64 {
+        self.faults
+    }
+
+    fn idles(&self) -> u64 {
+        self.idles
+    }
+}
+
+/// Keeps a write of a front of these bytes.
+fn keep(calls: &mut Vec<Heard>, link: u32, from: &[u8], count: usize) {
+    let alloc = *calls.allocator();
+    let (front, _) = from.split_at(count.min(from.len()));
+    if let Ok(bytes) = Vec::from_slice(alloc, front) {
+        let _ = calls.push(Heard::Write { link, bytes });
+    }
+}
+
+/// The call of the input, and that of the output, which fails, and how many bytes the output takes.
+#[derive(Clone, Copy)]
+pub struct Streams {
+    pub input_fails_at: Option<usize>,
+    pub output_fails_at: Option<usize>,
+    pub output_room: usize,
+}
+
+/// How many bytes an output takes where nothing else is said.
+pub const ROOM: usize = 4096;
+
+/// Streams of which no call fails.
+pub const STREAMS: Streams = Streams {
+    input_fails_at: None,
+    output_fails_at: None,
+    output_room: ROOM,
+};
+
+/// How a run of the program ended: its status, what it printed, and what it said of its end.
+#[derive(Drop)]
+pub struct Ended {
+    pub status: u8,
+    pub out: ListSink,
+    pub err: ListSink,
+}
+
+/// Runs the program with this input. No other function calls it.
+pub fn played(
+    alloc: Global,
+    words: &[String],
+    script: Vec<u8>,
+    streams: Streams,
+    wires: &mut Outside,
+) -> Result<Ended, Fail> {
+    let mut input = ListSource::new(script, streams.input_fails_at);
+    let mut out = ListSink::new(alloc, streams.output_room, streams.output_fails_at)?;
+    let mut err = ListSink::new(alloc, ROOM, None)?;
+    let status = run(alloc, words, &mut input, wires, &mut out, &mut err);
+    Ok(Ended { status, out, err })
+}
+
+/// Words that are owned.
+pub fn push_words(alloc: Global, owned: &mut Vec<String>, words: &[&str]) -> Result<(), Fail> {
+    for word in words {
+        owned.push(String::from_str(alloc, word)?)?;
+    }
+    Ok(())
+}
+
+/// A run that is over, with the wires that it went over.
+#[derive(Drop)]
+pub struct Finished {
+    pub ended: Ended,
+    pub wires: Outside,
+}
+
+/// Runs the program with these words over these wires.
+pub fn finish(
+    alloc: Global,
+    words: &[&str],
+    script: Vec<u8>,
+    streams: Streams,
+    wires: Outside,
+) -> Result<Finished, Fail> {
+    let mut wires = wires;
+    let mut owned = Vec::new(alloc);
+    push_words(alloc, &mut owned, words)?;
+    let ended = played(alloc, &owned, script, streams, &mut wires)?;
+    Ok(Finished { ended, wires })
+}
+
+/// Reports what a run printed, what it said of its end, and its status.
+pub fn report_end(
+    report: &mut Report,
+    case: Case,
+    ended: &Ended,
+    printed: &str,
+    said: &str,
+    status: u8,
+) -> Result<(), Fail> {
+    report.stream(case, "printed", ended.out.bytes(), printed)?;
+    report.stream(case, "said", ended.err.bytes(), said)?;
+    report.number(case, "status", ended.status as u64, status as u64)
+}
+
+/// Reports what went out over all links.
+pub fn report_written(
+    report: &mut Report,
+    case: Case,
+    wires: &Outside,
+    written: &[u8],
+) -> Result<(), Fail> {
+    let came = wires.written()?;
+    report.bytes(case, "written", came.as_slice(), written)
+}
