@@ -27,8 +27,8 @@ SHORT = 40
 # Of the free memory, the part to plan on; of a task's memory, what each further process of it takes; and of the kit's own figure for it, which is
 # a bound, what most take.
 ROOM, FURTHER, MOST = 0.85, 0.6, 0.4
-# How much later than the longest chain all others come.
-BESIDE = 5
+# How much later than the longest chain all others come, and how much of it a chain has to be that counts as long.
+BESIDE, NEARLY = 5, 0.9
 # Runs a command at this niceness, and adds its seconds and its kilobytes to a file.
 MEASURE = """
 import os, signal, sys
@@ -135,7 +135,7 @@ def keep(taken):
 class Lanes:
     """Tasks side by side, as the kit's own `in_lanes` runs them: a task is what it waits for, its lines, its memory, and a call that gets what was
     given and how many jobs it may use. First comes the longest chain: it has all processors, and what runs beside it one each, at a lower
-    priority. `Lanes` keeps what each task took."""
+    priority; a chain that is nearly as long counts as it does. `Lanes` keeps what each task took."""
 
     def __init__(self, rt, tasks):
         self.tasks, self.count, self.memory = tasks, rt.processors(), ROOM * rt.free()
@@ -159,14 +159,16 @@ class Lanes:
         return (1_000_000 * past or MOST * self.tasks[key][2]) * (1 + FURTHER * (jobs - 1))
 
     def leads(self, key):
-        """Whether no chain that runs is longer than this one."""
-        return all(self.behind[key] >= self.behind[it] for it, _, _ in self.running.values())
+        """Whether no chain that runs is much longer than this one: what begins beside a longer one is the next to be waited for."""
+        return all(self.behind[key] >= NEARLY * self.behind[it] for it, _, _ in self.running.values())
 
     def jobs(self, key, others):
         """How many processors a task may use beside so many that wait to begin."""
         if key[1] == "edits" or self.seconds(key) < SHORT:
             return 1
-        return self.count if self.leads(key) else max(1, self.count - len(self.running) - others)
+        if self.leads(key):
+            return max(min(2, self.count), self.count - sum(it for _, _, it in self.running.values()))
+        return max(1, self.count - len(self.running) - others)
 
     def work(self, key, jobs, nice, folder):
         """Does a task, and keeps what it took."""
