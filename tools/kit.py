@@ -2,6 +2,7 @@
 processors by what they took the last time. What is proved, tried and run is the kit's own; where a kit lacks a part that is wrapped here, that
 part stays the kit's. No verdict is made here."""
 
+import collections
 import contextlib
 import contextvars
 import importlib.machinery
@@ -22,6 +23,8 @@ HEAD = "# What each task of the gate took: the crate, the task, its seconds of o
 TOLD = f"{TOP}/bin/times"
 # The seconds of a line of code, with its proofs, where nothing was measured.
 SECONDS_A_LINE = 0.15
+# The kit's tasks that prove a crate or its tests; its others try a crate's edits, and are one row.
+PROOFS = ("proof", "tests")
 # Tasks of fewer seconds than this gain nothing from a second process.
 SHORT = 40
 # Of the free memory, the part to plan on; of a task's memory, what each further process of it takes; and of the kit's own figure for it, which is
@@ -45,7 +48,7 @@ if os.WIFSIGNALED(status):
 sys.exit(os.waitstatus_to_exitcode(status))
 """
 
-HELD, KEEPING = threading.local(), threading.Lock()
+HELD = threading.local()
 # The file of what the task takes, and its niceness, in the threads that work for it.
 TASK = contextvars.ContextVar("task", default=None)
 
@@ -122,9 +125,14 @@ def times():
     return taken
 
 
+def row_of(key):
+    """The row in which a task's seconds are kept."""
+    return key[0], key[1] if key[1] in PROOFS else "edits"
+
+
 def keep(taken):
     """Writes what tasks took, for the next run."""
-    with KEEPING, contextlib.suppress(OSError):
+    with contextlib.suppress(OSError):
         os.makedirs(os.path.dirname(LAST), exist_ok=True)
         with open(f"{LAST}.new", "w", encoding="utf-8") as file:
             file.write(HEAD)
@@ -140,22 +148,23 @@ class Lanes:
     def __init__(self, rt, tasks):
         self.tasks, self.count, self.memory = tasks, rt.processors(), ROOM * rt.free()
         self.past, self.taken, self.clock = times(), {}, 0
+        self.shares = collections.Counter(row_of(it) for it in tasks if tasks[it][1])
         self.behind = dict.fromkeys(tasks, 0)
         # (a task comes after those that it waits for)
         for key in reversed([*tasks]):
             self.behind[key] += self.seconds(key)
             for it in tasks[key][0]:
                 self.behind[it] = max(self.behind[it], self.behind[key])
-        self.given, self.running = {}, {}
+        self.given, self.running, self.turn = {}, {}, threading.Lock()
 
     def seconds(self, key):
         """What the task takes of one processor, as it did the last time, or as its lines tell."""
-        lines = self.tasks[key][1]
-        return self.past.get(key, (SECONDS_A_LINE * lines, 0))[0] if lines else 0
+        lines, row = self.tasks[key][1], row_of(key)
+        return self.past[row][0] / self.shares[row] if lines and row in self.past else SECONDS_A_LINE * lines
 
     def needs(self, key, jobs):
         """The memory of a task, in bytes."""
-        past = self.past.get(key, (0, 0))[1]
+        past = self.past.get(row_of(key), (0, 0))[1]
         return (1_000_000 * past or MOST * self.tasks[key][2]) * (1 + FURTHER * (jobs - 1))
 
     def leads(self, key):
@@ -164,7 +173,7 @@ class Lanes:
 
     def jobs(self, key, others):
         """How many processors a task may use beside so many that wait to begin."""
-        if key[1] == "edits" or self.seconds(key) < SHORT:
+        if key[1] not in PROOFS or self.seconds(key) < SHORT:
             return 1
         if self.leads(key):
             return max(min(2, self.count), self.count - sum(it for _, _, it in self.running.values()))
@@ -172,15 +181,21 @@ class Lanes:
 
     def work(self, key, jobs, nice, folder):
         """Does a task, and keeps what it took."""
-        file = f"{folder}/{key[0]}-{key[1]}"
+        file = "-".join([f"{folder}/{key[0]}", *map(str, key[1:])])
         TASK.set((file, str(nice)))
         gave = self.tasks[key][3](self.given, jobs)
         with contextlib.suppress(OSError), open(file, encoding="utf-8") as lines:
             rows = [[float(it) for it in line.split()] for line in lines]
             if gave:
-                self.taken[key] = sum(it[0] for it in rows), max(it[1] for it in rows) / 1000
-                keep({**self.past, **self.taken})
+                self.add(row_of(key), sum(it[0] for it in rows), max(it[1] for it in rows) / 1000)
         return gave
+
+    def add(self, row, seconds, size):
+        """Adds what a task took to its row, and keeps it for the next run."""
+        with self.turn:
+            before, most = self.taken.get(row, (0, 0))
+            self.taken[row] = before + seconds, max(most, size)
+            keep({**self.past, **self.taken})
 
     def begin(self, pool, left, folder):
         """Begins what there is room for, and tells what is left."""
