@@ -4,8 +4,8 @@
 // size: 200 x 1000 falling 1024
 // size: 200 x 1000 mixed 1024
 // size: 20 x 20000 rising 1024
-// size: 20000 falling 1024
-// size: 20000 mixed 1024
+// size: 200000 falling 1024
+// size: 200000 mixed 1024
 // size: 5 x 200000 rising 1024
 // size: 200000 falling 512
 // size: 100000 mixed 512

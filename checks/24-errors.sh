@@ -20,8 +20,8 @@ def told(name, missing, count, least):
 breach = read('crates/lnbd_model/src/breach.rt')
 names = set(re.findall(r'Breach::\w+ => "(\w+)"', breach))
 told('each breach has a row', names - first, len(names), 20)
-broken = set(re.findall(r'Broken::\w+ => text\.push_str\("(\w+)"\)', read('crates/lnbd_cli/src/fault.rt')))
-broken |= {it for it in re.findall(r'"peer broke (\w+)"', read('crates/lnbd_cli/src/serving.rt'))}
+broken = set(re.findall(r'Broken::\w+ => text\.push_str\("(\w+)"\)', read('crates/lnbd_cli/src/ending.rt')))
+broken |= {it for it in re.findall(r'"peer broke (\w+)"', read('crates/lnbd_cli/src/ending.rt'))}
 told('each other cause of `peer broke` has a row', broken - first, len(broken), 4)
 faults = set(re.findall(r'UriFault::\w+ => "(\w+)"', read('crates/lnbd_uri/src/fault.rt')))
 told('each fault of an address has a row', faults - first, len(faults), 9)
@@ -46,6 +46,6 @@ for path in glob.glob('crates/lnbd_cli/src/*.rt') + glob.glob('crates/lnbd_plan/
     lines |= set(re.findall(r'"(?:lnbd: )?((?:usage|script line|uri|peer|link|rule|output|input|no memory)[^"{\\]*)', text))
 lines = {re.sub(r'^(peer broke|peer error option).*', r'\1', it.strip()) for it in lines if it.strip() not in ('', 'peer error', 'rule', 'uri')}
 told('each line that is printed is on the page', {it for it in lines if it not in page}, len(lines), 10)
-rules = {text.replace('"', '').strip() for text in re.findall(r'rule_text \(?rule\.[\w ]+\)? = codes ("[^"]*")', read('crates/lnbd_cli/specs/Copies.antt'))}
+rules = {text.replace('"', '').strip() for text in re.findall(r'rule_text \(?rule\.[\w ]+\)? = codes ("[^"]*")', read('crates/lnbd_cli/specs/Ends.antt'))}
 told('each rule of a copy has a row', {it for it in rules if f'`rule {it}' not in page}, len(rules), 4)
 PY

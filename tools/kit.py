@@ -32,7 +32,7 @@ SHORT = 40
 ROOM, FURTHER, MOST = 0.85, 0.6, 0.4
 # How much later than the longest chain all others come, and how much of it a chain has to be that counts as long.
 BESIDE, NEARLY = 5, 0.9
-# Runs a command at this niceness, and adds its seconds and its kilobytes to a file.
+# Runs a command at this niceness, and adds to a file its seconds, its kilobytes, and what it is: rattle's verb, or the compiler that it builds by.
 MEASURE = """
 import os, signal, sys
 os.nice(int(sys.argv[2]))
@@ -40,8 +40,10 @@ child = os.fork()
 if not child:
     os.execvp(sys.argv[3], sys.argv[3:])
 _, status, use = os.wait4(child, 0)
+words = [*sys.argv[4:], "", ""]
+what = words[words.index("--backend") + 1] if "--backend" in words else words[0]
 with open(sys.argv[1], "a") as file:
-    file.write(f"{use.ru_utime + use.ru_stime} {use.ru_maxrss}\\n")
+    file.write(f"{use.ru_utime + use.ru_stime} {use.ru_maxrss} {what}\\n")
 if os.WIFSIGNALED(status):
     signal.signal(os.WTERMSIG(status), signal.SIG_DFL)
     os.kill(os.getpid(), os.WTERMSIG(status))
@@ -103,7 +105,14 @@ def load():
         guarded = rt.rtlib.guarded
         rt.rtlib.guarded = lambda: [*guarded(), *measuring()]
         rt.rtlib.ThreadPoolExecutor = Passing
-        rt.in_lanes = lambda tasks: Lanes(rt, tasks).run()
+        # (what the kit's own calls left among the temporary files goes, however the run ends)
+        ending = getattr(rt, "ending", contextlib.nullcontext)
+
+        def in_lanes(tasks):
+            with ending():
+                return Lanes(rt, tasks).run()
+
+        rt.in_lanes = in_lanes
     return rt
 
 
@@ -147,7 +156,7 @@ class Lanes:
 
     def __init__(self, rt, tasks):
         self.tasks, self.count, self.memory = tasks, rt.processors(), ROOM * rt.free()
-        self.past, self.taken, self.clock = times(), {}, 0
+        self.past, self.taken, self.parts, self.clock = times(), {}, {}, 0
         self.shares = collections.Counter(row_of(it) for it in tasks if tasks[it][1])
         self.behind = dict.fromkeys(tasks, 0)
         # (a task comes after those that it waits for)
@@ -184,10 +193,13 @@ class Lanes:
         file = "-".join([f"{folder}/{key[0]}", *map(str, key[1:])])
         TASK.set((file, str(nice)))
         gave = self.tasks[key][3](self.given, jobs)
-        with contextlib.suppress(OSError), open(file, encoding="utf-8") as lines:
-            rows = [[float(it) for it in line.split()] for line in lines]
-            if gave:
-                self.add(row_of(key), sum(it[0] for it in rows), max(it[1] for it in rows) / 1000)
+        # (a line that a killed command left half written counts for nothing)
+        with contextlib.suppress(OSError, ValueError, IndexError), open(file, encoding="utf-8") as lines:
+            rows = [line.split(" ") for line in lines]
+            if gave or key[1] not in PROOFS:
+                self.add(row_of(key), sum(float(it[0]) for it in rows), max(float(it[1]) for it in rows) / 1000)
+            if key[1] in PROOFS and len(rows) > 1:
+                self.parts[row_of(key)] = [(it[2].strip(), float(it[0])) for it in rows]
         return gave
 
     def add(self, row, seconds, size):
@@ -234,6 +246,8 @@ class Lanes:
         slowest = sorted(self.taken.items(), key=lambda it: -it[1][0])[:10]
         told = f"times: processor minutes: {each}; {self.clock / 60:.1f} minutes by the clock on {self.count} processors\n"
         told += f"times: the slowest: {', '.join(f'{name} {kind} {seconds / 60:.1f}' for (name, kind), (seconds, _) in slowest)}\n"
+        for (name, kind), rows in self.parts.items():
+            told += f"times: {name} {kind}: {', '.join(f'{what} {seconds / 60:.1f}' for what, seconds in rows)}\n"
         print(told, end="", flush=True)
         with contextlib.suppress(OSError), open(TOLD, "w", encoding="utf-8") as file:
             file.write(told)

@@ -69,6 +69,8 @@ fn drive(
             ask(alloc, handle, sums, &mut asked)?;
         }
         send(handle, sums, stream);
+        // Nobody reads the notes of the callbacks.
+        handle.clear_log();
     }
     Ok(())
 }

@@ -5,7 +5,9 @@
 mod why;
 
 use lnbd_cli::{no_memory, run, usage};
+use lnbd_files::FileStore;
 use lnbd_link::Sink;
+use lnbd_programs::Programs;
 use lnbd_sockets::{PrintSink, ReaderSource, SocketWires, fill_streams};
 use std::alloc::Global;
 use std::io::ErrorKind;
@@ -68,7 +70,11 @@ fn main(rt: HostRuntime) -> ExitCode {
     let mut input = ReaderSource::input(alloc, &rt, rt.reader());
     let out_rt = rt.stdout();
     let mut out = PrintSink::output(alloc, &rt, &out_rt);
-    let status = run(alloc, &words, &mut input, &mut wires, &mut out, &mut err);
+    let mut store = FileStore::new(alloc, &rt);
+    let mut spawn = Programs::new(alloc, &rt);
+    let status = run(
+        alloc, &words, &mut input, &mut wires, &mut out, &mut err, &mut store, &mut spawn,
+    );
     if is_asked
         && let Ok(line) = str::from_utf8(err.kept())
         && let Some(words) = why::why(alloc, line, &wires)

@@ -25,12 +25,12 @@ use Rattle.lnbd_standing.proofs.Standing.{stands_right}
 use Rattle.lnbd_poll.specs.Held.{Held}
 use Rattle.lnbd_poll.specs.Lends.{with_handle}
 use Rattle.lnbd_poll.specs.Seen.{Seen}
-use Rattle.lnbd_ask.specs.declared.conversation.Halt.{Halt}
-use Rattle.lnbd_ask.specs.declared.conversation.Halt.TheVariants as halt
+use Rattle.lnbd_waits.specs.declared.waiting.Halt.{Halt}
+use Rattle.lnbd_waits.specs.declared.waiting.Halt.TheVariants as halt
 use Rattle.lnbd_ask.specs.Lists.{aborting, asking, is_opt_mode, naming, short_of, told_by}
 use Rattle.lnbd_ask.specs.Parts.{ActsOn, no_value}
-use Rattle.lnbd_ask.specs.Waits.{Holds}
-use Rattle.lnbd_ask.proofs.WaitLemmas.{at_handle}
+use Rattle.lnbd_waits.specs.Waits.{Holds}
+use Rattle.lnbd_waits.proofs.WaitLemmas.{at_handle}
 
 abbrev pub entry_by : Listed → Option OptAnswer → Option ExportInfo → Entry
 entry_by listed last info = record { listed = listed; told = told_by last info }

@@ -5,7 +5,7 @@ use Rattle.std.specs.Option.{option_map}
 use Rattle.lnbd_model.specs.declared.export.Extent.{Extent}
 use Rattle.lnbd_model.specs.declared.state.State.{State}
 use Rattle.lnbd_history.specs.Answers.{state_after}
-use Rattle.lnbd_history.specs.Events.{Issue}
+use Rattle.lnbd_history.specs.Events.{ClearLog, Issue}
 use Rattle.lnbd_machine.specs.Machine.{Machine}
 use Rattle.lnbd_handle.specs.Histories.{Adds, AddsFault, ForEach}
 use Rattle.lnbd_handle.specs.declared.issue.IssueFault.{IssueFault}
@@ -15,28 +15,35 @@ use Rattle.lnbd_link.proofs.Parts.{grows_none}
 use Rattle.lnbd_poll.specs.Held.{Held}
 use Rattle.lnbd_poll.specs.Seen.{Goes, Seen}
 use Rattle.lnbd_poll.specs.Lends.{with_handle}
-use Rattle.lnbd_ask.specs.declared.conversation.Awaited.{Awaited}
-use Rattle.lnbd_ask.specs.declared.conversation.Awaited.TheVariants as awaited
-use Rattle.lnbd_ask.specs.declared.conversation.Halt.{Halt}
-use Rattle.lnbd_ask.specs.declared.conversation.Halt.TheVariants as halt
+use Rattle.lnbd_waits.specs.declared.waiting.Awaited.{Awaited}
+use Rattle.lnbd_waits.specs.declared.waiting.Awaited.TheVariants as awaited
+use Rattle.lnbd_waits.specs.declared.waiting.Halt.{Halt}
+use Rattle.lnbd_waits.specs.declared.waiting.Halt.TheVariants as halt
 use Rattle.lnbd_ask.specs.declared.stops.Stop.{Stop}
 use Rattle.lnbd_ask.specs.declared.stops.Stop.TheVariants as stop
 use Rattle.lnbd_ask.specs.declared.survey.Surveyor.{Surveyor}
 use Rattle.lnbd_ask.specs.declared.survey.Survey.{Survey}
-use Rattle.lnbd_ask.specs.Maps.{Answers, HasWaited, Is_cut_off, Is_failed, Is_lost, Is_refused, Runs_short, Stops, issued, length_at, refused, status_of, stop_of}
+use Rattle.lnbd_ask.specs.Maps.{Answers, HasWaited, Is_cut_off, Is_failed, Is_lost, Is_refused, Runs_short, Stops, cleared, issued, length_at, refused, sent, status_of, stop_of}
 use Rattle.lnbd_ask.specs.MapSteps.{AsksOne, IsNotIssued}
 use Rattle.lnbd_ask.specs.Surveys.{Surveys, error_in, told_in}
 use Rattle.lnbd_ask.specs.SurveyLaws.{surveys_none, surveys_on}
-use Rattle.lnbd_ask.specs.Waits.{Holds, Waited, Waits}
+use Rattle.lnbd_waits.specs.Waits.{Holds, Waited, Waits}
 use Rattle.lnbd_ask.proofs.MadeLemmas.{Made, made_waiting}
-use Rattle.lnbd_ask.proofs.WaitLemmas.{at_handle, blames_none}
+use Rattle.lnbd_waits.proofs.WaitLemmas.{at_handle, blames_none}
 
 -- ---- The request.
 
 pub issue_ok : (all : List (Held Surveyor)) (handle handle' : Machine Surveyor) (offset size : ℕ) (seen : Seen Surveyor) → option_map (λ held. held.handle) (slice_get all 0) ≡ Some handle → Holds all seen
-    → ForEach handle (Adds (Issue (status_of offset size)) handle') → Holds (with_handle all 0 handle') (issued offset size seen)
+    → ForEach handle (Adds (Issue (status_of offset size)) handle') → Holds (with_handle all 0 handle') (sent offset size seen)
 issue_ok [] handle handle' offset size seen is at adds = absurd at
 issue_ok (held ∷ others) handle handle' offset size seen is at adds =
+    let stands = at_handle (held ∷ others) handle seen is at in
+    (record { link = at.0.link; stands = adds seen.history stands; unread = at.0.unread }, at.1)
+
+-- the notes are dropped
+pub log_cleared : (all : List (Held Surveyor)) (handle handle' : Machine Surveyor) (seen : Seen Surveyor) → option_map (λ held. held.handle) (slice_get all 0) ≡ Some handle → Holds all seen → ForEach handle (Adds ClearLog handle') → Holds (with_handle all 0 handle') (cleared seen)
+log_cleared [] handle handle' seen is at adds = absurd at
+log_cleared (held ∷ others) handle handle' seen is at adds =
     let stands = at_handle (held ∷ others) handle seen is at in
     (record { link = at.0.link; stands = adds seen.history stands; unread = at.0.unread }, at.1)
 

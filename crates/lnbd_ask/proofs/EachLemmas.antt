@@ -11,13 +11,13 @@ use Rattle.lnbd_poll.specs.Held.{Held}
 use Rattle.lnbd_poll.specs.Seen.{Seen, Went}
 use Rattle.lnbd_poll.specs.Turns.{Blames}
 use Rattle.lnbd_poll.proofs.TurnLemmas.{blames_on}
-use Rattle.lnbd_ask.specs.declared.conversation.Halt.{Halt}
-use Rattle.lnbd_ask.specs.declared.conversation.Halt.TheVariants as halt
+use Rattle.lnbd_waits.specs.declared.waiting.Halt.{Halt}
+use Rattle.lnbd_waits.specs.declared.waiting.Halt.TheVariants as halt
 use Rattle.lnbd_ask.specs.Lists.{AsksEach, AsksFor, Breaks_off, None_left, Runs_short, Tells, with_entries}
 use Rattle.lnbd_ask.specs.Parts.{Done}
-use Rattle.lnbd_ask.specs.Waits.{Holds}
+use Rattle.lnbd_waits.specs.Waits.{Holds}
 use Rattle.lnbd_ask.proofs.PartLemmas.{Leads}
-use Rattle.lnbd_ask.proofs.WaitLemmas.{blames_none}
+use Rattle.lnbd_waits.proofs.WaitLemmas.{blames_none}
 
 with_none : (end : Result (List Entry) Halt) → with_entries [] end ≡ end
 with_none (Ok more) = refl

@@ -20,13 +20,13 @@ use Rattle.lnbd_link.specs.Part.{Adds}
 use Rattle.lnbd_link.proofs.Parts.{grows_none, grows_on}
 use Rattle.lnbd_poll.specs.Held.{Held}
 use Rattle.lnbd_poll.specs.Turns.{Blames}
-use Rattle.lnbd_ask.specs.declared.conversation.Halt.{Halt}
-use Rattle.lnbd_ask.specs.declared.conversation.Halt.TheVariants as halt
+use Rattle.lnbd_waits.specs.declared.waiting.Halt.{Halt}
+use Rattle.lnbd_waits.specs.declared.waiting.Halt.TheVariants as halt
 use Rattle.lnbd_ask.specs.declared.fault.InfoFault.{InfoFault}
 use Rattle.lnbd_ask.specs.declared.fault.InfoFault.TheVariants as fault
 use Rattle.lnbd_ask.specs.declared.quiet.Quiet.{Quiet}
 use Rattle.lnbd_ask.specs.Asks.{Collected, CollectedOn, Collects, Conversed, Has_talked, IfLink, IsOfDeath, IsOfHalt, Not_begun, Not_connected, Not_held, Tells, TellsExport, begins, begun}
-use Rattle.lnbd_ask.specs.Waits.{Holds}
+use Rattle.lnbd_waits.specs.Waits.{Holds}
 
 -- A link that failed raised the count of faults.
 pub link_rose : (answer : Result Found InfoFault) (start now f g : ℕ) (at : State) (calls : List wire.Call) → (at ≡ state.Dead cause.LinkFailed → list_any has_failed calls ≡ true) → Blames calls f g → start ≤ f → now ≡ g

@@ -10,15 +10,15 @@ use Rattle.lnbd_poll.specs.Held.{Held}
 use Rattle.lnbd_poll.specs.Seen.{Goes, Seen, Went}
 use Rattle.lnbd_poll.specs.Turns.{Blames}
 use Rattle.lnbd_poll.proofs.TurnLemmas.{blames_on}
-use Rattle.lnbd_ask.specs.declared.conversation.Halt.TheVariants as halt
+use Rattle.lnbd_waits.specs.declared.waiting.Halt.TheVariants as halt
 use Rattle.lnbd_ask.specs.declared.stops.Stop.{Stop}
 use Rattle.lnbd_ask.specs.declared.stops.Stop.TheVariants as stop
 use Rattle.lnbd_ask.specs.declared.survey.Surveyor.{Surveyor}
 use Rattle.lnbd_ask.specs.Maps.{All_answered, AreAsked, Asked, Inquires, Is_answered, Runs_short, counting, length_at, told_by}
 use Rattle.lnbd_ask.specs.MapSteps.{AsksOne, Inquired, with_all}
-use Rattle.lnbd_ask.specs.Waits.{Holds}
+use Rattle.lnbd_waits.specs.Waits.{Holds}
 use Rattle.lnbd_ask.proofs.LayLemmas.{map_none, map_with_all, told_by_more}
-use Rattle.lnbd_ask.proofs.WaitLemmas.{blames_none}
+use Rattle.lnbd_waits.proofs.WaitLemmas.{blames_none}
 
 module _ (context : List ℕ) (block whole : ℕ) where
   -- The ranges so far: whatever the others do goes on from here.

@@ -19,9 +19,9 @@ use Rattle.lnbd_poll.specs.Held.{Held}
 use Rattle.lnbd_poll.specs.Seen.{Goes, Seen}
 use Rattle.lnbd_poll.proofs.TurnLemmas.{blames_on}
 use Rattle.lnbd_ask.specs.declared.asking.Plan.{Plan}
-use Rattle.lnbd_ask.specs.declared.conversation.Awaited.TheVariants as awaited
-use Rattle.lnbd_ask.specs.declared.conversation.Halt.{Halt}
-use Rattle.lnbd_ask.specs.declared.conversation.Halt.TheVariants as halt
+use Rattle.lnbd_waits.specs.declared.waiting.Awaited.TheVariants as awaited
+use Rattle.lnbd_waits.specs.declared.waiting.Halt.{Halt}
+use Rattle.lnbd_waits.specs.declared.waiting.Halt.TheVariants as halt
 use Rattle.lnbd_ask.specs.declared.stops.Stop.{Stop}
 use Rattle.lnbd_ask.specs.declared.stops.Stop.TheVariants as stop
 use Rattle.lnbd_ask.specs.declared.survey.Surveyor.{Surveyor}
@@ -30,7 +30,7 @@ use Rattle.lnbd_ask.specs.Asks.{parting}
 use Rattle.lnbd_ask.specs.Maps.{AreAsked, Asked, Breaks_off, Cannot_ask, HasWaited, Is_cut_short, Is_stopped, IsMapTold, Knows_all, Learned, Lesson, Parts, Runs_short, Stopped, Stops, block_of, ended, ended_at, is_agreed, is_no_context, is_parting, known_after, known_at, told_by, whole_of}
 use Rattle.lnbd_ask.specs.MapSteps.{Discussed, Inquired, IsFit, IsLesson, Taught, end_at, end_of, is_end_parting, plan_of, planned}
 use Rattle.lnbd_ask.specs.Surveys.{Surveys}
-use Rattle.lnbd_ask.specs.Waits.{Holds, Waited, Waits}
+use Rattle.lnbd_waits.specs.Waits.{Holds, Waited, Waits}
 use Rattle.lnbd_ask.proofs.LayLemmas.{map_with, multiple_of}
 
 -- ---- What is known of the export.

@@ -21,18 +21,18 @@ use Rattle.lnbd_history.specs.Entries.{Item, Framed, Lost}
 use Rattle.lnbd_history.specs.Events.{Answer, Event, History, Arrived, End}
 use Rattle.lnbd_history.specs.History.{Known, asked, change, cookies, die, ended_at, ended_closing, entered, file, file_all, file_under, flying, if_refused, in_flight, reading, request, rules, turned, with_answers}
 use Rattle.lnbd_link.specs.Call as wire
-use Rattle.lnbd_link.specs.Call.{Pause, ReadTold, Write, WriteTold, Moved, Unready, Ended, ReadFault, Sent, Full, WriteFault}
+use Rattle.lnbd_link.specs.Call.{ReadTold, Write, WriteTold, Moved, Unready, Ended, ReadFault, Sent, Full, WriteFault}
 use Rattle.lnbd_link.specs.Listed.{has_failed}
 use Rattle.lnbd_poll.specs.declared.noticed.Noticed.{Noticed}
 use Rattle.lnbd_poll.specs.declared.noticed.Noticed.TheVariants as noticed
 use Rattle.lnbd_poll.specs.Seen.{Follows, Seen}
 use Rattle.lnbd_poll.specs.Notices.{Arrives, Hears, ReadsIf, ReadsOn, Sends, WritesIf, is_reading, is_waiting, room_after}
 use Rattle.lnbd_poll.specs.Turns.{Goes_on, Stops, Told, TurnsOne, WritesAll, is_lost}
-use Rattle.lnbd_ask.specs.declared.conversation.Awaited.{Awaited}
-use Rattle.lnbd_ask.specs.declared.conversation.Halt.{Halt}
+use Rattle.lnbd_waits.specs.declared.waiting.Awaited.{Awaited}
+use Rattle.lnbd_waits.specs.declared.waiting.Halt.{Halt}
 use Rattle.lnbd_ask.specs.Asks.{Breaks_off, Parts, Talks, begins, disconnecting, is_ready, parting}
-use Rattle.lnbd_ask.proofs.StillLemmas.{untold}
-use Rattle.lnbd_ask.specs.Waits.{Is_silent, Is_still, Is_there, Moves, Runs_short, Waits}
+use Rattle.lnbd_waits.proofs.StillLemmas.{untold}
+use Rattle.lnbd_waits.specs.Waits.{Is_silent, Is_still, Is_there, Moves, Runs_short, Waits}
 
 abbrev pub is_link_failed : Cause → Bool
 is_link_failed (cause.Broke breach) = false

@@ -13,9 +13,9 @@ use Rattle.lnbd_poll.specs.declared.noticed.Noticed.TheVariants as noticed
 use Rattle.lnbd_poll.specs.Seen.{Follows, Seen}
 use Rattle.lnbd_poll.specs.Notices.{Arrives, Hears, ReadsIf, ReadsOn, Sends, WritesIf, is_reading, is_waiting}
 use Rattle.lnbd_poll.specs.Turns.{Goes_on, Stops, Told, TurnsOne, WritesAll, is_lost}
-use Rattle.lnbd_ask.specs.declared.conversation.Awaited.{Awaited}
-use Rattle.lnbd_ask.specs.declared.conversation.Halt.{Halt}
-use Rattle.lnbd_ask.specs.Waits.{Is_silent, Is_still, Is_there, Moves, Runs_short, Waits}
+use Rattle.lnbd_waits.specs.declared.waiting.Awaited.{Awaited}
+use Rattle.lnbd_waits.specs.declared.waiting.Halt.{Halt}
+use Rattle.lnbd_waits.specs.Waits.{Is_silent, Is_still, Is_there, Moves, Runs_short, Waits}
 
 module _ {K World : Type 0} (steps : World → List (Call K) → World → Type 0) (empty : (w : World) → steps w [] w) (append : (a b c : World) (xs ys : List (Call K)) → steps a xs b → steps b ys c → steps a (xs ++ ys) c) where
   -- The later history has these calls more, and they lead from one world to the other.

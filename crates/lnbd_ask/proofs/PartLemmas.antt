@@ -5,11 +5,11 @@ use Rattle.lnbd_link.proofs.Parts.{grows_none, grows_on}
 use Rattle.lnbd_poll.specs.Held.{Held}
 use Rattle.lnbd_poll.specs.Seen.{Goes, Seen}
 use Rattle.lnbd_poll.proofs.TurnLemmas.{blames_on}
-use Rattle.lnbd_ask.specs.declared.conversation.Awaited.{Awaited}
-use Rattle.lnbd_ask.specs.declared.conversation.Halt.{Halt}
+use Rattle.lnbd_waits.specs.declared.waiting.Awaited.{Awaited}
+use Rattle.lnbd_waits.specs.declared.waiting.Halt.{Halt}
 use Rattle.lnbd_ask.specs.Parts.{Acts, ActsOn, Done, Follows, Gives, Part, Stops, Then, no_value}
-use Rattle.lnbd_ask.specs.Waits.{Holds, Waited, Waits}
-use Rattle.lnbd_ask.proofs.WaitLemmas.{blames_none}
+use Rattle.lnbd_waits.specs.Waits.{Holds, Waited, Waits}
+use Rattle.lnbd_waits.proofs.WaitLemmas.{blames_none}
 use Rattle.lnbd_callbacks.specs.Calls.{Call}
 
 -- A part leads from one place of the handle to another.

@@ -1,5 +1,5 @@
 -- How an export is asked for, and what comes of it.
-use Rattle.std.specs.Prelude.{◌≡◌, ◌⊎◌, ℕ, Bool, true, false, List, [], ◌∷◌, ◌++◌, Option, Some, None, Result, Ok, Err, codes}
+use Rattle.std.specs.Prelude.{◌≡◌, ◌⊎◌, ℕ, List, [], ◌∷◌, ◌++◌, Option, Some, None, Result, Ok, Err}
 use Rattle.lnbd_model.specs.declared.breach.Breach.TheVariants as breach
 use Rattle.lnbd_model.specs.declared.breach.Broken.TheVariants as broken
 use Rattle.lnbd_model.specs.declared.export.ExportInfo.{ExportInfo}
@@ -9,7 +9,6 @@ use Rattle.lnbd_model.specs.declared.state.State.{State}
 use Rattle.lnbd_model.specs.declared.state.State.TheVariants as state
 use Rattle.lnbd_model.specs.declared.target.Place.{Place}
 use Rattle.lnbd_callbacks.specs.Calls.{Call}
-use Rattle.lnbd_history.specs.Events.{History, Name, Context, Structured, Extended, Set, Start, Disconnect}
 use Rattle.lnbd_history.specs.Answers.{info_after, state_after}
 use Rattle.lnbd_link.specs.Call as wire
 use Rattle.lnbd_link.specs.Call.{Connect, Shut}
@@ -17,44 +16,14 @@ use Rattle.lnbd_link.specs.Part.{Grows}
 use Rattle.lnbd_info.specs.declared.told.Found.{Found}
 use Rattle.lnbd_poll.specs.Seen.{Seen}
 use Rattle.lnbd_poll.specs.Turns.{Blames}
-use Rattle.lnbd_ask.specs.declared.conversation.Awaited.TheVariants as awaited
-use Rattle.lnbd_ask.specs.declared.conversation.Halt.{Halt}
-use Rattle.lnbd_ask.specs.declared.conversation.Halt.TheVariants as halt
+use Rattle.lnbd_waits.specs.declared.waiting.Awaited.TheVariants as awaited
+use Rattle.lnbd_waits.specs.declared.waiting.Halt.{Halt}
+use Rattle.lnbd_waits.specs.declared.waiting.Halt.TheVariants as halt
 use Rattle.lnbd_ask.specs.declared.fault.InfoFault.{InfoFault}
 use Rattle.lnbd_ask.specs.declared.fault.InfoFault.TheVariants as fault
 use Rattle.lnbd_ask.specs.declared.quiet.Quiet.{Quiet}
-use Rattle.lnbd_ask.specs.Waits.{Waits}
-
--- What was asked of the server.
-
--- the meta context of the blocks that are allocated (NBD protocol, "base:allocation metadata context")
-abbrev pub base_allocation : List ℕ
-base_allocation = codes "base:allocation"
-
--- extended headers, structured replies and this meta context are asked for, and then the export of this name: the latest stands first
-abbrev pub begun : {K : Type 0} → (name context : List ℕ) → History K
-begun name context = Start ∷ Set (Name name) ∷ Set (Context context) ∷ Set (Structured true) ∷ Set (Extended true) ∷ []
-
--- a link on which this is about to be asked
-abbrev pub begins : {K : Type 0} → (link : ℕ) → (name context : List ℕ) → Seen K
-begins link name context = record { link = link; history = begun name context; unread = [] }
-
-abbrev pub is_ready : State → Bool
-is_ready state.Created = false
-is_ready state.Negotiating = false
-is_ready state.OptMode = false
-is_ready state.Ready = true
-is_ready state.Closing = false
-is_ready state.Closed = false
-is_ready (state.Dead cause) = false
-
-abbrev pub disconnecting : {K : Type 0} → Bool → History K → History K
-disconnecting true history = Disconnect ∷ history
-disconnecting false history = history
-
--- The end is asked for where commands may be issued.
-abbrev pub parting : {K : Type 0} → Seen K → Seen K
-parting seen = record { link = seen.link; history = disconnecting (is_ready (state_after seen.history)) seen.history; unread = seen.unread }
+pub use Rattle.lnbd_waits.specs.Begun.{base_allocation, begun, begins, is_ready, disconnecting, parting}
+use Rattle.lnbd_waits.specs.Waits.{Waits}
 
 -- Negotiation comes to a stand, and then the end is asked for and written.
 pub data Talks {K World : Type 0} (steps : World → List (Call K) → World → Type 0) : Seen K → World → List wire.Call → Seen K → World → Result (Unit {0}) Halt → Type 0 where

@@ -1,4 +1,3 @@
-pub mod Waits
 pub mod Quiet
 pub mod Asks
 pub mod Surveys

@@ -19,15 +19,15 @@ use Rattle.lnbd_link.specs.Call.{Connect, Shut}
 use Rattle.lnbd_link.specs.Part.{Grows}
 use Rattle.lnbd_info.specs.declared.told.Entry.{Entry}
 use Rattle.lnbd_poll.specs.Seen.{Seen}
-use Rattle.lnbd_ask.specs.declared.conversation.Awaited.TheVariants as awaited
-use Rattle.lnbd_ask.specs.declared.conversation.Halt.{Halt}
-use Rattle.lnbd_ask.specs.declared.conversation.Halt.TheVariants as halt
+use Rattle.lnbd_waits.specs.declared.waiting.Awaited.TheVariants as awaited
+use Rattle.lnbd_waits.specs.declared.waiting.Halt.{Halt}
+use Rattle.lnbd_waits.specs.declared.waiting.Halt.TheVariants as halt
 use Rattle.lnbd_ask.specs.declared.fault.InfoFault.{InfoFault}
 use Rattle.lnbd_ask.specs.declared.fault.InfoFault.TheVariants as fault
 use Rattle.lnbd_ask.specs.declared.quiet.Quiet.{Quiet}
 use Rattle.lnbd_ask.specs.Asks.{IsOfDeath, IsOfHalt, IsLink}
 use Rattle.lnbd_ask.specs.Parts.{Acts, Gives, Part, Then, no_value}
-use Rattle.lnbd_ask.specs.Waits.{Waits}
+use Rattle.lnbd_waits.specs.Waits.{Waits}
 
 -- What is done on the handle.
 

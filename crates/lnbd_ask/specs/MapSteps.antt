@@ -13,7 +13,7 @@ use Rattle.lnbd_link.specs.Part.{Grows}
 use Rattle.lnbd_poll.specs.Seen.{Seen}
 use Rattle.lnbd_poll.specs.Turns.{Blames}
 use Rattle.lnbd_ask.specs.declared.asking.Plan.{Plan}
-use Rattle.lnbd_ask.specs.declared.conversation.Halt.{Halt}
+use Rattle.lnbd_waits.specs.declared.waiting.Halt.{Halt}
 use Rattle.lnbd_ask.specs.declared.fault.InfoFault.{InfoFault}
 use Rattle.lnbd_ask.specs.declared.stops.Stop.{Stop}
 use Rattle.lnbd_ask.specs.declared.stops.Stop.TheVariants as stop

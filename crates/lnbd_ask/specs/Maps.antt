@@ -18,7 +18,7 @@ use Rattle.lnbd_callbacks.specs.Calls.{Call}
 use Rattle.lnbd_history.specs.Answers.{info_after, state_after}
 use Rattle.lnbd_history.specs.Commands.{Command}
 use Rattle.lnbd_history.specs.Entries as entries
-use Rattle.lnbd_history.specs.Events.{History, Issue, Refuse}
+use Rattle.lnbd_history.specs.Events.{ClearLog, History, Issue, Refuse}
 use Rattle.lnbd_history.specs.History.{reading}
 use Rattle.lnbd_history.specs.Refusals.{minimum}
 use Rattle.lnbd_handle.specs.Issues.{block_status_of}
@@ -27,10 +27,10 @@ use Rattle.lnbd_link.specs.Call as wire
 use Rattle.lnbd_link.specs.Call.{Connect, Shut}
 use Rattle.lnbd_link.specs.Part.{Grows}
 use Rattle.lnbd_poll.specs.Seen.{Seen}
-use Rattle.lnbd_ask.specs.declared.conversation.Awaited.{Awaited}
-use Rattle.lnbd_ask.specs.declared.conversation.Awaited.TheVariants as awaited
-use Rattle.lnbd_ask.specs.declared.conversation.Halt.{Halt}
-use Rattle.lnbd_ask.specs.declared.conversation.Halt.TheVariants as halt
+use Rattle.lnbd_waits.specs.declared.waiting.Awaited.{Awaited}
+use Rattle.lnbd_waits.specs.declared.waiting.Awaited.TheVariants as awaited
+use Rattle.lnbd_waits.specs.declared.waiting.Halt.{Halt}
+use Rattle.lnbd_waits.specs.declared.waiting.Halt.TheVariants as halt
 use Rattle.lnbd_ask.specs.declared.fault.InfoFault.{InfoFault}
 use Rattle.lnbd_ask.specs.declared.fault.InfoFault.TheVariants as fault
 use Rattle.lnbd_ask.specs.declared.stops.Stop.{Stop}
@@ -39,7 +39,7 @@ use Rattle.lnbd_ask.specs.declared.survey.Surveyor.{Surveyor}
 use Rattle.lnbd_ask.specs.declared.survey.Survey.{Survey}
 use Rattle.lnbd_ask.specs.Asks.{IsLink, IsOfDeath, IsOfHalt, begins, parting}
 use Rattle.lnbd_ask.specs.Surveys.{Surveys, error_in, told_in}
-use Rattle.lnbd_ask.specs.Waits.{Waits}
+use Rattle.lnbd_waits.specs.Waits.{Waits}
 
 -- ---- What is asked, and what counts of the answers.
 
@@ -116,8 +116,16 @@ HasWaited awaited before calls after end = (world world' : Survey) × Waits Surv
 abbrev pub status_of : (offset length : ℕ) → Command Surveyor
 status_of offset length = block_status_of length offset (record {}) (record {}) 0
 
+abbrev pub sent : (offset length : ℕ) → Seen Surveyor → Seen Surveyor
+sent offset length seen = record { link = seen.link; history = Issue (status_of offset length) ∷ seen.history; unread = seen.unread }
+
+-- the notes of callbacks are dropped
+abbrev pub cleared : Seen Surveyor → Seen Surveyor
+cleared seen = record { link = seen.link; history = ClearLog ∷ seen.history; unread = seen.unread }
+
+-- A range is asked for, and then the notes of the answers before it are dropped.
 abbrev pub issued : (offset length : ℕ) → Seen Surveyor → Seen Surveyor
-issued offset length seen = record { link = seen.link; history = Issue (status_of offset length) ∷ seen.history; unread = seen.unread }
+issued offset length seen = cleared (sent offset length seen)
 
 abbrev pub refused : (offset length : ℕ) → Why → Seen Surveyor → Seen Surveyor
 refused offset length reason seen = record { link = seen.link; history = Refuse (status_of offset length) reason ∷ seen.history; unread = seen.unread }

@@ -4,9 +4,9 @@ use Rattle.lnbd_link.specs.Call as wire
 use Rattle.lnbd_poll.specs.Held.{Held}
 use Rattle.lnbd_poll.specs.Seen.{Seen}
 use Rattle.lnbd_poll.specs.Turns.{Blames}
-use Rattle.lnbd_ask.specs.declared.conversation.Halt.{Halt}
-use Rattle.lnbd_ask.specs.declared.conversation.Halt.TheVariants as halt
-use Rattle.lnbd_ask.specs.Waits.{Holds}
+use Rattle.lnbd_waits.specs.declared.waiting.Halt.{Halt}
+use Rattle.lnbd_waits.specs.declared.waiting.Halt.TheVariants as halt
+use Rattle.lnbd_waits.specs.Waits.{Holds}
 
 -- It leads by these calls from where the handle stood, and from one world, to where it then stands, and to another. It gives a value or breaks off.
 abbrev pub Part : Type 0 → Type 0 → Type 0 → Type 1

@@ -6,14 +6,14 @@ ghost use Rattle.lnbd_records.specs.Options.{opt_info, opt_list};
 ghost use Rattle.lnbd_history.specs.Answers.{listed_after};
 ghost use Rattle.lnbd_ask.specs.Lists.{aborting, asking, entry_after, naming, short_of};
 ghost use Rattle.lnbd_ask.specs.Parts.{ActsOn, no_value};
-ghost use Rattle.lnbd_ask.specs.Waits.{Holds};
+ghost use Rattle.lnbd_waits.specs.Waits.{Holds};
 
-use crate::conversation::Halt;
 use crate::entries::{copy_listing, entry_of};
 use lnbd_handle::OptFault;
 use lnbd_info::Entry;
 use lnbd_model::{Listed, Listing, NoMemory, Text};
 use lnbd_poll::Handles;
+use lnbd_waits::Halt;
 use std::alloc::Global;
 
 /// What breaks off where an option was not asked: want of memory.

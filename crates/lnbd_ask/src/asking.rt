@@ -6,11 +6,10 @@ ghost use Rattle.lnbd_link.specs.Contents.{Keeps};
 ghost use Rattle.lnbd_link.specs.Count.{Rises};
 ghost use Rattle.lnbd_poll.specs.Seen.{Goes, Seen};
 ghost use Rattle.lnbd_ask.specs.declared.survey.Surveyor.{Surveyor as Calls};
-ghost use Rattle.lnbd_ask.specs.Maps.{issued};
+ghost use Rattle.lnbd_ask.specs.Maps.{cleared, issued, sent};
 ghost use Rattle.lnbd_ask.specs.MapSteps.{AsksOne, Inquired, IsFit, IsNotIssued};
-ghost use Rattle.lnbd_ask.specs.Waits.{Holds, patience};
+ghost use Rattle.lnbd_waits.specs.Waits.{Holds, patience};
 
-use crate::conversation::{Awaited, Halt, settle};
 use crate::laying::lay;
 use crate::stops::{Stop, stop_of};
 use crate::survey::{Survey, Surveyor};
@@ -18,6 +17,7 @@ use lnbd_handle::IssueFault;
 use lnbd_link::Wires;
 use lnbd_model::{Extent, NoMemory};
 use lnbd_poll::Handles;
+use lnbd_waits::{Awaited, Halt, settle};
 
 /// The most bytes that are asked for at once.
 const MAX_ASKED: u64 = 134_217_728;
@@ -34,14 +34,14 @@ pub(crate) struct Plan {
 }
 
 /// Issues the block status of so many bytes from here on.
-fn issue(
+fn send(
     handles: &mut Handles<Surveyor>,
     world: &mut Survey,
     offset: u64,
     size: u64,
 ) -> Result<(), NoMemory>
     requires { length handles.old ≡ 1 }
-    ensures ok { OnOk result ((seen : Seen Calls) → Holds handles.old seen → Holds handles.new (issued offset size seen)) }
+    ensures ok { OnOk result ((seen : Seen Calls) → Holds handles.old seen → Holds handles.new (sent offset size seen)) }
     ensures world { OnOk result (world.new ≡ world.old) }
     ensures err { OnErr result ((seen : Seen Calls) → Holds handles.old seen → (after : Seen Calls) × Holds handles.new after × IsNotIssued offset size seen after) }
 {
@@ -58,6 +58,35 @@ fn issue(
                 done: _,
             },
         ) => Err(NoMemory),
+    }
+}
+
+/// Drops the notes of callbacks, so that they don't grow with each question.
+fn clear_log(handles: &mut Handles<Surveyor>)
+    requires { length handles.old ≡ 1 }
+    ensures { (seen : Seen Calls) → Holds handles.old seen → Holds handles.new (cleared seen) }
+{
+    handles.get_mut(0).clear_log();
+}
+
+/// Issues the block status of so many bytes from here on, and drops the notes of the answers before it.
+fn issue(
+    handles: &mut Handles<Surveyor>,
+    world: &mut Survey,
+    offset: u64,
+    size: u64,
+) -> Result<(), NoMemory>
+    requires { (seen : Seen Calls) × Holds handles.old seen }
+    ensures ok { OnOk result ((seen : Seen Calls) → Holds handles.old seen → Holds handles.new (issued offset size seen)) }
+    ensures world { OnOk result (world.new ≡ world.old) }
+    ensures err { OnErr result ((seen : Seen Calls) → Holds handles.old seen → (after : Seen Calls) × Holds handles.new after × IsNotIssued offset size seen after) }
+{
+    match send(handles, world, offset, size) {
+        Ok(()) => {
+            clear_log(handles);
+            Ok(())
+        }
+        Err(fault) => Err(fault),
     }
 }
 

@@ -8,13 +8,11 @@ ghost use Rattle.lnbd_link.specs.Count.{Rises};
 ghost use Rattle.lnbd_link.specs.Part.{Adds};
 ghost use Rattle.lnbd_poll.specs.Seen.{Goes, Seen};
 ghost use Rattle.lnbd_standing.specs.Standing.{StandsFor};
-ghost use Rattle.lnbd_ask.specs.Waits.{Holds, patience};
-ghost use Rattle.lnbd_ask.specs.Asks.{Collected, CollectedOn, Conversed, IfLink, IfSilent, Talked, base_allocation, begins, begun, parting};
+ghost use Rattle.lnbd_waits.specs.Waits.{Holds, patience};
+ghost use Rattle.lnbd_ask.specs.Asks.{Collected, CollectedOn, Conversed, IfLink, IfSilent, Talked, base_allocation, begins, begun};
 ghost use Rattle.lnbd_ask.specs.Quiet.{Passes};
 
-use crate::conversation::{Awaited, Halt, settle};
 use crate::fault::InfoFault;
-use crate::opening::{base_allocation, open};
 use crate::quiet::Quiet;
 use crate::telling::{Counts, tell};
 use lnbd_callbacks::Caller;
@@ -23,15 +21,8 @@ use lnbd_info::Found;
 use lnbd_link::Wires;
 use lnbd_model::{NoMemory, Place};
 use lnbd_poll::Handles;
+use lnbd_waits::{Awaited, Halt, base_allocation, open, part, settle};
 use std::alloc::Global;
-
-/// Asks for the end, where commands may be issued.
-pub(crate) fn part<K>(handles: &mut Handles<K>)
-    requires { length handles.old ≡ 1 }
-    ensures { (seen : Seen K) → Holds handles.old seen → Holds handles.new (parting seen) }
-{
-    let _ = handles.get_mut(0).aio_disconnect();
-}
 
 /// Waits until negotiation comes to a stand, and then asks for the end and waits until that is written.
 fn talk<K: Caller, W: Wires>(

@@ -7,16 +7,16 @@ ghost use Rattle.lnbd_link.specs.Count.{Rises};
 ghost use Rattle.lnbd_poll.specs.Seen.{Goes, Seen};
 ghost use Rattle.lnbd_ask.specs.Lists.{AnswersInfo, AnswersList, AsksEach, AsksFor, AsksInfo, AsksList, EndsWith, GivesUp, Inquires, NegotiatesList, Surveys};
 ghost use Rattle.lnbd_ask.specs.Parts.{Done};
-ghost use Rattle.lnbd_ask.specs.Waits.{Holds, patience};
+ghost use Rattle.lnbd_waits.specs.Waits.{Holds, patience};
 
 use crate::acts::{abort, ask_info, ask_list, name_export, tell_entry, tell_listing};
-use crate::conversation::{Awaited, Halt, settle};
 use crate::entries::Entries;
 use lnbd_callbacks::Caller;
 use lnbd_info::Entry;
 use lnbd_link::Wires;
 use lnbd_model::{Listed, Listing};
 use lnbd_poll::Handles;
+use lnbd_waits::{Awaited, Halt, settle};
 use std::alloc::Global;
 
 /// Waits for the answer to LIST, and takes the exports that it told.

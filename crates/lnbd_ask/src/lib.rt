@@ -5,7 +5,6 @@
 mod acts;
 mod asking;
 mod collecting;
-mod conversation;
 mod copies;
 mod entries;
 mod fault;
@@ -13,7 +12,6 @@ mod inquiring;
 mod laying;
 mod listing;
 mod mapping;
-mod opening;
 mod quiet;
 mod stops;
 mod survey;

@@ -12,11 +12,10 @@ ghost use Rattle.lnbd_standing.specs.Standing.{StandsFor};
 ghost use Rattle.lnbd_ask.specs.Asks.{IfLink, IfSilent};
 ghost use Rattle.lnbd_ask.specs.Lists.{HasInquired, HasListed, HasListedOn, TellsAt, TellsEntries, answered, begins_listing, begun_listing};
 ghost use Rattle.lnbd_ask.specs.Quiet.{Passes};
-ghost use Rattle.lnbd_ask.specs.Waits.{Holds, patience};
-ghost use Rattle.lnbd_ask.specs.declared.conversation.Halt.TheVariants as halt;
+ghost use Rattle.lnbd_waits.specs.Waits.{Holds, patience};
+ghost use Rattle.lnbd_waits.specs.declared.waiting.Halt.TheVariants as halt;
 
 use crate::collecting::hang_up;
-use crate::conversation::Halt;
 use crate::entries::Entries;
 use crate::fault::InfoFault;
 use crate::inquiring::inquire;
@@ -28,6 +27,7 @@ use lnbd_history::OptAnswer;
 use lnbd_link::Wires;
 use lnbd_model::{NoMemory, Place, State};
 use lnbd_poll::Handles;
+use lnbd_waits::Halt;
 use std::alloc::Global;
 
 /// The option that asks for a server's exports (NBD protocol, "NBD_OPT_LIST").

@@ -16,13 +16,10 @@ ghost use Rattle.lnbd_ask.specs.declared.survey.Surveyor.{Surveyor as Calls};
 ghost use Rattle.lnbd_ask.specs.Asks.{IfLink, IfSilent, begins, begun};
 ghost use Rattle.lnbd_ask.specs.Maps.{Mapped, export_known, is_agreed, known_after, known_at, least_block};
 ghost use Rattle.lnbd_ask.specs.MapSteps.{Discussed, IsFit, MappedOn, Talked_over, Taught, plan_of, planned};
-ghost use Rattle.lnbd_ask.specs.Waits.{Holds, patience};
+ghost use Rattle.lnbd_waits.specs.Waits.{Holds, patience};
 
 use crate::asking::{Plan, inquire};
-use crate::collecting::part;
-use crate::conversation::{Awaited, Halt, settle};
 use crate::fault::InfoFault;
-use crate::opening::open;
 use crate::stops::{Stop, end_of, is_end_parting, of_stop};
 use crate::survey::{Survey, Surveyor};
 use crate::telling::Counts;
@@ -33,6 +30,7 @@ use lnbd_model::{
     Blocks, Breach, Context, ExportInfo, Extent, Extents, NoMemory, Place, State, Text,
 };
 use lnbd_poll::Handles;
+use lnbd_waits::{Awaited, Halt, open, part, settle};
 use std::alloc::Global;
 
 /// The largest least block (NBD protocol, "Block size constraints").

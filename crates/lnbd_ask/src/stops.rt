@@ -2,16 +2,16 @@
 
 ghost use Rattle.std.specs.Prelude.{◌≡◌, ◌==◌, if◌then◌else◌, Ok, Err};
 ghost use Rattle.lnbd_model.specs.declared.state.Cause.TheVariants as cause;
-ghost use Rattle.lnbd_ask.specs.declared.conversation.Halt.TheVariants as halt;
+ghost use Rattle.lnbd_waits.specs.declared.waiting.Halt.TheVariants as halt;
 ghost use Rattle.lnbd_ask.specs.declared.stops.Stop.TheVariants as stop;
 ghost use Rattle.lnbd_ask.specs.Asks.{IfLink, IfSilent};
 ghost use Rattle.lnbd_ask.specs.Maps.{IsOfStop, death_stop, failed_by, is_no_context, stop_of, told_stop};
 ghost use Rattle.lnbd_ask.specs.MapSteps.{end_at, end_of, is_end_parting};
 
-use crate::conversation::Halt;
 use crate::fault::InfoFault;
 use crate::telling::{Counts, of_death, of_halt};
 use lnbd_model::{Breach, Broken, Cause, EPROTO, State};
+use lnbd_waits::Halt;
 
 /// Why no more is asked.
 #[derive(Clone, Copy, Debug, PartialEq, Eq)]

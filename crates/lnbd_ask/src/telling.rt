@@ -6,16 +6,16 @@ ghost use Rattle.lnbd_history.specs.Answers.{info_after, state_after};
 ghost use Rattle.lnbd_model.specs.declared.state.State.TheVariants as state;
 ghost use Rattle.lnbd_model.specs.declared.state.Cause.TheVariants as cause;
 ghost use Rattle.lnbd_poll.specs.Seen.{Seen};
-ghost use Rattle.lnbd_ask.specs.Waits.{Holds};
+ghost use Rattle.lnbd_waits.specs.Waits.{Holds};
 ghost use Rattle.lnbd_ask.specs.Asks.{IfLink, IfSilent, IsOfDeath, IsOfHalt, Tells, TellsExport, TellsState};
-ghost use Rattle.lnbd_ask.specs.declared.conversation.Halt.TheVariants as halt;
+ghost use Rattle.lnbd_waits.specs.declared.waiting.Halt.TheVariants as halt;
 
-use crate::conversation::Halt;
 use crate::copies::{copy_info, copy_place};
 use crate::fault::InfoFault;
 use lnbd_info::Found;
 use lnbd_model::{Breach, Broken, Cause, ExportInfo, NoMemory, Place, State};
 use lnbd_poll::Handles;
+use lnbd_waits::Halt;
 use std::alloc::Global;
 
 /// What the wires counted.

@@ -1,8 +1,9 @@
 mod InputLemmas
-mod RunLemmas
-pub mod InfoLemmas
-pub mod HeardLemmas
-pub mod ServeLemmas
-pub mod CopyLemmas
-pub mod CountLemmas
+mod CallLemmas
+mod CopyLemmas
+mod EndLemmas
+mod HeardLemmas
+mod InfoLemmas
+mod ServeLemmas
+mod ToolLemmas
 pub mod TrialLemmas

@@ -1,5 +1,5 @@
 -- What a server is asked for nbdinfo, what it told, and what is printed of that.
-use Rattle.std.specs.Prelude.{◌≡◌, ◌≢◌, ◌∷◌, ℕ, Bool, true, false, List, [], Option, Result, Ok, Err, bytes_eq, codes}
+use Rattle.std.specs.Prelude.{◌≡◌, ◌⊎◌, ◌∷◌, ℕ, Bool, true, false, List, [], Option, Some, None, Result, Ok, Err, bytes_eq, codes}
 use Rattle.lnbd_model.specs.declared.export.ExportInfo.{ExportInfo}
 use Rattle.lnbd_model.specs.declared.export.Extent.{Extent}
 use Rattle.lnbd_model.specs.declared.fault.NoMemory.{NoMemory}
@@ -20,8 +20,10 @@ use Rattle.lnbd_ask.specs.Maps.{Mapped}
 use Rattle.lnbd_ask.specs.Quiet.{Passes}
 use Rattle.lnbd_ask.specs.declared.fault.InfoFault.{InfoFault}
 use Rattle.lnbd_ask.specs.declared.fault.InfoFault.TheVariants as info
-use Rattle.lnbd_cli.specs.declared.ending.Uninformed.{Uninformed}
-use Rattle.lnbd_cli.specs.declared.ending.Uninformed.TheVariants as why
+use Rattle.lnbd_cli.specs.declared.ending.Fault.{Fault}
+use Rattle.lnbd_cli.specs.declared.ending.Fault.TheVariants as fault
+use Rattle.lnbd_cli.specs.declared.ending.Ruling.TheVariants as ruling
+use Rattle.lnbd_cli.specs.Ends.{is_one_of}
 use Rattle.lnbd_cli.specs.declared.hearing.News.{News}
 
 -- The texts.
@@ -107,32 +109,32 @@ Says (what.Totals context) json place told told' text end = SaysMap true json co
 
 -- The server was asked by these calls, and this came of it in place of a text.
 
--- (that no context is agreed is no fault of an export or of a list)
-abbrev pub FailsExport : Place → (told told' : Option (List Call)) → Uninformed → Type 0
-FailsExport place told told' reason = (fault : InfoFault) × Collected Passes place told told' (Err fault) × (reason ≡ why.Asked fault) × (fault ≢ info.NoContext)
+-- What is told of it. A context that was not agreed is told with its name; of an export and of a list there is none.
+abbrev pub IsToldAs : InfoFault → (context : Option (List ℕ)) → Fault → Type 0
+IsToldAs (info.Peer option code) context why = why ≡ fault.Told option code
+IsToldAs (info.Broke broken) context why = why ≡ fault.Broke broken
+IsToldAs (info.Link before after) context why = why ≡ fault.Link
+IsToldAs (info.Silent idles) context why = why ≡ fault.Silent
+IsToldAs info.NoMemory context why = why ≡ fault.NoMemory
+IsToldAs info.NoContext (Some name) why = why ≡ fault.Rule (ruling.NoContext name)
+IsToldAs info.NoContext None why = ⊥
 
-abbrev pub FailsList : Place → (told told' : Option (List Call)) → Uninformed → Type 0
-FailsList place told told' reason = (fault : InfoFault) × HasListed Passes place told told' (Err fault) × (reason ≡ why.Asked fault) × (fault ≢ info.NoContext)
+abbrev pub FailsExport : Place → (told told' : Option (List Call)) → Fault → Type 0
+FailsExport place told told' why = (fault : InfoFault) × Collected Passes place told told' (Err fault) × IsToldAs fault None why
 
--- what came of asking for a map: where its context was not agreed, that is told with the context's name
-abbrev pub unmapped : (context : List ℕ) → InfoFault → Uninformed
-unmapped context info.NoContext = why.NoContext context
-unmapped context (info.Peer option code) = why.Asked (info.Peer option code)
-unmapped context (info.Broke broken) = why.Asked (info.Broke broken)
-unmapped context (info.Link before after) = why.Asked (info.Link before after)
-unmapped context (info.Silent idles) = why.Asked (info.Silent idles)
-unmapped context info.NoMemory = why.Asked info.NoMemory
+abbrev pub FailsList : Place → (told told' : Option (List Call)) → Fault → Type 0
+FailsList place told told' why = (fault : InfoFault) × HasListed Passes place told told' (Err fault) × IsToldAs fault None why
 
-abbrev pub FailsMap : (context : List ℕ) → Place → (told told' : Option (List Call)) → Uninformed → Type 0
-FailsMap context place told told' reason = (fault : InfoFault) × Mapped place context told told' (Err fault) × (reason ≡ unmapped context fault)
+abbrev pub FailsMap : (context : List ℕ) → Place → (told told' : Option (List Call)) → Fault → Type 0
+FailsMap context place told told' why = (fault : InfoFault) × Mapped place context told told' (Err fault) × IsToldAs fault (Some context) why
 
-abbrev pub Fails : What → Place → (told told' : Option (List Call)) → Uninformed → Type 0
-Fails what.Listing place told told' reason = FailsExport place told told' reason
-Fails what.Size place told told' reason = FailsExport place told told' reason
-Fails (what.Test predicate) place told told' reason = FailsExport place told told' reason
-Fails what.List place told told' reason = FailsList place told told' reason
-Fails (what.Map context) place told told' reason = FailsMap context place told told' reason
-Fails (what.Totals context) place told told' reason = FailsMap context place told told' reason
+abbrev pub Fails : What → Place → (told told' : Option (List Call)) → Fault → Type 0
+Fails what.Listing place told told' why = FailsExport place told told' why
+Fails what.Size place told told' why = FailsExport place told told' why
+Fails (what.Test predicate) place told told' why = FailsExport place told told' why
+Fails what.List place told told' why = FailsList place told told' why
+Fails (what.Map context) place told told' why = FailsMap context place told told' why
+Fails (what.Totals context) place told told' why = FailsMap context place told told' why
 
 -- The server was asked by these calls, whatever it answered.
 abbrev pub WasAsked : What → Place → (told told' : Option (List Call)) → Type 0
@@ -143,27 +145,15 @@ WasAsked what.List place told told' = (answer : Result (List Entry) InfoFault) �
 WasAsked (what.Map context) place told told' = (answer : Result (List Extent) InfoFault) × Mapped place context told told' answer
 WasAsked (what.Totals context) place told told' = (answer : Result (List Extent) InfoFault) × Mapped place context told told' answer
 
+-- Why there is no text: this came of the asking, or memory ran out for it.
+abbrev pub Unheard : What → Place → (told told' : Option (List Call)) → Fault → Type 0
+Unheard what place told told' why = Fails what place told told' why ⊎ ((why ≡ fault.NoMemory) × WasAsked what place told told')
+
 -- what was heard, unless memory ran out for its text
-abbrev pub heard : Result News NoMemory → Result News Uninformed
+abbrev pub heard : Result News NoMemory → Result News Fault
 heard (Ok news) = Ok news
-heard (Err short) = Err why.NoMemory
+heard (Err short) = Err fault.NoMemory
 
--- why there is no text: memory ran out for it, a map's context was not agreed, or what else came of the asking
-abbrev pub Unheard : What → Place → (told told' : Option (List Call)) → Uninformed → Type 0
-Unheard what place told told' why.NoMemory = WasAsked what place told told'
-Unheard what place told told' (why.Asked fault) = Fails what place told told' (why.Asked fault)
-Unheard what place told told' (why.NoContext context) = Fails what place told told' (why.NoContext context)
-Unheard what place told told' (why.Risen risen) = ⊥
-Unheard what place told told' (why.Refused code) = ⊥
-Unheard what place told told' why.Output = ⊥
-Unheard what place told told' why.Usage = ⊥
-Unheard what place told told' (why.Uri fault) = ⊥
-
--- a map is asked for, or its sums
-abbrev pub IsOfMap : What → Type 0
-IsOfMap (what.Map context) = Unit {0}
-IsOfMap (what.Totals context) = Unit {0}
-IsOfMap what.Listing = ⊥
-IsOfMap what.List = ⊥
-IsOfMap what.Size = ⊥
-IsOfMap (what.Test predicate) = ⊥
+-- the statuses of what comes of the asking in place of a text
+abbrev pub is_heard : (status : ℕ) → Bool
+is_heard status = is_one_of (3 ∷ 4 ∷ 5 ∷ 6 ∷ 7 ∷ 9 ∷ []) status

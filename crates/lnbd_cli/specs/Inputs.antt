@@ -3,8 +3,6 @@ use Rattle.std.specs.Prelude.{◌≡◌, ◌≤◌, ℕ, List, [], Option, Some,
 use Rattle.lnbd_link.specs.Count.{Rises}
 use Rattle.lnbd_lines.specs.declared.line.Line.{Line}
 use Rattle.lnbd_lines.specs.Scripts.{IsFault, IsScript}
-use Rattle.lnbd_cli.specs.declared.fault.Fault.{Fault}
-use Rattle.lnbd_cli.specs.declared.fault.Fault.TheVariants as fault
 use Rattle.lnbd_cli.specs.declared.input.Unread.{Unread}
 use Rattle.lnbd_cli.specs.declared.input.Unread.TheVariants as unread
 
@@ -31,8 +29,3 @@ abbrev pub HasCause : Unread → ℕ → ℕ → Type 0
 HasCause (unread.Line number) faults faults' = Unit {0}
 HasCause unread.Failed faults faults' = Rises 1 faults faults'
 HasCause unread.NoMemory faults faults' = Unit {0}
-
-abbrev pub fault_of : Unread → Fault
-fault_of (unread.Line number) = fault.Line number
-fault_of unread.Failed = fault.Input
-fault_of unread.NoMemory = fault.NoMemory

@@ -1,9 +1,11 @@
-pub mod Counted
-pub mod Statuses
+pub mod Ends
 pub mod Inputs
-pub mod Runs
+pub mod Asks
+pub mod Calls
 pub mod Heard
 pub mod Informs
 pub mod Serves
 pub mod Copies
 pub mod Trials
+pub mod Runs
+pub mod Did

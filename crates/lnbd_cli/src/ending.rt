@@ -1,140 +1,261 @@
-//! How a run of nbdinfo ends: its status and its line (nbdinfo(1)). What was asked, and what is printed on `out`, is no matter here.
+//! How a run of any tool ends: its status and its line. What the tool was asked, and what it printed on `out`, is no matter here.
 
-ghost use Rattle.std.specs.Prelude.{◌≡◌, ◌++◌, OnOk, string_bytes};
-ghost use Rattle.lnbd_cli.specs.Informs.{asked_text, ended, info_line, status_of_asked, status_of_info, status_of_why, why_text};
+ghost use Rattle.std.specs.Prelude.{◌≡◌, ◌≢◌, ◌++◌, Ok, Err, OnOk, true, false, string_bytes};
+ghost use Rattle.lnbd_cli.specs.declared.ending.Fault.TheVariants as fault;
+ghost use Rattle.lnbd_cli.specs.declared.ending.Ruling.TheVariants as ruling;
+ghost use Rattle.lnbd_cli.specs.Ends.{Prints, Tells, broken_text, end_line, fault_line, fault_text, peer_text, rule_text, ruling_text, status_of, status_of_fault};
 
-use crate::counts::Risen;
-use crate::fault::{push_broken, risen_text, status_of_risen};
-use lnbd_ask::InfoFault;
-use lnbd_model::Text;
+use lnbd_link::Sink;
+use lnbd_model::{Broken, Text};
+use lnbd_plan::Rule;
+use lnbd_script::put;
 use lnbd_uri::UriFault;
-use std::alloc::AllocError;
+use std::alloc::{AllocError, Global};
 
-/// Why nbdinfo does not end well.
+/// A rule that does not hold.
 #[derive(Debug, Drop)]
-pub(crate) enum Uninformed {
-    /// The words are none of the tool's.
-    Usage,
-    /// The address is none.
-    Uri(UriFault),
+pub(crate) enum Ruling {
+    /// Between the two sides of a copy.
+    Copy(Rule),
+    /// The server did not agree to this context, in which a map was asked for.
+    NoContext(Text),
+    /// So many bytes are more than a selftest copies.
+    TooLarge(u64),
+}
+
+/// Why a run does not end well. Of those that are found in one call the first of this order is told: want of input, of memory and of a grammar, a failed link, local
+/// file and program, what the peer told or broke, a rule, silence, the output, and the child's end.
+#[derive(Debug, Drop)]
+pub(crate) enum Fault {
+    /// The input failed.
+    Input,
     /// Memory ran out.
     NoMemory,
+    /// The words are none of the tools'.
+    Usage,
+    /// An address among them is none.
+    Uri(UriFault),
+    /// The line of this number is none of a script.
+    Line(u32),
+    /// A call on the wires failed.
+    Link,
+    /// A call on a local file failed.
+    Store,
+    /// A program could not be started, or how it ended could not be had.
+    Spawn,
+    /// The peer broke the protocol, or ended before all was done.
+    Broke(Broken),
+    /// A client of serve broke the protocol.
+    Client,
+    /// The peer answered this option, or else a command, by an error.
+    Told { option: Option<u32>, code: u32 },
+    Rule(Ruling),
+    /// The wires were idle for too long.
+    Silent,
     /// The output failed.
     Output,
-    /// The server was asked, and this came of it.
-    Asked(InfoFault),
-    /// All was printed, and the first export of which the server refused to tell was refused with this code.
-    Refused(u32),
-    /// A map was asked for in this context, to which the server did not agree.
-    NoContext(Text),
-    /// All was told, but this count of the wires rose.
-    Risen(Risen),
+    /// The child ended with this status, which is not 0.
+    Child(u32),
+    /// A signal ended the child.
+    Signal,
 }
 
-/// The end of a run whose text is printed.
-pub(crate) fn ended(end: Result<bool, u32>) -> Result<bool, Uninformed>
-    ensures { result ≡ ended end }
-{
-    match end {
-        Ok(holds) => Ok(holds),
-        Err(code) => Err(Uninformed::Refused(code)),
-    }
-}
+/// How a run ends: all is done, and what was asked is true or it is false; or it does not end well.
+pub(crate) type End = Result<bool, Fault>;
 
-fn status_of_asked(fault: InfoFault) -> u8
-    ensures { result ≡ status_of_asked fault }
-{
-    match fault {
-        InfoFault::Peer { .. } => 3,
-        InfoFault::Broke(_) => 4,
-        InfoFault::Link { .. } => 5,
-        InfoFault::NoContext => 6,
-        InfoFault::Silent { .. } => 7,
-        InfoFault::NoMemory => 9,
-    }
-}
-
-fn status_of_why(why: &Uninformed) -> u8
-    ensures { result ≡ status_of_why why.now }
+fn status_of_fault(why: &Fault) -> u8
+    ensures value { result ≡ status_of_fault why.now }
+    ensures done { result ≢ 0 }
+    ensures untrue { result ≢ 2 }
+    ensures link { result ≡ 5 → why.now ≡ fault.Link }
+    ensures silent { result ≡ 7 → why.now ≡ fault.Silent }
+    ensures output { result ≡ 8 → why.now ≡ fault.Output }
+    ensures input { result ≡ 10 → why.now ≡ fault.Input }
 {
     match why {
-        Uninformed::Usage | Uninformed::Uri(_) => 1,
-        Uninformed::Refused(_) => 3,
-        Uninformed::NoContext(_) => 6,
-        Uninformed::Output => 8,
-        Uninformed::NoMemory => 9,
-        Uninformed::Asked(fault) => status_of_asked(*fault),
-        Uninformed::Risen(risen) => status_of_risen(*risen),
+        Fault::Usage | Fault::Uri(_) | Fault::Line(_) => 1,
+        Fault::Told { .. } => 3,
+        Fault::Broke(_) | Fault::Client => 4,
+        Fault::Link => 5,
+        Fault::Rule(_) => 6,
+        Fault::Silent => 7,
+        Fault::Output => 8,
+        Fault::NoMemory => 9,
+        Fault::Input => 10,
+        Fault::Store => 11,
+        Fault::Child(_) | Fault::Signal => 12,
+        Fault::Spawn => 13,
     }
 }
 
 /// The status of a run that ends so.
-pub(crate) fn status_of_info(end: &Result<bool, Uninformed>) -> u8
-    ensures { result ≡ status_of_info end.now }
+fn status_of(end: &End) -> u8
+    ensures value { result ≡ status_of end.now }
+    ensures done { result ≡ 0 → end.now ≡ Ok true }
+    ensures untrue { result ≡ 2 → end.now ≡ Ok false }
+    ensures link { result ≡ 5 → end.now ≡ Err fault.Link }
+    ensures silent { result ≡ 7 → end.now ≡ Err fault.Silent }
+    ensures output { result ≡ 8 → end.now ≡ Err fault.Output }
+    ensures input { result ≡ 10 → end.now ≡ Err fault.Input }
 {
     match end {
         Ok(holds) => { if *holds { 0 } else { 2 } }
-        Err(why) => status_of_why(why),
+        Err(fault) => status_of_fault(fault),
     }
 }
 
-fn push_asked(text: &mut String, fault: InfoFault) -> Result<(), AllocError>
-    ensures { OnOk result (string_bytes text.new ≡ string_bytes text.old ++ asked_text fault) }
+// The line.
+
+fn push_broken(text: &mut String, broken: Broken) -> Result<(), AllocError>
+    ensures { OnOk result (string_bytes text.new ≡ string_bytes text.old ++ broken_text broken) }
 {
-    match fault {
-        InfoFault::Peer {
-            option: Some(option),
-            code,
-        } => write!(text, "peer error option {option} code {code}"),
-        InfoFault::Peer { option: None, code } => write!(text, "peer error command {code}"),
-        InfoFault::Broke(broken) => {
-            text.push_str("peer broke ")?;
-            push_broken(text, broken)
-        }
-        InfoFault::Link { .. } => text.push_str("link fault"),
-        InfoFault::NoContext => text.push_str("rule no-context"),
-        InfoFault::Silent { .. } => text.push_str("peer silent"),
-        InfoFault::NoMemory => text.push_str("no memory"),
+    match broken {
+        Broken::Breach(breach) => text.push_str(breach.name()),
+        Broken::Content => text.push_str("Content"),
+        Broken::Ended => text.push_str("Ended"),
+        Broken::Differs => text.push_str("Differs"),
     }
 }
 
-fn push_why(text: &mut String, why: &Uninformed) -> Result<(), AllocError>
-    ensures { OnOk result (string_bytes text.new ≡ string_bytes text.old ++ why_text why.now) }
+fn push_peer(text: &mut String, option: Option<u32>, code: u32) -> Result<(), AllocError>
+    ensures { OnOk result (string_bytes text.new ≡ string_bytes text.old ++ peer_text option code) }
+{
+    match option {
+        Some(option) => write!(text, "peer error option {option} code {code}"),
+        None => write!(text, "peer error command {code}"),
+    }
+}
+
+fn push_rule(text: &mut String, rule: Rule) -> Result<(), AllocError>
+    ensures { OnOk result (string_bytes text.new ≡ string_bytes text.old ++ rule_text rule) }
+{
+    match rule {
+        Rule::ReadOnly => text.push_str("read-only"),
+        Rule::Smaller {
+            source,
+            destination,
+        } => write!(text, "smaller {source} {destination}"),
+        Rule::Uneven { length, block } => write!(text, "uneven {length} {block}"),
+        Rule::Unfit { minimum, maximum } => write!(text, "unfit {minimum} {maximum}"),
+    }
+}
+
+fn push_no_context(text: &mut String, context: &Text) -> Result<(), AllocError>
+    ensures { OnOk result (string_bytes text.new ≡ string_bytes text.old ++ ruling_text (ruling.NoContext context.now)) }
+{
+    text.push_str("no-context ")?;
+    text.push_str(context.as_str())
+}
+
+fn push_too_large(text: &mut String, size: u64) -> Result<(), AllocError>
+    ensures { OnOk result (string_bytes text.new ≡ string_bytes text.old ++ ruling_text (ruling.TooLarge size)) }
+{
+    write!(text, "selftest-size {size} 16777216")
+}
+
+fn push_ruling(text: &mut String, why: &Ruling) -> Result<(), AllocError>
+    ensures { OnOk result (string_bytes text.new ≡ string_bytes text.old ++ ruling_text why.now) }
 {
     match why {
-        Uninformed::Usage => text.push_str("usage"),
-        Uninformed::Uri(fault) => {
+        Ruling::Copy(rule) => push_rule(text, *rule),
+        Ruling::NoContext(context) => push_no_context(text, context),
+        Ruling::TooLarge(size) => push_too_large(text, *size),
+    }
+}
+
+fn push_fault(text: &mut String, fault: &Fault) -> Result<(), AllocError>
+    ensures { OnOk result (string_bytes text.new ≡ string_bytes text.old ++ fault_text fault.now) }
+{
+    match fault {
+        Fault::Usage => text.push_str("usage"),
+        Fault::Uri(fault) => {
             text.push_str("uri ")?;
             text.push_str(fault.name())
         }
-        Uninformed::Output => text.push_str("output fault"),
-        Uninformed::NoMemory => text.push_str("no memory"),
-        Uninformed::Asked(fault) => push_asked(text, *fault),
-        Uninformed::Risen(risen) => text.push_str(risen_text(*risen)),
-        Uninformed::Refused(code) => {
-            let code = *code;
-            write!(text, "peer error option 6 code {code}")
+        Fault::Line(number) => {
+            let number = *number;
+            write!(text, "script line {number}")
         }
-        Uninformed::NoContext(context) => {
-            text.push_str("rule no-context ")?;
-            text.push_str(context.as_str())
+        Fault::Told { option, code } => push_peer(text, *option, *code),
+        Fault::Broke(broken) => {
+            text.push_str("peer broke ")?;
+            push_broken(text, *broken)
         }
+        Fault::Client => text.push_str("peer broke Client"),
+        Fault::Link => text.push_str("link fault"),
+        Fault::Rule(ruling) => {
+            text.push_str("rule ")?;
+            push_ruling(text, ruling)
+        }
+        Fault::Silent => text.push_str("peer silent"),
+        Fault::Output => text.push_str("output fault"),
+        Fault::NoMemory => text.push_str("no memory"),
+        Fault::Input => text.push_str("input fault"),
+        Fault::Store => text.push_str("store fault"),
+        Fault::Child(status) => {
+            let status = *status;
+            write!(text, "child {status}")
+        }
+        Fault::Signal => text.push_str("child signal"),
+        Fault::Spawn => text.push_str("spawn fault"),
     }
 }
 
 /// Appends the line that is printed of a run that ends so.
-pub(crate) fn push_info_line(
-    text: &mut String,
-    end: &Result<bool, Uninformed>,
-) -> Result<(), AllocError>
-    ensures { OnOk result (string_bytes text.new ≡ string_bytes text.old ++ info_line end.now) }
+fn push_line(text: &mut String, end: &End) -> Result<(), AllocError>
+    ensures { OnOk result (string_bytes text.new ≡ string_bytes text.old ++ end_line end.now) }
 {
     match end {
         Ok(_) => Ok(()),
-        Err(why) => {
+        Err(fault) => {
             text.push_str("lnbd: ")?;
-            push_why(text, why)?;
+            push_fault(text, fault)?;
             text.push_str("\n")
         }
     }
+}
+
+/// Prints a text as far as the stream takes it.
+fn print<E: Sink>(err: &mut E, text: &[u8])
+    ensures { Prints E.taken E.faults err.old err.new text.now }
+{
+    let _ = put(err, text);
+}
+
+/// Prints the line of a run's end, and tells its status. Where the line finds no memory, that is the end.
+pub(crate) fn print_end<E: Sink>(alloc: Global, end: &End, err: &mut E) -> u8
+    ensures tells { Tells end.now (Prints E.taken E.faults err.old err.new) result }
+    ensures done { result ≡ 0 → end.now ≡ Ok true }
+    ensures untrue { result ≡ 2 → end.now ≡ Ok false }
+    ensures link { result ≡ 5 → end.now ≡ Err fault.Link }
+    ensures silent { result ≡ 7 → end.now ≡ Err fault.Silent }
+    ensures output { result ≡ 8 → end.now ≡ Err fault.Output }
+    ensures input { result ≡ 10 → end.now ≡ Err fault.Input }
+{
+    let mut text = String::new(alloc);
+    match push_line(&mut text, end) {
+        Ok(()) => {
+            print(err, text.as_bytes());
+            status_of(end)
+        }
+        Err(_) => no_memory(err),
+    }
+}
+
+/// Where a command line can't be words: prints the line of words that name no tool, and tells its status.
+pub fn usage<E: Sink>(err: &mut E) -> u8
+    ensures status { result ≡ 1 }
+    ensures line { Prints E.taken E.faults err.old err.new (fault_line fault.Usage) }
+{
+    print(err, b"lnbd: usage\n");
+    1
+}
+
+/// Where memory runs out, before a run begins too: prints its line, and tells its status. It takes no memory.
+pub fn no_memory<E: Sink>(err: &mut E) -> u8
+    ensures status { result ≡ 9 }
+    ensures line { Prints E.taken E.faults err.old err.new (fault_line fault.NoMemory) }
+{
+    print(err, b"lnbd: no memory\n");
+    9
 }

@@ -1,16 +1,16 @@
 //! What a server is asked for nbdinfo, and what is printed of its answer. Nothing is printed here.
 
-ghost use Rattle.std.specs.Prelude.{◌≡◌, ◌≢◌, ◌≤◌, ◌^◌, IfErr, IfOk, Ok, false, true};
+ghost use Rattle.std.specs.Prelude.{◌≡◌, ◌≢◌, ◌≤◌, ◌^◌, IfErr, IfOk, None, Ok, false, true};
 ghost use Rattle.lnbd_extents.specs.Lists.{span};
 ghost use Rattle.lnbd_info.specs.Map.{AreFilled};
 ghost use Rattle.lnbd_link.specs.Count.{Rises};
 ghost use Rattle.lnbd_script.specs.Seen.{patience};
-ghost use Rattle.lnbd_cli.specs.Heard.{IsMapText, IsOfMap, IsSumsText, Says, SaysExport, SaysList, SaysMap, Unheard, end_of_entries, export_text, exports_text, extents_text, heard, is_allocation, is_so, unmapped};
-ghost use Rattle.lnbd_cli.specs.Informs.{status_of_why};
+ghost use Rattle.lnbd_cli.specs.Heard.{IsMapText, IsSumsText, IsToldAs, Says, SaysExport, SaysList, SaysMap, Unheard, end_of_entries, export_text, exports_text, extents_text, heard, is_allocation, is_heard, is_so};
+ghost use Rattle.lnbd_cli.specs.Ends.{status_of_fault};
 ghost use Rattle.lnbd_args.specs.declared.asked.What.TheVariants as wish;
-ghost use Rattle.lnbd_cli.specs.declared.ending.Uninformed.TheVariants as why;
+ghost use Rattle.lnbd_cli.specs.declared.ending.Fault.TheVariants as fault;
 
-use crate::ending::Uninformed;
+use crate::ending::{Fault, Ruling};
 use lnbd_args::What;
 use lnbd_ask::{InfoFault, collect, list, map};
 use lnbd_info::{
@@ -38,12 +38,29 @@ pub(crate) struct News {
 }
 
 /// What was heard, unless memory ran out for its text.
-fn heard(made: Result<News, NoMemory>) -> Result<News, Uninformed>
+fn heard(made: Result<News, NoMemory>) -> Result<News, Fault>
     ensures { result ≡ heard made }
 {
     match made {
         Ok(news) => Ok(news),
-        Err(_) => Err(Uninformed::NoMemory),
+        Err(_) => Err(Fault::NoMemory),
+    }
+}
+
+/// What is told of a fault of the asking. A context that was not agreed is told with its name.
+fn told(context: Option<Text>, fault: InfoFault) -> Fault
+    requires { context ≡ None → fault ≢ InfoFault.NoContext }
+    ensures told { IsToldAs fault context result }
+    ensures known { is_heard (status_of_fault result) ≡ true }
+{
+    match (fault, context) {
+        (InfoFault::Peer { option, code }, _) => Fault::Told { option, code },
+        (InfoFault::Broke(broken), _) => Fault::Broke(broken),
+        (InfoFault::Link { .. }, _) => Fault::Link,
+        (InfoFault::Silent { .. }, _) => Fault::Silent,
+        (InfoFault::NoMemory, _) => Fault::NoMemory,
+        (InfoFault::NoContext, Some(name)) => Fault::Rule(Ruling::NoContext(name)),
+        (InfoFault::NoContext, None) => unreachable!(),
     }
 }
 
@@ -113,16 +130,16 @@ fn hear_export<W: Wires>(
     json: bool,
     place: &Place,
     wires: &mut W,
-) -> Result<News, Uninformed>
+) -> Result<News, Fault>
     ensures says { IfOk result (λ news. SaysExport what.now json place.now (W.told wires.old) (W.told wires.new) news.text.items news.end) }
     ensures fails { IfErr result (Unheard wish.Listing place.now (W.told wires.old) (W.told wires.new)) }
-    ensures link { IfErr result (λ why. status_of_why why ≡ 5 → Rises 1 (W.faults wires.old) (W.faults wires.new)) }
-    ensures rule { IfErr result (λ why. status_of_why why ≢ 6) }
-    ensures silent { IfErr result (λ why. status_of_why why ≡ 7 → Rises patience (W.idles wires.old) (W.idles wires.new)) }
+    ensures link { IfErr result (λ why. why ≡ fault.Link → Rises 1 (W.faults wires.old) (W.faults wires.new)) }
+    ensures known { IfErr result (λ why. is_heard (status_of_fault why) ≡ true) }
+    ensures silent { IfErr result (λ why. why ≡ fault.Silent → Rises patience (W.idles wires.old) (W.idles wires.new)) }
 {
     match collect(alloc, place, wires) {
         Ok(found) => heard(export_news(alloc, what, json, found)),
-        Err(fault) => Err(Uninformed::Asked(fault)),
+        Err(fault) => Err(told(None, fault)),
     }
 }
 
@@ -169,16 +186,16 @@ fn hear_list<W: Wires>(
     json: bool,
     place: &Place,
     wires: &mut W,
-) -> Result<News, Uninformed>
+) -> Result<News, Fault>
     ensures says { IfOk result (λ news. SaysList json place.now (W.told wires.old) (W.told wires.new) news.text.items news.end) }
     ensures fails { IfErr result (Unheard wish.List place.now (W.told wires.old) (W.told wires.new)) }
-    ensures link { IfErr result (λ why. status_of_why why ≡ 5 → Rises 1 (W.faults wires.old) (W.faults wires.new)) }
-    ensures rule { IfErr result (λ why. status_of_why why ≢ 6) }
-    ensures silent { IfErr result (λ why. status_of_why why ≡ 7 → Rises patience (W.idles wires.old) (W.idles wires.new)) }
+    ensures link { IfErr result (λ why. why ≡ fault.Link → Rises 1 (W.faults wires.old) (W.faults wires.new)) }
+    ensures known { IfErr result (λ why. is_heard (status_of_fault why) ≡ true) }
+    ensures silent { IfErr result (λ why. why ≡ fault.Silent → Rises patience (W.idles wires.old) (W.idles wires.new)) }
 {
     match list(alloc, place, wires) {
         Ok(entries) => heard(list_news(alloc, json, entries.as_slice())),
-        Err(fault) => Err(Uninformed::Asked(fault)),
+        Err(fault) => Err(told(None, fault)),
     }
 }
 
@@ -267,20 +284,6 @@ fn map_news(
     })
 }
 
-/// What is told where there is no map of this context.
-fn unmapped(context: Text, fault: InfoFault) -> Uninformed
-    ensures { result ≡ unmapped context fault }
-{
-    match fault {
-        InfoFault::NoContext => Uninformed::NoContext(context),
-        InfoFault::Peer { .. }
-        | InfoFault::Broke(_)
-        | InfoFault::Link { .. }
-        | InfoFault::Silent { .. }
-        | InfoFault::NoMemory => Uninformed::Asked(fault),
-    }
-}
-
 /// Asks for the map of the export at this place in this context, and says what is printed of it or of its sums.
 fn hear_map<W: Wires>(
     alloc: Global,
@@ -289,16 +292,16 @@ fn hear_map<W: Wires>(
     context: Text,
     place: &Place,
     wires: &mut W,
-) -> Result<News, Uninformed>
+) -> Result<News, Fault>
     ensures says { IfOk result (λ news. SaysMap sums json context place.now (W.told wires.old) (W.told wires.new) news.text.items news.end) }
     ensures fails { IfErr result (Unheard (wish.Map context) place.now (W.told wires.old) (W.told wires.new)) }
-    ensures link { IfErr result (λ why. status_of_why why ≡ 5 → Rises 1 (W.faults wires.old) (W.faults wires.new)) }
-    ensures rule { IfErr result (λ reason. status_of_why reason ≡ 6 → reason ≡ why.NoContext context) }
-    ensures silent { IfErr result (λ why. status_of_why why ≡ 7 → Rises patience (W.idles wires.old) (W.idles wires.new)) }
+    ensures link { IfErr result (λ why. why ≡ fault.Link → Rises 1 (W.faults wires.old) (W.faults wires.new)) }
+    ensures known { IfErr result (λ why. is_heard (status_of_fault why) ≡ true) }
+    ensures silent { IfErr result (λ why. why ≡ fault.Silent → Rises patience (W.idles wires.old) (W.idles wires.new)) }
 {
     match map(alloc, place, &context, wires) {
         Ok(extents) => heard(map_news(alloc, sums, json, &context, extents.as_slice())),
-        Err(fault) => Err(unmapped(context, fault)),
+        Err(fault) => Err(told(Some(context), fault)),
     }
 }
 
@@ -307,12 +310,12 @@ pub(crate) fn hear<W: Wires>(
     alloc: Global,
     question: Question,
     wires: &mut W,
-) -> Result<News, Uninformed>
+) -> Result<News, Fault>
     ensures says { IfOk result (λ news. Says question.what question.json question.place (W.told wires.old) (W.told wires.new) news.text.items news.end) }
     ensures fails { IfErr result (Unheard question.what question.place (W.told wires.old) (W.told wires.new)) }
-    ensures link { IfErr result (λ why. status_of_why why ≡ 5 → Rises 1 (W.faults wires.old) (W.faults wires.new)) }
-    ensures rule { IfErr result (λ why. status_of_why why ≡ 6 → IsOfMap question.what) }
-    ensures silent { IfErr result (λ why. status_of_why why ≡ 7 → Rises patience (W.idles wires.old) (W.idles wires.new)) }
+    ensures link { IfErr result (λ why. why ≡ fault.Link → Rises 1 (W.faults wires.old) (W.faults wires.new)) }
+    ensures known { IfErr result (λ why. is_heard (status_of_fault why) ≡ true) }
+    ensures silent { IfErr result (λ why. why ≡ fault.Silent → Rises patience (W.idles wires.old) (W.idles wires.new)) }
 {
     let Question { what, json, place } = question;
     match what {

@@ -2,16 +2,18 @@
 //! the status that it ends with. Nothing is read or written but through the traits of the outside.
 #![tactic(auto)]
 
+mod calling;
 mod copying;
 mod counts;
 mod ending;
-mod fault;
 mod hearing;
 mod informing;
 mod input;
+mod reading;
 mod selftesting;
 mod serving;
 mod top;
 
+pub use ending::{no_memory, usage};
 pub use lnbd_rehearsal::{Rehearsed, rehearse};
-pub use top::{no_memory, run, usage};
+pub use top::run;

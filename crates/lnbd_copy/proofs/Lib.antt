@@ -88,3 +88,4 @@ pub mod QueriedLemmas
 pub mod PassedLemmas
 pub mod LeftOutLemmas
 pub mod PatientLemmas
+pub mod ForgetLemmas

@@ -144,7 +144,7 @@ still_strict first (Arrived bytes answers ∷ since) come = still_strict first s
 still_strict first (End answers ∷ since) come = still_strict first since come.1
 still_strict first (LinkFailed answers ∷ since) come = still_strict first since come.1
 still_strict first (Retire cookie ∷ since) come = absurd (false≢true come.0)
-still_strict first (ClearLog ∷ since) come = absurd (false≢true come.0)
+still_strict first (ClearLog ∷ since) come = still_strict first since come.1
 still_strict first (Close ∷ since) come = absurd (false≢true come.0)
 
 still_ask_some : (limit : ℕ) (first since : History Ticket) → strict_mode first ≡ all_strict → AllAskSome first → AllMayCome since → Lawful limit (since ++ first) → AllAskSome (since ++ first)
@@ -163,7 +163,7 @@ still_ask_some limit first (Arrived bytes answers ∷ since) strict all come law
 still_ask_some limit first (End answers ∷ since) strict all come lawful = still_ask_some limit first since strict all come.1 lawful.0
 still_ask_some limit first (LinkFailed answers ∷ since) strict all come lawful = still_ask_some limit first since strict all come.1 lawful.0
 still_ask_some limit first (Retire cookie ∷ since) strict all come lawful = absurd (false≢true come.0)
-still_ask_some limit first (ClearLog ∷ since) strict all come lawful = absurd (false≢true come.0)
+still_ask_some limit first (ClearLog ∷ since) strict all come lawful = still_ask_some limit first since strict all come.1 lawful.0
 still_ask_some limit first (Close ∷ since) strict all come lawful = absurd (false≢true come.0)
 
 opened_strict : (name : List ℕ) (extents : Bool) → strict_mode (opened name extents) ≡ all_strict

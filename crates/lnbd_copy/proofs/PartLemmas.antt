@@ -1,6 +1,7 @@
 -- The connections of a copy are asked to end, and are taken out.
 use Rattle.std.proofs.Common.{◌≡◌, ℕ, zero, suc, ◌+◌, Bool, true, false, List, [], ◌∷◌, ◌++◌, Option, None, Some, Result, Ok, Err, slice_get, take, drop, refl, ap, sym, subst, ◌∙◌}
 use Rattle.std.specs.Option.{option_map}
+use Rattle.lnbd_asked.specs.Exports.{is_naming}
 use Rattle.lnbd_history.specs.Events.{Disconnect, Event}
 use Rattle.lnbd_link.specs.Call as wire
 use Rattle.lnbd_link.specs.Part.{Adds}
@@ -17,7 +18,8 @@ use Rattle.lnbd_board.specs.declared.row.Row.{Row}
 use Rattle.lnbd_board.specs.declared.ticket.Ticket.{Ticket}
 use Rattle.lnbd_board.specs.Files as board
 use Rattle.lnbd_board.specs.Rows as rows
-use Rattle.lnbd_copy.specs.Driven.{HasParted}
+use Rattle.lnbd_course.specs.Between.{IsSetting}
+use Rattle.lnbd_copy.specs.Driven.{HasEnded, HasParted, may_come}
 use Rattle.lnbd_copy.specs.Grounds.{Happens}
 use Rattle.lnbd_copy.specs.Leaving.{Leaves, Parts}
 use Rattle.lnbd_copy.specs.Way.{Filed, IsLeaving, IsOn, Stands, Way, is_source}
@@ -30,8 +32,8 @@ use Rattle.lnbd_copy.proofs.BegunLemmas.{event_first}
 use Rattle.lnbd_copy.proofs.DrivenLemmas.{drive_event, drive_without}
 use Rattle.lnbd_copy.proofs.HeardLemmas.{hears_on, hears_parting}
 use Rattle.lnbd_copy.proofs.OrderLemmas.{in_order, ordered_event}
-use Rattle.lnbd_copy.proofs.FlushedLemmas.{second_event, second_left}
-use Rattle.lnbd_copy.proofs.QueriedLemmas.{queried_event, queried_left}
+use Rattle.lnbd_copy.proofs.FlushedLemmas.{FlushesNone, second_event, second_left}
+use Rattle.lnbd_copy.proofs.QueriedLemmas.{AsksNone, queried_event, queried_left}
 use Rattle.lnbd_copy.proofs.SinceLemmas.{leaves_without}
 use Rattle.lnbd_copy.proofs.UnendedLemmas.{ended_disconnect, ended_leaving, ended_left}
 use Rattle.lnbd_copy.proofs.StepLemmas.{others_stand, taking_stands, unasked_moves_stand}
@@ -45,16 +47,16 @@ parts_none now held = record { stand = λ s. s; on = λ way calls ended on. on }
 -- With what happened on a handle.
 
 -- this one was there, and the same handles stand with the event on it
-record Happened (index : ℕ) (event : Event Ticket) (seens : List (Seen Ticket)) (new : List (Held Ticket)) : Type 0 where
-  seen : Seen Ticket
-  there : slice_get seens index ≡ Some seen
-  at : AreAt new (with_event index event seens)
+pub record Happened (index : ℕ) (event : Event Ticket) (seens : List (Seen Ticket)) (new : List (Held Ticket)) : Type 0 where
+  pub seen : Seen Ticket
+  pub there : slice_get seens index ≡ Some seen
+  pub at : AreAt new (with_event index event seens)
 
 module _ (handle handle' : Machine Ticket) where
-  abbrev IsThere : ℕ → List (Held Ticket) → Type 0
+  abbrev pub IsThere : ℕ → List (Held Ticket) → Type 0
   IsThere index all = option_map (λ held. held.handle) (slice_get all index) ≡ Some handle
 
-  happens : (event : Event Ticket) (index : ℕ) (all : List (Held Ticket)) (seens : List (Seen Ticket)) → ForEach handle (histories.Adds event handle') → IsThere index all → AreAt all seens → Happened index event seens (with_handle all index handle')
+  pub happens : (event : Event Ticket) (index : ℕ) (all : List (Held Ticket)) (seens : List (Seen Ticket)) → ForEach handle (histories.Adds event handle') → IsThere index all → AreAt all seens → Happened index event seens (with_handle all index handle')
   happens event index [] seens adds is at = absurd (none_some handle is)
   happens event index (held ∷ others) [] adds is at = absurd at
   happens event zero (held ∷ others) (seen ∷ more) adds is at =
@@ -78,31 +80,38 @@ event_links index event [] = tt
 event_links zero event (seen ∷ others) = (refl, links_stay others)
 event_links (suc index) event (seen ∷ others) = (refl, event_links index event others)
 
+-- An event on a handle that asks nothing of it, sets nothing and brings nothing: a copy stays on its way.
+pub event_on : (way : Way) (now : board.Seen) (calls : List wire.Call) (held held' : List (Held Ticket)) (index : ℕ) (event : Event Ticket) (on : IsOn way now calls held) (did : Happened index event on.seens held') → IsSetting did.seen.history event → is_naming event ≡ false → may_come event ≡ true →
+    AsksNone event → FlushesNone event → HasEnded way.ended false way.extents way.how.skip way.flush way.from way.to calls (with_event index event on.seens) → IsOn way now calls held'
+event_on way now calls held held' index event on did sets unnamed may unqueried unflushed ends =
+    let after = with_event index event on.seens in
+    record {
+      has = on.has;
+      seens = after;
+      at = did.at;
+      sided = placed_same false way.sides on.has on.seens after (event_links index event on.seens) on.sided;
+      begun = on.begun;
+      stands = others_stand way on.has now calls on.seens index did.seen event on.stands did.there sets unnamed;
+      rest = on.rest;
+      all = held_event calls index event on.seens on.all;
+      hears = hears_on false way.extents way.from way.to way.heard now.error now.error (λ well. well) calls on.seens after (event_first index event on.seens) on.hears;
+      bound = bound_event way.sides now index event on.seens sets.unasked on.bound;
+      drives = drive_event way.extents way.from way.to on.has calls index event on.seens may on.drives;
+      ends = ends;
+      order = ordered_event (is_source way.sides) on.has calls false index event on.seens on.order;
+      queried = queried_event way.queries index event on.seens unqueried on.queried;
+      flushes = second_event calls index event on.seens unflushed on.flushes;
+    }
+
 -- A handle that asks for the end changes nothing else.
 parts : (now : board.Seen) (index : ℕ) (held : List (Held Ticket)) (handle handle' : Machine Ticket) → ForEach handle (histories.Adds Disconnect handle') → option_map (λ held. held.handle) (slice_get held index) ≡ Some handle
     → Parts now held (with_handle held index handle')
 parts now index held handle handle' adds is = record {
   stand = λ s. record { seens = with_event index Disconnect s.seens; at = (happens handle handle' Disconnect index held s.seens adds is s.at).at };
   on = λ way calls ended on.
-      let did = happens handle handle' Disconnect index held on.seens adds is on.at in
-      let after = with_event index Disconnect on.seens in
-      record {
-        has = on.has;
-        seens = after;
-        at = did.at;
-        sided = placed_same false way.sides on.has on.seens after (event_links index Disconnect on.seens) on.sided;
-        begun = on.begun;
-        stands = others_stand way on.has now calls on.seens index did.seen Disconnect on.stands did.there (record { inward = refl; unasked = refl; still = refl; spelled = tt; mode = refl }) refl;
-        rest = on.rest;
-        all = held_event calls index Disconnect on.seens on.all;
-        hears = hears_on false way.extents way.from way.to way.heard now.error now.error (λ well. well) calls on.seens after (event_first index Disconnect on.seens) on.hears;
-        bound = bound_event way.sides now index Disconnect on.seens refl on.bound;
-        drives = drive_event way.extents way.from way.to on.has calls index Disconnect on.seens refl on.drives;
-        ends = ended_disconnect way.extents way.how.skip way.flush way.from way.to calls way.ended index on.seens ended on.ends;
-        order = ordered_event (is_source way.sides) on.has calls false index Disconnect on.seens on.order;
-        queried = queried_event way.queries index Disconnect on.seens (λ before. refl) on.queried;
-        flushes = second_event calls index Disconnect on.seens (λ before none. none) on.flushes;
-      };
+      event_on way now calls held (with_handle held index handle') index Disconnect on (happens handle handle' Disconnect index held on.seens adds is on.at)
+      (record { inward = refl; unasked = refl; still = refl; spelled = tt; mode = refl }) refl refl (λ before. refl) (λ before none. none)
+      (ended_disconnect way.extents way.how.skip way.flush way.from way.to calls way.ended index on.seens ended on.ends);
 }
 
 stays : (now : board.Seen) (index : ℕ) (held : List (Held Ticket)) (handle handle' : Machine Ticket) → ForEach handle (histories.Stays handle') → option_map (λ held. held.handle) (slice_get held index) ≡ Some handle

@@ -24,8 +24,8 @@ use Rattle.lnbd_copy.specs.Statuses.{first_given}
 
 -- One handle.
 
--- What comes on a handle of a copy once it was started: it is asked commands, and for the end of its connection, and there is what its link takes and brings. Nothing is
--- set any more, strict mode neither, in which every rule holds at first.
+-- What comes on a handle of a copy once it was started: it is asked commands, and for the end of its connection, there is what its link takes and brings, and it forgets
+-- what it noted, which nobody reads. Nothing is set any more, strict mode neither, in which every rule holds at first.
 abbrev pub may_come : Event Ticket → Bool
 may_come (Set setting) = false
 may_come (StrictMode bits) = false
@@ -40,7 +40,7 @@ may_come (Arrived bytes answers) = true
 may_come (End answers) = true
 may_come (LinkFailed answers) = true
 may_come (Retire cookie) = false
-may_come ClearLog = false
+may_come ClearLog = true
 may_come Close = false
 
 -- Nothing else came.

@@ -62,3 +62,4 @@ pub mod Runs
 pub mod Little
 pub mod LeftOut
 pub mod Patient
+pub mod Forgetting

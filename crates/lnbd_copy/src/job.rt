@@ -15,11 +15,13 @@ ghost use Rattle.lnbd_copy.specs.Dealing.{HasGoneOn};
 ghost use Rattle.lnbd_copy.specs.Deciding.{AreAlive};
 ghost use Rattle.lnbd_copy.specs.Leaving.{Parts};
 ghost use Rattle.lnbd_copy.specs.Links.{HaveSameLinks};
+ghost use Rattle.lnbd_copy.specs.Forgetting.{NoneKeepNotes};
 ghost use Rattle.lnbd_copy.specs.Moving.{AsksFor, HasChanged, HasHeard};
 ghost use Rattle.lnbd_copy.specs.Way.{Way};
 ghost use Rattle.lnbd_copy.specs.Windows.{IsPlanned};
 
 use crate::dealing::{Bindings, ask_extents, ask_flush};
+use crate::forgetting::forget;
 use crate::parting::part;
 use crate::terms::Terms;
 use crate::turning::check_alive;
@@ -102,11 +104,41 @@ impl Job {
         matches!(self.phase, Phase::Parting)
     }
 
-    /// Asks for whatever can be asked for now. Whether anything was, or the copy went on in another way.
+    /// Asks for whatever can be asked for now. Whether anything was, or the copy went on in another way: what the connections noted
+    /// meanwhile is then forgotten.
     ///
     /// On `NoMemory` some requests may have been made, and the copy is to end.
-    #[tactic(auto, using(crate::proofs::JobLemmas::acts_none, crate::proofs::UnderWayLemmas::parting_none, crate::proofs::UnderWayLemmas::past_none, crate::proofs::SpreadLemmas::spreads_none, crate::proofs::SpreadLemmas::spreads_same, crate::proofs::LinkLemmas::same_none))]
+    #[tactic(auto, using(crate::proofs::ForgetLemmas::acts_forgotten, crate::proofs::LinkLemmas::same_then))]
     pub(crate) fn act(
+        &mut self,
+        alloc: Global,
+        handles: &mut Handles<Ticket>,
+        board: &mut Board,
+    ) -> Result<bool, NoMemory>
+        requires how { board.old.how ≡ self.old.terms.how }
+        requires well { board.old.error ≡ None }
+        ensures acts { OnOk result (Acts self.old self.new board.old board.new handles.old handles.new) }
+        ensures terms { self.new.terms ≡ self.old.terms }
+        ensures onward { self.old.phase ≢ phase.Copying → self.new.phase ≢ phase.Copying }
+        ensures parting { self.old.phase ≡ phase.Parting → (self.new ≡ self.old) × (board.new ≡ board.old) × (handles.new ≡ handles.old) }
+        ensures acted { IfOk result (λ acted. acted ≡ true → HasChanged self.old self.new board.old board.new) }
+        ensures full { OnOk result (Refills self.old self.new board.old board.new) }
+        ensures still { IfOk result (λ acted. acted ≡ false → handles.new ≡ handles.old) }
+        ensures forgets { IfOk result (λ acted. acted ≡ true → NoneKeepNotes handles.new) }
+        ensures spread { OnOk result (Spreads self.old self.new board.old board.new) }
+        ensures links { HaveSameLinks handles.old handles.new }
+    {
+        if !self.proceed(alloc, handles, board)? {
+            return Ok(false);
+        }
+        forget(handles);
+        Ok(true)
+    }
+
+    /// Slices are copied, the flush is waited for, or nothing is asked any more. Whether anything was asked, or the copy went on in another
+    /// way.
+    #[tactic(auto, using(crate::proofs::JobLemmas::acts_none, crate::proofs::UnderWayLemmas::parting_none, crate::proofs::UnderWayLemmas::past_none, crate::proofs::SpreadLemmas::spreads_none, crate::proofs::SpreadLemmas::spreads_same, crate::proofs::LinkLemmas::same_none))]
+    fn proceed(
         &mut self,
         alloc: Global,
         handles: &mut Handles<Ticket>,

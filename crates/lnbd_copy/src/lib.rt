@@ -8,6 +8,7 @@ mod copier;
 mod counts;
 mod dealing;
 mod dialing;
+mod forgetting;
 mod job;
 mod laws;
 mod opening;

@@ -1,9 +1,9 @@
 -- The contents that a seed gives, block by block.
-use Rattle.std.proofs.Common.{◌≡◌, ℕ, ◌+◌, ◌-◌, ◌*◌, ◌/◌, ◌%◌, ◌<◌, ◌≤◌, ◌&&◌, Bool, true, false, List, [], ◌∷◌, ◌++◌, Result, Ok, Err, length, get_or, refl, ap, sym, subst, ◌∙◌, arith, inl, inr, nat_lt, nat_le, cond, if◌then◌else◌}
+use Rattle.std.proofs.Common.{◌≡◌, ℕ, ◌+◌, ◌-◌, ◌*◌, ◌/◌, ◌%◌, ◌<◌, ◌≤◌, ◌&&◌, Bool, true, false, List, [], ◌++◌, Result, Ok, Err, length, get_or, replicate, take, drop, refl, ap, sym, subst, ◌∙◌, arith, inl, inr, nat_lt, nat_le, cond, if◌then◌else◌}
 use Rattle.std.specs.Prelude.{OnOk}
 use Rattle.std.proofs.lemmas.Bool.{cases_lt, lt-ltb, le-ltb, ltb-true}
 use Rattle.std.proofs.lemmas.Bool.Decides.{nat_tests}
-use Rattle.std.proofs.lemmas.List.{get_or_append_left, get_or-append_right, get_or_default}
+use Rattle.std.proofs.lemmas.List.{get_or_append_left, get_or-append_right, get_or_default, get_or-replicate, get_or-take, get_or-drop, length-replicate, length-take, length-drop, take_all}
 use Rattle.lnbd_extents.specs.Positions.{within}
 use Rattle.lnbd_export.specs.Export.{Export, AreZeros, flags}
 use Rattle.lnbd_export.proofs.PutLaws.{get_or-flags}
@@ -17,15 +17,40 @@ at_block seed block i less =
     let rest : (block * 4096 + i) % 4096 ≡ i = omega arith in
     ap (λ (b : ℕ). byte_in seed b ((block * 4096 + i) % 4096)) whole ∙ ap (λ (k : ℕ). byte_in seed block k) rest
 
-pub byte_more : (seed n byte : ℕ) (items new : List ℕ) → length items ≡ n → new ≡ items ++ byte ∷ [] → byte ≡ byte_at seed n → ((p : ℕ) → p < n → get_or items p 0 ≡ byte_at seed p) →
-    (p : ℕ) → p < n + 1 → get_or new p 0 ≡ byte_at seed p
-byte_more seed n byte items new size e is below p less = ap (λ (xs : List ℕ). get_or xs p 0) e ∙ elim (cases_lt p n) [
-  | inl h ↦ get_or_append_left items (byte ∷ []) 0 p (omega arith) ∙ below p h
+-- a block behind the bytes in front of it
+block_more : (seed block count : ℕ) (items more new : List ℕ) → length items ≡ block * 4096 → count ≤ 4096 → length more ≡ count → new ≡ items ++ more →
+    ((i : ℕ) → i < count → get_or more i 0 ≡ byte_in seed block i) → ((p : ℕ) → p < length items → get_or items p 0 ≡ byte_at seed p) →
+    (p : ℕ) → p < length items + count → get_or new p 0 ≡ byte_at seed p
+block_more seed block count items more new place few size e bytes below p less = ap (λ (xs : List ℕ). get_or xs p 0) e ∙ elim (cases_lt p (length items)) [
+  | inl h ↦ get_or_append_left items more 0 p h ∙ below p h
   | inr h ↦
-      let here : p ≡ n = omega arith in
-      let first : p - length items ≡ 0 = omega arith in
-      get_or-append_right items (byte ∷ []) (length items) p 0 refl (omega arith) ∙ ap (λ (k : ℕ). get_or (byte ∷ []) k 0) first ∙ is ∙ ap (byte_at seed) (sym here)
+      let here : p ≡ block * 4096 + (p - length items) = omega arith in
+      let in_ : p - length items < count = omega arith in
+      get_or-append_right items more (length items) p 0 refl h ∙ bytes (p - length items) in_ ∙ sym (at_block seed block (p - length items) (omega arith)) ∙ ap (byte_at seed) (sym here)
 ]
+
+resized : (items new : List ℕ) (n count : ℕ) → n ≡ length items → new ≡ take (n + count) items ++ replicate (n + count - length items) 0 → new ≡ items ++ replicate count 0
+resized items new n count size e =
+    let left : n + count - length items ≡ count = omega arith in
+    e ∙ ap (λ (xs : List ℕ). xs ++ replicate (n + count - length items) 0) (take_all (n + count) items (omega arith)) ∙ ap (λ (k : ℕ). items ++ replicate k 0) left
+
+pub zero_block_more : (seed block count n : ℕ) (items new : List ℕ) → length items ≡ block * 4096 → count ≤ 4096 → n ≡ length items → new ≡ take (n + count) items ++ replicate (n + count - length items) 0 →
+    mixed seed block < 1073741824 →
+    ((p : ℕ) → p < length items → get_or items p 0 ≡ byte_at seed p) → (p : ℕ) → p < length items + count → get_or new p 0 ≡ byte_at seed p
+zero_block_more seed block count n items new place few size e small =
+    let is : is_zero_block seed block ≡ true = lt-ltb (mixed seed block) 1073741824 small in
+    block_more seed block count items (replicate count 0) new place few (length-replicate count 0) (resized items new n count size e)
+    (λ i less. get_or-replicate count i 0 0 less ∙ sym (ap (λ (b : Bool). cond b 0 ((mixed seed block / 256 + i) % 256)) is))
+
+pub rising_block_more : (seed block count first : ℕ) (items rising new : List ℕ) → length items ≡ block * 4096 → count ≤ 4096 → length rising ≡ 4096 + 256 →
+    ((i : ℕ) → i < 4096 + 256 → get_or rising i 0 ≡ i % 256) → first ≡ mixed seed block / 256 % 256 → new ≡ items ++ take (first + count - first) (drop first rising) → 1073741824 ≤ mixed seed block →
+    ((p : ℕ) → p < length items → get_or items p 0 ≡ byte_at seed p) → (p : ℕ) → p < length items + count → get_or new p 0 ≡ byte_at seed p
+rising_block_more seed block count first items rising new place few size bytes is e large =
+    let data_here : is_zero_block seed block ≡ false = le-ltb (mixed seed block) 1073741824 large in
+    let turned : (m i : ℕ) → (m % 256 + i) % 256 ≡ (m + i) % 256 = λ m i. omega arith in
+    let cut : length (take count (drop first rising)) ≡ count = omega (arith, length-take count (drop first rising), length-drop first rising, size, is) in
+    block_more seed block count items (take count (drop first rising)) new place few cut (e ∙ ap (λ (k : ℕ). items ++ take k (drop first rising)) (omega arith))
+    (λ i less. get_or-take count (drop first rising) i 0 less ∙ get_or-drop first rising i 0 ∙ bytes (first + i) (omega arith) ∙ ap (λ k. (k + i) % 256) is ∙ turned (mixed seed block / 256) i ∙ sym (ap (λ (b : Bool). cond b 0 ((mixed seed block / 256 + i) % 256)) data_here))
 
 both_false : (b : Bool) → b && false ≡ false
 both_false true = refl

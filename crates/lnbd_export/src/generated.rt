@@ -51,44 +51,56 @@ fn content(alloc: Global, seed: u64, size: u64) -> Result<Vec<u8>, NoMemory>
     ensures length { IfOk result (λ v. length v.items ≡ size) }
     ensures bytes { IfOk result (λ v. (p : ℕ) → p < size → get_or v.items p 0 ≡ byte_at seed p) }
 {
-    let mut content = Vec::new(alloc);
+    let rising = rising(alloc)?;
+    let mut content = Vec::with_capacity(alloc, size as usize)?;
     let mut start = 0;
     while start < size {
         let block = start / BLOCK;
         let count = BLOCK.min(size - start);
-        push_block(&mut content, seed, block, count)?;
+        push_block(&mut content, &rising, seed, block, count)?;
         start += count;
     }
     Ok(content)
 }
 
+/// The bytes 0 to 255, over and over: each block that is not zero is a part of these.
+fn rising(alloc: Global) -> Result<Vec<u8>, NoMemory>
+    ensures length { IfOk result (λ v. length v.items ≡ block_size + 256) }
+    ensures bytes { IfOk result (λ v. (i : ℕ) → i < block_size + 256 → get_or v.items i 0 ≡ i % 256) }
+{
+    let count = BLOCK + 256;
+    let mut rising = Vec::with_capacity(alloc, count as usize)?;
+    for i in 0..count {
+        rising.push((i % 256) as u8)?;
+    }
+    Ok(rising)
+}
+
 /// Pushes the first bytes of a block.
-fn push_block(content: &mut Vec<u8>, seed: u64, block: u64, count: u64) -> Result<(), NoMemory>
+fn push_block(
+    content: &mut Vec<u8>,
+    rising: &[u8],
+    seed: u64,
+    block: u64,
+    count: u64,
+) -> Result<(), NoMemory>
     requires block { block < 2 ^ 18 }
     requires count { count ≤ block_size }
     requires place { length content.old.items ≡ block * block_size }
     requires bytes { (p : ℕ) → p < length content.old.items → get_or content.old.items p 0 ≡ byte_at seed p }
+    requires length { length rising.now ≡ block_size + 256 }
+    requires rising { (i : ℕ) → i < block_size + 256 → get_or rising.now i 0 ≡ i % 256 }
     ensures length { OnOk result (length content.new.items ≡ length content.old.items + count) }
     ensures bytes { OnOk result ((p : ℕ) → p < length content.old.items + count → get_or content.new.items p 0 ≡ byte_at seed p) }
 {
     let number = mixed(seed, block);
-    for i in 0..count {
-        let byte = byte_of(number, i);
-        content.push(byte)?;
-    }
-    Ok(())
-}
-
-/// The byte at a place of the block with this number.
-fn byte_of(number: u64, i: u64) -> u8
-    requires place { i < block_size }
-    requires small { number < 2 ^ 32 }
-    ensures { (seed block : ℕ) → number ≡ mixed seed block → result ≡ byte_in seed block i }
-{
     if number < ZERO_BELOW {
-        return 0;
+        content.resize(content.len() + count as usize, 0)?;
+        return Ok(());
     }
-    ((number / 256 + i) % 256) as u8
+    let first = (number / 256 % 256) as usize;
+    content.extend_from_slice(&rising[first..first + count as usize])?;
+    Ok(())
 }
 
 /// The zero blocks.

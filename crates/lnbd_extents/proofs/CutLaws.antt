@@ -1,11 +1,12 @@
 -- What taking positions away leaves.
-use Rattle.std.proofs.Common.{◌≡◌, ℕ, zero, suc, ◌+◌, ◌-◌, ◌<◌, ◌≤◌, List, [], ◌∷◌, ◌++◌, Bool, true, false, not, ◌&&◌, ◌||◌, refl, ap, sym, subst, ◌∙◌, arith, nat_le, nat_lt, if◌then◌else◌, min, max, length, get_or, take, append_assoc}
+use Rattle.std.proofs.Common.{◌≡◌, ℕ, zero, suc, ◌+◌, ◌-◌, ◌<◌, ◌≤◌, List, [], ◌∷◌, ◌++◌, Bool, true, false, not, ◌&&◌, ◌||◌, refl, ap, sym, subst, ◌∙◌, arith, nat_le, nat_lt, if◌then◌else◌, min, max, length, get_or, take, append_assoc, add-one}
 use Rattle.std.proofs.lemmas.List.{take_more}
 use Rattle.std.proofs.lemmas.List.Concat.{flat_map-append}
 use Rattle.std.proofs.lemmas.Grind.{common_steps}
 use Rattle.lnbd_extents.specs.Positions.{within, holds, any_at, all_at}
 use Rattle.lnbd_extents.specs.Ranges.{IsFrom, AreUpTo, adding, front_piece, back_piece, taking_away}
 use Rattle.lnbd_extents.specs.Spots.{meets}
+use Rattle.lnbd_extents.specs.Pages.{ranges_of, page_at}
 use Rattle.lnbd_extents.proofs.RangeLaws.{from_less, from_adding, holds-adding}
 use Rattle.lnbd_extents.proofs.SpotLaws.{up_to_adding}
 use Rattle.lnbd_extents.proofs.PositionLaws.{meets-positions, all_elim, any_none}
@@ -163,3 +164,22 @@ absent_stays rs s n e p = go (within (s, n) p) refl
 pub any_some : (f : ℕ → Bool) (s n : ℕ) → any_at f s n ≡ true → 0 < n
 any_some f s zero e = absurd (let k : false ≡ true = e in cc)
 any_some f s (suc n) e = omega arith
+
+-- page by page
+
+ranges_more : (i : ℕ) (pages : List (List (ℕ × ℕ))) → i < length pages → ranges_of (take (suc i) pages) ≡ ranges_of (take i pages) ++ page_at pages i
+ranges_more i [] l = absurd (omega arith)
+ranges_more zero (p ∷ ps) l = append_nil p
+  where
+    append_nil : (xs : List (ℕ × ℕ)) → xs ++ [] ≡ xs
+    append_nil [] = refl
+    append_nil (x ∷ xs) = ap (λ ys. x ∷ ys) (append_nil xs)
+ranges_more (suc i) (p ∷ ps) l = ap (λ ys. p ++ ys) (ranges_more i ps (omega arith)) ∙ sym (append_assoc p (ranges_of (take i ps)) (page_at ps i))
+
+pub left_more : (s e : ℕ) (pages kept new : List (List (ℕ × ℕ))) (i : ℕ) → i < length pages → ranges_of kept ≡ taking_away s e (ranges_of (take i pages)) →
+    ranges_of new ≡ ranges_of kept ++ taking_away s e (page_at pages i) → ranges_of new ≡ taking_away s e (ranges_of (take (i + 1) pages))
+left_more s e pages kept new i l so_far more = rw add-one (
+    more ∙ ap (λ ys. ys ++ taking_away s e (page_at pages i)) so_far
+    ∙ sym (flat_map-append (λ r. front_piece s r ++ back_piece e r) (ranges_of (take i pages)) (page_at pages i))
+    ∙ ap (taking_away s e) (sym (ranges_more i pages l))
+    )

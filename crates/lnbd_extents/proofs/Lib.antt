@@ -1,6 +1,8 @@
 pub mod RangeLaws
 pub mod PositionLaws
 pub mod SpotLaws
+pub mod PageLaws
+pub mod CountLaws
 pub mod PutLaws
 pub mod SameRanges
 pub mod CutLaws

@@ -122,6 +122,9 @@ walk_before s at rs seen is stands f i r l e = let k : at ≡ place s rs = stand
 pub walk_behind : (s at : ℕ) (rs seen : List (ℕ × ℕ)) → seen ≡ rs → at ≡ place s seen → IsFrom 0 rs → (i : ℕ) (r : ℕ × ℕ) → at ≤ i → slice_get rs i ≡ Some r → s < r.0
 walk_behind s at rs seen is stands f i r l e = let k : at ≡ place s rs = stands ∙ ap (place s) is in place_behind s i r rs f (omega arith) e
 
+pub walk_within : (s at : ℕ) (rs seen : List (ℕ × ℕ)) → seen ≡ rs → at ≡ place s seen → at ≤ length rs
+walk_within s at rs seen is stands = let k : at ≡ place s rs = stands ∙ ap (place s) is in let h = place_le s rs in omega arith
+
 pub holds-with_positions : (s n : ℕ) (rs : List (ℕ × ℕ)) (p : ℕ) → holds (with_positions s n rs) p ≡ within (s, n) p || holds rs p
 holds-with_positions s n rs p = go (n == 0) refl
   where

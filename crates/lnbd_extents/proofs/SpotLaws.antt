@@ -87,7 +87,7 @@ remove_set i v [] l = absurd (omega arith)
 remove_set zero v (r ∷ rs) l = refl
 remove_set (suc i) v (r ∷ rs) l = ap (λ ys. r ∷ ys) (remove_set i v rs (omega arith))
 
-adding_first : (s n : ℕ) (ys : List (ℕ × ℕ)) → IsFrom (s + n + 1) ys → adding s n ys ≡ (s, n) ∷ ys
+pub adding_first : (s n : ℕ) (ys : List (ℕ × ℕ)) → IsFrom (s + n + 1) ys → adding s n ys ≡ (s, n) ∷ ys
 adding_first s n [] f = refl
 adding_first s n (r ∷ ys) f = let low = f.0 in grind (arith, common_steps)
 
@@ -212,7 +212,7 @@ module _ (s n : ℕ) (rs : List (ℕ × ℕ)) (f : IsFrom 0 rs) (h : 0 < n) (i :
   joins_joins a b = let k : i ≡ suc (i - 1) = omega (arith, a.0) in
       between_spot s n (i - 1) rs f h (subst (λ k. k < length rs) k b.0) a.1 (subst (λ k. (get_or rs k (0, 0)).0 ≡ s + n) k b.1)
 
-covers_none : (m s n : ℕ) (rs : List (ℕ × ℕ)) → IsFrom m rs → s < m → covers s n rs ≡ false
+pub covers_none : (m s n : ℕ) (rs : List (ℕ × ℕ)) → IsFrom m rs → s < m → covers s n rs ≡ false
 covers_none m s n [] f l = refl
 covers_none m s n (r ∷ rs) f l = let low = f.0 in let i = covers_none (r.0 + r.1 + 1) s n rs f.2 (omega arith) in grind (arith, common_steps)
 

@@ -9,6 +9,8 @@
 mod flag_sums;
 mod laws;
 mod lists;
+mod page;
+mod pages;
 mod places;
 mod ranges;
 

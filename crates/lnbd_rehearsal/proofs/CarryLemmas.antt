@@ -109,7 +109,7 @@ since_mode first (Arrived bytes answers ∷ before) come off = arrived_mode (bef
 since_mode first (End answers ∷ before) come off = end_mode (before ++ first) answers ∙ since_mode first before come.1 off
 since_mode first (LinkFailed answers ∷ before) come off = fault_mode (before ++ first) answers ∙ since_mode first before come.1 off
 since_mode first (Retire cookie ∷ before) come off = absurd (false≢true come.0)
-since_mode first (ClearLog ∷ before) come off = absurd (false≢true come.0)
+since_mode first (ClearLog ∷ before) come off = inward_mode (before ++ first) ClearLog refl refl (since_mode first before come.1 off)
 since_mode first (Close ∷ before) come off = absurd (false≢true come.0)
 
 opened_mode : (name : List ℕ) (extents : Bool) → mode (opened name extents) ≡ false

@@ -21,12 +21,12 @@ use Rattle.lnbd_serve.specs.declared.guest.Doing.TheVariants as doing
 use Rattle.lnbd_serve.specs.declared.guest.Halt.{Halt}
 use Rattle.lnbd_serve.specs.declared.guest.Halt.TheVariants as halt
 use Rattle.lnbd_serve.specs.Calm.{is_moving, is_unread, is_unwritten, is_unasked}
-use Rattle.lnbd_serve.specs.Guests.{Step, Sends, Waits, Replies, Hears, Hears_none, Hears_end, Steps, No_more, Then, is_done, is_empty, is_over, out_of, waiting_of}
+use Rattle.lnbd_serve.specs.Guests.{Step, Sends, Waits, Replies, Hears, Hears_none, Hears_end, Steps, No_more, Then, is_done, is_over}
 use Rattle.lnbd_serve.specs.Halls.{Hall, Rests, IsIdle, Does, Welcomes, Nobody, Attends, Leaves, Works, No_work, Work, Stops, Accept_fails, Lacks_place, Turn_breaks, is_accepting, leaving, newcomer, welcoming, with_guest}
-use Rattle.lnbd_serve.specs.Rounds.{AttendedAt, BrokeAt, DoorOpened, HasRound, StopsAfter, TurnedAs, TurnsAll, budget, total_out, waiting_out}
-use Rattle.lnbd_serve.specs.Steps.{Went, both, is_news, left}
+use Rattle.lnbd_serve.specs.Rounds.{AttendedAt, BrokeAt, DoorOpened, HasRound, StopsAfter, TurnedAs, TurnsAll, budget, total_owed}
+use Rattle.lnbd_serve.specs.Steps.{Went, both, is_news, left, owed}
 use Rattle.lnbd_serve.proofs.CalmLemmas.{calm_on, same_number, was_before, was_later}
-use Rattle.lnbd_serve.proofs.TurnLemmas.{here_of, left_as, left_pos, left_gone, less_after, rests_here}
+use Rattle.lnbd_serve.proofs.TurnLemmas.{left_as, left_pos, left_gone, less_after, rests_here}
 
 -- What is still to come of a client.
 
@@ -72,11 +72,15 @@ set_budget limit at guest guest' export before inside is =
     let e : left (get_or before.guests at guest) ≡ left guest = ap (λ (g : Guest). left g) is in
     omega (arith, all, e)
 
-set_out : (at : ℕ) (guest guest' : Guest) (export : Export) (before : Hall) → at < length before.guests → get_or before.guests at guest ≡ guest → total_out (with_guest at guest' export before) + length (out_of guest) ≡ total_out before + length (out_of guest')
-set_out at guest guest' export before inside is =
-    let all : sum_by waiting_out (set before.guests at guest') + waiting_out (get_or before.guests at guest) ≡ sum_by waiting_out before.guests + waiting_out guest' = sum_by-set waiting_out before.guests at guest' guest inside in
-    let e : waiting_out (get_or before.guests at guest) ≡ waiting_out guest = ap (λ (g : Guest). waiting_out g) is in
-    omega (arith, all, e)
+-- nothing changed the export, so that what is owed to the others stays
+set_owed : (at : ℕ) (guest guest' : Guest) (export : Export) (before : Hall) → at < length before.guests → get_or before.guests at guest ≡ guest → export ≡ before.export
+    → total_owed (with_guest at guest' export before) + owed before.export guest ≡ total_owed before + owed before.export guest'
+set_owed at guest guest' export before inside is kept =
+    let all : sum_by (owed before.export) (set before.guests at guest') + owed before.export (get_or before.guests at guest) ≡ sum_by (owed before.export) before.guests + owed before.export guest' =
+    sum_by-set (owed before.export) before.guests at guest' guest inside in
+    let e : owed before.export (get_or before.guests at guest) ≡ owed before.export guest = ap (λ (g : Guest). owed before.export g) is in
+    let k : sum_by (owed export) (set before.guests at guest') ≡ sum_by (owed before.export) (set before.guests at guest') = ap (λ (x : Export). sum_by (owed x) (set before.guests at guest')) kept in
+    omega (arith, all, e, k)
 
 leave_budget : (limit at : ℕ) (guest : Guest) (before : Hall) → at < length before.guests → get_or before.guests at guest ≡ guest → budget limit (leaving at guest before) + left guest ≡ budget limit before
 leave_budget limit at guest before inside is =
@@ -148,7 +152,7 @@ nobody_came told told' listener limit hall rests accepting add = record {
 }
 
 new_rests : (link : ℕ) → Rests (newcomer link)
-new_rests link = record { answered = refl; stays = refl }
+new_rests link = record { stays = refl }
 
 pub one_came : (told told' : Option (List Call)) (listener limit link : ℕ) (before after : Hall) → All Rests before.guests → is_accepting limit before ≡ true → Adds told told' (Accept listener (accepted.Link link)) → after ≡ welcoming link before
     → Went told told' (λ calls. DoorOpened listener limit true before calls after)
@@ -201,22 +205,22 @@ turn_kept told told' listener limit at did before after x rests inside a found s
     let guests : after.guests ≡ set before.guests at a.after = ap (λ (h : Hall). h.guests) a.set in
     let here : x ≡ a.after = here_is at a.after before.guests x inside (found ∙ ap (λ (gs : List Guest). get_or gs at x) guests) in
     let stays' : is_done a.after ≡ false = ap (λ (g : Guest). is_done g) (sym here) ∙ stays in
-    let out = set_out at a.before a.after after.export before inside a.found in
-    let out_is : total_out after ≡ total_out (with_guest at a.after after.export before) = ap total_out a.set in
+    let owes : is_news did ≡ false → total_owed (with_guest at a.after after.export before) + owed before.export a.before ≡ total_owed before + owed before.export a.after =
+    λ quiet. set_owed at a.before a.after after.export before inside a.found (lead.kept quiet) in
+    let owes_is : total_owed after ≡ total_owed (with_guest at a.after after.export before) = ap total_owed a.set in
     let all = set_budget limit at a.before a.after after.export before inside a.found in
     let budget_is : budget limit after ≡ budget limit (with_guest at a.after after.export before) = ap (budget limit) a.set in
-    let gone : a.after.gone ≡ false = here_of a.after.gone (is_over a.after && (is_empty (waiting_of a.after) && is_empty (out_of a.after))) stays' in
     record {
       calls = a.went.calls;
       grown = a.went.grown;
       leads = record {
         guest = a.after;
         works = works_one listener limit before a.went.calls after (Attends before a.went.calls after at a.before a.after after.export rests inside a.found lead.steps a.set);
-        rests = subst (λ (gs : List Guest). All Rests gs) (sym guests) (All-set Rests before.guests at a.after (record { answered = lead.answered gone; stays = stays' }) rests);
+        rests = subst (λ (gs : List Guest). All Rests gs) (sym guests) (All-set Rests before.guests at a.after (record { stays = stays' }) rests);
         set = guests;
         accepted = ap (λ (h : Hall). h.accepted) a.set;
-        still = λ e. let s = lead.still e in (s.0, s.1, omega (arith, s.2, out, out_is));
-        sent = λ e. let s = lead.sent e in omega (arith, s, out, out_is);
+        still = λ e. let s = lead.still e in let all = owes (ap is_news e) in (s.0, s.1, omega (arith, s.2, all, owes_is));
+        sent = λ e. let s = lead.sent e in let all = owes (ap is_news e) in omega (arith, s, all, owes_is);
         news = λ e. let s = lead.news e in omega (arith, s, all, budget_is);
       };
     }
@@ -278,12 +282,14 @@ turns_none told listener limit hall rests = record {
 
 idle_on : (xs ys : List Call) (guest : Guest) → list_any is_moving ys ≡ false → IsIdle xs guest → IsIdle (xs ++ ys) guest
 idle_on xs ys guest calm idle = record {
+  answered = idle.answered;
   read = λ going. was_before (is_unread guest.link) xs ys (idle.read going) calm;
   written = λ waits. was_before (is_unwritten guest.link) xs ys (idle.written waits) calm;
 }
 
 idle_now : (xs ys : List Call) (guest : Guest) → IsIdle ys guest → IsIdle (xs ++ ys) guest
 idle_now xs ys guest idle = record {
+  answered = idle.answered;
   read = λ going. was_later (is_unread guest.link) xs ys (idle.read going);
   written = λ waits. was_later (is_unwritten guest.link) xs ys (idle.written waits);
 }
@@ -349,7 +355,7 @@ turns_kept a b c listener limit at did part all turned before now after inside a
               omega (arith, x.2, y.2),
             );
         kept = λ e. let x = o.kept (both_quiet did part (ap is_news (sym all_is) ∙ e)) in (size ∙ x.0, k.accepted ∙ x.1);
-        sent = λ e. both_less did part (total_out before) (total_out now) (total_out after) (sym all_is ∙ e) (λ s. (o.still s).2) o.sent (λ s. (k.still s).2) k.sent;
+        sent = λ e. both_less did part (total_owed before) (total_owed now) (total_owed after) (sym all_is ∙ e) (λ s. (o.still s).2) o.sent (λ s. (k.still s).2) k.sent;
         news = λ e. both_news did part (budget limit before) (budget limit now) (budget limit after) (sym all_is ∙ e) first second o.news k.news;
       };
     }
@@ -435,7 +441,7 @@ round_of a b c listener limit at came did all before now after whole if_came if_
     go false is =
         let none = one.leads.none is in
         let all_is = if_none is in
-        let out : total_out now ≡ total_out before = ap total_out none.0 in
+        let out : total_owed now ≡ total_owed before = ap total_owed none.0 in
         let left_is : budget limit now ≡ budget limit before = ap (budget limit) none.0 in
         record {
           works = works;

@@ -1,23 +1,27 @@
 -- A client's turn, call by call.
-use Rattle.std.proofs.Common.{◌≡◌, ℕ, ◌+◌, ◌-◌, ◌≤◌, ◌<◌, ◌==◌, Bool, true, false, ◌&&◌, ◌||◌, if◌then◌else◌, List, [], ◌∷◌, ◌++◌, length, take, Option, refl, sym, ap, subst, ◌∙◌, arith, append_assoc, append-nil, length-drop, nat_le}
+use Rattle.std.proofs.Common.{◌≡◌, ℕ, ◌+◌, ◌-◌, ◌≤◌, ◌<◌, ◌==◌, Bool, true, false, ◌&&◌, ◌||◌, if◌then◌else◌, List, [], ◌∷◌, ◌++◌, length, take, get_or, Option, refl, sym, ap, subst, ◌∙◌, arith, append_assoc, append-nil, length-append, length-drop, nat_le}
 use Rattle.std.proofs.lemmas.Bool.{false≢true}
 use Rattle.std.proofs.lemmas.Bool.Decides.{nat_tests}
-use Rattle.std.specs.List.{remove}
+use Rattle.std.specs.List.{remove, sum_by}
+use Rattle.std.proofs.lemmas.List.Sums.{sum_by-remove}
 use Rattle.lnbd_export.specs.Export.{Export}
 use Rattle.lnbd_link.specs.Call.{Call, Read, Write, Moved, Unready, Ended, ReadFault, Sent, Full, WriteFault}
 use Rattle.lnbd_link.specs.Part.{Adds}
 use Rattle.lnbd_link.proofs.Parts.{grows_none, grows_on}
+use Rattle.lnbd_export.specs.Requests.{reply}
+use Rattle.lnbd_export.specs.declared.request.Agreed.{Agreed}
 use Rattle.lnbd_export.specs.declared.request.Request.{Request}
 use Rattle.lnbd_stream.specs.Stream.{Held, feed}
 use Rattle.lnbd_server.specs.Client.{max_client}
+use Rattle.lnbd_server.specs.Replies.{put_reply}
 use Rattle.lnbd_server.specs.declared.stage.Stage.TheVariants.{Strayed}
-use Rattle.lnbd_server.specs.Session.{State, Dialogue, Session, Takes, Answers, rules, is_closed, with_export, past_limit}
+use Rattle.lnbd_server.specs.Session.{State, Dialogue, Session, Takes, Answers, MakesReply, rules, is_closed, with_export, past_limit}
 use Rattle.lnbd_serve.specs.declared.guest.Guest.{Guest}
 use Rattle.lnbd_serve.specs.declared.guest.Halt.{Halt}
 use Rattle.lnbd_serve.specs.declared.guest.Halt.TheVariants as halt
 use Rattle.lnbd_serve.specs.Calm.{is_unread, is_unwritten, was_since}
 use Rattle.lnbd_serve.specs.Guests.{Step, Sends, Waits, Replies, Hears, Hears_none, Hears_end, Steps, No_more, Then, Breaks, Write_fails, Read_fails, Lacks_reply, Hears_part, Halts, MayRead, with_session, gave, is_done, is_empty, is_over, out_of, waiting_of}
-use Rattle.lnbd_serve.specs.Steps.{Went, Wrote, Flushing, Flushed, IsAsBefore, TakesPart, HasRead, RepliedOnce, Replied, GoesOn, Attended, left, doing_of}
+use Rattle.lnbd_serve.specs.Steps.{Went, Wrote, Flushing, Flushed, IsAsBefore, TakesPart, HasRead, RepliedOnce, Replied, GoesOn, Attended, left, doing_of, owed, reply_size}
 use Rattle.lnbd_serve.specs.Halls.{Rests}
 use Rattle.lnbd_serve.specs.declared.guest.Doing.TheVariants as doing
 use Rattle.lnbd_serve.proofs.CalmLemmas.{same_number, was_later, was_before, calm_on}
@@ -282,7 +286,7 @@ read_none told told' guest export room may add = record {
   grown = add;
   leads = record {
     step = Hears_none guest export _ guest export room may refl refl refl;
-    none = λ no. (refl, refl, ap (λ (b : Bool). (b && true) || false) (same_number guest.link));
+    none = λ no. (refl, refl, ap (λ (b : Bool). (b && true) || false) (same_number guest.link), refl);
     news = λ yes. absurd (false≢true yes);
   };
 }
@@ -311,30 +315,59 @@ read_failed told told' guest export room may add = record {
 left_flushed : (before after : Guest) → IsAsBefore before after → left after ≡ left before
 left_flushed before after same = left_as before after (ap (λ (g : Guest). g.gone) same) (ap (λ (g : Guest). is_over g) same) (ap (λ (g : Guest). g.session.came) same)
 
-pub waiting_flushed : (before after : Guest) → IsAsBefore before after → waiting_of after ≡ waiting_of before
-waiting_flushed before after same = ap (λ (g : Guest). waiting_of g) same
-
 replies_step : (before : Guest) (export : Export) (session : Session) → before.gone ≡ false → 0 < length (waiting_of before) → Answers before.session 0 export session → Steps before export [] (with_session session before) export
 replies_step before export session here some answers = steps_one before export [] (with_session session before) export (stays_waiting before here some) (Replies before export [] (with_session session before) export session some answers refl refl refl)
 
-first_gone : {A : Type 0} (xs : List A) → 0 < length xs → length (remove xs 0) < length xs
-first_gone [] some = absurd (omega (arith, some))
-first_gone (x ∷ xs) some = omega arith
+-- What is owed.
+
+size_is : (agreed : Agreed) (export : Export) (request : Request) → reply_size agreed export request ≡ length (put_reply agreed.replies request (reply agreed export request)) + 1
+unfolding reply_size
+size_is agreed export request = refl
+
+pending_size : Export → Guest → ℕ
+pending_size export guest = sum_by (reply_size guest.session.dialogue.agreed export) (waiting_of guest)
+
+owed_is : (export : Export) (guest : Guest) → owed export guest ≡ length (out_of guest) + pending_size export guest
+unfolding pending_size
+owed_is export guest = refl
+
+pending_flushed : (export : Export) (before after : Guest) → IsAsBefore before after → pending_size export after ≡ pending_size export before
+unfolding pending_size
+pending_flushed export before after same = ap (λ (g : Guest). sum_by (reply_size g.session.dialogue.agreed export) (waiting_of g)) same
+
+owed_flushed : (export : Export) (before after : Guest) → IsAsBefore before after → length (out_of after) ≤ length (out_of before) → owed export after ≤ owed export before
+owed_flushed export before after same no_more = omega (arith, owed_is export before, owed_is export after, pending_flushed export before after same, no_more)
+
+owed_written : (export : Export) (before after : Guest) → IsAsBefore before after → length (out_of after) < length (out_of before) → owed export after < owed export before
+owed_written export before after same less = omega (arith, owed_is export before, owed_is export after, pending_flushed export before after same, less)
+
+-- a reply adds to what goes out as many bytes as were counted for it, and one less is owed
+owed_made : (export : Export) (before after : Dialogue) → MakesReply before 0 export after
+    → length after.out + sum_by (reply_size after.agreed export) after.waiting + 1 ≡ length before.out + sum_by (reply_size before.agreed export) before.waiting
+owed_made export before after made =
+    let bytes = put_reply before.agreed.replies made.request (reply before.agreed export made.request) in
+    let out : length after.out ≡ length before.out + length bytes = ap (λ (d : Dialogue). length d.out) made.is ∙ length-append before.out bytes in
+    let pending : sum_by (reply_size after.agreed export) after.waiting ≡ sum_by (reply_size before.agreed export) (remove before.waiting 0) =
+    ap (λ (d : Dialogue). sum_by (reply_size d.agreed export) d.waiting) made.is in
+    let all = sum_by-remove (reply_size before.agreed export) before.waiting 0 made.request made.inside in
+    let first : reply_size before.agreed export (get_or before.waiting 0 made.request) ≡ length bytes + 1 = ap (reply_size before.agreed export) made.picked ∙ size_is before.agreed export made.request in
+    omega (arith, out, pending, all, first)
+
+owed_answered : (export : Export) (before : Guest) (session : Session) → Answers before.session 0 export session → owed export (with_session session before) + 1 ≡ owed export before
+owed_answered export before session answers = owed_made export before.session.dialogue session.dialogue answers.replies
 
 pub replied_once : (told told' : Option (List Call)) (moved : Bool) (before : Guest) (session : Session) (after : Guest) (export : Export) → before.gone ≡ false → 0 < length (waiting_of before) → Answers before.session 0 export session
     → Went told told' (λ calls. Flushed moved (with_session session before) calls after) → Went told told' (λ calls. RepliedOnce before export calls after)
 replied_once told told' moved before session after export here some answers w =
     let same = w.leads.writes.same in
-    let waits : waiting_of after ≡ remove (waiting_of before) 0 = waiting_flushed (with_session session before) after same ∙ ap (λ (d : Dialogue). d.waiting) answers.replies.is in
-    let count : length (waiting_of after) ≡ length (remove (waiting_of before) 0) = ap (λ (rs : List Request). length rs) waits in
-    let fewer = first_gone (waiting_of before) some in
+    let made = owed_answered export before session answers in
+    let written = owed_flushed export (with_session session before) after same w.leads.writes.no_more in
     record {
       calls = w.calls;
       grown = w.grown;
       leads = record {
         steps = steps_on before export [] (with_session session before) export w.calls after export (replies_step before export session here some answers) (w.leads.writes.steps export);
-        fewer = omega (arith, count, fewer);
-        here = ap (λ (g : Guest). g.gone) same;
+        less = omega (arith, made, written);
         left_same = left_flushed (with_session session before) after same
             ∙ left_as before (with_session session before) refl (ap (λ (d : Dialogue). is_closed d.stage) answers.replies.is) answers.came;
       };
@@ -355,46 +388,32 @@ lacks_reply told before after export some same = record {
   leads = halts_at_once before export [] after export halt.NoMemory (Lacks_reply before export [] after export halt.NoMemory some refl same refl refl);
 }
 
--- replies so far
-pub record Replying (before : Guest) (export : Export) (calls : List Call) (now : Guest) : Type 0 where
-  pub steps : Steps before export calls now export
-  pub here : now.gone ≡ before.gone
-  pub left_same : left now ≡ left before
-
-pub replying_none : (told told' : Option (List Call)) (moved : Bool) (before after : Guest) (export : Export) → Went told told' (λ calls. Flushed moved before calls after) → Went told told' (λ calls. Replying before export calls after)
-replying_none told told' moved before after export w = record {
-  calls = w.calls;
-  grown = w.grown;
-  leads = record { steps = w.leads.writes.steps export; here = ap (λ (g : Guest). g.gone) w.leads.writes.same; left_same = left_flushed before after w.leads.writes.same };
-}
-
-pub replying_on : (a b c : Option (List Call)) (before now after : Guest) (export : Export) → Went a b (λ calls. Replying before export calls now) → Went b c (λ calls. RepliedOnce now export calls after) → Went a c (λ calls. Replying before export calls after)
-replying_on a b c before now after export one two = record {
-  calls = one.calls ++ two.calls;
-  grown = grows_on a b c one.calls two.calls one.grown two.grown;
-  leads = record {
-    steps = steps_on before export one.calls now export two.calls after export one.leads.steps two.leads.steps;
-    here = two.leads.here ∙ one.leads.here;
-    left_same = two.leads.left_same ∙ one.leads.left_same;
-  };
-}
-
-none_left : {A : Type 0} (xs : List A) → length xs ≡ 0 → xs ≡ []
+pub none_left : {A : Type 0} (xs : List A) → length xs ≡ 0 → xs ≡ []
 none_left [] none = refl
 none_left (x ∷ xs) none = absurd (omega (arith, none))
 
-pub replying_done : (told told' : Option (List Call)) (before now : Guest) (export : Export) → length (waiting_of now) ≡ 0 → Went told told' (λ calls. Replying before export calls now) → Went told told' (λ calls. Replied before export calls now)
-replying_done told told' before now export none w = record {
+pub replied_none : (told told' : Option (List Call)) (moved : Bool) (before after : Guest) (export : Export) → Went told told' (λ calls. Flushed moved before calls after) → Went told told' (λ calls. Replied before export calls after)
+replied_none told told' moved before after export w = record {
   calls = w.calls;
   grown = w.grown;
-  leads = record { steps = w.leads.steps; answered = none_left (waiting_of now) none; left_same = w.leads.left_same };
+  leads = record { steps = w.leads.writes.steps export; left_same = left_flushed before after w.leads.writes.same };
 }
 
-pub replying_breaks : (a b c : Option (List Call)) (before now after : Guest) (export : Export) (why : Halt) → Went a b (λ calls. Replying before export calls now) → Went b c (λ calls. Halts now export calls after export why) → Went a c (λ calls. Halts before export calls after export why)
-replying_breaks a b c before now after export why one two = record {
+pub replied_on : (a b c : Option (List Call)) (moved : Bool) (before now after : Guest) (export : Export) → Went a b (λ calls. Flushed moved before calls now) → Went b c (λ calls. RepliedOnce now export calls after) → Went a c (λ calls. Replied before export calls after)
+replied_on a b c moved before now after export one two = record {
   calls = one.calls ++ two.calls;
   grown = grows_on a b c one.calls two.calls one.grown two.grown;
-  leads = halts_after before export one.calls now export two.calls after export why one.leads.steps two.leads;
+  leads = record {
+    steps = steps_on before export one.calls now export two.calls after export (one.leads.writes.steps export) two.leads.steps;
+    left_same = two.leads.left_same ∙ left_flushed before now one.leads.writes.same;
+  };
+}
+
+pub replying_breaks : (a b c : Option (List Call)) (moved : Bool) (before now after : Guest) (export : Export) (why : Halt) → Went a b (λ calls. Flushed moved before calls now) → Went b c (λ calls. Halts now export calls after export why) → Went a c (λ calls. Halts before export calls after export why)
+replying_breaks a b c moved before now after export why one two = record {
+  calls = one.calls ++ two.calls;
+  grown = grows_on a b c one.calls two.calls one.grown two.grown;
+  leads = halts_after before export one.calls now export two.calls after export why (one.leads.writes.steps export) two.leads;
 }
 
 pub flush_breaks : (told told' : Option (List Call)) (before after : Guest) (export : Export) (why : Halt) → Went told told' (λ calls. (export : Export) → Halts before export calls after export why) → Went told told' (λ calls. Halts before export calls after export why)
@@ -409,18 +428,18 @@ flushing_breaks a b c moved before middle after why one two = record {
   leads = λ export. record { own = one.calls; middle = middle; half = export; last = two.calls; steps = one.leads.steps export; breaks = two.leads export; calls_are = refl };
 }
 
-pub gone_on : (told : Option (List Call)) (guest : Guest) (export : Export) → guest.gone ≡ true → Went told told (λ calls. GoesOn guest export calls guest)
-gone_on told guest export gone = record {
+pub gone_on : (told : Option (List Call)) (guest : Guest) (export : Export) → Went told told (λ calls. GoesOn guest export calls guest)
+gone_on told guest export = record {
   calls = [];
   grown = grows_none told;
-  leads = record { steps = steps_none guest export; answered = λ no. absurd (false≢true (sym no ∙ gone)); left_same = refl };
+  leads = record { steps = steps_none guest export; left_same = refl };
 }
 
 pub goes_on : (told told' : Option (List Call)) (before after : Guest) (export : Export) → Went told told' (λ calls. Replied before export calls after) → Went told told' (λ calls. GoesOn before export calls after)
 goes_on told told' before after export w = record {
   calls = w.calls;
   grown = w.grown;
-  leads = record { steps = w.leads.steps; answered = λ here. w.leads.answered; left_same = w.leads.left_same };
+  leads = record { steps = w.leads.steps; left_same = w.leads.left_same };
 }
 
 -- A client's turn.
@@ -432,11 +451,11 @@ here_of true rest e = e
 pub rests_here : (guest : Guest) → Rests guest → guest.gone ≡ false
 rests_here guest rests = here_of guest.gone (is_over guest && (is_empty (waiting_of guest) && is_empty (out_of guest))) rests.stays
 
-pub may_read : (told told' : Option (List Call)) (moved : Bool) (before after : Guest) → Rests before → is_over after ≡ false → Went told told' (λ calls. Flushed moved before calls after) → MayRead after
-may_read told told' moved before after rests going w = record {
+pub may_read : (told told' : Option (List Call)) (moved : Bool) (before after : Guest) → Rests before → length (waiting_of after) ≡ 0 → is_over after ≡ false → Went told told' (λ calls. Flushed moved before calls after) → MayRead after
+may_read told told' moved before after rests none going w = record {
   here = ap (λ (g : Guest). g.gone) w.leads.writes.same ∙ rests_here before rests;
   open_ = going;
-  answered = waiting_flushed before after w.leads.writes.same ∙ rests.answered;
+  answered = none_left (waiting_of after) none;
   sent = w.leads.sent;
 }
 
@@ -452,43 +471,65 @@ no_news : {A : Type 0} (moved : Bool) → doing_of moved ≡ doing.News → A
 no_news true e = cc
 no_news false e = cc
 
-pub attended_closed : (told told' : Option (List Call)) (moved : Bool) (before after : Guest) (export : Export) → Rests before → is_over after ≡ true → Went told told' (λ calls. Flushed moved before calls after)
+pub attended_closed : (told told' : Option (List Call)) (moved : Bool) (before after : Guest) (export : Export) → length (waiting_of after) ≡ 0 → is_over after ≡ true → Went told told' (λ calls. Flushed moved before calls after)
     → Went told told' (λ calls. Attended (doing_of moved) before export calls after export)
-attended_closed told told' moved before after export rests over w = record {
+attended_closed told told' moved before after export none over w = record {
   calls = w.calls;
   grown = w.grown;
   leads = record {
     steps = w.leads.writes.steps export;
-    answered = λ here. waiting_flushed before after w.leads.writes.same ∙ rests.answered;
-    still = λ e. (w.leads.writes.calm (still_is moved e), record { read = λ no. absurd (false≢true (sym no ∙ over)); written = w.leads.full }, w.leads.writes.no_more);
-    sent = λ e. w.leads.writes.less (sent_is moved e);
+    kept = λ quiet. refl;
+    still = λ e. (
+      w.leads.writes.calm (still_is moved e),
+      record { answered = none_left (waiting_of after) none; read = λ no. absurd (false≢true (sym no ∙ over)); written = w.leads.full },
+      owed_flushed export before after w.leads.writes.same w.leads.writes.no_more,
+    );
+    sent = λ e. owed_written export before after w.leads.writes.same (w.leads.writes.less (sent_is moved e));
     news = λ e. no_news moved e;
   };
 }
 
-pub attended_none : (a b c : Option (List Call)) (moved came : Bool) (before middle after : Guest) (export export' : Export) → Rests before → is_done middle ≡ false → came ≡ false → Went a b (λ calls. Flushed moved before calls middle) → Went b c (λ calls. HasRead came middle export calls after export')
+pub attended_none : (a b c : Option (List Call)) (moved came : Bool) (before middle after : Guest) (export export' : Export) → MayRead middle → came ≡ false → Went a b (λ calls. Flushed moved before calls middle) → Went b c (λ calls. HasRead came middle export calls after export')
     → Went a c (λ calls. Attended (doing_of moved) before export calls after export')
-attended_none a b c moved came before middle after export export' rests stays nothing one two =
+attended_none a b c moved came before middle after export export' may nothing one two =
     let none = two.leads.none nothing in
     let same : after ≡ middle = none.0 in
     let size : length (out_of after) ≡ length (out_of middle) = ap (λ (g : Guest). length (out_of g)) same in
+    let owes : owed export after ≡ owed export middle = ap (λ (g : Guest). owed export g) same in
     record {
       calls = one.calls ++ two.calls;
       grown = grows_on a b c one.calls two.calls one.grown two.grown;
       leads = record {
-        steps = steps_then before export one.calls middle export two.calls after export' (one.leads.writes.steps export) stays two.leads.step;
-        answered = λ here. ap (λ (g : Guest). waiting_of g) same ∙ waiting_flushed before middle one.leads.writes.same ∙ rests.answered;
+        steps = steps_then before export one.calls middle export two.calls after export' (one.leads.writes.steps export) (stays_open middle may) two.leads.step;
+        kept = λ quiet. none.3;
         still = λ e. (
           calm_on one.calls two.calls (one.leads.writes.calm (still_is moved e)) none.1,
           record {
+            answered = ap (λ (g : Guest). waiting_of g) same ∙ may.answered;
             read = λ going. was_later (is_unread after.link) one.calls two.calls (ap (λ (g : Guest). was_since (is_unread g.link) two.calls) same ∙ none.2);
             written = λ waits. was_before (is_unwritten after.link) one.calls two.calls
                 (ap (λ (g : Guest). was_since (is_unwritten g.link) one.calls) same ∙ one.leads.full (omega (arith, waits, size))) none.1;
           },
-          omega (arith, size, one.leads.writes.no_more),
+          (let low = owed_flushed export before middle one.leads.writes.same one.leads.writes.no_more in omega (arith, owes, low)),
         );
-        sent = λ e. let less = one.leads.writes.less (sent_is moved e) in omega (arith, size, less);
+        sent = λ e. let less = owed_written export before middle one.leads.writes.same (one.leads.writes.less (sent_is moved e)) in omega (arith, owes, less);
         news = λ e. no_news moved e;
+      };
+    }
+
+pub attended_replied : (a b c : Option (List Call)) (moved : Bool) (before middle after : Guest) (export : Export) → Went a b (λ calls. Flushed moved before calls middle) → Went b c (λ calls. RepliedOnce middle export calls after)
+    → Went a c (λ calls. Attended doing.Sent before export calls after export)
+attended_replied a b c moved before middle after export one two =
+    let low = owed_flushed export before middle one.leads.writes.same one.leads.writes.no_more in
+    record {
+      calls = one.calls ++ two.calls;
+      grown = grows_on a b c one.calls two.calls one.grown two.grown;
+      leads = record {
+        steps = steps_on before export one.calls middle export two.calls after export (one.leads.writes.steps export) two.leads.steps;
+        kept = λ quiet. refl;
+        still = λ e. cc;
+        sent = λ e. omega (arith, low, two.leads.less);
+        news = λ e. cc;
       };
     }
 
@@ -502,7 +543,7 @@ attended_some a b c d moved came before middle there after export export' stays 
       grown = grows_on a c d (one.calls ++ two.calls) three.calls (grows_on a b c one.calls two.calls one.grown two.grown) three.grown;
       leads = record {
         steps = steps_on before export (one.calls ++ two.calls) there export' three.calls after export' (steps_then before export one.calls middle export two.calls there export' (one.leads.writes.steps export) stays two.leads.step) three.leads.steps;
-        answered = three.leads.answered;
+        kept = λ quiet. absurd (false≢true (sym quiet));
         still = λ e. cc;
         sent = λ e. cc;
         news = λ e. omega (arith, less, first, three.leads.left_same);

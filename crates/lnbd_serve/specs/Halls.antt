@@ -26,9 +26,8 @@ max_guests = 64
 abbrev pub is_accepting : (limit : ℕ) → Hall → Bool
 is_accepting limit hall = nat_lt (length hall.guests) max_guests && nat_lt hall.accepted limit
 
--- no reply is pending, and the client is not done
+-- The client is not done. Replies may be pending: they are made in turns over all clients.
 pub record Rests (guest : Guest) : Type 0 where
-  pub answered : waiting_of guest ≡ []
   pub stays : is_done guest ≡ false
 
 abbrev pub newcomer : ℕ → Guest
@@ -72,8 +71,9 @@ IsServing limit hall = 0 < length hall.guests + (limit - hall.accepted)
 abbrev pub wants_of : (listener limit : ℕ) → Hall → List Want
 wants_of listener limit hall = (if is_accepting limit hall then record { link = listener; direction = 3 } ∷ [] else []) ++ map want_of hall.guests
 
--- Its link answered NotReady to a read, unless the session is over, and where bytes wait to a write: since a byte last moved.
+-- No reply is pending, and its link answered NotReady to a read, unless the session is over, and where bytes wait to a write: since a byte last moved.
 pub record IsIdle (calls : List Call) (guest : Guest) : Type 0 where
+  pub answered : waiting_of guest ≡ []
   pub read : is_over guest ≡ false → was_since (is_unread guest.link) calls ≡ true
   pub written : 0 < length (out_of guest) → was_since (is_unwritten guest.link) calls ≡ true
 
@@ -81,7 +81,7 @@ pub record IsStill (listener limit : ℕ) (calls : List Call) (hall : Hall) : Ty
   pub guests : All (IsIdle calls) hall.guests
   pub door : is_accepting limit hall ≡ true → was_since (is_unasked listener) calls ≡ true
 
--- Work and pauses. A pause waits for something, and comes only where nothing is left to do: since the pause before it, and since a byte last moved, all that it waits for answered NotReady.
+-- Work and pauses. A pause waits for something, and comes only where nothing is left to do: no reply is pending, and since the pause before it, and since a byte last moved, all that it waits for answered NotReady.
 pub data Serves (listener limit : ℕ) : Hall → List Call → Hall → Type 0 where
   Works_on : (before : Hall) (calls : List Call) (after : Hall) → Works listener limit before calls after → Serves listener limit before calls after
   Pauses : (before : Hall) (calls : List Call) (after : Hall) (own : List Call) (middle : Hall) (other : List Call) → Works listener limit before own middle → All Rests middle.guests → 0 < length (wants_of listener limit middle)

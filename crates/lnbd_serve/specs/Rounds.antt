@@ -9,9 +9,9 @@ use Rattle.lnbd_serve.specs.declared.guest.Doing.TheVariants as doing
 use Rattle.lnbd_serve.specs.declared.guest.Halt.{Halt}
 use Rattle.lnbd_serve.specs.declared.guests.Guests.{Guests}
 use Rattle.lnbd_serve.specs.Calm.{is_moving, is_unasked, was_since}
-use Rattle.lnbd_serve.specs.Guests.{Halts, out_of}
+use Rattle.lnbd_serve.specs.Guests.{Halts}
 use Rattle.lnbd_serve.specs.Halls.{Hall, IsIdle, IsStill, Rests, Works, Serves, Stops, is_accepting, with_guest}
-use Rattle.lnbd_serve.specs.Steps.{Attended, Went, is_news, left}
+use Rattle.lnbd_serve.specs.Steps.{Attended, Went, is_news, left, owed}
 
 abbrev pub hall_of : Guests → Export → Hall
 hall_of guests export = record { guests = guests.all.items; accepted = guests.accepted; broken = guests.broken; export = export }
@@ -20,12 +20,9 @@ hall_of guests export = record { guests = guests.all.items; accepted = guests.ac
 abbrev pub budget : (limit : ℕ) → Hall → ℕ
 budget limit hall = (limit - hall.accepted) * 4611686018427387907 + sum_by left hall.guests
 
-abbrev pub waiting_out : Guest → ℕ
-waiting_out guest = length (out_of guest)
-
--- how many bytes wait to go out
-abbrev pub total_out : Hall → ℕ
-total_out hall = sum_by waiting_out hall.guests
+-- what is owed to all clients
+abbrev pub total_owed : Hall → ℕ
+total_owed hall = sum_by (owed hall.export) hall.guests
 
 -- who asks was let in; whether one was
 pub record DoorOpened (listener limit : ℕ) (came : Bool) (before : Hall) (calls : List Call) (after : Hall) : Type 0 where
@@ -57,8 +54,8 @@ pub record TurnKept (listener limit at : ℕ) (did : Doing) (before : Hall) (cal
   pub rests : All Rests after.guests
   pub set : after.guests ≡ slice_set before.guests at guest
   pub accepted : after.accepted ≡ before.accepted
-  pub still : did ≡ doing.Still → (list_any is_moving calls ≡ false) × IsIdle calls guest × (total_out after ≤ total_out before)
-  pub sent : did ≡ doing.Sent → total_out after < total_out before
+  pub still : did ≡ doing.Still → (list_any is_moving calls ≡ false) × IsIdle calls guest × (total_owed after ≤ total_owed before)
+  pub sent : did ≡ doing.Sent → total_owed after < total_owed before
   pub news : did ≡ doing.News → budget limit after < budget limit before
 
 -- or leaves
@@ -76,18 +73,18 @@ TurnedAs listener limit at None before calls after = TurnLeft listener limit bef
 pub record TurnsAll (listener limit at : ℕ) (did : Doing) (before : Hall) (calls : List Call) (after : Hall) : Type 0 where
   pub works : Works listener limit before calls after
   pub rests : All Rests after.guests
-  pub still : did ≡ doing.Still → (list_any is_moving calls ≡ false) × All (IsIdle calls) (take at after.guests) × (total_out after ≤ total_out before)
+  pub still : did ≡ doing.Still → (list_any is_moving calls ≡ false) × All (IsIdle calls) (take at after.guests) × (total_owed after ≤ total_owed before)
   pub kept : is_news did ≡ false → (length after.guests ≡ length before.guests) × (after.accepted ≡ before.accepted)
-  pub sent : did ≡ doing.Sent → total_out after < total_out before
+  pub sent : did ≡ doing.Sent → total_owed after < total_owed before
   pub news : did ≡ doing.News → budget limit after < budget limit before
 
 -- a round: the door, and each client's turn
 pub record HasRound (listener limit : ℕ) (did : Doing) (before : Hall) (calls : List Call) (after : Hall) : Type 0 where
   pub works : Works listener limit before calls after
   pub rests : All Rests after.guests
-  pub still : did ≡ doing.Still → IsStill listener limit calls after × (total_out after ≤ total_out before)
+  pub still : did ≡ doing.Still → IsStill listener limit calls after × (total_owed after ≤ total_owed before)
   pub kept : is_news did ≡ false → (length after.guests ≡ length before.guests) × (after.accepted ≡ before.accepted)
-  pub sent : did ≡ doing.Sent → total_out after < total_out before
+  pub sent : did ≡ doing.Sent → total_owed after < total_owed before
   pub news : did ≡ doing.News → budget limit after < budget limit before
 
 -- work, and then what ends the run

@@ -1,11 +1,15 @@
 -- Words on the code's own steps.
 use Rattle.std.specs.Prelude.{◌≡◌, ℕ, ◌+◌, ◌-◌, ◌≤◌, ◌<◌, Bool, true, false, if◌then◌else◌, List, [], length, take, Option, Result, Ok, Err}
-use Rattle.std.specs.List.{list_any}
+use Rattle.std.specs.List.{list_any, sum_by}
 use Rattle.lnbd_export.specs.Export.{Export}
 use Rattle.lnbd_link.specs.Call.{Call}
 use Rattle.lnbd_link.specs.Count.{Rises}
 use Rattle.lnbd_link.specs.Part.{Grows}
+use Rattle.lnbd_export.specs.Requests.{reply}
+use Rattle.lnbd_export.specs.declared.request.Agreed.{Agreed}
+use Rattle.lnbd_export.specs.declared.request.Request.{Request}
 use Rattle.lnbd_server.specs.Client.{max_client}
+use Rattle.lnbd_server.specs.Replies.{put_reply}
 use Rattle.lnbd_server.specs.Session.{Session, Takes}
 use Rattle.lnbd_serve.specs.declared.guest.Guest.{Guest}
 use Rattle.lnbd_serve.specs.declared.guest.Doing.{Doing}
@@ -44,6 +48,14 @@ pub record Counts (blamed : Bool) (faults faults' idles idles' : ℕ) : Type 0 w
 abbrev pub left : Guest → ℕ
 left guest = if guest.gone then 0 else (if is_over guest then 1 else 2 + (max_client - guest.session.came))
 
+-- how many bytes the reply to a request would have now, and one more
+unfoldable pub reply_size : Agreed → Export → Request → ℕ
+reply_size agreed export request = length (put_reply agreed.replies request (reply agreed export request)) + 1
+
+-- how many bytes wait to go out to a client, and what the replies that are pending would add
+abbrev pub owed : Export → Guest → ℕ
+owed export guest = length (out_of guest) + sum_by (reply_size guest.session.dialogue.agreed export) (waiting_of guest)
+
 -- but for its bytes that go out it is as it was
 abbrev pub IsAsBefore : Guest → Guest → Type 0
 IsAsBefore before after = after ≡ record before { session = record before.session { dialogue = record before.session.dialogue { out = out_of after } }; full = after.full }
@@ -70,33 +82,30 @@ pub record Flushed (moved : Bool) (before : Guest) (calls : List Call) (after : 
   pub full : 0 < length (out_of after) → was_since (is_unwritten after.link) calls ≡ true
   pub sent : after.full ≡ false → out_of after ≡ []
 
--- it made all replies that were pending, and wrote
+-- it wrote, made the first reply that was pending, if one was, and wrote
 pub record Replied (before : Guest) (export : Export) (calls : List Call) (after : Guest) : Type 0 where
   pub steps : Steps before export calls after export
-  pub answered : waiting_of after ≡ []
   pub left_same : left after ≡ left before
 
 -- it made the first reply that was pending, and wrote
 pub record RepliedOnce (before : Guest) (export : Export) (calls : List Call) (after : Guest) : Type 0 where
   pub steps : Steps before export calls after export
-  pub fewer : length (waiting_of after) < length (waiting_of before)
-  pub here : after.gone ≡ before.gone
+  pub less : owed export after < owed export before
   pub left_same : left after ≡ left before
 
 -- Only the first of the bytes were taken, for want of memory.
 abbrev pub TakesPart : Session → Export → List ℕ → Session → Export → Halt → Type 0
 TakesPart before start bytes after end why = (why ≡ halt.NoMemory) × ((taken : ℕ) × (taken ≤ length bytes) × Takes before start (take taken bytes) after end)
 
--- what was read is answered, or the client sends no more
+-- the first of the replies to what was read is made, or the client sends no more
 pub record GoesOn (before : Guest) (export : Export) (calls : List Call) (after : Guest) : Type 0 where
   pub steps : Steps before export calls after export
-  pub answered : after.gone ≡ false → waiting_of after ≡ []
   pub left_same : left after ≡ left before
 
 -- one read; whether anything came
 pub record HasRead (came : Bool) (before : Guest) (export : Export) (calls : List Call) (after : Guest) (export' : Export) : Type 0 where
   pub step : Step before export calls after export'
-  pub none : came ≡ false → (after ≡ before) × (list_any is_moving calls ≡ false) × (was_since (is_unread before.link) calls ≡ true)
+  pub none : came ≡ false → (after ≡ before) × (list_any is_moving calls ≡ false) × (was_since (is_unread before.link) calls ≡ true) × (export' ≡ export)
   pub news : came ≡ true → left after < left before
 
 abbrev pub doing_of : Bool → Doing
@@ -118,7 +127,7 @@ both doing.Sent doing.Sent = doing.Sent
 -- a client's turn
 pub record Attended (did : Doing) (before : Guest) (export : Export) (calls : List Call) (after : Guest) (export' : Export) : Type 0 where
   pub steps : Steps before export calls after export'
-  pub answered : after.gone ≡ false → waiting_of after ≡ []
-  pub still : did ≡ doing.Still → (list_any is_moving calls ≡ false) × IsIdle calls after × (length (out_of after) ≤ length (out_of before))
-  pub sent : did ≡ doing.Sent → length (out_of after) < length (out_of before)
+  pub kept : is_news did ≡ false → export' ≡ export
+  pub still : did ≡ doing.Still → (list_any is_moving calls ≡ false) × IsIdle calls after × (owed export after ≤ owed export before)
+  pub sent : did ≡ doing.Sent → owed export after < owed export before
   pub news : did ≡ doing.News → left after < left before

@@ -27,7 +27,7 @@ pub enum Halt {
 pub enum Doing {
     /// Nothing: all answered that they aren't ready.
     Still,
-    /// Bytes went out.
+    /// Bytes went out, or a reply was made.
     Sent,
     /// Something came: a client, bytes of one, or the end of one.
     News,
@@ -121,7 +121,7 @@ impl Guest {
         Ok(moved)
     }
 
-    /// Makes all replies that are pending, in order, and writes.
+    /// Writes, makes the first reply that is pending, if one is, and writes.
     fn reply<W: Wires>(&mut self, wires: &mut W, export: &Export) -> Result<(), Halt>
         requires { self.old.gone ≡ false }
         ensures ok { OnOk result (Went (W.told wires.old) (W.told wires.new) (λ calls. Replied self.old export.now calls self.new)) }
@@ -132,13 +132,13 @@ impl Guest {
             Ok(_) => {}
             Err(why) => return Err(why),
         }
-        'replying: while self.is_asked() {
-            match self.reply_once(wires, export) {
-                Ok(()) => {}
-                Err(why) => return Err(why),
-            }
+        if !self.is_asked() {
+            return Ok(());
         }
-        Ok(())
+        match self.reply_once(wires, export) {
+            Ok(()) => Ok(()),
+            Err(why) => Err(why),
+        }
     }
 
     /// Makes the first reply that is pending, and writes.
@@ -201,7 +201,8 @@ impl Guest {
         }
     }
 
-    /// A client's turn: it writes what waits, reads once, and answers what it read.
+    /// A client's turn: it writes what waits and makes the first reply that is pending; where none is, it reads once and
+    /// makes the first reply to that. Others that ask less are so answered before one that asks much has all its replies.
     pub fn attend<W: Wires>(
         &mut self,
         wires: &mut W,
@@ -218,6 +219,12 @@ impl Guest {
             Ok(moved) => moved,
             Err(why) => return Err(why),
         };
+        if self.is_asked() {
+            return match self.reply_once(wires, export) {
+                Ok(()) => Ok(Doing::Sent),
+                Err(why) => Err(why),
+            };
+        }
         if self.session.is_closed() {
             return Ok(Doing::of(moved));
         }
@@ -231,7 +238,7 @@ impl Guest {
         }
     }
 
-    /// Answers what was read, unless the client sends no more.
+    /// Makes the first reply to what was read, unless the client sends no more.
     fn go_on<W: Wires>(&mut self, wires: &mut W, export: &Export) -> Result<(), Halt>
         ensures ok { OnOk result (Went (W.told wires.old) (W.told wires.new) (λ calls. GoesOn self.old export.now calls self.new)) }
         ensures err { IfErr result (λ why. Went (W.told wires.old) (W.told wires.new) (λ calls. Halts self.old export.now calls self.new export.now why)) }

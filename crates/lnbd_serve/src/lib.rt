@@ -11,4 +11,5 @@ mod serving;
 
 pub use fault::ServeFault;
 pub use listening::serve;
+pub use printed::{Unprinted, print_serving, print_sessions};
 pub use serving::serve_on;

@@ -15,6 +15,8 @@ use lnbd_link::{
 };
 use lnbd_memnet::ServedWires;
 use lnbd_model::Target;
+use lnbd_spawn::ListSpawner;
+use lnbd_store::MemoryStore;
 use std::alloc::Global;
 use std::test::Fail;
 
@@ -417,7 +419,11 @@ pub fn played(
     let mut input = ListSource::new(script, streams.input_fails_at);
     let mut out = ListSink::new(alloc, streams.output_room, streams.output_fails_at)?;
     let mut err = ListSink::new(alloc, ROOM, None)?;
-    let status = run(alloc, words, &mut input, wires, &mut out, &mut err);
+    let mut store = MemoryStore::new(alloc, Vec::new(alloc), None);
+    let mut spawn = ListSpawner::new(alloc, Vec::new(alloc));
+    let status = run(
+        alloc, words, &mut input, wires, &mut out, &mut err, &mut store, &mut spawn,
+    );
     Ok(Ended { status, out, err })
 }
 

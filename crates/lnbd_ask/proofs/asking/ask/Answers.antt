@@ -1,14 +1,13 @@
 use Rattle.std.proofs.Common.{◌∙◌, ap}
-use Rattle.lnbd_ask.specs.declared.conversation.Awaited.TheVariants as awaited
+use Rattle.lnbd_waits.specs.declared.waiting.Awaited.TheVariants as awaited
 use Rattle.lnbd_ask.specs.declared.survey.Survey.{Survey}
 use Rattle.lnbd_ask.specs.Maps.{issued}
 use Rattle.lnbd_ask.proofs.AskLemmas.{ask_cut_off, ask_fails, ask_lost, ask_ok, ask_unissued, context_stays}
-use Rattle.lnbd_ask.proofs.TurnLemmas.{held_one}
-use Rattle.lnbd_ask.proofs.WaitLemmas.{at_handle}
+use Rattle.lnbd_waits.proofs.WaitLemmas.{at_handle}
 use Rattle.lnbd_ask.proofs.asking.ask.Goals as goal
 
 pub issue-requires : goal.issue-requires
-issue-requires g c = held_one c.args.handles.now c.requires.reached.0 c.requires.reached.1
+issue-requires g c = c.requires.reached
 
 pub returns-in-Err-clause-asks : goal.returns-in-Err-clause-asks
 returns-in-Err-clause-asks g c = ask_unissued c.args.world.now.context c.args.offset c.args.size _ _ _ c.args.handles.now c.issue.new.handles c.in-Err.ensures.err

@@ -3,7 +3,7 @@ use Rattle.lnbd_extents.specs.Lists.{span}
 use Rattle.lnbd_link.specs.Contents.{Keeps}
 use Rattle.lnbd_poll.specs.Seen.{Seen}
 use Rattle.lnbd_ask.specs.declared.survey.Surveyor.{Surveyor}
-use Rattle.lnbd_ask.specs.Waits.{Holds}
+use Rattle.lnbd_waits.specs.Waits.{Holds}
 use Rattle.lnbd_ask.proofs.InquireLemmas.{Inquiring}
 use Rattle.lnbd_ask.proofs.asking.inquire.Given as goal
 

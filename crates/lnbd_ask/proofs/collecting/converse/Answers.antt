@@ -2,7 +2,7 @@ use Rattle.lnbd_ask.specs.Asks.{base_allocation, begins}
 use Rattle.lnbd_ask.specs.Quiet.{Passes}
 use Rattle.lnbd_ask.proofs.EndLemmas.{link_rose}
 use Rattle.lnbd_ask.proofs.LostLemmas.{lost_from_start}
-use Rattle.lnbd_ask.proofs.TurnLemmas.{held_one}
+use Rattle.lnbd_waits.proofs.TurnLemmas.{held_one}
 use Rattle.lnbd_ask.proofs.collecting.converse.Goals as goal
 
 pub tell-requires : goal.tell-requires

@@ -1,5 +1,5 @@
 use Rattle.lnbd_ask.proofs.TalkLemmas.{talk_breaks, talk_parts}
-use Rattle.lnbd_ask.proofs.TurnLemmas.{held_one}
+use Rattle.lnbd_waits.proofs.TurnLemmas.{held_one}
 use Rattle.lnbd_ask.proofs.collecting.talk.Goals as goal
 
 pub returns-in-Err-clause-talks : goal.returns-in-Err-clause-talks

@@ -1,7 +1,7 @@
 use Rattle.std.proofs.Common.{◌≤◌, drop}
 use Rattle.lnbd_link.specs.Contents.{Keeps}
 use Rattle.lnbd_poll.specs.Seen.{Seen}
-use Rattle.lnbd_ask.specs.Waits.{Holds}
+use Rattle.lnbd_waits.specs.Waits.{Holds}
 use Rattle.lnbd_ask.proofs.EachLemmas.{Asking}
 use Rattle.lnbd_ask.proofs.inquiring.ask_each.Given as goal
 

@@ -1,10 +1,10 @@
 use Rattle.std.proofs.Common.{arith, refl}
 use Rattle.lnbd_ask.specs.Lists.{aborting}
 use Rattle.lnbd_ask.specs.Parts.{Acts, no_value}
-use Rattle.lnbd_ask.specs.Waits.{Waits}
-use Rattle.lnbd_ask.specs.declared.conversation.Awaited.TheVariants as awaited
+use Rattle.lnbd_waits.specs.Waits.{Waits}
+use Rattle.lnbd_waits.specs.declared.waiting.Awaited.TheVariants as awaited
 use Rattle.lnbd_ask.proofs.PartLemmas.{acts_always, follows, waits}
-use Rattle.lnbd_ask.proofs.TurnLemmas.{held_one}
+use Rattle.lnbd_waits.proofs.TurnLemmas.{held_one}
 use Rattle.lnbd_ask.proofs.inquiring.give_up.Goals as goal
 
 pub abort-requires : goal.abort-requires

@@ -1,11 +1,11 @@
 use Rattle.std.proofs.Common.{arith, refl}
 use Rattle.lnbd_history.specs.Answers.{listed_after}
 use Rattle.lnbd_ask.specs.Parts.{Acts}
-use Rattle.lnbd_ask.specs.Waits.{Waits}
-use Rattle.lnbd_ask.specs.declared.conversation.Awaited.TheVariants as awaited
+use Rattle.lnbd_waits.specs.Waits.{Waits}
+use Rattle.lnbd_waits.specs.declared.waiting.Awaited.TheVariants as awaited
 use Rattle.lnbd_ask.proofs.ActLemmas.{not_silent}
 use Rattle.lnbd_ask.proofs.PartLemmas.{acts, follows, stops, waits}
-use Rattle.lnbd_ask.proofs.TurnLemmas.{held_one}
+use Rattle.lnbd_waits.proofs.TurnLemmas.{held_one}
 use Rattle.lnbd_ask.proofs.inquiring.hear_list.Goals as goal
 
 pub returns-in-Err-clause-hears : goal.returns-in-Err-clause-hears

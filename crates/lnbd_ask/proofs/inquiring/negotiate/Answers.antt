@@ -1,6 +1,6 @@
 use Rattle.lnbd_ask.specs.Lists.{AsksList}
-use Rattle.lnbd_ask.specs.Waits.{Waits}
-use Rattle.lnbd_ask.specs.declared.conversation.Awaited.TheVariants as awaited
+use Rattle.lnbd_waits.specs.Waits.{Waits}
+use Rattle.lnbd_waits.specs.declared.waiting.Awaited.TheVariants as awaited
 use Rattle.std.proofs.Common.{refl}
 use Rattle.lnbd_ask.proofs.PartLemmas.{follows, stops, waits}
 use Rattle.lnbd_ask.proofs.inquiring.negotiate.Goals as goal

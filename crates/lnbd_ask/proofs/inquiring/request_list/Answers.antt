@@ -2,10 +2,10 @@ use Rattle.std.proofs.Common.{◌≡◌, arith, refl}
 use Rattle.lnbd_records.specs.Options.{opt_list}
 use Rattle.lnbd_ask.specs.Lists.{AnswersList, asking}
 use Rattle.lnbd_ask.specs.Parts.{Acts, no_value}
-use Rattle.lnbd_ask.specs.declared.conversation.Halt.TheVariants as halt
+use Rattle.lnbd_waits.specs.declared.waiting.Halt.TheVariants as halt
 use Rattle.lnbd_ask.proofs.ActLemmas.{short_silent}
 use Rattle.lnbd_ask.proofs.PartLemmas.{acts, follows, stops}
-use Rattle.lnbd_ask.proofs.TurnLemmas.{held_one}
+use Rattle.lnbd_waits.proofs.TurnLemmas.{held_one}
 use Rattle.lnbd_ask.proofs.inquiring.request_list.Goals as goal
 
 pub ask_list-requires : goal.ask_list-requires

@@ -1,7 +1,7 @@
 use Rattle.lnbd_ask.specs.Lists.{begins_listing}
 use Rattle.lnbd_ask.specs.Quiet.{Passes}
 use Rattle.lnbd_ask.proofs.ListLemmas.{failure_rose, inquiry_lost}
-use Rattle.lnbd_ask.proofs.TurnLemmas.{held_one}
+use Rattle.lnbd_waits.proofs.TurnLemmas.{held_one}
 use Rattle.lnbd_ask.proofs.listing.converse.Goals as goal
 
 pub tell_entries-requires : goal.tell_entries-requires

@@ -1,5 +1,5 @@
 use Rattle.lnbd_ask.proofs.ListLemmas.{told_at, told_failure}
-use Rattle.lnbd_ask.proofs.WaitLemmas.{at_handle}
+use Rattle.lnbd_waits.proofs.WaitLemmas.{at_handle}
 use Rattle.lnbd_ask.proofs.listing.tell_entries.Goals as goal
 
 pub returns-in-Ok-clause-told : goal.returns-in-Ok-clause-told

@@ -1,6 +1,6 @@
 use Rattle.lnbd_ask.proofs.LearnLemmas.{discuss_parts, discuss_short}
-use Rattle.lnbd_ask.proofs.TurnLemmas.{held_one}
-use Rattle.lnbd_ask.proofs.WaitLemmas.{at_handle}
+use Rattle.lnbd_waits.proofs.TurnLemmas.{held_one}
+use Rattle.lnbd_waits.proofs.WaitLemmas.{at_handle}
 use Rattle.lnbd_ask.proofs.mapping.discuss.Goals as goal
 
 pub part-requires : goal.part-requires

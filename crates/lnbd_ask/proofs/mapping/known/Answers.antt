@@ -1,5 +1,5 @@
 use Rattle.lnbd_ask.proofs.LearnLemmas.{known_is}
-use Rattle.lnbd_ask.proofs.WaitLemmas.{at_handle}
+use Rattle.lnbd_waits.proofs.WaitLemmas.{at_handle}
 use Rattle.lnbd_ask.proofs.mapping.known.Goals as goal
 
 pub returns : goal.returns

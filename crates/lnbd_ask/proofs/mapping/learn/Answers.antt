@@ -1,8 +1,8 @@
-use Rattle.lnbd_ask.specs.declared.conversation.Awaited.TheVariants as awaited
+use Rattle.lnbd_waits.specs.declared.waiting.Awaited.TheVariants as awaited
 use Rattle.lnbd_ask.proofs.AskLemmas.{context_stays}
 use Rattle.lnbd_ask.proofs.InquireLemmas.{inquired_in}
 use Rattle.lnbd_ask.proofs.LearnLemmas.{known_in, learn_breaks, learn_cannot, learn_ends, learn_stops, plan_known}
-use Rattle.lnbd_ask.proofs.TurnLemmas.{held_one}
+use Rattle.lnbd_waits.proofs.TurnLemmas.{held_one}
 use Rattle.lnbd_ask.proofs.mapping.learn.Goals as goal
 
 pub returns-in-Err-clause-learns : goal.returns-in-Err-clause-learns

@@ -1,5 +1,5 @@
 use Rattle.lnbd_ask.proofs.TalkLemmas.{told_link, told_state}
-use Rattle.lnbd_ask.proofs.WaitLemmas.{at_handle}
+use Rattle.lnbd_waits.proofs.WaitLemmas.{at_handle}
 use Rattle.lnbd_ask.proofs.telling.tell.Goals as goal
 
 pub returns-in-Ok-clause-told : goal.returns-in-Ok-clause-told

@@ -1,24 +1,24 @@
-use Rattle.std.proofs.Common.{inr, refl, sym, ◌∙◌}
-use Rattle.lnbd_cli.proofs.InfoLemmas.{informed, lawful_question, asked_accepts}
+use Rattle.std.proofs.Common.{refl}
+use Rattle.lnbd_cli.specs.Informs.{Counted, Failed}
+use Rattle.lnbd_cli.proofs.HeardLemmas.{was_asked}
+use Rattle.lnbd_cli.proofs.InfoLemmas.{told_ends, told_known, told_of_wires}
+use Rattle.lnbd_cli.proofs.ServeLemmas.{as_failed}
 use Rattle.lnbd_cli.proofs.informing.inform.Goals as goal
 
-pub returns-in-Some-clause-ends : goal.returns-in-Some-clause-ends
-returns-in-Some-clause-ends g c = informed c.args.words.now c.in-Ok.wish c.in-Some.question c.in-Ok.ensures.asked (sym c.question_in.ensures ∙ c.in-Some.is) _ _ _ _ _ _ c.ask.result c.ask.ensures.ends
+pub returns-in-Ok-look-clause-ends : goal.returns-in-Ok-look-clause-ends
+returns-in-Ok-look-clause-ends g c = told_ends c.tell.result c.args.question c.in-Ok.news.text.items c.in-Ok.news.end _ _ _ _ _ _ c.in-Ok.ensures.says c.tell.ensures.tells
 
-pub returns-in-Some-clause-accepts : goal.returns-in-Some-clause-accepts
-returns-in-Some-clause-accepts g c lawful = asked_accepts c.ask.result _ _ _ _ _ _ c.ask.ensures.ends
+pub returns-in-Ok-look-clause-known : goal.returns-in-Ok-look-clause-known
+returns-in-Ok-look-clause-known g c = told_known c.tell.result _ _ _ _ c.tell.ensures.tells
 
-pub returns-in-None-clause-ends : goal.returns-in-None-clause-ends
-returns-in-None-clause-ends g c = (inr (c.in-Ok.wish, c.in-Ok.ensures.asked, sym c.question_in.ensures ∙ c.in-None.is), refl, refl)
+pub returns-in-Ok-look-clause-link : goal.returns-in-Ok-look-clause-link
+returns-in-Ok-look-clause-link g c is = absurd ((told_of_wires c.tell.result _ _ _ _ c.tell.ensures.tells).0 is)
 
-pub returns-in-None-clause-accepts : goal.returns-in-None-clause-accepts
-returns-in-None-clause-accepts g c lawful = absurd (lawful_question c.args.words.now c.in-Ok.wish _ lawful refl (sym c.question_in.ensures ∙ c.in-None.is) (c.in-Ok.ensures.accepts lawful.asked lawful.asks))
+pub returns-in-Ok-look-clause-silent : goal.returns-in-Ok-look-clause-silent
+returns-in-Ok-look-clause-silent g c is = absurd ((told_of_wires c.tell.result _ _ _ _ c.tell.ensures.tells).1 is)
 
-pub returns-in-Some-clause-rule : goal.returns-in-Some-clause-rule
-returns-in-Some-clause-rule g c six = record {
-  asked = c.in-Ok.wish;
-  question = c.in-Some.question;
-  asks = c.in-Ok.ensures.asked;
-  is = sym c.question_in.ensures ∙ c.in-Some.is;
-  of_map = c.ask.ensures.rule six;
-}
+pub returns-in-Err-look-clause-ends : goal.returns-in-Err-look-clause-ends
+returns-in-Err-look-clause-ends g c = Counted (as_failed _ c.in-Err-look.ensures.only) (was_asked c.args.question.what c.args.question.json _ _ _ _ _ c.in-Ok.ensures.says) refl
+
+pub returns-in-Err-clause-ends : goal.returns-in-Err-clause-ends
+returns-in-Err-clause-ends g c = Failed c.in-Err.fault refl c.in-Err.ensures.fails refl

@@ -1,21 +1,25 @@
-use Rattle.std.proofs.Common.{sym}
-use Rattle.lnbd_cli.proofs.ServeLemmas.{served_link, served_output, served_silent}
+use Rattle.std.proofs.Common.{ap, Err, refl, sym}
+use Rattle.lnbd_cli.specs.Serves.{Counted, Failed, Served}
+use Rattle.lnbd_cli.proofs.ServeLemmas.{as_failed, told_link, told_output, told_silent}
 use Rattle.lnbd_cli.proofs.serving.serve_export.Goals as goal
 
 pub serve-requires : goal.serve-requires
 serve-requires g c = sym c.requires.name
 
+pub returns-in-Ok-look-clause-ends : goal.returns-in-Ok-look-clause-ends
+returns-in-Ok-look-clause-ends g c = Served _ refl (record { start = c.args.export; generated = c.requires; end = c.serve.new.export; runs = c.in-Ok.ensures.runs; lines = c.in-Ok.ensures.lines; front = c.in-Ok.ensures.front })
+
 pub returns-in-Ok-clause-ends : goal.returns-in-Ok-clause-ends
-returns-in-Ok-clause-ends g c = record { start = c.args.export; generated = c.requires; end = c.serve.new.export; runs = c.in-Ok.ensures.runs; lines = c.in-Ok.ensures.lines; front = c.in-Ok.ensures.front }
+returns-in-Ok-clause-ends g c = Counted _ (as_failed _ c.in-Err-look.ensures.only) (record { start = c.args.export; generated = c.requires; end = c.serve.new.export; runs = c.in-Ok.ensures.runs; lines = c.in-Ok.ensures.lines; front = c.in-Ok.ensures.front })
 
 pub returns-clause-ends : goal.returns-clause-ends
-returns-clause-ends g c = record { start = c.args.export; generated = c.requires; end = c.serve.new.export; runs = c.in-Err.ensures.runs; lines = c.in-Err.ensures.lines; front = c.in-Err.ensures.front }
+returns-clause-ends g c = Failed c.in-Err.fault (ap Err c.told.ensures.told) (record { start = c.args.export; generated = c.requires; end = c.serve.new.export; runs = c.in-Err.ensures.runs; lines = c.in-Err.ensures.lines; front = c.in-Err.ensures.front })
 
 pub returns-clause-link : goal.returns-clause-link
-returns-clause-link g c is = served_link c.in-Err.fault _ _ c.in-Err.ensures.link is
+returns-clause-link g c = told_link c.in-Err.fault c.told.result _ _ c.told.ensures.told c.in-Err.ensures.link
 
 pub returns-clause-silent : goal.returns-clause-silent
-returns-clause-silent g c is = served_silent c.in-Err.fault _ _ c.in-Err.ensures.silent is
+returns-clause-silent g c = told_silent c.in-Err.fault c.told.result _ _ c.told.ensures.told c.in-Err.ensures.silent
 
 pub returns-clause-output : goal.returns-clause-output
-returns-clause-output g c is = served_output c.in-Err.fault _ c.in-Err.ensures.output is
+returns-clause-output g c = told_output c.in-Err.fault c.told.result _ c.told.ensures.told c.in-Err.ensures.output

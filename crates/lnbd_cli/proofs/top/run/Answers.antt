@@ -1,302 +1,61 @@
-use Rattle.std.proofs.Common.{ℕ, List, inl, inr, Err, arith}
-use Rattle.lnbd_script.specs.declared.event.PlayFault.TheVariants as play
-use Rattle.lnbd_cli.specs.declared.fault.Fault.TheVariants as fault
-use Rattle.lnbd_cli.specs.Runs.{Prints}
-use Rattle.lnbd_cli.proofs.RunLemmas.{bad, bad_end, cut, known, line_of, complete, ends_well, memory_line, of_end, only_input, only_output, played, short, silent_line, waited}
-use Rattle.lnbd_cli.proofs.ServeLemmas.{not_both}
-use Rattle.lnbd_cli.proofs.CopyLemmas.{no_info_copies, no_serve_copies}
-use Rattle.lnbd_cli.proofs.TrialLemmas.{no_copy_tests, no_info_tests, no_serve_tests}
+use Rattle.std.proofs.Common.{◌≡◌, ◌⊎◌, inr, ℕ, List, refl, arith}
+use Rattle.lnbd_args.specs.declared.asked.Asked.TheVariants as asked
+use Rattle.lnbd_cli.specs.Ends.{Prints}
+use Rattle.lnbd_cli.specs.Runs.{Refused}
+use Rattle.lnbd_cli.proofs.EndLemmas.{by_status, came_known, calls_done, copy_done, ends_well, info_done, known, of_end, refused_known, serve_done, test_done}
 use Rattle.lnbd_cli.proofs.top.run.Goals as goal
 
-pub returns-clause-played : goal.returns-clause-played
-returns-clause-played g c other = played c.print_end.result c.tool-end.result _ _ _ _ _ _ _ _ (λ (t : List ℕ). Prints (g.E.Sink.taken c.args.err.now) (g.E.Sink.taken c.print_end.new.err) (g.E.Sink.faults c.args.err.now) (g.E.Sink.faults c.print_end.new.err) t) c.tool-end.ensures.ends c.print_end.ensures
+pub returns-clause-calls : goal.returns-clause-calls
+returns-clause-calls g c asks = record { end = c.tool-end.result; ends = (c.tool-end.ensures.did asked.Calls asks).does; tells = c.print_end.ensures.tells }
 
-pub returns-clause-waited : goal.returns-clause-waited
-returns-clause-waited g c other = waited c.print_end.result c.tool-end.result _ _ _ _ _ _ _ _ (λ (t : List ℕ). Prints (g.E.Sink.taken c.args.err.now) (g.E.Sink.taken c.print_end.new.err) (g.E.Sink.faults c.args.err.now) (g.E.Sink.faults c.print_end.new.err) t) c.tool-end.ensures.ends c.print_end.ensures
+pub returns-clause-info : goal.returns-clause-info
+returns-clause-info g c q asks = record { end = c.tool-end.result; ends = (c.tool-end.ensures.did (asked.Info q.what q.json q.place) asks).does; tells = c.print_end.ensures.tells }
 
-pub returns-clause-cut : goal.returns-clause-cut
-returns-clause-cut g c other = cut c.print_end.result c.tool-end.result _ _ _ _ _ _ _ _ (λ (t : List ℕ). Prints (g.E.Sink.taken c.args.err.now) (g.E.Sink.taken c.print_end.new.err) (g.E.Sink.faults c.args.err.now) (g.E.Sink.faults c.print_end.new.err) t) c.tool-end.ensures.ends c.print_end.ensures
+pub returns-clause-serve : goal.returns-clause-serve
+returns-clause-serve g c s asks = record { end = c.tool-end.result; ends = (c.tool-end.ensures.did (asked.Serve s.place s.size s.seed s.read_only s.sessions) asks).does; tells = c.print_end.ensures.tells }
 
-pub returns-clause-short : goal.returns-clause-short
-returns-clause-short g c other = short c.print_end.result c.tool-end.result _ _ _ _ _ _ _ _ (λ (t : List ℕ). Prints (g.E.Sink.taken c.args.err.now) (g.E.Sink.taken c.print_end.new.err) (g.E.Sink.faults c.args.err.now) (g.E.Sink.faults c.print_end.new.err) t) c.tool-end.ensures.ends c.print_end.ensures
+pub returns-clause-copy : goal.returns-clause-copy
+returns-clause-copy g c t asks = record { end = c.tool-end.result; ends = (c.tool-end.ensures.did (asked.Copy t.options t.from t.to) asks).does; tells = c.print_end.ensures.tells }
 
-pub returns-clause-bad : goal.returns-clause-bad
-returns-clause-bad g c other h = (bad c.print_end.result c.tool-end.result _ _ _ _ _ _ _ _ (λ (t : List ℕ). Prints (g.E.Sink.taken c.args.err.now) (g.E.Sink.taken c.print_end.new.err) (g.E.Sink.faults c.args.err.now) (g.E.Sink.faults c.print_end.new.err) t) c.tool-end.ensures.ends c.print_end.ensures h).0
+pub returns-clause-selftest : goal.returns-clause-selftest
+returns-clause-selftest g c t asks = record { end = c.tool-end.result; ends = (c.tool-end.ensures.did (asked.Selftest t.seed t.size) asks).does; tells = c.print_end.ensures.tells }
 
-pub returns-clause-silent_line : goal.returns-clause-silent_line
-returns-clause-silent_line g c other = silent_line c.print_end.result c.tool-end.result (λ (t : List ℕ). Prints (g.E.Sink.taken c.args.err.now) (g.E.Sink.taken c.print_end.new.err) (g.E.Sink.faults c.args.err.now) (g.E.Sink.faults c.print_end.new.err) t) c.print_end.ensures
-
-pub returns-clause-output_line : goal.returns-clause-output_line
-returns-clause-output_line g c other h = line_of c.print_end.result 8 c.tool-end.result (Err (fault.Played play.Output)) (λ (t : List ℕ). Prints (g.E.Sink.taken c.args.err.now) (g.E.Sink.taken c.print_end.new.err) (g.E.Sink.faults c.args.err.now) (g.E.Sink.faults c.print_end.new.err) t) c.print_end.ensures h (λ e. absurd (omega (arith, e))) (only_output c.tool-end.result)
-
-pub returns-clause-input_line : goal.returns-clause-input_line
-returns-clause-input_line g c h = line_of c.print_end.result 10 c.tool-end.result (Err fault.Input) (λ (t : List ℕ). Prints (g.E.Sink.taken c.args.err.now) (g.E.Sink.taken c.print_end.new.err) (g.E.Sink.faults c.args.err.now) (g.E.Sink.faults c.print_end.new.err) t) c.print_end.ensures h (λ e. absurd (omega (arith, e))) (only_input c.tool-end.result)
-
-pub returns-clause-memory_line : goal.returns-clause-memory_line
-returns-clause-memory_line g c other = memory_line c.print_end.result c.tool-end.result (λ (t : List ℕ). Prints (g.E.Sink.taken c.args.err.now) (g.E.Sink.taken c.print_end.new.err) (g.E.Sink.faults c.args.err.now) (g.E.Sink.faults c.print_end.new.err) t) c.print_end.ensures
-
-pub returns-clause-bad_script : goal.returns-clause-bad_script
-returns-clause-bad_script g c other calls h = c.tool-end.ensures.bad_script calls (bad_end c.print_end.result c.tool-end.result (λ (t : List ℕ). Prints (g.E.Sink.taken c.args.err.now) (g.E.Sink.taken c.print_end.new.err) (g.E.Sink.faults c.args.err.now) (g.E.Sink.faults c.print_end.new.err) t) c.print_end.ensures h)
+pub returns-clause-refused : goal.returns-clause-refused
+returns-clause-refused g c none = record { end = c.tool-end.result; ends = c.tool-end.ensures.refused none; tells = c.print_end.ensures.tells }
 
 pub returns-clause-known : goal.returns-clause-known
-returns-clause-known g c other = known c.print_end.result c.tool-end.result (λ (t : List ℕ). Prints (g.E.Sink.taken c.args.err.now) (g.E.Sink.taken c.print_end.new.err) (g.E.Sink.faults c.args.err.now) (g.E.Sink.faults c.print_end.new.err) t) c.print_end.ensures
+returns-clause-known g c a asks = known a (λ (t : List ℕ). Prints g.E.Sink.taken g.E.Sink.faults c.args.err.now c.print_end.new.err t) c.tool-end.result c.print_end.result (c.tool-end.ensures.did a asks).known c.print_end.ensures.tells
 
-pub returns-clause-link_cause : goal.returns-clause-link_cause
-returns-clause-link_cause g c h = of_end c.print_end.result 5 c.tool-end.result (λ (t : List ℕ). Prints (g.E.Sink.taken c.args.err.now) (g.E.Sink.taken c.print_end.new.err) (g.E.Sink.faults c.args.err.now) (g.E.Sink.faults c.print_end.new.err) t) _ c.print_end.ensures h (λ e. absurd (omega (arith, e))) c.tool-end.ensures.link_cause
+pub returns-clause-refused_known : goal.returns-clause-refused_known
+returns-clause-refused_known g c none = refused_known c.args.words.now (λ (t : List ℕ). Prints g.E.Sink.taken g.E.Sink.faults c.args.err.now c.print_end.new.err t) c.tool-end.result c.print_end.result (c.tool-end.ensures.refused none) c.print_end.ensures.tells
 
-pub returns-clause-silent_cause : goal.returns-clause-silent_cause
-returns-clause-silent_cause g c h = of_end c.print_end.result 7 c.tool-end.result (λ (t : List ℕ). Prints (g.E.Sink.taken c.args.err.now) (g.E.Sink.taken c.print_end.new.err) (g.E.Sink.faults c.args.err.now) (g.E.Sink.faults c.print_end.new.err) t) _ c.print_end.ensures h (λ e. absurd (omega (arith, e))) c.tool-end.ensures.silent_cause
+pub returns-clause-well : goal.returns-clause-well
+returns-clause-well g c other is = ends_well c.tool-end.result c.print_end.result _ (c.tool-end.ensures.well other) c.print_end.ensures.done c.print_end.ensures.untrue is
 
-pub returns-clause-calls_well : goal.returns-clause-calls_well
-returns-clause-calls_well g c other h = ends_well c.print_end.result c.tool-end.result (λ (t : List ℕ). Prints (g.E.Sink.taken c.args.err.now) (g.E.Sink.taken c.print_end.new.err) (g.E.Sink.faults c.args.err.now) (g.E.Sink.faults c.print_end.new.err) t) _ c.print_end.ensures h c.tool-end.ensures.well
-
-pub returns-clause-calls_patient : goal.returns-clause-calls_patient
-returns-clause-calls_patient g c other h = ends_well c.print_end.result c.tool-end.result (λ (t : List ℕ). Prints (g.E.Sink.taken c.args.err.now) (g.E.Sink.taken c.print_end.new.err) (g.E.Sink.faults c.args.err.now) (g.E.Sink.faults c.print_end.new.err) t) _ c.print_end.ensures h c.tool-end.ensures.patient
+pub returns-clause-patient : goal.returns-clause-patient
+returns-clause-patient g c other is = ends_well c.tool-end.result c.print_end.result _ (c.tool-end.ensures.patient other) c.print_end.ensures.done c.print_end.ensures.untrue is
 
 pub returns-clause-complete : goal.returns-clause-complete
-returns-clause-complete g c other lawful link silent output input =
-    complete c.print_end.result c.tool-end.result (λ (t : List ℕ). Prints (g.E.Sink.taken c.args.err.now) (g.E.Sink.taken c.print_end.new.err) (g.E.Sink.faults c.args.err.now) (g.E.Sink.faults c.print_end.new.err) t) c.print_end.ensures (c.tool-end.ensures.accepts lawful) (λ e. input (c.tool-end.ensures.input_cause e)) (λ e. link (c.tool-end.ensures.link_cause e)) (λ e. silent (c.tool-end.ensures.silent_cause e))
-    (λ e. output (c.tool-end.ensures.output_cause e))
+returns-clause-complete g c lawful quiet sound =
+    let asks = lawful.asks in
+    calls_done c.print_end.result (known asked.Calls (λ (t : List ℕ). Prints g.E.Sink.taken g.E.Sink.faults c.args.err.now c.print_end.new.err t) c.tool-end.result c.print_end.result (c.tool-end.ensures.did asked.Calls asks).known c.print_end.ensures.tells) (λ e. (c.tool-end.ensures.did asked.Calls asks).accepts lawful.holds (of_end (λ (t : List ℕ). Prints g.E.Sink.taken g.E.Sink.faults c.args.err.now c.print_end.new.err t) c.tool-end.result 1 c.print_end.result (λ n. omega (arith, n)) c.print_end.ensures.tells e))
+    (λ e. quiet.sound (c.tool-end.ensures.link (c.print_end.ensures.link e))) (λ e. quiet.patient (c.tool-end.ensures.silent (c.print_end.ensures.silent e))) (λ e. sound.1 (c.tool-end.ensures.output (c.print_end.ensures.output e))) (λ e. sound.0 (c.tool-end.ensures.input (c.print_end.ensures.input e)))
 
-pub returns-then-names_info-clause-played : goal.returns-then-names_info-clause-played
-returns-then-names_info-clause-played g c other = absurd (other (inl (c.names_info.ensures.yes c.if-names_info.true)))
+pub returns-clause-info_complete : goal.returns-clause-info_complete
+returns-clause-info_complete g c q asks quiet output = info_done c.print_end.result (known (asked.Info q.what q.json q.place) (λ (t : List ℕ). Prints g.E.Sink.taken g.E.Sink.faults c.args.err.now c.print_end.new.err t) c.tool-end.result c.print_end.result (c.tool-end.ensures.did (asked.Info q.what q.json q.place) asks).known c.print_end.ensures.tells) (λ e. quiet.sound (c.tool-end.ensures.link (c.print_end.ensures.link e))) (λ e. quiet.patient (c.tool-end.ensures.silent (c.print_end.ensures.silent e))) (λ e. output (c.tool-end.ensures.output (c.print_end.ensures.output e)))
 
-pub returns-then-names_info-clause-waited : goal.returns-then-names_info-clause-waited
-returns-then-names_info-clause-waited g c other = absurd (other (inl (c.names_info.ensures.yes c.if-names_info.true)))
+pub returns-clause-serve_complete : goal.returns-clause-serve_complete
+returns-clause-serve_complete g c s asks quiet output = serve_done c.print_end.result (known (asked.Serve s.place s.size s.seed s.read_only s.sessions) (λ (t : List ℕ). Prints g.E.Sink.taken g.E.Sink.faults c.args.err.now c.print_end.new.err t) c.tool-end.result c.print_end.result (c.tool-end.ensures.did (asked.Serve s.place s.size s.seed s.read_only s.sessions) asks).known c.print_end.ensures.tells) (λ e. quiet.sound (c.tool-end.ensures.link (c.print_end.ensures.link e))) (λ e. quiet.patient (c.tool-end.ensures.silent (c.print_end.ensures.silent e))) (λ e. output (c.tool-end.ensures.output (c.print_end.ensures.output e)))
 
-pub returns-then-names_info-clause-cut : goal.returns-then-names_info-clause-cut
-returns-then-names_info-clause-cut g c other = absurd (other (inl (c.names_info.ensures.yes c.if-names_info.true)))
+pub returns-clause-copy_complete : goal.returns-clause-copy_complete
+returns-clause-copy_complete g c t asks quiet = copy_done c.print_end.result (known (asked.Copy t.options t.from t.to) (λ (t : List ℕ). Prints g.E.Sink.taken g.E.Sink.faults c.args.err.now c.print_end.new.err t) c.tool-end.result c.print_end.result (c.tool-end.ensures.did (asked.Copy t.options t.from t.to) asks).known c.print_end.ensures.tells) (λ e. quiet.sound (c.tool-end.ensures.link (c.print_end.ensures.link e))) (λ e. quiet.patient (c.tool-end.ensures.silent (c.print_end.ensures.silent e)))
 
-pub returns-then-names_info-clause-short : goal.returns-then-names_info-clause-short
-returns-then-names_info-clause-short g c other = absurd (other (inl (c.names_info.ensures.yes c.if-names_info.true)))
+pub returns-clause-selftest_complete : goal.returns-clause-selftest_complete
+returns-clause-selftest_complete g c t asks small output =
+    test_done c.print_end.result (known (asked.Selftest t.seed t.size) (λ (t : List ℕ). Prints g.E.Sink.taken g.E.Sink.faults c.args.err.now c.print_end.new.err t) c.tool-end.result c.print_end.result (c.tool-end.ensures.did (asked.Selftest t.seed t.size) asks).known c.print_end.ensures.tells) (λ e. (c.tool-end.ensures.did (asked.Selftest t.seed t.size) asks).accepts.0 small (of_end (λ (t : List ℕ). Prints g.E.Sink.taken g.E.Sink.faults c.args.err.now c.print_end.new.err t) c.tool-end.result 6 c.print_end.result (λ n. omega (arith, n)) c.print_end.ensures.tells e)) (λ e. output (c.tool-end.ensures.output (c.print_end.ensures.output e)))
 
-pub returns-then-names_info-clause-bad : goal.returns-then-names_info-clause-bad
-returns-then-names_info-clause-bad g c other = absurd (other (inl (c.names_info.ensures.yes c.if-names_info.true)))
+pub returns-clause-selftest_refuses : goal.returns-clause-selftest_refuses
+returns-clause-selftest_refuses g c t asks large = by_status (λ (s : ℕ). (s ≡ 6) ⊎ (s ≡ 9)) (λ (t : List ℕ). Prints g.E.Sink.taken g.E.Sink.faults c.args.err.now c.print_end.new.err t) c.tool-end.result c.print_end.result (inr refl) ((c.tool-end.ensures.did (asked.Selftest t.seed t.size) asks).accepts.1 large) c.print_end.ensures.tells
 
-pub returns-then-names_info-clause-bad_alone : goal.returns-then-names_info-clause-bad_alone
-returns-then-names_info-clause-bad_alone g c other = absurd (other (inl (c.names_info.ensures.yes c.if-names_info.true)))
-
-pub returns-then-names_info-clause-bad_script : goal.returns-then-names_info-clause-bad_script
-returns-then-names_info-clause-bad_script g c other = absurd (other (inl (c.names_info.ensures.yes c.if-names_info.true)))
-
-pub returns-then-names_info-clause-silent_line : goal.returns-then-names_info-clause-silent_line
-returns-then-names_info-clause-silent_line g c other = absurd (other (inl (c.names_info.ensures.yes c.if-names_info.true)))
-
-pub returns-then-names_info-clause-output_line : goal.returns-then-names_info-clause-output_line
-returns-then-names_info-clause-output_line g c other = absurd (other (inl (c.names_info.ensures.yes c.if-names_info.true)))
-
-pub returns-then-names_info-clause-memory_line : goal.returns-then-names_info-clause-memory_line
-returns-then-names_info-clause-memory_line g c other = absurd (other (inl (c.names_info.ensures.yes c.if-names_info.true)))
-
-pub returns-then-names_info-clause-known : goal.returns-then-names_info-clause-known
-returns-then-names_info-clause-known g c other = absurd (other (inl (c.names_info.ensures.yes c.if-names_info.true)))
-
-pub returns-then-names_info-clause-complete : goal.returns-then-names_info-clause-complete
-returns-then-names_info-clause-complete g c other = absurd (other (inl (c.names_info.ensures.yes c.if-names_info.true)))
-
-pub returns-then-names_serve-clause-played : goal.returns-then-names_serve-clause-played
-returns-then-names_serve-clause-played g c other = absurd (other (inr (inl (c.names_serve.ensures.yes c.if-names_serve.true))))
-
-pub returns-then-names_serve-clause-waited : goal.returns-then-names_serve-clause-waited
-returns-then-names_serve-clause-waited g c other = absurd (other (inr (inl (c.names_serve.ensures.yes c.if-names_serve.true))))
-
-pub returns-then-names_serve-clause-cut : goal.returns-then-names_serve-clause-cut
-returns-then-names_serve-clause-cut g c other = absurd (other (inr (inl (c.names_serve.ensures.yes c.if-names_serve.true))))
-
-pub returns-then-names_serve-clause-short : goal.returns-then-names_serve-clause-short
-returns-then-names_serve-clause-short g c other = absurd (other (inr (inl (c.names_serve.ensures.yes c.if-names_serve.true))))
-
-pub returns-then-names_serve-clause-bad : goal.returns-then-names_serve-clause-bad
-returns-then-names_serve-clause-bad g c other = absurd (other (inr (inl (c.names_serve.ensures.yes c.if-names_serve.true))))
-
-pub returns-then-names_serve-clause-bad_alone : goal.returns-then-names_serve-clause-bad_alone
-returns-then-names_serve-clause-bad_alone g c other = absurd (other (inr (inl (c.names_serve.ensures.yes c.if-names_serve.true))))
-
-pub returns-then-names_serve-clause-bad_script : goal.returns-then-names_serve-clause-bad_script
-returns-then-names_serve-clause-bad_script g c other = absurd (other (inr (inl (c.names_serve.ensures.yes c.if-names_serve.true))))
-
-pub returns-then-names_serve-clause-silent_line : goal.returns-then-names_serve-clause-silent_line
-returns-then-names_serve-clause-silent_line g c other = absurd (other (inr (inl (c.names_serve.ensures.yes c.if-names_serve.true))))
-
-pub returns-then-names_serve-clause-output_line : goal.returns-then-names_serve-clause-output_line
-returns-then-names_serve-clause-output_line g c other = absurd (other (inr (inl (c.names_serve.ensures.yes c.if-names_serve.true))))
-
-pub returns-then-names_serve-clause-memory_line : goal.returns-then-names_serve-clause-memory_line
-returns-then-names_serve-clause-memory_line g c other = absurd (other (inr (inl (c.names_serve.ensures.yes c.if-names_serve.true))))
-
-pub returns-then-names_serve-clause-known : goal.returns-then-names_serve-clause-known
-returns-then-names_serve-clause-known g c other = absurd (other (inr (inl (c.names_serve.ensures.yes c.if-names_serve.true))))
-
-pub returns-then-names_serve-clause-complete : goal.returns-then-names_serve-clause-complete
-returns-then-names_serve-clause-complete g c other = absurd (other (inr (inl (c.names_serve.ensures.yes c.if-names_serve.true))))
-
-pub returns-then-names_info-clause-serve : goal.returns-then-names_info-clause-serve
-returns-then-names_info-clause-serve g c serves = absurd (not_both c.args.words.now (c.names_info.ensures.yes c.if-names_info.true) serves)
-
-pub returns-then-names_info-clause-serve_known : goal.returns-then-names_info-clause-serve_known
-returns-then-names_info-clause-serve_known g c serves = absurd (not_both c.args.words.now (c.names_info.ensures.yes c.if-names_info.true) serves)
-
-pub returns-then-names_info-clause-serve_complete : goal.returns-then-names_info-clause-serve_complete
-returns-then-names_info-clause-serve_complete g c serves = absurd (not_both c.args.words.now (c.names_info.ensures.yes c.if-names_info.true) serves)
-
-pub run_serve-requires : goal.run_serve-requires
-run_serve-requires g c = c.names_serve.ensures.yes c.if-names_serve.true
-
-pub returns-then-names_copy-clause-played : goal.returns-then-names_copy-clause-played
-returns-then-names_copy-clause-played g c other = absurd (other (inr (inr (inl (c.names_copy.ensures.yes c.if-names_copy.true)))))
-
-pub returns-then-names_copy-clause-waited : goal.returns-then-names_copy-clause-waited
-returns-then-names_copy-clause-waited g c other = absurd (other (inr (inr (inl (c.names_copy.ensures.yes c.if-names_copy.true)))))
-
-pub returns-then-names_copy-clause-cut : goal.returns-then-names_copy-clause-cut
-returns-then-names_copy-clause-cut g c other = absurd (other (inr (inr (inl (c.names_copy.ensures.yes c.if-names_copy.true)))))
-
-pub returns-then-names_copy-clause-short : goal.returns-then-names_copy-clause-short
-returns-then-names_copy-clause-short g c other = absurd (other (inr (inr (inl (c.names_copy.ensures.yes c.if-names_copy.true)))))
-
-pub returns-then-names_copy-clause-bad : goal.returns-then-names_copy-clause-bad
-returns-then-names_copy-clause-bad g c other = absurd (other (inr (inr (inl (c.names_copy.ensures.yes c.if-names_copy.true)))))
-
-pub returns-then-names_copy-clause-bad_alone : goal.returns-then-names_copy-clause-bad_alone
-returns-then-names_copy-clause-bad_alone g c other = absurd (other (inr (inr (inl (c.names_copy.ensures.yes c.if-names_copy.true)))))
-
-pub returns-then-names_copy-clause-bad_script : goal.returns-then-names_copy-clause-bad_script
-returns-then-names_copy-clause-bad_script g c other = absurd (other (inr (inr (inl (c.names_copy.ensures.yes c.if-names_copy.true)))))
-
-pub returns-then-names_copy-clause-silent_line : goal.returns-then-names_copy-clause-silent_line
-returns-then-names_copy-clause-silent_line g c other = absurd (other (inr (inr (inl (c.names_copy.ensures.yes c.if-names_copy.true)))))
-
-pub returns-then-names_copy-clause-output_line : goal.returns-then-names_copy-clause-output_line
-returns-then-names_copy-clause-output_line g c other = absurd (other (inr (inr (inl (c.names_copy.ensures.yes c.if-names_copy.true)))))
-
-pub returns-then-names_copy-clause-memory_line : goal.returns-then-names_copy-clause-memory_line
-returns-then-names_copy-clause-memory_line g c other = absurd (other (inr (inr (inl (c.names_copy.ensures.yes c.if-names_copy.true)))))
-
-pub returns-then-names_copy-clause-known : goal.returns-then-names_copy-clause-known
-returns-then-names_copy-clause-known g c other = absurd (other (inr (inr (inl (c.names_copy.ensures.yes c.if-names_copy.true)))))
-
-pub returns-then-names_copy-clause-complete : goal.returns-then-names_copy-clause-complete
-returns-then-names_copy-clause-complete g c other = absurd (other (inr (inr (inl (c.names_copy.ensures.yes c.if-names_copy.true)))))
-
-pub returns-then-names_info-clause-copy : goal.returns-then-names_info-clause-copy
-returns-then-names_info-clause-copy g c copies = absurd (no_info_copies c.args.words.now (c.names_info.ensures.yes c.if-names_info.true) copies)
-
-pub returns-then-names_info-clause-copy_known : goal.returns-then-names_info-clause-copy_known
-returns-then-names_info-clause-copy_known g c copies = absurd (no_info_copies c.args.words.now (c.names_info.ensures.yes c.if-names_info.true) copies)
-
-pub returns-then-names_info-clause-copy_out : goal.returns-then-names_info-clause-copy_out
-returns-then-names_info-clause-copy_out g c copies = absurd (no_info_copies c.args.words.now (c.names_info.ensures.yes c.if-names_info.true) copies)
-
-pub returns-then-names_info-clause-copy_complete : goal.returns-then-names_info-clause-copy_complete
-returns-then-names_info-clause-copy_complete g c copies = absurd (no_info_copies c.args.words.now (c.names_info.ensures.yes c.if-names_info.true) copies)
-
-pub returns-then-names_serve-clause-copy : goal.returns-then-names_serve-clause-copy
-returns-then-names_serve-clause-copy g c copies = absurd (no_serve_copies c.args.words.now (c.names_serve.ensures.yes c.if-names_serve.true) copies)
-
-pub returns-then-names_serve-clause-copy_known : goal.returns-then-names_serve-clause-copy_known
-returns-then-names_serve-clause-copy_known g c copies = absurd (no_serve_copies c.args.words.now (c.names_serve.ensures.yes c.if-names_serve.true) copies)
-
-pub returns-then-names_serve-clause-copy_out : goal.returns-then-names_serve-clause-copy_out
-returns-then-names_serve-clause-copy_out g c copies = absurd (no_serve_copies c.args.words.now (c.names_serve.ensures.yes c.if-names_serve.true) copies)
-
-pub returns-then-names_serve-clause-copy_complete : goal.returns-then-names_serve-clause-copy_complete
-returns-then-names_serve-clause-copy_complete g c copies = absurd (no_serve_copies c.args.words.now (c.names_serve.ensures.yes c.if-names_serve.true) copies)
-
-pub run_copy-requires : goal.run_copy-requires
-run_copy-requires g c = c.names_copy.ensures.yes c.if-names_copy.true
-
-pub returns-then-names_selftest-clause-played : goal.returns-then-names_selftest-clause-played
-returns-then-names_selftest-clause-played g c other = absurd (other (inr (inr (inr (c.names_selftest.ensures.yes c.if-names_selftest.true)))))
-
-pub returns-then-names_selftest-clause-waited : goal.returns-then-names_selftest-clause-waited
-returns-then-names_selftest-clause-waited g c other = absurd (other (inr (inr (inr (c.names_selftest.ensures.yes c.if-names_selftest.true)))))
-
-pub returns-then-names_selftest-clause-cut : goal.returns-then-names_selftest-clause-cut
-returns-then-names_selftest-clause-cut g c other = absurd (other (inr (inr (inr (c.names_selftest.ensures.yes c.if-names_selftest.true)))))
-
-pub returns-then-names_selftest-clause-short : goal.returns-then-names_selftest-clause-short
-returns-then-names_selftest-clause-short g c other = absurd (other (inr (inr (inr (c.names_selftest.ensures.yes c.if-names_selftest.true)))))
-
-pub returns-then-names_selftest-clause-bad : goal.returns-then-names_selftest-clause-bad
-returns-then-names_selftest-clause-bad g c other = absurd (other (inr (inr (inr (c.names_selftest.ensures.yes c.if-names_selftest.true)))))
-
-pub returns-then-names_selftest-clause-bad_alone : goal.returns-then-names_selftest-clause-bad_alone
-returns-then-names_selftest-clause-bad_alone g c other = absurd (other (inr (inr (inr (c.names_selftest.ensures.yes c.if-names_selftest.true)))))
-
-pub returns-then-names_selftest-clause-bad_script : goal.returns-then-names_selftest-clause-bad_script
-returns-then-names_selftest-clause-bad_script g c other = absurd (other (inr (inr (inr (c.names_selftest.ensures.yes c.if-names_selftest.true)))))
-
-pub returns-then-names_selftest-clause-silent_line : goal.returns-then-names_selftest-clause-silent_line
-returns-then-names_selftest-clause-silent_line g c other = absurd (other (inr (inr (inr (c.names_selftest.ensures.yes c.if-names_selftest.true)))))
-
-pub returns-then-names_selftest-clause-output_line : goal.returns-then-names_selftest-clause-output_line
-returns-then-names_selftest-clause-output_line g c other = absurd (other (inr (inr (inr (c.names_selftest.ensures.yes c.if-names_selftest.true)))))
-
-pub returns-then-names_selftest-clause-memory_line : goal.returns-then-names_selftest-clause-memory_line
-returns-then-names_selftest-clause-memory_line g c other = absurd (other (inr (inr (inr (c.names_selftest.ensures.yes c.if-names_selftest.true)))))
-
-pub returns-then-names_selftest-clause-known : goal.returns-then-names_selftest-clause-known
-returns-then-names_selftest-clause-known g c other = absurd (other (inr (inr (inr (c.names_selftest.ensures.yes c.if-names_selftest.true)))))
-
-pub returns-then-names_selftest-clause-complete : goal.returns-then-names_selftest-clause-complete
-returns-then-names_selftest-clause-complete g c other = absurd (other (inr (inr (inr (c.names_selftest.ensures.yes c.if-names_selftest.true)))))
-
-pub returns-then-names_info-clause-selftest : goal.returns-then-names_info-clause-selftest
-returns-then-names_info-clause-selftest g c tests = absurd (no_info_tests c.args.words.now (c.names_info.ensures.yes c.if-names_info.true) tests)
-
-pub returns-then-names_info-clause-selftest_known : goal.returns-then-names_info-clause-selftest_known
-returns-then-names_info-clause-selftest_known g c tests = absurd (no_info_tests c.args.words.now (c.names_info.ensures.yes c.if-names_info.true) tests)
-
-pub returns-then-names_info-clause-selftest_wires : goal.returns-then-names_info-clause-selftest_wires
-returns-then-names_info-clause-selftest_wires g c tests = absurd (no_info_tests c.args.words.now (c.names_info.ensures.yes c.if-names_info.true) tests)
-
-pub returns-then-names_info-clause-selftest_complete : goal.returns-then-names_info-clause-selftest_complete
-returns-then-names_info-clause-selftest_complete g c tests = absurd (no_info_tests c.args.words.now (c.names_info.ensures.yes c.if-names_info.true) tests)
-
-pub returns-then-names_info-clause-selftest_refuses : goal.returns-then-names_info-clause-selftest_refuses
-returns-then-names_info-clause-selftest_refuses g c tests = absurd (no_info_tests c.args.words.now (c.names_info.ensures.yes c.if-names_info.true) tests)
-
-pub returns-then-names_serve-clause-selftest : goal.returns-then-names_serve-clause-selftest
-returns-then-names_serve-clause-selftest g c tests = absurd (no_serve_tests c.args.words.now (c.names_serve.ensures.yes c.if-names_serve.true) tests)
-
-pub returns-then-names_serve-clause-selftest_known : goal.returns-then-names_serve-clause-selftest_known
-returns-then-names_serve-clause-selftest_known g c tests = absurd (no_serve_tests c.args.words.now (c.names_serve.ensures.yes c.if-names_serve.true) tests)
-
-pub returns-then-names_serve-clause-selftest_wires : goal.returns-then-names_serve-clause-selftest_wires
-returns-then-names_serve-clause-selftest_wires g c tests = absurd (no_serve_tests c.args.words.now (c.names_serve.ensures.yes c.if-names_serve.true) tests)
-
-pub returns-then-names_serve-clause-selftest_complete : goal.returns-then-names_serve-clause-selftest_complete
-returns-then-names_serve-clause-selftest_complete g c tests = absurd (no_serve_tests c.args.words.now (c.names_serve.ensures.yes c.if-names_serve.true) tests)
-
-pub returns-then-names_serve-clause-selftest_refuses : goal.returns-then-names_serve-clause-selftest_refuses
-returns-then-names_serve-clause-selftest_refuses g c tests = absurd (no_serve_tests c.args.words.now (c.names_serve.ensures.yes c.if-names_serve.true) tests)
-
-pub returns-then-names_copy-clause-selftest : goal.returns-then-names_copy-clause-selftest
-returns-then-names_copy-clause-selftest g c tests = absurd (no_copy_tests c.args.words.now (c.names_copy.ensures.yes c.if-names_copy.true) tests)
-
-pub returns-then-names_copy-clause-selftest_known : goal.returns-then-names_copy-clause-selftest_known
-returns-then-names_copy-clause-selftest_known g c tests = absurd (no_copy_tests c.args.words.now (c.names_copy.ensures.yes c.if-names_copy.true) tests)
-
-pub returns-then-names_copy-clause-selftest_wires : goal.returns-then-names_copy-clause-selftest_wires
-returns-then-names_copy-clause-selftest_wires g c tests = absurd (no_copy_tests c.args.words.now (c.names_copy.ensures.yes c.if-names_copy.true) tests)
-
-pub returns-then-names_copy-clause-selftest_complete : goal.returns-then-names_copy-clause-selftest_complete
-returns-then-names_copy-clause-selftest_complete g c tests = absurd (no_copy_tests c.args.words.now (c.names_copy.ensures.yes c.if-names_copy.true) tests)
-
-pub returns-then-names_copy-clause-selftest_refuses : goal.returns-then-names_copy-clause-selftest_refuses
-returns-then-names_copy-clause-selftest_refuses g c tests = absurd (no_copy_tests c.args.words.now (c.names_copy.ensures.yes c.if-names_copy.true) tests)
-
-pub run_selftest-requires : goal.run_selftest-requires
-run_selftest-requires g c = c.names_selftest.ensures.yes c.if-names_selftest.true
-
-pub returns-then-names_info-clause-copy_well : goal.returns-then-names_info-clause-copy_well
-returns-then-names_info-clause-copy_well g c copies = absurd (no_info_copies c.args.words.now (c.names_info.ensures.yes c.if-names_info.true) copies)
-
-pub returns-then-names_info-clause-copy_patient : goal.returns-then-names_info-clause-copy_patient
-returns-then-names_info-clause-copy_patient g c copies = absurd (no_info_copies c.args.words.now (c.names_info.ensures.yes c.if-names_info.true) copies)
-
-pub returns-then-names_serve-clause-copy_well : goal.returns-then-names_serve-clause-copy_well
-returns-then-names_serve-clause-copy_well g c copies = absurd (no_serve_copies c.args.words.now (c.names_serve.ensures.yes c.if-names_serve.true) copies)
-
-pub returns-then-names_serve-clause-copy_patient : goal.returns-then-names_serve-clause-copy_patient
-returns-then-names_serve-clause-copy_patient g c copies = absurd (no_serve_copies c.args.words.now (c.names_serve.ensures.yes c.if-names_serve.true) copies)
+pub returns-clause-decided : goal.returns-clause-decided
+returns-clause-decided g c = came_known (Refused c.args.words.now c.args.wires.now c.tool-end.new.wires c.args.out.now c.tool-end.new.out) (λ (t : List ℕ). Prints g.E.Sink.taken g.E.Sink.faults c.args.err.now c.print_end.new.err t) c.tool-end.result c.print_end.result c.tool-end.ensures.decided c.print_end.ensures.tells

@@ -1,18 +1,12 @@
-use Rattle.std.proofs.Common.{◌≡◌, ℕ, ◌+◌, ◌*◌, ◌<◌, List, [], ◌∷◌, length, ap, sym, ◌∙◌, arith, length-append}
-use Rattle.lnbd_export.specs.Generated.{byte_at}
-use Rattle.lnbd_export.proofs.Made.{at_block, byte_more}
+use Rattle.std.proofs.Common.{ℕ, ◌+◌, ◌-◌, ◌++◌, ◌∙◌, take, replicate, ◌/◌, ◌%◌, ◌<◌, ◌≤◌, ap, subst, arith}
+use Rattle.lnbd_export.proofs.Made.{zero_block_more, rising_block_more}
 use Rattle.lnbd_export.proofs.generated.push_block.Goals as goal
 
-pub loop-i-preserved : goal.loop-i-preserved
-loop-i-preserved c =
-    let place : length c.args.content.now.items + c.loop-i.i ≡ c.args.block * 4096 + c.loop-i.i = omega arith in
-    let less : c.loop-i.i < 4096 = omega arith in
-    let size : length c.push.new.self.items ≡ length c.args.content.now.items + (c.loop-i.i + 1) =
-    omega (arith, ap (λ (xs : List ℕ). length xs) c.in_ok-push.ensures.items, length-append c.loop-i.content.items (c.byte_of-byte.result ∷ [])) in
-    record {
-      size = size;
-      bytes = λ p below. byte_more c.args.seed (length c.args.content.now.items + c.loop-i.i) c.byte_of-byte.result c.loop-i.content.items c.push.new.self.items
-          c.loop-i.invariant.size c.in_ok-push.ensures.items
-          (c.byte_of-byte.ensures c.args.seed c.args.block c.mixed-number.ensures.number ∙ sym (at_block c.args.seed c.args.block c.loop-i.i less) ∙ ap (byte_at c.args.seed) (sym place))
-          c.loop-i.invariant.bytes p (omega arith);
-    }
+pub returns-clause-bytes : goal.returns-clause-bytes
+returns-clause-bytes c = rising_block_more c.args.seed c.args.block c.args.count (c.mixed-number.result / 256 % 256) c.args.content.now.items c.args.rising.now c.extend_from_slice.new.self.items
+    c.requires.place c.requires.count c.requires.length c.requires.rising (ap (λ (n : ℕ). n / 256 % 256) c.mixed-number.ensures.number) c.in_ok-extend_from_slice.ensures.items
+    (subst (λ (n : ℕ). 1073741824 ≤ n) c.mixed-number.ensures.number c.if-number-lt-ZERO_BELOW.false) c.requires.bytes
+
+pub returns-then-number-lt-ZERO_BELOW-clause-bytes : goal.returns-then-number-lt-ZERO_BELOW-clause-bytes
+returns-then-number-lt-ZERO_BELOW-clause-bytes c = zero_block_more c.args.seed c.args.block c.args.count c.len.result c.args.content.now.items c.resize.new.self.items c.requires.place c.requires.count
+    (omega arith) (c.in_ok-resize.ensures.items ∙ ap (λ (n : ℕ). take (c.len.result + c.args.count) c.args.content.now.items ++ replicate (c.len.result + c.args.count - n) 0) (omega arith)) (subst (λ (n : ℕ). n < 1073741824) c.mixed-number.ensures.number c.if-number-lt-ZERO_BELOW.true) c.requires.bytes

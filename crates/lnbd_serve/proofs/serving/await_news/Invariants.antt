@@ -1,5 +1,5 @@
 use Rattle.std.proofs.Common.{◌≡◌, ◌<◌, ◌+◌, ◌*◌, ◌-◌, min, length, false}
-use Rattle.lnbd_serve.specs.Rounds.{hall_of, total_out}
+use Rattle.lnbd_serve.specs.Rounds.{hall_of, total_owed}
 use Rattle.lnbd_serve.specs.Steps.{Counts, Went}
 use Rattle.lnbd_serve.proofs.ServeLemmas.{Going}
 use Rattle.lnbd_serve.proofs.serving.await_news.Given as goal
@@ -13,4 +13,4 @@ invariant-rounds g l = record {
 }
 
 abbrev pub decreases-rounds : goal.decreases-rounds
-decreases-rounds g l = total_out (hall_of l.guests l.export) * 1000000001 + (min (l.start + 1000000000) 18446744073709551615 - g.W.Wires.idles l.wires)
+decreases-rounds g l = total_owed (hall_of l.guests l.export) * 1000000001 + (min (l.start + 1000000000) 18446744073709551615 - g.W.Wires.idles l.wires)

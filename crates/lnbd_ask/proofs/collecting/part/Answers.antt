@@ -1,5 +1,0 @@
-use Rattle.lnbd_ask.proofs.TalkLemmas.{parted}
-use Rattle.lnbd_ask.proofs.collecting.part.Goals as goal
-
-pub returns : goal.returns
-returns g c seen at = parted c.args.handles.now c.get_mut.result.now.machine c.aio_disconnect.new.self.machine c.aio_disconnect.result seen c.get_mut.ensures.value at c.aio_disconnect.ensures.allowed c.aio_disconnect.ensures.refused c.aio_disconnect.ensures.stands

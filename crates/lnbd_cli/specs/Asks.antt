@@ -1,0 +1,59 @@
+-- What the words ask for, and of which tool; or that they ask for nothing.
+use Rattle.std.specs.Prelude.{List, String, map, string_bytes}
+use Rattle.std.specs.declared.alloc.Global.{Global}
+use Rattle.lnbd_args.specs.declared.asked.Asked.{Asked}
+use Rattle.lnbd_args.specs.declared.asked.Asked.TheVariants as asked
+use Rattle.lnbd_args.specs.Tools.{Asks, IsMisplaced, Reads, Wanted}
+use Rattle.lnbd_cli.specs.declared.ending.Fault.{Fault}
+use Rattle.lnbd_cli.specs.declared.ending.Fault.TheVariants as fault
+use Rattle.lnbd_cli.specs.declared.copying.Transfer.{Transfer}
+use Rattle.lnbd_cli.specs.declared.hearing.Question.{Question}
+use Rattle.lnbd_cli.specs.declared.selftesting.Trial.{Trial}
+use Rattle.lnbd_cli.specs.declared.serving.Service.{Service}
+
+-- The words as they are spelled name a tool and ask this of it.
+abbrev pub Ask : List (String Global) → Asked → Type 0
+Ask words asked = Asks (map string_bytes words) asked
+
+-- nbdcalls: a script is to be played
+abbrev pub IsCalls : List (String Global) → Type 0
+IsCalls words = Ask words asked.Calls
+
+-- nbdinfo: a server is to be asked this
+abbrev pub IsInfo : List (String Global) → Question → Type 0
+IsInfo words q = Ask words (asked.Info q.what q.json q.place)
+
+-- serve: this is to be served
+abbrev pub IsServe : List (String Global) → Service → Type 0
+IsServe words s = Ask words (asked.Serve s.place s.size s.seed s.read_only s.sessions)
+
+-- nbdcopy: this is to be copied
+abbrev pub IsCopy : List (String Global) → Transfer → Type 0
+IsCopy words t = Ask words (asked.Copy t.options t.from t.to)
+
+-- selftest: this copy is to be made in memory
+abbrev pub IsSelftest : List (String Global) → Trial → Type 0
+IsSelftest words t = Ask words (asked.Selftest t.seed t.size)
+
+-- They ask nothing of any tool.
+abbrev pub AskNothing : List (String Global) → Type 0
+AskNothing words = (asked : Asked) → ¬ Ask words asked
+
+-- What such a run ends with: they are none of a tool's, or the first address that is none has this fault. Or memory ran out before it was known what they ask.
+abbrev pub Refuses : List (String Global) → Fault → Type 0
+Refuses words fault.Usage = (wanted : Wanted) → ¬ Reads (map string_bytes words) wanted
+Refuses words (fault.Uri why) = IsMisplaced (map string_bytes words) why
+Refuses words fault.NoMemory = Unit {0}
+Refuses words (fault.Line number) = ⊥
+Refuses words (fault.Told option code) = ⊥
+Refuses words (fault.Broke broken) = ⊥
+Refuses words fault.Client = ⊥
+Refuses words fault.Link = ⊥
+Refuses words (fault.Rule ruling) = ⊥
+Refuses words fault.Silent = ⊥
+Refuses words fault.Output = ⊥
+Refuses words fault.Input = ⊥
+Refuses words fault.Store = ⊥
+Refuses words (fault.Child status) = ⊥
+Refuses words fault.Signal = ⊥
+Refuses words fault.Spawn = ⊥

@@ -1,0 +1,68 @@
+//! The calls of the system on one file, which may be missing: each once, and again where a signal broke it off.
+
+ghost use Rattle.std.specs.Prelude.{◌<◌, ◌≤◌, ◌^◌, IfSome, length};
+
+use std::fs::{File, Files, OpenFile, OpenOptions};
+use std::io::ErrorKind;
+use std::os::unix::fs::FileExt;
+
+/// The file at a path. For writing, a missing one is made, and one that is there keeps its bytes.
+pub(crate) fn open<R: Files<File = File>>(files: &R, path: &str, write: bool) -> Option<File> {
+    let mut options = OpenOptions::new();
+    if write {
+        options.write(true).create(true);
+    } else {
+        options.read(true);
+    }
+    options.open(files, path).ok()
+}
+
+/// How many bytes the file has, below 2^63 as the system's own offsets.
+pub(crate) fn length_of(file: Option<&File>) -> Option<u64>
+    ensures { IfSome result (λ n. n < 2 ^ 63) }
+{
+    match file?.metadata() {
+        Ok(told) if told.len() <= i64::MAX as u64 => Some(told.len()),
+        _ => None,
+    }
+}
+
+/// How many bytes were read.
+pub(crate) fn read(file: Option<&File>, offset: u64, into: &mut [u8]) -> Option<usize>
+    ensures { IfSome result (λ n. n ≤ length into.old) }
+{
+    let file = file?;
+    for _ in 0..u64::MAX {
+        match file.read_at(into, offset) {
+            Ok(n) => return Some(n),
+            Err(error) if error.kind() == ErrorKind::Interrupted => {}
+            Err(_) => return None,
+        }
+    }
+    None
+}
+
+/// How many bytes were taken.
+pub(crate) fn write(file: Option<&File>, offset: u64, from: &[u8]) -> Option<usize>
+    ensures { IfSome result (λ n. n ≤ length from.now) }
+{
+    let file = file?;
+    for _ in 0..u64::MAX {
+        match file.write_at(from, offset) {
+            Ok(n) => return Some(n),
+            Err(error) if error.kind() == ErrorKind::Interrupted => {}
+            Err(_) => return None,
+        }
+    }
+    None
+}
+
+/// Whether the file has so many bytes now.
+pub(crate) fn cut(file: Option<&File>, length: u64) -> Option<()> {
+    file?.set_len(length).ok()
+}
+
+/// Whether the file has reached the medium.
+pub(crate) fn sync(file: Option<&File>) -> Option<()> {
+    file?.sync_all().ok()
+}

@@ -1,0 +1,5 @@
+pub mod TurnLemmas
+pub mod StillLemmas
+pub mod WaitLemmas
+pub mod SpendLemmas
+mod PartLemmas
