@@ -14,6 +14,7 @@ elif [ "$(sed -n 's/^sources //p' dist/PROVED)" = "$(tools/sources --sum)" ]; th
   echo "ok: dist/ is of these sources"
   tools/start --of-dist >/dev/null 2>"$dir/why" && echo 'ok: dist/lnbd is what dist/SHA256SUMS names, and starts' || echo "failed: $(cat "$dir/why")"
   said 'dist/PROVED names the version' "$(cat VERSION)" "$(sed -n 's/^version //p' dist/PROVED)"
+  [ ! -e dist/liblnbd.so.0 ] || said 'dist/ has the library for C of these sources' "$(tools/sources --sum lnbd_c)" "$(sed -n 's/^library //p' dist/PROVED)"
 else
   echo 'failed: dist/ is of other sources: run tools/release behind the gate, before the commit'
 fi

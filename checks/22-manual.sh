@@ -12,7 +12,7 @@ if ! tools/manual "$dir" 2>"$dir/why"; then
   exit 0
 fi
 
-for page in lnbd.1 $(ls docs | sed -n 's/^\([a-z]*\)\.md$/lnbd-\1.1/p' | sed 's/^lnbd-\(errors\|recipes\)\.1$/lnbd-\1.7/; /^lnbd-lnbd\.1$/d'); do
+for page in lnbd.1 lnbd.3 $(ls docs | sed -n 's/^\([a-z]*\)\.md$/lnbd-\1.1/p' | sed 's/^lnbd-\(errors\|recipes\)\.1$/lnbd-\1.7/; /^lnbd-lnbd\.1$/d'); do
   wrong=
   for width in 60 80 132; do
     LC_ALL=C.UTF-8 MANWIDTH=$width man -l --warnings -P cat "$dir/$page" >"$dir/text" 2>"$dir/warnings"
@@ -25,6 +25,7 @@ for page in lnbd.1 $(ls docs | sed -n 's/^\([a-z]*\)\.md$/lnbd-\1.1/p' | sed 's/
   sections='NAME SYNOPSIS DESCRIPTION OPTIONS EXAMPLES EXIT.STATUS SEE.ALSO'
   case $page in
     *.7) sections='NAME DESCRIPTION SEE.ALSO' ;;
+    *.3) sections='NAME SYNOPSIS DESCRIPTION OWNERSHIP THREADS ERRORS SEE.ALSO DIFFERENCES.*' ;;
     lnbd-nbdcalls.1) sections='NAME SYNOPSIS DESCRIPTION EXAMPLES EXIT.STATUS SEE.ALSO' ;;
   esac
   [ "${page%.1}" = "$page" ] || sections="$sections DIFFERENCES.*"

@@ -55,6 +55,27 @@ open(path, 'wb').write(out[:size])
 PY
 head -c 8388608 /dev/urandom >"$dir/noise"
 
+# 1 GiB of content: what it takes until the server listens, at best of five starts; by the clock as ./lnbd starts it, in large pages. Half a second is what it
+# takes on a machine of its own, so only the program's own time is judged.
+python3 - "$program" "$dir/s0" <<'PY'
+import os, subprocess, sys, time
+program, path = sys.argv[1:]
+os.environ.setdefault("GLIBC_TUNABLES", "glibc.malloc.hugetlb=1")
+clock, own = [], []
+for _ in range(5):
+    began = time.monotonic()
+    serving = subprocess.Popen([program, "serve", f"nbd+unix:///x?socket={path}", "--size", str(1 << 30)], stdout=subprocess.PIPE)
+    line = serving.stdout.readline()
+    clock.append(time.monotonic() - began)
+    own.append(int(open(f"/proc/{serving.pid}/stat").read().rsplit(")", 1)[1].split()[11]) / os.sysconf("SC_CLK_TCK"))
+    serving.kill()
+    serving.wait()
+    if os.path.exists(path):
+        os.unlink(path)
+said = f"1 GiB is listened on after {min(clock):.2f} s, of which the program's own are {min(own):.2f}"
+print(f"ok: {said}" if line == b"serving 1073741824\n" and min(own) <= 0.3 else f"failed: {said}, with {line}")
+PY
+
 # One client, which is nbdinfo of this program.
 begin "nbd+unix:///x?socket=$dir/s1" --size 65536
 said 'the first line tells the size' 'serving 65536' "$line"

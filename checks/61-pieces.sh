@@ -1,5 +1,5 @@
 # A read that is answered in 200,000 pieces, in rising order, in falling order with gaps that are filled later, and in random order: its bytes are the same. Falling
-# order takes at most twice the time of rising order, and random order eight times, by the clock and with the peer's share: in quadratic time they took 70 and more.
+# order takes at most twice the time of rising order, and random order three times, by the clock, with the peer's share, the best of three runs: in quadratic time they took 70 and more.
 . checks/need.sh
 need python3 python3
 
@@ -36,7 +36,7 @@ best() {
 
 rising=$(best rising)
 [ -n "$rising" ] || { echo "failed: a read in $count pieces in rising order: $(cat "$dir/err") $(diff "$dir/out" "$dir/wanted" | head -5 | cut -c 1-200)"; exit; }
-for order in falling:2 random:8; do
+for order in falling:2 random:3; do
   most=${order#*:} order=${order%:*}
   took=$(best "$order")
   if [ -n "$took" ] && [ "$took" -le $((most * rising)) ]; then

@@ -4,8 +4,8 @@
 #
 # FAULT_ROUNDS, KILLS, KILLED_MIB and FLAT_SECONDS make it as long as bench/soak has it.
 . checks/servers.sh
-longest=60
 rounds=${FAULT_ROUNDS:-5} kills=${KILLS:-6} killed=${KILLED_MIB:-64} flat=${FLAT_SECONDS:-4}
+longest=$((60 + 2 * flat))
 size=4194304
 # (a folder in memory, where there is one: a large file is then made and compared at once)
 disks=$(mktemp -d -p /dev/shm 2>/dev/null || mktemp -d)
@@ -171,7 +171,7 @@ grows() {
   "$program" "$@" <<<"$script" >/dev/null 2>"$dir/err.$mine" &
   run=$!
   sleep 2
-  for _ in $(seq 80); do
+  for _ in $(seq $((2 * flat + 72))); do
     last=$(memory $run)
     [ -n "$last" ] || break
     if [ "$((last - first))" -le 256 ]; then same=$((same + 1)); else same=0 first=$last; fi
@@ -190,12 +190,14 @@ fresh "$disks/target"
 rm -f "$dir/to"
 start to qemu-raw $size "$disks/target"
 to=$address
+# (qemu-nbd ends a handshake that takes more than ten seconds)
+start patient nbdkit-file $size "$disks/source"
 waits=()
 for how in never drip; do
   says=nothing
   [ $how = never ] || says='one byte a second'
   for count in 0 20 70000; do
-    relay good "$how" "$count"
+    relay patient "$how" "$count"
     silent=${address#nbd://}
     grows "nbdcopy from a server of which $says comes behind $count bytes" nbdcopy "$address" "$to" & waits+=($!)
     [ $count -gt 20 ] || { grows "nbdinfo of a server of which $says comes behind $count bytes" nbdinfo --map "$address" & waits+=($!); }

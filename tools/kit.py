@@ -101,6 +101,18 @@ def load():
     loader.exec_module(rt)
     for name in ("stamp", "below"):
         once(rt.rtlib.Crate, name)
+    if hasattr(rt.rtlib.Crate, "build_static") and hasattr(rt, "Kept"):
+        # (what the check of a static library proved stays there, and is kept for later runs as a program is)
+        ci, made = rt.Crate.ci, rt.Kept.made
+
+        def checks(self, flags, tests):
+            if self.is_static and not tests:
+                shutil.rmtree(f"{self.folder}/{checked(self.name)}", ignore_errors=True)
+                flags = [*flags, "-o", checked(self.name)]
+            return ci(self, flags, tests)
+
+        rt.Crate.ci = checks
+        rt.Kept.made = lambda self, crate, tests: files_checked(crate) if crate.is_static and not tests else made(self, crate, tests)
     if all(hasattr(rt, it) for it in ("in_lanes", "processors", "free")) and hasattr(rt.rtlib, "guarded"):
         guarded = rt.rtlib.guarded
         rt.rtlib.guarded = lambda: [*guarded(), *measuring()]
@@ -114,6 +126,17 @@ def load():
 
         rt.in_lanes = in_lanes
     return rt
+
+
+def checked(name):
+    """What the check of a static library proved, in its folder: tools/archive compiles it."""
+    return f"out/{name}_checked"
+
+
+def files_checked(crate):
+    """Its files, by their paths in out/."""
+    found = [f"{at}/{it}" for at, _, names in os.walk(f"{crate.folder}/{checked(crate.name)}") for it in names]
+    return sorted(os.path.relpath(it, f"{crate.folder}/out") for it in found)
 
 
 def measuring():

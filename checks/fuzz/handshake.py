@@ -12,10 +12,10 @@ NAMES = ("BadHello", "OldStyle", "NotFixed", "BadOptionMagic", "WrongOption", "B
 ALLOWED = {wire.LIST: wire.SERVER, wire.INFO: wire.INFO_REPLY, wire.GO: wire.INFO_REPLY, wire.SET_META_CONTEXT: wire.META_CONTEXT}
 
 
-def breach(sent, options):
+def breach(sent, options, opt_mode=False):
     """The first breach of these bytes, where these options were asked in this order."""
     try:
-        Handshake(sent).read(options)
+        Handshake(sent).read(options, opt_mode)
     except Breach as found:
         return str(found)
     except Short:
@@ -50,7 +50,7 @@ class Handshake:
     def number(self, form):
         return struct.unpack(form, self.bytes(struct.calcsize(form)))[0]
 
-    def read(self, options):
+    def read(self, options, opt_mode):
         self.hello()
         option = kind = None
         for option in options:
@@ -64,8 +64,8 @@ class Handshake:
             kind = self.answer(option)
             if kind == wire.ACK and option == wire.GO:
                 return
-        if (option, kind) == (wire.GO, wire.UNSUP):
-            # (EXPORT_NAME was asked, and didn't come here)
+        if (option, kind) == (wire.GO, wire.UNSUP) and not opt_mode:
+            # (EXPORT_NAME was asked, and didn't come here; in opt mode it is not)
             return
         # (whatever comes now answers no option)
         if self.number(">Q") != wire.OPTION_REPLY_MAGIC:

@@ -119,13 +119,27 @@ def runs(data):
     return " ".join(f"{data[one.start()]:02x}*{one.end() - one.start()}" for one in re.finditer(rb"(?s)(.)\1*", data)) or "-"
 
 
-def differs(lines, made, connections, readings):
-    """What `done` and `state` say otherwise than the readings of what was sent, where each handle has at most one of these; else nothing."""
-    current, links, connects, failing = "0", {}, 0, {}
+def ended(lines, made):
+    """The handles whose last `state` is a dead one: a command that was left then keeps the first error that it was told, as libnbd's do."""
+    current, last = "0", {}
     for line, answer in zip(lines, made):
         words = line.split(" ")
         if words[0] == "handle":
             current = words[1]
+        if words[0] == "state":
+            last[current] = answer[0]
+    return {handle for handle, state in last.items() if state.startswith("dead")}
+
+
+def differs(lines, made, connections, readings):
+    """What `done` and `state` say otherwise than the readings of what was sent, where each handle has at most one of these; else nothing."""
+    current, links, connects, failing, over, modes = "0", {}, 0, {}, ended(lines, made), set()
+    for line, answer in zip(lines, made):
+        words = line.split(" ")
+        if words[0] == "handle":
+            current = words[1]
+        if words[0] == "optmode" and answer == ["ok"]:
+            (modes.add if words[1] == "on" else modes.discard)(current)
         if words[0] == "connect" and answer == ["connected"]:
             links[current] = connects
             connects += 1
@@ -134,7 +148,7 @@ def differs(lines, made, connections, readings):
         link = links.get(current, len(connections))
         connection = connections[link] if link < len(connections) else None
         if connection and connection.began is None and words[0] == "state" and answer[0].startswith("dead broke"):
-            shown = handshake.breach(connection.sent, connection.options)
+            shown = handshake.breach(connection.sent, connection.options, current in modes)
             # (GO's ACK may have gone out, and a reply behind it)
             if answer[0] != f"dead broke {shown}" and (shown or answer[0].split(" ")[2] in handshake.NAMES):
                 return f"'{line}' is answered by '{answer[0]}', and what was sent in the handshake shows {shown}"
@@ -146,7 +160,7 @@ def differs(lines, made, connections, readings):
             if told[0] == "done":
                 if found is None or not found.done or found.error or (found.kind == wire.READ and answer[0] != f"done {found.length} {runs(found.data)}"):
                     return f"'{line}' is answered by '{answer[0][:200]}', and what was sent says otherwise"
-            elif told[1] != str(wire.ENOTCONN) and (found is None or not found.done or str(found.error) != told[1]):
+            elif told[1] != str(wire.ENOTCONN) and (found is None or str(found.error) != told[1] or not (found.done or current in over)):
                 return f"'{line}' is answered by '{answer[0][:200]}', and what was sent says {found and (found.done, found.error)}"
         if words[0] == "state" and answer[0].startswith("dead broke") and answer[0] != f"dead broke {reading.breach}":
             return f"'{line}' is answered by '{answer[0]}', and what was sent shows {reading.breach}"

@@ -120,6 +120,48 @@ fn of_breach(name: &str) -> &'static str {
     }
 }
 
+/// Which call of the system failed last, on which place, and what the system says of it.
+fn of_link<R: Net<Listener = TcpListener, Stream = TcpStream> + Files>(
+    alloc: Global,
+    wires: &SocketWires<'_, R>,
+) -> Option<String> {
+    let failure = wires.failure()?;
+    format!(in alloc; "{} {}: {}", failure.asked, failure.place, failure.words).ok()
+}
+
+/// What a server says that answered an option by the error of this number.
+fn of_option_error<R: Net<Listener = TcpListener, Stream = TcpStream> + Files>(
+    alloc: Global,
+    number: &str,
+    wires: &SocketWires<'_, R>,
+    server: &str,
+) -> Option<String> {
+    let code = number.parse::<u32>().ok()?;
+    let place = teller(wires, true, code).unwrap_or(server);
+    let said = of_option(code);
+    format!(in alloc; "{place} {said}").ok()
+}
+
+/// What the system says of the error of this number.
+fn of_system(alloc: Global, code: u32) -> Option<String> {
+    let error = io::Error::from_raw_os_error(i32::try_from(code).ok()?);
+    format!(in alloc; "{error}").ok()
+}
+
+/// What a server says that answered a command by the error of this number.
+fn of_command_error<R: Net<Listener = TcpListener, Stream = TcpStream> + Files>(
+    alloc: Global,
+    number: &str,
+    wires: &SocketWires<'_, R>,
+    server: &str,
+) -> Option<String> {
+    let code = number.parse::<u32>().ok()?;
+    let place = teller(wires, false, code).unwrap_or(server);
+    let text = of_system(alloc, code)?;
+    let said = text.as_str().split(" (os error ").next().unwrap_or("");
+    format!(in alloc; "{place}: {said}").ok()
+}
+
 /// The words for a person behind this status line; None where nothing more is known.
 pub fn why<R: Net<Listener = TcpListener, Stream = TcpStream> + Files>(
     alloc: Global,
@@ -127,35 +169,18 @@ pub fn why<R: Net<Listener = TcpListener, Stream = TcpStream> + Files>(
     wires: &SocketWires<'_, R>,
 ) -> Option<String> {
     let mut words = line.trim_end().split(' ').skip(1);
+    let first = words.next().unwrap_or("");
+    let second = words.next().unwrap_or("");
+    let third = words.next().unwrap_or("");
+    let fourth = words.next().unwrap_or("");
+    let last = words.last().unwrap_or("");
     let server = only_place(wires).unwrap_or("one of the servers");
-    match (
-        words.next()?,
-        words.next(),
-        words.next(),
-        words.next(),
-        words.last(),
-    ) {
-        ("usage", _, _, _, _) => format!(in alloc; "see lnbd --help").ok(),
-        ("link", _, _, _, _) => {
-            let failure = wires.failure()?;
-            format!(in alloc; "{} {}: {}", failure.asked, failure.place, failure.words).ok()
-        }
-        ("peer", Some("error"), Some("option"), _, Some(code)) => {
-            let code = code.parse::<u32>().ok()?;
-            let place = teller(wires, true, code).unwrap_or(server);
-            format!(in alloc; "{place} {}", of_option(code)).ok()
-        }
-        ("peer", Some("error"), Some("command"), Some(code), _) => {
-            let code = code.parse::<u32>().ok()?;
-            let place = teller(wires, false, code).unwrap_or(server);
-            let error = io::Error::from_raw_os_error(i32::try_from(code).ok()?);
-            let text = format!(in alloc; "{error}").ok()?;
-            let said = text.as_str().split(" (os error ").next()?;
-            format!(in alloc; "{place}: {said}").ok()
-        }
-        ("peer", Some("broke"), Some(name), _, _) => {
-            format!(in alloc; "{server} {}", of_breach(name)).ok()
-        }
+    match (first, second, third) {
+        ("usage", _, _) => format!(in alloc; "see lnbd --help").ok(),
+        ("link", _, _) => of_link(alloc, wires),
+        ("peer", "error", "option") => of_option_error(alloc, last, wires, server),
+        ("peer", "error", "command") => of_command_error(alloc, fourth, wires, server),
+        ("peer", "broke", name) => format!(in alloc; "{server} {}", of_breach(name)).ok(),
         _ => None,
     }
 }

@@ -9,7 +9,7 @@ use Rattle.lnbd_course.specs.Asks.{GrewBy}
 use Rattle.lnbd_link.specs.Count.{Rises}
 use Rattle.lnbd_copy.specs.Causes.{HasCause}
 use Rattle.lnbd_copy.specs.declared.counts.Counts.{Counts}
-use Rattle.lnbd_cli.specs.Copies.{fault_of_copy}
+use Rattle.lnbd_cli.specs.Copies.{TellsCopyFault}
 use Rattle.lnbd_cli.specs.Ends.{End}
 use Rattle.lnbd_cli.specs.declared.ending.Fault.{Fault}
 use Rattle.lnbd_cli.specs.declared.ending.Fault.TheVariants as fault
@@ -27,7 +27,8 @@ copied_by seen from to options a b what run two =
     (subst (λ (p : Place). Copies p seen.to seen.options.destination_is_zero a b) what.1 (run (λ e. two (sym what.1 ∙ e ∙ what.2)))))
 
 -- What is so of a copy of the options and places that the words name is so of these, whatever it comes to,
-pub by_words : (Is : CopyOptions → (from to : Place) → List Call → Type 0) (seen : copier.Seen) (from to : Place) (options : CopyOptions) (a b : Option (List Call)) → (seen.options ≡ options) × (seen.from ≡ from) × (seen.to ≡ to) →
+pub by_words : (Is : CopyOptions → (from to : Place) → List Call → Type 0) (seen : copier.Seen) (from to : Place) (options : CopyOptions) (a b : Option (List Call))
+    → (seen.options ≡ options) × (seen.from ≡ from) × (seen.to ≡ to) →
     GrewBy (Is seen.options seen.from seen.to) a b → GrewBy (Is options from to) a b
 by_words Is seen from to options a b what run =
     subst (λ (o : CopyOptions). GrewBy (Is o from to) a b) what.0
@@ -35,7 +36,8 @@ by_words Is seen from to options a b what run =
     (subst (λ (p : Place). GrewBy (Is seen.options p seen.to) a b) what.1 run))
 
 -- or where it is from one place to another.
-pub between_words : (Is : CopyOptions → (from to : Place) → List Call → Type 0) (seen : copier.Seen) (from to : Place) (options : CopyOptions) (a b : Option (List Call)) → (seen.options ≡ options) × (seen.from ≡ from) × (seen.to ≡ to) →
+pub between_words : (Is : CopyOptions → (from to : Place) → List Call → Type 0) (seen : copier.Seen) (from to : Place) (options : CopyOptions) (a b : Option (List Call))
+    → (seen.options ≡ options) × (seen.from ≡ from) × (seen.to ≡ to) →
     (seen.from ≢ seen.to → GrewBy (Is seen.options seen.from seen.to) a b) → from ≢ to → GrewBy (Is options from to) a b
 between_words Is seen from to options a b what run two = by_words Is seen from to options a b what (run (λ e. two (sym what.1 ∙ e ∙ what.2)))
 
@@ -56,7 +58,7 @@ decided_by seen from to options a b fault what shown =
 abbrev failed : Fault → End
 failed why = Err why
 
-pub told_link : (f : CopyFault) (why : Fault) (start : Counts) (faults idles : ℕ) → why ≡ fault_of_copy f → HasCause start faults idles f → failed why ≡ Err fault.Link → Rises 1 start.faults faults
+pub told_link : (f : CopyFault) (why : Fault) (start : Counts) (faults idles : ℕ) → TellsCopyFault f why → HasCause start faults idles f → failed why ≡ Err fault.Link → Rises 1 start.faults faults
 told_link (copying.Link before after) why start faults idles is cause e = let r = cause.shown in omega (arith, r.0, r.1, r.2)
 told_link (copying.Peer option code) why start faults idles is cause e = cc (ap failed (sym is) ∙ e)
 told_link (copying.Broke broken) why start faults idles is cause e = cc (ap failed (sym is) ∙ e)
@@ -64,7 +66,8 @@ told_link (copying.Rule rule) why start faults idles is cause e = cc (ap failed 
 told_link (copying.Silent told) why start faults idles is cause e = cc (ap failed (sym is) ∙ e)
 told_link copying.NoMemory why start faults idles is cause e = cc (ap failed (sym is) ∙ e)
 
-pub told_silent : (f : CopyFault) (why : Fault) (start : Counts) (faults idles : ℕ) → why ≡ fault_of_copy f → HasCause start faults idles f → failed why ≡ Err fault.Silent → Rises 1000000000 start.idles idles
+pub told_silent : (f : CopyFault) (why : Fault) (start : Counts) (faults idles : ℕ) → TellsCopyFault f why → HasCause start faults idles f → failed why ≡ Err fault.Silent
+    → Rises 1000000000 start.idles idles
 told_silent (copying.Silent told) why start faults idles is cause e = let r = cause.shown in omega (arith, r.0, r.1)
 told_silent (copying.Link before after) why start faults idles is cause e = cc (ap failed (sym is) ∙ e)
 told_silent (copying.Peer option code) why start faults idles is cause e = cc (ap failed (sym is) ∙ e)

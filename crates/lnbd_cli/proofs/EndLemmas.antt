@@ -7,7 +7,7 @@ use Rattle.lnbd_args.specs.declared.asked.Asked.{Asked}
 use Rattle.lnbd_args.specs.declared.asked.Asked.TheVariants as asked
 use Rattle.lnbd_cli.specs.Calls.{IsPlayDone, is_calls_status}
 use Rattle.lnbd_cli.specs.Copies.{IsCopyDone, is_copy_status}
-use Rattle.lnbd_cli.specs.Ends.{Came, End, Tells, is_one_of, status_of}
+use Rattle.lnbd_cli.specs.Ends.{Came, End, IsReported, is_one_of, status_of}
 use Rattle.lnbd_cli.specs.Informs.{IsInfoDone, is_info_status}
 use Rattle.lnbd_cli.specs.Runs.{IsRefused, is_known}
 use Rattle.lnbd_cli.specs.Serves.{IsServeDone, is_serve_status}
@@ -15,17 +15,17 @@ use Rattle.lnbd_cli.specs.Trials.{is_test_status}
 use Rattle.lnbd_cli.specs.declared.ending.Fault.TheVariants as fault
 
 -- a fact of the status of an end that is so of want of memory too
-pub by_status : (P : ℕ → Type 0) (Q : List ℕ → Type 0) (end : End) (status : ℕ) → P 9 → P (status_of end) → Tells end Q status → P status
+pub by_status : (P : ℕ → Type 0) (Q : List ℕ → Type 0) (end : End) (status : ℕ) → P 9 → P (status_of end) → IsReported end Q status → P status
 by_status P Q end status nine p (inl told) = subst P (sym told.0) p
 by_status P Q end status nine p (inr told) = subst P (sym told.0) nine
 
 -- a status other than 9 is the end's
-pub of_end : (Q : List ℕ → Type 0) (end : End) (n status : ℕ) → n ≢ 9 → Tells end Q status → status ≡ n → status_of end ≡ n
+pub of_end : (Q : List ℕ → Type 0) (end : End) (n status : ℕ) → n ≢ 9 → IsReported end Q status → status ≡ n → status_of end ≡ n
 of_end Q end n status other (inl told) is = sym told.0 ∙ is
 of_end Q end n status other (inr told) is = absurd (other (sym is ∙ told.0))
 
 -- a run of which one of two holds, or which came to such an end, came to it with its status and its line
-pub came_known : {A : Type 0} (Ends : End → Type 0) (Q : List ℕ → Type 0) (end : End) (status : ℕ) → A ⊎ Ends end → Tells end Q status → A ⊎ Came Ends Q status
+pub came_known : {A : Type 0} (Ends : End → Type 0) (Q : List ℕ → Type 0) (end : End) (status : ℕ) → A ⊎ Ends end → IsReported end Q status → A ⊎ Came Ends Q status
 came_known Ends Q end status (inl known) told = inl known
 came_known Ends Q end status (inr ends) told = inr (record { end = end; ends = ends; tells = told })
 
@@ -36,7 +36,7 @@ known_short (asked.Serve place size seed read_only sessions) = refl
 known_short (asked.Copy options from to) = refl
 known_short (asked.Selftest seed size) = refl
 
-pub known : (a : Asked) (Q : List ℕ → Type 0) (end : End) (status : ℕ) → is_known a (status_of end) ≡ true → Tells end Q status → is_known a status ≡ true
+pub known : (a : Asked) (Q : List ℕ → Type 0) (end : End) (status : ℕ) → is_known a (status_of end) ≡ true → IsReported end Q status → is_known a status ≡ true
 known a Q end status is told = by_status (λ s. is_known a s ≡ true) Q end status (known_short a) is told
 
 -- words that ask nothing
@@ -60,7 +60,7 @@ refused_status words (Err (fault.Child status)) refused = absurd refused
 refused_status words (Err fault.Signal) refused = absurd refused
 refused_status words (Err fault.Spawn) refused = absurd refused
 
-pub refused_known : (words : List (String Global)) (Q : List ℕ → Type 0) (end : End) (status : ℕ) → IsRefused words end → Tells end Q status → (status ≡ 1) ⊎ (status ≡ 9)
+pub refused_known : (words : List (String Global)) (Q : List ℕ → Type 0) (end : End) (status : ℕ) → IsRefused words end → IsReported end Q status → (status ≡ 1) ⊎ (status ≡ 9)
 refused_known words Q end status refused told = by_status (λ s. (s ≡ 1) ⊎ (s ≡ 9)) Q end status (inr refl) (refused_status words end refused) told
 
 -- on 0 and 2 a run ends well
@@ -154,6 +154,7 @@ test_done s is rule output = done (one_of (0 ∷ 6 ∷ 8 ∷ 9 ∷ []) s is)
     done (inr (inr (inr (inr e)))) = absurd e
 
 -- The line: a word and then another text.
-pub pushed : {E : Type 0} (result : Result (Unit {0}) E) (old mid new word text shown : List ℕ) → new ≡ (if is_ok result then mid ++ shown else mid) → shown ≡ text → mid ≡ old ++ word → OnOk result (new ≡ old ++ (word ++ text))
+pub pushed : {E : Type 0} (result : Result (Unit {0}) E) (old mid new word text shown : List ℕ) → new ≡ (if is_ok result then mid ++ shown else mid) → shown ≡ text → mid ≡ old ++ word
+    → OnOk result (new ≡ old ++ (word ++ text))
 pushed (Ok done) old mid new word text shown e same first = e ∙ ap (λ (m : List ℕ). m ++ shown) first ∙ ap (λ (s : List ℕ). (old ++ word) ++ s) same ∙ append_assoc old word text
 pushed (Err short) old mid new word text shown e same first = tt

@@ -41,7 +41,8 @@ module _ (which other : What) (json : Bool) (place : Place) (told told' : Option
 
 -- What is told of a fault has its cause.
 
-pub told_link : (f : InfoFault) (context : Option (List ℕ)) (why : Fault) (m n : ℕ) → IsToldAs f context why → IfLink f (λ before after. (before ≡ m) × Rises 1 before after × (after ≤ n)) → why ≡ fault.Link → Rises 1 m n
+pub told_link : (f : InfoFault) (context : Option (List ℕ)) (why : Fault) (m n : ℕ) → IsToldAs f context why
+    → IfLink f (λ before after. (before ≡ m) × Rises 1 before after × (after ≤ n)) → why ≡ fault.Link → Rises 1 m n
 told_link (info.Link before after) context why m n told rose is = omega (arith, rose.0, rose.1, rose.2)
 told_link (info.Peer option code) context why m n told rose is = cc (sym told ∙ is)
 told_link (info.Broke broken) context why m n told rose is = cc (sym told ∙ is)
@@ -50,7 +51,8 @@ told_link info.NoMemory context why m n told rose is = cc (sym told ∙ is)
 told_link info.NoContext (Some name) why m n told rose is = cc (sym told ∙ is)
 told_link info.NoContext None why m n told rose is = absurd told
 
-pub told_silent : (f : InfoFault) (context : Option (List ℕ)) (why : Fault) (m n : ℕ) → IsToldAs f context why → IfSilent f (λ idles. Rises 1000000000 m idles × (idles ≤ n)) → why ≡ fault.Silent → Rises 1000000000 m n
+pub told_silent : (f : InfoFault) (context : Option (List ℕ)) (why : Fault) (m n : ℕ) → IsToldAs f context why → IfSilent f (λ idles. Rises 1000000000 m idles × (idles ≤ n))
+    → why ≡ fault.Silent → Rises 1000000000 m n
 told_silent (info.Silent idles) context why m n told rose is = omega (arith, rose.0, rose.1)
 told_silent (info.Link before after) context why m n told rose is = cc (sym told ∙ is)
 told_silent (info.Peer option code) context why m n told rose is = cc (sym told ∙ is)
@@ -60,7 +62,8 @@ told_silent info.NoContext (Some name) why m n told rose is = cc (sym told ∙ i
 told_silent info.NoContext None why m n told rose is = absurd told
 
 -- The server was asked, where its answer is told.
-pub was_asked : (which : What) (json : Bool) (place : Place) (told told' : Option (List Call)) (text : List ℕ) (end : Result Bool ℕ) → Says which json place told told' text end → WasAsked which place told told'
+pub was_asked : (which : What) (json : Bool) (place : Place) (told told' : Option (List Call)) (text : List ℕ) (end : Result Bool ℕ) → Says which json place told told' text end
+    → WasAsked which place told told'
 was_asked what.Listing json place told told' text end says = (Ok says.found, says.collected)
 was_asked what.Size json place told told' text end says = (Ok says.found, says.collected)
 was_asked (what.Test predicate) json place told told' text end says = (Ok says.found, says.collected)
@@ -73,11 +76,13 @@ was_asked (what.Totals context) json place told told' text end says = (Ok says.m
 pub list_says : (json : Bool) (place : Place) (told told' : Option (List Call)) (made : Result News NoMemory) (shown entries : List Entry) → shown ≡ entries
     → IfOk made (λ news. news.text.items ≡ exports_text json shown) → IfOk made (λ news. news.end ≡ end_of_entries shown)
     → HasListed Passes place told told' (Ok entries) → IfOk (heard made) (λ news. SaysList json place told told' news.text.items news.end)
-list_says json place told told' (Ok news) shown entries same is ends listed = record { entries = entries; listed = listed; is = is ∙ ap (λ (e : List Entry). exports_text json e) same; ends = ends ∙ ap (λ (e : List Entry). end_of_entries e) same }
+list_says json place told told' (Ok news) shown entries same is ends listed =
+    record { entries = entries; listed = listed; is = is ∙ ap (λ (e : List Entry). exports_text json e) same; ends = ends ∙ ap (λ (e : List Entry). end_of_entries e) same }
 list_says json place told told' (Err short) shown entries same is ends listed = tt
 
 pub map_says : (sums json : Bool) (context : List ℕ) (place : Place) (told told' : Option (List Call)) (made : Result News NoMemory) (shown extents : List Extent) → shown ≡ extents
     → IfOk made (λ news. IsMapText sums json context shown news.text.items) → IfOk made (λ news. news.end ≡ Ok true)
     → Mapped place context told told' (Ok extents) → IfOk (heard made) (λ news. SaysMap sums json context place told told' news.text.items news.end)
-map_says sums json context place told told' (Ok news) shown extents same is ends mapped = record { map = extents; mapped = mapped; is = subst (λ (m : List Extent). IsMapText sums json context m news.text.items) same is; ends = ends }
+map_says sums json context place told told' (Ok news) shown extents same is ends mapped =
+    record { map = extents; mapped = mapped; is = subst (λ (m : List Extent). IsMapText sums json context m news.text.items) same is; ends = ends }
 map_says sums json context place told told' (Err short) shown extents same is ends mapped = tt

@@ -35,7 +35,8 @@ full old new part n given few bytes is =
     (sym (ap (take n) h.2 ∙ take_at part h.0 n (sym few)), subst (λ k. new ≡ Some (drop k bytes)) (sym few) (up_to old new part given bytes is))
 
 -- fewer came, and none was left
-pub ended : (old new : Option (List ℕ)) (part : List ℕ) (n : ℕ) → Gives old new part → length part ≤ n → ((ys : List ℕ) → new ≡ Some ys → ys ≡ []) → (bytes : List ℕ) → old ≡ Some bytes → (part ≡ take n bytes) × (new ≡ Some (drop n bytes))
+pub ended : (old new : Option (List ℕ)) (part : List ℕ) (n : ℕ) → Gives old new part → length part ≤ n → ((ys : List ℕ) → new ≡ Some ys → ys ≡ []) → (bytes : List ℕ) → old ≡ Some bytes
+    → (part ≡ take n bytes) × (new ≡ Some (drop n bytes))
 ended old new part n given few none bytes is =
     let h = held old new part bytes given is in
     let e : part ≡ bytes = sym (h.2 ∙ ap (λ (l : List ℕ). part ++ l) (none h.0 h.1) ∙ append-nil part) in

@@ -22,7 +22,8 @@ use Rattle.lnbd_cli.specs.declared.ending.Fault.TheVariants as fault
 
 -- Words are read as they are, or for want of memory not.
 
-pub accepted : (x a : Asked) → (◌≡◌ {A = Result Asked ArgsFault} (Ok x) (Ok a)) ⊎ IsErrOf {T = Asked} {E = ArgsFault} (Ok x) args.NoMemory → (◌≡◌ {A = Result Asked Fault} (Ok x) (Ok a)) ⊎ (◌≡◌ {A = Result Asked Fault} (Ok x) (Err fault.NoMemory))
+pub accepted : (x a : Asked) → (◌≡◌ {A = Result Asked ArgsFault} (Ok x) (Ok a)) ⊎ IsErrOf {T = Asked} {E = ArgsFault} (Ok x) args.NoMemory
+    → (◌≡◌ {A = Result Asked Fault} (Ok x) (Ok a)) ⊎ (◌≡◌ {A = Result Asked Fault} (Ok x) (Err fault.NoMemory))
 accepted x a (inl is) = inl (cc is)
 accepted x a (inr never) = cc never
 
@@ -60,12 +61,13 @@ on_wires words (asked.Selftest seed size) asks other = other (record { seed = se
 
 module _ {I W O : Type 0} (left : I → Option (List ℕ)) (input : I) (told : W → Option (List Call)) (wires : W) (taken : O → Option (List ℕ)) (out : O) where
   unbegun : (a : Asked) → Did left input input told wires wires taken out out (Err fault.NoMemory) a
-  unbegun asked.Calls = record { does = calls.Unread (inr refl) (refl, refl); known = refl; accepts = λ held e. cc e }
+  unbegun asked.Calls = record { does = calls.NotRead (inr refl) (refl, refl); known = refl; accepts = λ held e. cc e }
   unbegun (asked.Info what json place) = record { does = informs.Unbegun refl refl refl; known = refl; accepts = tt }
   unbegun (asked.Serve place size seed read_only sessions) = record { does = serves.Unbegun refl refl refl; known = refl; accepts = tt }
   unbegun (asked.Copy options from to) = record { does = (copies.Unbegun refl refl, refl); known = refl; accepts = tt }
-  unbegun (asked.Selftest seed size) = record { does = (trials.Short refl refl, refl); known = refl; accepts = (λ small e. cc e, λ large. inr refl) }
+  unbegun (asked.Selftest seed size) = record { does = (trials.Unmade refl refl, refl); known = refl; accepts = (λ small e. cc e, λ large. inr refl) }
 
-  pub unread : (why : Fault) (a : Asked) → (◌≡◌ {A = Result Asked Fault} (Err why) (Ok a)) ⊎ (◌≡◌ {A = Result Asked Fault} (Err why) (Err fault.NoMemory)) → Did left input input told wires wires taken out out (Err why) a
+  pub unread : (why : Fault) (a : Asked) → (◌≡◌ {A = Result Asked Fault} (Err why) (Ok a)) ⊎ (◌≡◌ {A = Result Asked Fault} (Err why) (Err fault.NoMemory))
+      → Did left input input told wires wires taken out out (Err why) a
   unread why a (inl is) = absurd (cc is)
   unread why a (inr is) = let same : why ≡ fault.NoMemory = cc is in subst (λ (w : Fault). Did left input input told wires wires taken out out (Err w) a) (sym same) (unbegun a)

@@ -8,7 +8,8 @@ use Rattle.lnbd_script.specs.declared.event.PlayFault.TheVariants as play
 use Rattle.lnbd_script.specs.Plays.{Finished, HasBeenCut, HasPlayed, Short, Silent, first_fault}
 use Rattle.lnbd_cli.specs.declared.ending.Fault.TheVariants as fault
 use Rattle.lnbd_cli.specs.Ends.{End, is_one_of}
-use Rattle.lnbd_cli.specs.Inputs.{ReadUpTo, most_read}
+use Rattle.lnbd_cli.specs.Inputs.{ReadUpTo}
+use Rattle.lnbd_cli.specs.Limits.{most_read}
 
 -- the input holds a script
 pub record HoldsScript (left : Option (List ℕ)) : Type 0 where
@@ -18,7 +19,7 @@ pub record HoldsScript (left : Option (List ℕ)) : Type 0 where
   pub script : IsScript bytes lines
 
 -- The script that the input held, which was read to its end, was played.
-pub record Ran (left left' : Option (List ℕ)) (Played : List Line → Type 0) : Type 0 where
+pub record WasPlayed (left left' : Option (List ℕ)) (Played : List Line → Type 0) : Type 0 where
   pub lines : List Line
   pub script : (bytes : List ℕ) → left ≡ Some bytes → IsScript bytes lines
   pub read : (bytes : List ℕ) → left ≡ Some bytes → left' ≡ Some []
@@ -56,10 +57,11 @@ PlayEnds (Err fault.Spawn) lines told told' taken taken' = ⊥
 
 -- How a run of nbdcalls ends; Unbegun says that nothing was called and nothing written.
 pub data CallsEnds (left left' : Option (List ℕ)) (told told' : Option (List Call)) (taken taken' : Option (List ℕ)) (Unbegun : Type 0) (end : End) : Type 0 where
-  Played : Ran left left' (λ lines. PlayEnds end lines told told' taken taken') → CallsEnds left left' told told' taken taken' Unbegun end
+  Played : WasPlayed left left' (λ lines. PlayEnds end lines told told' taken taken') → CallsEnds left left' told told' taken taken' Unbegun end
   -- a line of the script is outside the grammar, or 0 tells that the script is too long
-  Faulty : (number : ℕ) → end ≡ Err (fault.Line number) → ((bytes : List ℕ) → left ≡ Some bytes → IsFault bytes number) → ReadUpTo most_read left left' → Unbegun → CallsEnds left left' told told' taken taken' Unbegun end
-  Unread : (end ≡ Err fault.Input) ⊎ (end ≡ Err fault.NoMemory) → Unbegun → CallsEnds left left' told told' taken taken' Unbegun end
+  Faulty : (number : ℕ) → end ≡ Err (fault.Line number) → ((bytes : List ℕ) → left ≡ Some bytes → IsFault bytes number) → ReadUpTo most_read left left' → Unbegun
+      → CallsEnds left left' told told' taken taken' Unbegun end
+  NotRead : (end ≡ Err fault.Input) ⊎ (end ≡ Err fault.NoMemory) → Unbegun → CallsEnds left left' told told' taken taken' Unbegun end
 
 -- the statuses of nbdcalls, and those of a run in which no count rose
 abbrev pub is_calls_status : (status : ℕ) → Bool

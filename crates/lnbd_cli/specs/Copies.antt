@@ -22,34 +22,37 @@ use Rattle.lnbd_cli.specs.declared.ending.Fault.TheVariants as fault
 use Rattle.lnbd_cli.specs.declared.ending.Ruling.TheVariants as ruling
 use Rattle.lnbd_cli.specs.Ends.{End, is_one_of}
 
--- what is told of a fault of copying
-abbrev pub fault_of_copy : CopyFault → Fault
-fault_of_copy (copying.Peer option code) = fault.Told option code
-fault_of_copy (copying.Broke broken) = fault.Broke broken
-fault_of_copy (copying.Link before after) = fault.Link
-fault_of_copy (copying.Rule rule) = fault.Rule (ruling.Copy rule)
-fault_of_copy (copying.Silent idles) = fault.Silent
-fault_of_copy copying.NoMemory = fault.NoMemory
+-- This is told of a fault of copying.
+abbrev pub TellsCopyFault : CopyFault → Fault → Type 0
+TellsCopyFault (copying.Peer option code) told = told ≡ fault.Told option code
+TellsCopyFault (copying.Broke broken) told = told ≡ fault.Broke broken
+TellsCopyFault (copying.Link before after) told = told ≡ fault.Link
+TellsCopyFault (copying.Rule rule) told = told ≡ fault.Rule (ruling.Copy rule)
+TellsCopyFault (copying.Silent idles) told = told ≡ fault.Silent
+TellsCopyFault copying.NoMemory told = told ≡ fault.NoMemory
 
 -- By these calls a copy was made as these options say, of which some summary tells.
 abbrev pub WasMade : CopyOptions → (from to : Place) → List Call → Type 0
 WasMade options from to calls = (summary : Summary) × IsMade options from to summary calls
 
--- The calls of a copy that came to its end, be it from a place to itself: it connected to both places as often as its options and what both sides told say, each connect gave a link, and each link was left well.
+-- The calls of a copy that came to its end, be it from a place to itself: it connected to both places as often as its options and what both sides told say, each connect
+-- gave a link, and each link was left well.
 pub record HasParted (options : CopyOptions) (from to : Place) (calls : List Call) : Type 0 where
   pub connects : ConnectsAsTold options from to calls
   pub connected : AllConnected calls
   pub driven : AreDriven calls
   pub left : AreLeftBy options from to calls
 
--- What was asked to be copied, from one place to another, was copied by the calls that this transcript grew by, and these were made as the words say; and from a place to itself too they conduct such a copy to its end.
+-- What was asked to be copied, from one place to another, was copied by the calls that this transcript grew by, and these were made as the words say; and from a place to
+-- itself too they conduct such a copy to its end.
 pub record HasCopied (asked : Transfer) (told told' : Option (List Call)) : Type 0 where
   pub copied : asked.from ≢ asked.to → Copies asked.from asked.to asked.options.destination_is_zero told told'
   pub made : asked.from ≢ asked.to → GrewBy (WasMade asked.options asked.from asked.to) told told'
   pub conduct : GrewBy (Conducts asked.options asked.from asked.to) told told'
   pub parted : GrewBy (HasParted asked.options asked.from asked.to) told told'
 
--- It did not come to its end, for a fault on the grounds that the calls show by which this transcript grew; these conduct such a copy until it is broken off, and before the event that decided nothing had come for which it ends.
+-- It did not come to its end, for a fault on the grounds that the calls show by which this transcript grew; these conduct such a copy until it is broken off, and before the
+-- event that decided nothing had come for which it ends.
 pub record HasFailed (asked : Transfer) (told told' : Option (List Call)) (fault : CopyFault) : Type 0 where
   pub grounds : IsGrounded told told' asked.options.extents asked.from asked.to fault
   pub conduct : GrewBy (Conducts asked.options asked.from asked.to) told told'
@@ -58,7 +61,7 @@ pub record HasFailed (asked : Transfer) (told told' : Option (List Call)) (fault
 -- How a run of nbdcopy ends; Uncalled says that nothing was called.
 pub data CopyEnds (asked : Transfer) (told told' : Option (List Call)) (Uncalled : Type 0) (end : End) : Type 0 where
   Copied : end ≡ Ok true → HasCopied asked told told' → CopyEnds asked told told' Uncalled end
-  Failed : (fault : CopyFault) → end ≡ Err (fault_of_copy fault) → HasFailed asked told told' fault → CopyEnds asked told told' Uncalled end
+  Failed : (fault : CopyFault) (why : Fault) → end ≡ Err why → TellsCopyFault fault why → HasFailed asked told told' fault → CopyEnds asked told told' Uncalled end
   Unbegun : end ≡ Err fault.NoMemory → Uncalled → CopyEnds asked told told' Uncalled end
 
 -- the statuses of nbdcopy, and those of a run in which no count rose

@@ -5,15 +5,17 @@ use Rattle.lnbd_args.specs.declared.asked.Asked.TheVariants as asked
 use Rattle.lnbd_link.specs.Call.{Call}
 use Rattle.lnbd_cli.specs.Calls.{HoldsScript}
 use Rattle.lnbd_cli.specs.Ends.{End, status_of}
-use Rattle.lnbd_cli.specs.Runs.{Calls, Copies, Informs, Serves, Tests, is_known}
-use Rattle.lnbd_cli.specs.Trials.{most_tested}
+use Rattle.lnbd_cli.specs.Runs.{RunsCalls, RunsCopy, RunsInfo, RunsSelftest, RunsServe, is_known}
+use Rattle.lnbd_cli.specs.Limits.{most_tested}
 
-abbrev pub Does : {I W O : Type 0} → Asked → (left : I → Option (List ℕ)) (input input' : I) (told : W → Option (List Call)) (wires wires' : W) (taken : O → Option (List ℕ)) (out out' : O) → End → Type 0
-Does asked.Calls left input input' told wires wires' taken out out' end = Calls left input input' told wires wires' taken out out' end
-Does (asked.Info what json place) left input input' told wires wires' taken out out' end = Informs (record { what = what; json = json; place = place }) told wires wires' taken out out' end
-Does (asked.Serve place size seed read_only sessions) left input input' told wires wires' taken out out' end = Serves (record { place = place; size = size; seed = seed; read_only = read_only; sessions = sessions }) told wires wires' taken out out' end
-Does (asked.Copy options from to) left input input' told wires wires' taken out out' end = Copies (record { options = options; from = from; to = to }) told wires wires' out out' end
-Does (asked.Selftest seed size) left input input' told wires wires' taken out out' end = Tests (record { seed = seed; size = size }) wires wires' taken out out' end
+abbrev pub Does : {I W O : Type 0} → Asked → (left : I → Option (List ℕ)) (input input' : I) (told : W → Option (List Call)) (wires wires' : W) (taken : O → Option (List ℕ)) (out out' : O)
+    → End → Type 0
+Does asked.Calls left input input' told wires wires' taken out out' end = RunsCalls left input input' told wires wires' taken out out' end
+Does (asked.Info what json place) left input input' told wires wires' taken out out' end = RunsInfo (record { what = what; json = json; place = place }) told wires wires' taken out out' end
+Does (asked.Serve place size seed read_only sessions) left input input' told wires wires' taken out out' end =
+    RunsServe (record { place = place; size = size; seed = seed; read_only = read_only; sessions = sessions }) told wires wires' taken out out' end
+Does (asked.Copy options from to) left input input' told wires wires' taken out out' end = RunsCopy (record { options = options; from = from; to = to }) told wires wires' out out' end
+Does (asked.Selftest seed size) left input input' told wires wires' taken out out' end = RunsSelftest (record { seed = seed; size = size }) wires wires' taken out out' end
 
 -- What keeps a tool from refusing what it is asked: a script in the input, a size that is not too large; and where it is, that is told.
 abbrev pub Accepts : Asked → (left : Option (List ℕ)) → End → Type 0
@@ -23,7 +25,8 @@ Accepts (asked.Serve place size seed read_only sessions) left end = Unit {0}
 Accepts (asked.Copy options from to) left end = Unit {0}
 Accepts (asked.Selftest seed size) left end = (size ≤ most_tested → status_of end ≢ 6) × (most_tested < size → (status_of end ≡ 6) ⊎ (status_of end ≡ 9))
 
-pub record Did {I W O : Type 0} (left : I → Option (List ℕ)) (input input' : I) (told : W → Option (List Call)) (wires wires' : W) (taken : O → Option (List ℕ)) (out out' : O) (end : End) (asked : Asked) : Type 0 where
+pub record Did {I W O : Type 0} (left : I → Option (List ℕ)) (input input' : I) (told : W → Option (List Call)) (wires wires' : W) (taken : O → Option (List ℕ)) (out out' : O)
+    (end : End) (asked : Asked) : Type 0 where
   pub does : Does asked left input input' told wires wires' taken out out' end
   pub known : is_known asked (status_of end) ≡ true
   pub accepts : Accepts asked (left input) end

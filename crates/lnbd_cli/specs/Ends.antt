@@ -103,14 +103,14 @@ abbrev pub Prints : {E : Type 0} → (taken : E → Option (List ℕ)) → (faul
 Prints taken faults old new text = Takes (taken old) (taken new) text ⊎ (Rises 1 (faults old) (faults new) × TakesFront (taken old) (taken new) text)
 
 -- The status is that of the end, and its line was printed; or that found no memory.
-abbrev pub Tells : End → (Printed : List ℕ → Type 0) → (status : ℕ) → Type 0
-Tells end Printed status = ((status ≡ status_of end) × Printed (end_line end)) ⊎ ((status ≡ 9) × Printed (fault_line fault.NoMemory))
+abbrev pub IsReported : End → (Printed : List ℕ → Type 0) → (status : ℕ) → Type 0
+IsReported end Printed status = ((status ≡ status_of end) × Printed (end_line end)) ⊎ ((status ≡ 9) × Printed (fault_line fault.NoMemory))
 
 -- A run came to an end of which this holds, and its status and its line tell that.
 pub record Came (Ends : End → Type 0) (Printed : List ℕ → Type 0) (status : ℕ) : Type 0 where
   pub end : End
   pub ends : Ends end
-  pub tells : Tells end Printed status
+  pub tells : IsReported end Printed status
 
 -- Counts.
 

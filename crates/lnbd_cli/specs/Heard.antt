@@ -1,5 +1,5 @@
 -- What a server is asked for nbdinfo, what it told, and what is printed of that.
-use Rattle.std.specs.Prelude.{◌≡◌, ◌⊎◌, ◌∷◌, ℕ, Bool, true, false, List, [], Option, Some, None, Result, Ok, Err, bytes_eq, codes}
+use Rattle.std.specs.Prelude.{◌≡◌, ◌⊎◌, ◌∷◌, ℕ, Bool, true, false, List, [], Option, Some, None, Result, Ok, Err, bytes_eq}
 use Rattle.lnbd_model.specs.declared.export.ExportInfo.{ExportInfo}
 use Rattle.lnbd_model.specs.declared.export.Extent.{Extent}
 use Rattle.lnbd_model.specs.declared.fault.NoMemory.{NoMemory}
@@ -14,7 +14,7 @@ use Rattle.lnbd_info.specs.Map.{IsTotalsText, map_text}
 use Rattle.lnbd_info.specs.MapJson.{IsTotalsJson, map_json}
 use Rattle.lnbd_info.specs.Predicates.{is_true_of}
 use Rattle.lnbd_link.specs.Call.{Call}
-use Rattle.lnbd_ask.specs.Asks.{Collected}
+use Rattle.lnbd_ask.specs.Asks.{Collected, base_allocation}
 use Rattle.lnbd_ask.specs.Lists.{HasListed}
 use Rattle.lnbd_ask.specs.Maps.{Mapped}
 use Rattle.lnbd_ask.specs.Quiet.{Passes}
@@ -44,7 +44,7 @@ exports_text true entries = listing_json false entries
 
 -- The flags of this context have words.
 abbrev pub is_allocation : (context : List ℕ) → Bool
-is_allocation context = bytes_eq context (codes "base:allocation")
+is_allocation context = bytes_eq context base_allocation
 
 abbrev pub extents_text : (json allocation : Bool) → List Extent → List ℕ
 extents_text false allocation map = map_text allocation map

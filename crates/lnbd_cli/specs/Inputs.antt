@@ -3,12 +3,9 @@ use Rattle.std.specs.Prelude.{◌≡◌, ◌≤◌, ℕ, List, [], Option, Some,
 use Rattle.lnbd_link.specs.Count.{Rises}
 use Rattle.lnbd_lines.specs.declared.line.Line.{Line}
 use Rattle.lnbd_lines.specs.Scripts.{IsFault, IsScript}
+use Rattle.lnbd_cli.specs.Limits.{most_read}
 use Rattle.lnbd_cli.specs.declared.input.Unread.{Unread}
 use Rattle.lnbd_cli.specs.declared.input.Unread.TheVariants as unread
-
--- The most bytes that are read: one more than a script has.
-abbrev pub most_read : ℕ
-most_read = 16777217
 
 -- So many bytes were read of what the input held, or all where it held fewer.
 abbrev pub ReadUpTo : ℕ → Option (List ℕ) → Option (List ℕ) → Type 0
@@ -25,7 +22,7 @@ ReadsScript (Err (unread.Line number)) all left = IsFault all number × ((lines 
 ReadsScript (Err unread.Failed) all left = Unit {0}
 ReadsScript (Err unread.NoMemory) all left = Unit {0}
 
-abbrev pub HasCause : Unread → ℕ → ℕ → Type 0
-HasCause (unread.Line number) faults faults' = Unit {0}
-HasCause unread.Failed faults faults' = Rises 1 faults faults'
-HasCause unread.NoMemory faults faults' = Unit {0}
+abbrev pub IsCaused : Unread → ℕ → ℕ → Type 0
+IsCaused (unread.Line number) faults faults' = Unit {0}
+IsCaused unread.Failed faults faults' = Rises 1 faults faults'
+IsCaused unread.NoMemory faults faults' = Unit {0}

@@ -1,3 +1,4 @@
+pub mod Limits
 pub mod Ends
 pub mod Inputs
 pub mod Asks

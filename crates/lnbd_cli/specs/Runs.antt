@@ -19,24 +19,25 @@ use Rattle.lnbd_cli.specs.Trials.{TestEnds, is_test_status}
 -- Each tool, over what the outside's objects tell before and after.
 
 -- nbdcalls: the script that the input holds was played
-abbrev pub Calls : {I W O : Type 0} → (left : I → Option (List ℕ)) (input input' : I) (told : W → Option (List Call)) (wires wires' : W) (taken : O → Option (List ℕ)) (out out' : O) → End → Type 0
-Calls left input input' told wires wires' taken out out' end = CallsEnds (left input) (left input') (told wires) (told wires') (taken out) (taken out') ((wires' ≡ wires) × (out' ≡ out)) end
+abbrev pub RunsCalls : {I W O : Type 0} → (left : I → Option (List ℕ)) (input input' : I) (told : W → Option (List Call)) (wires wires' : W) (taken : O → Option (List ℕ)) (out out' : O)
+    → End → Type 0
+RunsCalls left input input' told wires wires' taken out out' end = CallsEnds (left input) (left input') (told wires) (told wires') (taken out) (taken out') ((wires' ≡ wires) × (out' ≡ out)) end
 
 -- nbdinfo: this was asked of a server
-abbrev pub Informs : {W O : Type 0} → Question → (told : W → Option (List Call)) (wires wires' : W) (taken : O → Option (List ℕ)) (out out' : O) → End → Type 0
-Informs q told wires wires' taken out out' end = InfoEnds q (told wires) (told wires') (taken out) (taken out') (wires' ≡ wires) (out' ≡ out) end
+abbrev pub RunsInfo : {W O : Type 0} → Question → (told : W → Option (List Call)) (wires wires' : W) (taken : O → Option (List ℕ)) (out out' : O) → End → Type 0
+RunsInfo q told wires wires' taken out out' end = InfoEnds q (told wires) (told wires') (taken out) (taken out') (wires' ≡ wires) (out' ≡ out) end
 
 -- serve: this was served
-abbrev pub Serves : {W O : Type 0} → Service → (told : W → Option (List Call)) (wires wires' : W) (taken : O → Option (List ℕ)) (out out' : O) → End → Type 0
-Serves service told wires wires' taken out out' end = ServeEnds service (told wires) (told wires') (taken out) (taken out') (wires' ≡ wires) (out' ≡ out) end
+abbrev pub RunsServe : {W O : Type 0} → Service → (told : W → Option (List Call)) (wires wires' : W) (taken : O → Option (List ℕ)) (out out' : O) → End → Type 0
+RunsServe service told wires wires' taken out out' end = ServeEnds service (told wires) (told wires') (taken out) (taken out') (wires' ≡ wires) (out' ≡ out) end
 
 -- nbdcopy: this was copied, and nothing printed on out
-abbrev pub Copies : {W O : Type 0} → Transfer → (told : W → Option (List Call)) (wires wires' : W) (out out' : O) → End → Type 0
-Copies transfer told wires wires' out out' end = CopyEnds transfer (told wires) (told wires') (wires' ≡ wires) end × (out' ≡ out)
+abbrev pub RunsCopy : {W O : Type 0} → Transfer → (told : W → Option (List Call)) (wires wires' : W) (out out' : O) → End → Type 0
+RunsCopy transfer told wires wires' out out' end = CopyEnds transfer (told wires) (told wires') (wires' ≡ wires) end × (out' ≡ out)
 
 -- selftest: this copy was made in memory, and the wires are as they were
-abbrev pub Tests : {W O : Type 0} → Trial → (wires wires' : W) (taken : O → Option (List ℕ)) (out out' : O) → End → Type 0
-Tests trial wires wires' taken out out' end = TestEnds trial (taken out) (taken out') (out' ≡ out) end × (wires' ≡ wires)
+abbrev pub RunsSelftest : {W O : Type 0} → Trial → (wires wires' : W) (taken : O → Option (List ℕ)) (out out' : O) → End → Type 0
+RunsSelftest trial wires wires' taken out out' end = TestEnds trial (taken out) (taken out') (out' ≡ out) end × (wires' ≡ wires)
 
 -- The words ask nothing of any tool, which is told, or memory ran out before it was known.
 abbrev pub IsRefused : List (String Global) → End → Type 0

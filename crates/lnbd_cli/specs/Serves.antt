@@ -12,13 +12,13 @@ use Rattle.lnbd_cli.specs.declared.ending.Fault.TheVariants as fault
 use Rattle.lnbd_cli.specs.declared.serving.Service.{Service}
 use Rattle.lnbd_cli.specs.Ends.{End, is_one_of}
 
--- what is told of a fault of serving
-abbrev pub fault_of_serve : ServeFault → Fault
-fault_of_serve serving.Client = fault.Client
-fault_of_serve (serving.Link before after) = fault.Link
-fault_of_serve (serving.Silent idles) = fault.Silent
-fault_of_serve serving.Output = fault.Output
-fault_of_serve serving.NoMemory = fault.NoMemory
+-- This is told of a fault of serving.
+abbrev pub TellsServeFault : ServeFault → Fault → Type 0
+TellsServeFault serving.Client told = told ≡ fault.Client
+TellsServeFault (serving.Link before after) told = told ≡ fault.Link
+TellsServeFault (serving.Silent idles) told = told ≡ fault.Silent
+TellsServeFault serving.Output told = told ≡ fault.Output
+TellsServeFault serving.NoMemory told = told ≡ fault.NoMemory
 
 -- The export that the number gives was served so on the wires. Of the lines, both were printed where all clients were served,
 -- and else a front.
@@ -32,8 +32,9 @@ pub record Hosted (service : Service) (answer : Result ℕ ServeFault) (told tol
 
 -- How a run of serve ends; Uncalled and Unprinted say that nothing was called and that nothing was printed.
 pub data ServeEnds (service : Service) (told told' : Option (List Call)) (taken taken' : Option (List ℕ)) (Uncalled Unprinted : Type 0) (end : End) : Type 0 where
-  Served : (sessions : ℕ) → end ≡ Ok true → Hosted service (Ok sessions) told told' taken taken' → ServeEnds service told told' taken taken' Uncalled Unprinted end
-  Failed : (fault : ServeFault) → end ≡ Err (fault_of_serve fault) → Hosted service (Err fault) told told' taken taken' → ServeEnds service told told' taken taken' Uncalled Unprinted end
+  AllServed : (sessions : ℕ) → end ≡ Ok true → Hosted service (Ok sessions) told told' taken taken' → ServeEnds service told told' taken taken' Uncalled Unprinted end
+  Failed : (fault : ServeFault) (why : Fault) → end ≡ Err why → TellsServeFault fault why → Hosted service (Err fault) told told' taken taken'
+      → ServeEnds service told told' taken taken' Uncalled Unprinted end
   -- all clients were served, but a count rose of which nothing told
   Counted : (sessions : ℕ) → (end ≡ Err fault.Link) ⊎ (end ≡ Err fault.Silent) → Hosted service (Ok sessions) told told' taken taken' → ServeEnds service told told' taken taken' Uncalled Unprinted end
   Unbegun : end ≡ Err fault.NoMemory → Uncalled → Unprinted → ServeEnds service told told' taken taken' Uncalled Unprinted end

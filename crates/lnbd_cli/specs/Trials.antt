@@ -9,10 +9,7 @@ use Rattle.lnbd_cli.specs.declared.ending.Fault.TheVariants as fault
 use Rattle.lnbd_cli.specs.declared.ending.Ruling.TheVariants as ruling
 use Rattle.lnbd_cli.specs.declared.selftesting.Trial.{Trial}
 use Rattle.lnbd_cli.specs.Ends.{End, is_one_of}
-
--- the most bytes of an export that is copied
-abbrev pub most_tested : ℕ
-most_tested = 16777216
+use Rattle.lnbd_cli.specs.Limits.{most_tested}
 
 -- what is printed of a copy that was made
 abbrev pub trial_text : Trial → List ℕ
@@ -28,7 +25,7 @@ abbrev pub sums_line : Trial → Summary → List ℕ
 sums_line trial sums = trial_text trial ++ moved_text sums ++ zeroed_text sums
 
 -- The copy was made, the destination holds what the source held, and this line tells it with its sums.
-pub record IsMade (trial : Trial) (line : List ℕ) : Type 0 where
+pub record TellsTrial (trial : Trial) (line : List ℕ) : Type 0 where
   pub sums : Summary
   pub wires : Served
   pub rehearsed : HasRehearsed trial.seed trial.size sums wires
@@ -37,7 +34,7 @@ pub record IsMade (trial : Trial) (line : List ℕ) : Type 0 where
 -- It was made, and of its line that was printed.
 pub record Tested (trial : Trial) (Printed : List ℕ → Type 0) : Type 0 where
   pub line : List ℕ
-  pub made : IsMade trial line
+  pub made : TellsTrial trial line
   pub printed : Printed line
 
 -- How a run of selftest ends; Unprinted says that nothing was printed.
@@ -45,7 +42,7 @@ pub data TestEnds (trial : Trial) (taken taken' : Option (List ℕ)) (Unprinted 
   Made : end ≡ Ok true → Tested trial (λ line. Takes taken taken' line) → TestEnds trial taken taken' Unprinted end
   Cut : end ≡ Err fault.Output → Tested trial (λ line. TakesFront taken taken' line) → TestEnds trial taken taken' Unprinted end
   TooLarge : end ≡ Err (fault.Rule (ruling.TooLarge trial.size)) → most_tested < trial.size → Unprinted → TestEnds trial taken taken' Unprinted end
-  Short : end ≡ Err fault.NoMemory → Unprinted → TestEnds trial taken taken' Unprinted end
+  Unmade : end ≡ Err fault.NoMemory → Unprinted → TestEnds trial taken taken' Unprinted end
 
 -- the statuses of selftest
 abbrev pub is_test_status : (status : ℕ) → Bool

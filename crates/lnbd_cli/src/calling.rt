@@ -5,7 +5,8 @@ ghost use Rattle.lnbd_link.specs.Count.{Rises};
 ghost use Rattle.lnbd_script.specs.Seen.{patience};
 ghost use Rattle.lnbd_cli.specs.Calls.{CallsEnds, HoldsScript, PlayEnds, is_calls_status};
 ghost use Rattle.lnbd_cli.specs.Ends.{status_of};
-ghost use Rattle.lnbd_cli.specs.Inputs.{ReadAtMost, most_read};
+ghost use Rattle.lnbd_cli.specs.Inputs.{ReadAtMost};
+ghost use Rattle.lnbd_cli.specs.Limits.{most_read};
 ghost use Rattle.lnbd_cli.specs.declared.ending.Fault.TheVariants as fault;
 
 use crate::counts::look;

@@ -3,7 +3,7 @@
 ghost use Rattle.std.specs.Prelude.{◌≡◌, Err, OnOk, true};
 ghost use Rattle.lnbd_link.specs.Count.{Rises};
 ghost use Rattle.lnbd_script.specs.Seen.{patience};
-ghost use Rattle.lnbd_cli.specs.Copies.{CopyEnds, fault_of_copy, is_copy_status};
+ghost use Rattle.lnbd_cli.specs.Copies.{CopyEnds, TellsCopyFault, is_copy_status};
 ghost use Rattle.lnbd_cli.specs.Ends.{status_of};
 ghost use Rattle.lnbd_cli.specs.declared.ending.Fault.TheVariants as fault;
 
@@ -25,7 +25,7 @@ pub(crate) struct Transfer {
 
 /// What is told of a fault of copying.
 fn told(fault: CopyFault) -> Fault
-    ensures told { result ≡ fault_of_copy fault }
+    ensures told { TellsCopyFault fault result }
     ensures known { is_copy_status (status_of (Err result)) ≡ true }
 {
     match fault {

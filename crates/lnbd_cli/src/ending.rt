@@ -3,7 +3,7 @@
 ghost use Rattle.std.specs.Prelude.{◌≡◌, ◌≢◌, ◌++◌, Ok, Err, OnOk, true, false, string_bytes};
 ghost use Rattle.lnbd_cli.specs.declared.ending.Fault.TheVariants as fault;
 ghost use Rattle.lnbd_cli.specs.declared.ending.Ruling.TheVariants as ruling;
-ghost use Rattle.lnbd_cli.specs.Ends.{Prints, Tells, broken_text, end_line, fault_line, fault_text, peer_text, rule_text, ruling_text, status_of, status_of_fault};
+ghost use Rattle.lnbd_cli.specs.Ends.{IsReported, Prints, broken_text, end_line, fault_line, fault_text, peer_text, rule_text, ruling_text, status_of, status_of_fault};
 
 use lnbd_link::Sink;
 use lnbd_model::{Broken, Text};
@@ -224,7 +224,7 @@ fn print<E: Sink>(err: &mut E, text: &[u8])
 
 /// Prints the line of a run's end, and tells its status. Where the line finds no memory, that is the end.
 pub(crate) fn print_end<E: Sink>(alloc: Global, end: &End, err: &mut E) -> u8
-    ensures tells { Tells end.now (Prints E.taken E.faults err.old err.new) result }
+    ensures tells { IsReported end.now (Prints E.taken E.faults err.old err.new) result }
     ensures done { result ≡ 0 → end.now ≡ Ok true }
     ensures untrue { result ≡ 2 → end.now ≡ Ok false }
     ensures link { result ≡ 5 → end.now ≡ Err fault.Link }

@@ -4,7 +4,7 @@ ghost use Rattle.std.specs.Prelude.{◌≡◌, Err, OnOk, true};
 ghost use Rattle.lnbd_link.specs.Count.{Rises};
 ghost use Rattle.lnbd_script.specs.Seen.{patience};
 ghost use Rattle.lnbd_cli.specs.Ends.{status_of};
-ghost use Rattle.lnbd_cli.specs.Informs.{InfoEnds, IsPrinted, ended, is_info_status};
+ghost use Rattle.lnbd_cli.specs.Informs.{EndsAs, InfoEnds, IsPrinted, is_info_status};
 ghost use Rattle.lnbd_cli.specs.declared.ending.Fault.TheVariants as fault;
 
 use crate::counts::look;
@@ -14,14 +14,17 @@ use lnbd_link::{Sink, Wires};
 use lnbd_script::put;
 use std::alloc::Global;
 
+/// The option by which an export is asked for (NBD protocol, "NBD_OPT_INFO").
+const OPT_INFO: u32 = 6;
+
 /// The end of a run whose text is printed.
 fn ended(answer: Result<bool, u32>) -> End
-    ensures { result ≡ ended answer }
+    ensures { EndsAs answer result }
 {
     match answer {
         Ok(holds) => Ok(holds),
         Err(code) => Err(Fault::Told {
-            option: Some(6),
+            option: Some(OPT_INFO),
             code,
         }),
     }

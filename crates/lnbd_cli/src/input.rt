@@ -4,7 +4,8 @@ ghost use Rattle.std.specs.Prelude.{◌≡◌, ◌<◌, ◌≤◌, IfOk, OnOk, I
 ghost use Rattle.lnbd_link.specs.Count.{Rises};
 ghost use Rattle.lnbd_lines.specs.Scripts.{IsFault, IsScript};
 ghost use Rattle.lnbd_lines.specs.declared.line.Line.{Line};
-ghost use Rattle.lnbd_cli.specs.Inputs.{HasCause, ReadAtMost, ReadUpTo, ReadsScript, most_read};
+ghost use Rattle.lnbd_cli.specs.Inputs.{IsCaused, ReadAtMost, ReadUpTo, ReadsScript};
+ghost use Rattle.lnbd_cli.specs.Limits.{most_read};
 
 use lnbd_link::{Source, SourceGot};
 use lnbd_script::{Script, ScriptFault, parse};
@@ -59,7 +60,7 @@ fn read_all<I: Source>(alloc: Global, input: &mut I) -> Result<Vec<u8>, Short>
 pub(crate) fn read_script<I: Source>(alloc: Global, input: &mut I) -> Result<Script, Unread>
     ensures reads { (all : List ℕ) → I.left input.old ≡ Some all → ReadsScript result all (I.left input.new) }
     ensures most { ReadAtMost most_read (I.left input.old) (I.left input.new) }
-    ensures cause { IfErr result (λ unread. HasCause unread (I.faults input.old) (I.faults input.new)) }
+    ensures cause { IfErr result (λ unread. IsCaused unread (I.faults input.old) (I.faults input.new)) }
 {
     let bytes = match read_all(alloc, input) {
         Ok(bytes) => bytes,

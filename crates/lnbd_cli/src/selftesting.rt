@@ -3,7 +3,8 @@
 ghost use Rattle.std.specs.Prelude.{◌≡◌, ◌≢◌, ◌<◌, ◌≤◌, ◌++◌, Err, IfOk, OnOk, true, string_bytes};
 ghost use Rattle.lnbd_link.specs.Count.{Rises};
 ghost use Rattle.lnbd_cli.specs.Ends.{status_of};
-ghost use Rattle.lnbd_cli.specs.Trials.{IsMade, TestEnds, is_test_status, most_tested, moved_text, sums_line, trial_text, zeroed_text};
+ghost use Rattle.lnbd_cli.specs.Limits.{most_tested};
+ghost use Rattle.lnbd_cli.specs.Trials.{TellsTrial, TestEnds, is_test_status, moved_text, sums_line, trial_text, zeroed_text};
 ghost use Rattle.lnbd_cli.specs.declared.ending.Fault.TheVariants as fault;
 
 use crate::ending::{End, Fault, Ruling};
@@ -60,7 +61,7 @@ fn sums_line(alloc: Global, trial: Trial, sums: Summary) -> Result<String, Alloc
 #[tactic(auto, using(crate::proofs::TrialLemmas::made_of))]
 fn made(alloc: Global, trial: Trial) -> Result<String, NoMemory>
     requires { trial.size ≤ most_tested }
-    ensures { IfOk result (λ line. IsMade trial (string_bytes line)) }
+    ensures { IfOk result (λ line. TellsTrial trial (string_bytes line)) }
 {
     let sums = rehearse(alloc, trial.seed, trial.size)?.summary;
     Ok(sums_line(alloc, trial, sums)?)

@@ -5,7 +5,7 @@ ghost use Rattle.lnbd_link.specs.Count.{Rises};
 ghost use Rattle.lnbd_script.specs.Seen.{patience};
 ghost use Rattle.lnbd_export.specs.Generated.{IsGenerated};
 ghost use Rattle.lnbd_cli.specs.Ends.{status_of};
-ghost use Rattle.lnbd_cli.specs.Serves.{ServeEnds, fault_of_serve, is_serve_status};
+ghost use Rattle.lnbd_cli.specs.Serves.{ServeEnds, TellsServeFault, is_serve_status};
 ghost use Rattle.lnbd_cli.specs.declared.ending.Fault.TheVariants as fault;
 
 use crate::counts::look;
@@ -39,7 +39,7 @@ fn export_of(alloc: Global, service: &Service) -> Result<Export, NoMemory>
 
 /// What is told of a fault of serving.
 fn told(fault: ServeFault) -> Fault
-    ensures told { result ≡ fault_of_serve fault }
+    ensures told { TellsServeFault fault result }
     ensures known { is_serve_status (status_of (Err result)) ≡ true }
 {
     match fault {

@@ -10,10 +10,10 @@ ghost use Rattle.lnbd_cli.specs.Copies.{IsCopyDone};
 ghost use Rattle.lnbd_cli.specs.Did.{Did, HasRoom, IsOnWires, NeverReads};
 ghost use Rattle.lnbd_cli.specs.Ends.{Came, IsPatient, IsSound, Prints};
 ghost use Rattle.lnbd_cli.specs.Informs.{IsInfoDone};
-ghost use Rattle.lnbd_cli.specs.Inputs.{ReadAtMost, most_read};
-ghost use Rattle.lnbd_cli.specs.Runs.{AreQuiet, AreSound, AskTest, IsPlay, Calls, Copies, Informs, IsRefused, Nothing, Refused, Serves, Tests, is_known};
+ghost use Rattle.lnbd_cli.specs.Inputs.{ReadAtMost};
+ghost use Rattle.lnbd_cli.specs.Runs.{AreQuiet, AreSound, AskTest, IsPlay, IsRefused, Nothing, Refused, RunsCalls, RunsCopy, RunsInfo, RunsSelftest, RunsServe, is_known};
 ghost use Rattle.lnbd_cli.specs.Serves.{IsServeDone};
-ghost use Rattle.lnbd_cli.specs.Trials.{most_tested};
+ghost use Rattle.lnbd_cli.specs.Limits.{most_read, most_tested};
 ghost use Rattle.lnbd_cli.specs.declared.copying.Transfer.{Transfer};
 ghost use Rattle.lnbd_cli.specs.declared.ending.Fault.TheVariants as fault;
 ghost use Rattle.lnbd_cli.specs.declared.hearing.Question.{Question};
@@ -37,9 +37,9 @@ use std::alloc::Global;
 /// Runs the tool that the words name over this outside, and tells the status that it ends with.
 ///
 /// 0: all is done. 1: words or a script are in no grammar. 2: what nbdinfo was asked is false. 3: the peer answered an option or a command by an error. 4: it broke
-/// the protocol, or ended before the run was done; a client of serve broke it. 5: a link failed. 6: the server did not agree to a map's context, two exports don't fit for a copy, or
-/// a selftest's size is too large. 7: the wires were idle for too long. 8: `out` failed. 9: memory ran out. 10: `input` failed. Every status but 0 and 2 prints its line on `err`. No tool of today tells 11, a local file's fault, 12, how a child ended, or 13, a
-/// program that could not be started.
+/// the protocol, or ended before the run was done; a client of serve broke it. 5: a link failed. 6: the server did not agree to a map's context, two exports don't
+/// fit for a copy, or a selftest's size is too large. 7: the wires were idle for too long. 8: `out` failed. 9: memory ran out. 10: `input` failed. Every status but 0
+/// and 2 prints its line on `err`. No tool of today tells 11, a local file's fault, 12, how a child ended, or 13, a program that could not be started.
 pub fn run<W: Wires, I: Source, O: Sink, E: Sink, S: Store, P: Spawner>(
     alloc: Global,
     words: &[String],
@@ -51,11 +51,11 @@ pub fn run<W: Wires, I: Source, O: Sink, E: Sink, S: Store, P: Spawner>(
     spawn: &mut P,
 ) -> u8
     // What the words ask of a tool came to an end of which status and line tell: by these calls, and with this printed.
-    ensures calls { IsCalls words.now → Came (Calls I.left input.old input.new W.told wires.old wires.new O.taken out.old out.new) (Prints E.taken E.faults err.old err.new) result }
-    ensures info { (q : Question) → IsInfo words.now q → Came (Informs q W.told wires.old wires.new O.taken out.old out.new) (Prints E.taken E.faults err.old err.new) result }
-    ensures serve { (s : Service) → IsServe words.now s → Came (Serves s W.told wires.old wires.new O.taken out.old out.new) (Prints E.taken E.faults err.old err.new) result }
-    ensures copy { (t : Transfer) → IsCopy words.now t → Came (Copies t W.told wires.old wires.new out.old out.new) (Prints E.taken E.faults err.old err.new) result }
-    ensures selftest { (t : Trial) → IsSelftest words.now t → Came (Tests t wires.old wires.new O.taken out.old out.new) (Prints E.taken E.faults err.old err.new) result }
+    ensures calls { IsCalls words.now → Came (RunsCalls I.left input.old input.new W.told wires.old wires.new O.taken out.old out.new) (Prints E.taken E.faults err.old err.new) result }
+    ensures info { (q : Question) → IsInfo words.now q → Came (RunsInfo q W.told wires.old wires.new O.taken out.old out.new) (Prints E.taken E.faults err.old err.new) result }
+    ensures serve { (s : Service) → IsServe words.now s → Came (RunsServe s W.told wires.old wires.new O.taken out.old out.new) (Prints E.taken E.faults err.old err.new) result }
+    ensures copy { (t : Transfer) → IsCopy words.now t → Came (RunsCopy t W.told wires.old wires.new out.old out.new) (Prints E.taken E.faults err.old err.new) result }
+    ensures selftest { (t : Trial) → IsSelftest words.now t → Came (RunsSelftest t wires.old wires.new O.taken out.old out.new) (Prints E.taken E.faults err.old err.new) result }
 
     // It is known what the words ask; or they are refused, or memory ran out before it was known, and nothing is done.
     ensures decided { ((asked : Asked) × Ask words.now asked) ⊎ Came (Refused words.now wires.old wires.new out.old out.new) (Prints E.taken E.faults err.old err.new) result }

@@ -14,21 +14,27 @@ use std::marker::Model;
 #[derive(Debug, Drop)]
 pub(crate) struct Page {
     ranges: Vec<(u64, u64)>,
+
+    /// Where the first of them starts, so that a search over pages opens none.
+    start: u64,
 }
 
 impl Model for Page {
-    ghost use Rattle.std.specs.Prelude.{ℕ, List};
+    ghost use Rattle.std.specs.Prelude.{◌≡◌, ℕ, List, get_or};
 
     ghost Value = { List (ℕ × ℕ) };
 
     ghost view = { λ p. p.ranges.items };
+
+    ghost invariant = { λ p. p.start ≡ (get_or p.ranges.items 0 (0, 0)).0 };
 }
 
 impl Page {
     pub fn of(ranges: Vec<(u64, u64)>) -> Page
         ensures { result ≡ ranges.items }
     {
-        Page { ranges }
+        let start = start_of(&ranges);
+        Page { ranges, start }
     }
 
     /// A page of one range.
@@ -37,7 +43,7 @@ impl Page {
     {
         let mut ranges = Vec::new(alloc);
         ranges.push((start, length))?;
-        Ok(Page { ranges })
+        Ok(Page { ranges, start })
     }
 
     pub fn len(&self) -> usize
@@ -59,12 +65,20 @@ impl Page {
         self.ranges[index]
     }
 
+    /// Where the first range starts; 0 where there is none.
+    pub fn start(&self) -> u64
+        ensures { result ≡ (get_or self.now 0 (0, 0)).0 }
+    {
+        self.start
+    }
+
     /// Takes the first range away.
     pub fn remove_first(&mut self)
         requires { 0 < length self.old }
         ensures { self.new ≡ drop 1 self.old }
     {
         self.ranges.remove(0);
+        self.start = start_of(&self.ranges);
     }
 
     /// Takes the ranges from a place on into a page of their own. On `NoMemory` nothing changes.
@@ -76,7 +90,8 @@ impl Page {
         ensures err { OnErr result (self.new ≡ self.old) }
     {
         let ranges = self.ranges.split_off(at)?;
-        Ok(Page { ranges })
+        self.start = start_of(&self.ranges);
+        Ok(Page::of(ranges))
     }
 
     /// Adds positions, where none of them is held in this page.
@@ -90,8 +105,20 @@ impl Page {
         ensures err { OnErr result (self.new ≡ self.old) }
         ensures overlap { IsErrOf result AddFault.Overlap ↔ (meets start length self.old ≡ true) }
     {
-        put(&mut self.ranges, start, length)
+        let added = put(&mut self.ranges, start, length);
+        self.start = start_of(&self.ranges);
+        added
     }
+}
+
+/// Where the first range starts; 0 where there is none.
+fn start_of(ranges: &[(u64, u64)]) -> u64
+    ensures { result ≡ (get_or ranges.now 0 (0, 0)).0 }
+{
+    if ranges.is_empty() {
+        return 0;
+    }
+    ranges[0].0
 }
 
 fn put(items: &mut Vec<(u64, u64)>, start: u64, length: u64) -> Result<(), AddFault>

@@ -25,14 +25,14 @@ pub(crate) fn page_of(pages: &[Page], position: u64) -> usize
     ensures within { result < length pages.now }
 {
     let count = pages.len();
-    if pages[count - 1].range(0).0 <= position {
+    if pages[count - 1].start() <= position {
         return count - 1;
     }
     let mut low = 0;
     let mut high = count;
     while low + 1 < high {
         let middle = low + (high - low) / 2;
-        if pages[middle].range(0).0 <= position {
+        if pages[middle].start() <= position {
             low = middle;
         } else {
             high = middle;
@@ -50,7 +50,7 @@ fn next_side(pages: &[Page], at: usize, end: u64) -> Side
     if at >= pages.len() {
         return Side::Apart;
     }
-    let (start, _) = pages[at].range(0);
+    let start = pages[at].start();
     if end < start {
         return Side::Apart;
     }

@@ -1,10 +1,12 @@
 -- Ranges counted from another place hold the same places.
-use Rattle.std.proofs.Common.{◌≡◌, ℕ, zero, suc, ◌+◌, ◌-◌, ◌≤◌, List, [], ◌∷◌, Bool, true, false, ◌||◌, refl, ap, sym, ◌∙◌, arith, if◌then◌else◌, ◌==◌, nat_le, nat_lt}
+use Rattle.std.proofs.Common.{◌≡◌, ◌↔◌, ℕ, zero, suc, ◌+◌, ◌-◌, ◌≤◌, List, [], ◌∷◌, Bool, true, false, ◌||◌, ◌&&◌, Ok, Err, refl, ap, sym, ◌∙◌, arith, if◌then◌else◌, ◌==◌, nat_le, nat_lt}
 use Rattle.std.proofs.lemmas.Grind.{common_steps}
 use Rattle.lnbd_extents.specs.Positions.{within, holds, any_at, all_at}
 use Rattle.lnbd_extents.specs.Ranges.{adding, with_positions}
 use Rattle.std.proofs.lemmas.Bool.{and_parts, leb-true}
 use Rattle.lnbd_chunks.specs.Chunk.{Waiting, lies_within}
+use Rattle.lnbd_outcome.specs.Pieces.{is_whole}
+use Rattle.lnbd_structured.specs.Assembly.{Assembled, clashes, waiting_of}
 use Rattle.lnbd_structured.specs.Shift.{shift}
 
 pub le_shift : (o a b : ℕ) → nat_le (a + o) (b + o) ≡ nat_le a b
@@ -76,3 +78,16 @@ again o offset h = omega (arith, h)
 
 pub clash : (came met : Bool) (o offset n : ℕ) (rs : List (ℕ × ℕ)) → o ≤ offset → came ≡ false → met ≡ any_at (holds rs) (offset - o) n → met ≡ came || any_at (holds (shift o rs)) offset n
 clash came met o offset n rs h is e = e ∙ sym (any_shift o (offset - o) n offset rs (again o offset h)) ∙ ap (λ (b : Bool). b || any_at (holds (shift o rs)) offset n) (sym is)
+
+-- An addition that was taken met nothing.
+pub missed : {T E : Type 0} (x : T) (e : E) (met : Bool) → ((Ok x ≡ Err e) ↔ (met ≡ true)) → false ≡ met
+missed x e true h = let no : Ok x ≡ Err e = h.1 refl in absurd (cc)
+missed x e false h = refl
+
+-- What a command's ranges meet is a clash, where no content came again.
+pub clash_of : (command : Assembled) (o offset n : ℕ) (met : Bool) (rs : List (ℕ × ℕ)) → o ≡ command.query.offset → shift o rs ≡ command.facts.told → lies_within (waiting_of command) offset n ≡ true →
+    (is_whole command.query && command.facts.came) ≡ false → met ≡ any_at (holds rs) (offset - o) n → met ≡ clashes command offset n
+clash_of command o offset n met rs here told inside once e =
+    let low : o ≤ offset = omega (arith, here, from_offset (waiting_of command) offset n inside) in
+    clash (is_whole command.query && command.facts.came) met o offset n rs low once e
+    ∙ ap (λ (all : List (ℕ × ℕ)). (is_whole command.query && command.facts.came) || any_at (holds all) offset n) told

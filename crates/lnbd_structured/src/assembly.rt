@@ -1,6 +1,6 @@
 //! What is kept of one command that is answered by chunks. Where its content goes and who is told of it is not known here.
 
-ghost use Rattle.std.specs.Prelude.{◌≡◌, ◌≤◌, ◌<◌, ◌+◌, ◌-◌, ◌^◌, ◌↔◌, ◌||◌, ◌&&◌, ℕ, Bool, List, true, false, None, Some, Err, OnOk, OnErr, IfOk, IsErrOf, length};
+ghost use Rattle.std.specs.Prelude.{◌≡◌, ◌≤◌, ◌<◌, ◌+◌, ◌-◌, ◌^◌, ◌↔◌, ◌||◌, ◌&&◌, ℕ, Bool, List, true, false, None, Some, Err, OnOk, OnErr, IfOk, IsErrOf, if◌then◌else◌, length};
 ghost use Rattle.lnbd_chunks.specs.Chunk.{form_of, is_done, lies_within};
 ghost use Rattle.lnbd_model.specs.Kind.{is_read};
 ghost use Rattle.lnbd_model.specs.declared.breach.Breach.{Breach};
@@ -22,7 +22,7 @@ use crate::grammar::{Asked, breach_shown, form_of};
 use crate::status::{all_told, any_empty, is_agreed, is_among};
 use crate::told::Told;
 use lnbd_chunks::Form;
-use lnbd_extents::Ranges;
+use lnbd_extents::{AddFault, Ranges};
 use lnbd_model::{Breach, Contexts, EPROTO, Extent, Failure, Kind, NoMemory, Origin, told_error};
 use lnbd_records::{u32_at, u64_at};
 use lnbd_wire::ExtHead;
@@ -157,18 +157,25 @@ impl Assembly {
         self.told.meets(offset - self.offset, length)
     }
 
-    /// Holds these places of the export as told.
-    fn hold(&mut self, offset: u64, length: u64) -> Result<(), NoMemory>
+    /// Holds these places of the export as told, unless content there has a fault. Answers whether it has one.
+    fn hold(&mut self, offset: u64, length: u64) -> Result<bool, NoMemory>
         requires read { is_read self.old.query.kind ≡ true }
         requires within { lies_within (waiting_of self.old) offset length ≡ true }
-        ensures ok { OnOk result (self.new ≡ with_facts (placed offset length self.old.facts) self.old) }
+        ensures ok { IfOk result (λ bad. self.new ≡ (if bad then self.old else with_facts (placed offset length self.old.facts) self.old)) }
+        ensures fault { IfOk result (λ bad. bad ≡ clashes self.old offset length) }
         ensures err { OnErr result (self.new ≡ self.old) }
     {
-        let Ok(()) = self.told.add(offset - self.offset, length) else {
-            return Err(NoMemory);
-        };
-        self.came = true;
-        Ok(())
+        if self.came_again() {
+            return Ok(true);
+        }
+        match self.told.add(offset - self.offset, length) {
+            Ok(()) => {
+                self.came = true;
+                Ok(false)
+            }
+            Err(AddFault::Overlap) => Ok(true),
+            Err(AddFault::NoMemory) => Err(NoMemory),
+        }
     }
 
     /// Tells content of these places of the export, unless it has a fault. Answers whether it has one.
@@ -180,15 +187,15 @@ impl Assembly {
         ensures fault { IfOk result (λ bad. bad ≡ (empty || clashes self.old offset length)) }
         ensures err { OnErr result (self.new ≡ self.old) }
     {
-        if empty || self.clashes(offset, length) {
-            self.note_fault();
-            self.came = true;
+        if empty {
+            self.note_bad_content();
             return Ok(true);
         }
-        match self.hold(offset, length) {
-            Ok(()) => Ok(false),
-            Err(fault) => Err(fault),
+        if self.hold(offset, length)? {
+            self.note_bad_content();
+            return Ok(true);
         }
+        Ok(false)
     }
 
     /// Tells the extents of a meta context, unless they have a fault. Answers whether they have one.
@@ -225,6 +232,15 @@ impl Assembly {
     {
         self.faults += 1;
         self.keep_first(Origin::Content, EPROTO);
+    }
+
+    /// Counts content that has a fault.
+    fn note_bad_content(&mut self)
+        requires few { self.old.facts.faults ≤ max_faults }
+        ensures { self.new ≡ with_facts (faulted true self.old.facts) self.old }
+    {
+        self.note_fault();
+        self.came = true;
     }
 
     /// Keeps an error, unless it is 0 or another one came before.

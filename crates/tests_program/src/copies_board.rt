@@ -135,13 +135,8 @@ fn copy_one(alloc: Global, text: &mut String, board: &mut Board) -> Result<(), F
 /// Which errors came, and what stands as the board's.
 static ERRORS: [(u32, u32); 4] = [(5, 5), (28, 5), (71, 71), (5, 71)];
 
-/// Extents are kept for the request that asked for them, a flush is noted, and an error that came first stands, but that of faulty
-/// content, 71, comes before it.
-fn file(alloc: Global, report: &mut Report, board: &mut Board) -> Result<(), Fail> {
-    let case = Case {
-        shows: "what comes is filed",
-        run: 0,
-    };
+/// Extents are kept for the request that asked for them.
+fn report_told(report: &mut Report, case: Case, board: &mut Board) -> Result<(), Fail> {
     let extents = [Extent {
         length: 512,
         flags: 3,
@@ -150,15 +145,32 @@ fn file(alloc: Global, report: &mut Report, board: &mut Board) -> Result<(), Fai
     match board.told() {
         [told] => {
             report.number(case, "length", told.length, 512)?;
-            report.number(case, "flags", told.flags, 3)?;
+            report.number(case, "flags", told.flags, 3)
         }
-        _ => report.holds(case, "one extent", false)?,
+        _ => report.holds(case, "one extent", false),
     }
+}
+
+fn report_mapped(
+    alloc: Global,
+    report: &mut Report,
+    case: Case,
+    board: &mut Board,
+) -> Result<(), Fail> {
     let _verdict = Ticket::Extents.complete(board, 0, none(alloc));
     report.holds(case, "mapped", board.is_mapped())?;
     report.holds(case, "whole", !board.is_short())?;
     board.forget_map();
-    report.holds(case, "map forgotten", !board.is_mapped())?;
+    report.holds(case, "map forgotten", !board.is_mapped())
+}
+
+/// A flush is noted, and an error that came first stands, but that of faulty content, 71, comes before it.
+fn report_flushed(
+    alloc: Global,
+    report: &mut Report,
+    case: Case,
+    board: &mut Board,
+) -> Result<(), Fail> {
     let _verdict = Ticket::Flush.complete(board, 0, none(alloc));
     report.holds(case, "flushed", board.is_flushed())?;
     for (came, stands) in ERRORS.iter() {
@@ -167,6 +179,16 @@ fn file(alloc: Global, report: &mut Report, board: &mut Board) -> Result<(), Fai
         report.number(case, "error", error as u64, *stands as u64)?;
     }
     report.number(case, "begun", board.begun(), 0)
+}
+
+fn file(alloc: Global, report: &mut Report, board: &mut Board) -> Result<(), Fail> {
+    let case = Case {
+        shows: "what comes is filed",
+        run: 0,
+    };
+    report_told(report, case, board)?;
+    report_mapped(alloc, report, case, board)?;
+    report_flushed(alloc, report, case, board)
 }
 
 /// A slice is bound to the connection with the fewest, the lowest of several.
@@ -184,24 +206,34 @@ fn bind(alloc: Global, report: &mut Report) -> Result<(), Fail> {
     report.number(case, "third", bound.fewest() as u64, 1)
 }
 
-#[test]
-fn slices_stand_on_the_board(rt: HostRuntime) -> Result<(), Fail> {
-    let alloc = rt.alloc();
-    let mut report = Report::new(alloc);
+/// The steps of a copied slice.
+fn report_steps(alloc: Global, report: &mut Report) -> Result<(), Fail> {
+    let case = Case {
+        shows: "a slice is copied",
+        run: 0,
+    };
     let mut text = String::new(alloc);
     let mut board = Board::new(alloc, HOW);
     let told = copy_one(alloc, &mut text, &mut board);
     board.end();
     told?;
-    let case = Case {
-        shows: "a slice is copied",
-        run: 0,
-    };
-    report.text(case, "steps", text.as_str(), COPIED)?;
+    report.text(case, "steps", text.as_str(), COPIED)
+}
+
+/// What is filed on a board.
+fn report_filed(alloc: Global, report: &mut Report) -> Result<(), Fail> {
     let mut board = Board::new(alloc, HOW);
-    let told = file(alloc, &mut report, &mut board);
+    let told = file(alloc, report, &mut board);
     board.end();
-    told?;
+    told
+}
+
+#[test]
+fn slices_stand_on_the_board(rt: HostRuntime) -> Result<(), Fail> {
+    let alloc = rt.alloc();
+    let mut report = Report::new(alloc);
+    report_steps(alloc, &mut report)?;
+    report_filed(alloc, &mut report)?;
     bind(alloc, &mut report)?;
     report.settle(&rt);
     Ok(())

@@ -104,6 +104,26 @@ fn run_to_end(copier: Copier, wires: &mut Outside) -> Result<Option<Summary>, Co
     }
 }
 
+/// A copy over these wires, turn by turn, and what it came to.
+fn turns(alloc: Global, wires: &mut Outside) -> Result<String, Fail> {
+    let mut copier = copier(alloc, TURNED)?;
+    let told = taken(&mut copier, wires);
+    copier.end(wires);
+    described(alloc, told)
+}
+
+fn report_turns(
+    alloc: Global,
+    report: &mut Report,
+    case: Case,
+    wires: &mut Outside,
+) -> Result<(), Fail> {
+    let told = turns(alloc, wires)?;
+    let sums = "read 12288 written 12288 zeroed 4096 skipped 0";
+    report.text(case, "sums", told.as_str(), sums)?;
+    report.holds(case, "destination", holds(wires, 1, DISK))
+}
+
 /// Each block of data is read and written once, and the zeros are zeroed.
 fn turn_by_turn(alloc: Global, report: &mut Report) -> Result<(), Fail> {
     let case = Case {
@@ -111,13 +131,18 @@ fn turn_by_turn(alloc: Global, report: &mut Report) -> Result<(), Fail> {
         run: 0,
     };
     let mut wires = SMALL.wires(alloc, Schedule::List(Vec::new(alloc)))?;
+    report_turns(alloc, report, case, &mut wires)
+}
+
+/// The beginning of a copy over these wires, and what it came to.
+fn beginning(alloc: Global, wires: &mut Outside) -> Result<String, Fail> {
     let mut copier = copier(alloc, TURNED)?;
-    let told = taken(&mut copier, &mut wires);
-    copier.end(&mut wires);
-    let told = described(alloc, told)?;
-    let sums = "read 12288 written 12288 zeroed 4096 skipped 0";
-    report.text(case, "sums", told.as_str(), sums)?;
-    report.holds(case, "destination", holds(&wires, 1, DISK))
+    let told = copier.begin(wires);
+    copier.end(wires);
+    match told {
+        Ok(()) => described(alloc, Ok(None)),
+        Err(fault) => described(alloc, Err(fault)),
+    }
 }
 
 /// A copy that can't be made is told with its beginning, and nothing changes.
@@ -127,13 +152,7 @@ fn refused(alloc: Global, report: &mut Report) -> Result<(), Fail> {
         run: 0,
     };
     let mut wires = LOCKED.wires(alloc, Schedule::List(Vec::new(alloc)))?;
-    let mut copier = copier(alloc, TURNED)?;
-    let told = copier.begin(&mut wires);
-    copier.end(&mut wires);
-    let told = match told {
-        Ok(()) => described(alloc, Ok(None))?,
-        Err(fault) => described(alloc, Err(fault))?,
-    };
+    let told = beginning(alloc, &mut wires)?;
     report.text(case, "told", told.as_str(), "rule read-only")?;
     report.holds(case, "destination", holds(&wires, 1, LOCKED.destination))
 }
@@ -269,12 +288,17 @@ fn copy_windows(alloc: Global, wires: &mut Outside) -> Result<String, Fail> {
     described(alloc, run_to_end(copier, wires))
 }
 
+/// Which read is the first on the source's first link behind the second question, over these wires.
+fn first_read_over(alloc: Global, wires: &mut Outside) -> Result<usize, Fail> {
+    let _ = copy_windows(alloc, wires)?;
+    let (_, question) = place_of(alloc, &wires.calls, SECOND_STATUS)?;
+    Ok(read_after(&wires.calls, 0, question, false))
+}
+
 /// Which read is the first on the source's first link behind the second question, where every step moves all.
 fn first_read(alloc: Global) -> Result<usize, Fail> {
     let mut wires = WIDE.wires(alloc, Schedule::List(Vec::new(alloc)))?;
-    let _ = copy_windows(alloc, &mut wires)?;
-    let (_, question) = place_of(alloc, &wires.calls, SECOND_STATUS)?;
-    Ok(read_after(&wires.calls, 0, question, false))
+    first_read_over(alloc, &mut wires)
 }
 
 /// More reads and writes than come before the second answer.
@@ -318,24 +342,40 @@ fn report_held(report: &mut Report, case: Case, wires: &Outside) -> Result<(), F
     report.holds(case, "destination", holds(wires, 1, WIDE.holds))
 }
 
+/// Copies by these wires, and reports what it came to.
+fn report_sums(
+    alloc: Global,
+    report: &mut Report,
+    case: Case,
+    wires: &mut Outside,
+) -> Result<(), Fail> {
+    let told = copy_windows(alloc, wires)?;
+    let sums = "read 4096 written 4096 zeroed 134217728 skipped 0";
+    report.text(case, "sums", told.as_str(), sums)
+}
+
+/// Copies where the step of this number moves nothing.
+fn report_windows(alloc: Global, report: &mut Report, rests: usize) -> Result<(), Fail> {
+    let case = Case {
+        shows: "two windows",
+        run: 0,
+    };
+    report.holds(case, "few steps", rests < MOST_STEPS)?;
+    let schedule = steps(alloc, rests.min(MOST_STEPS))?;
+    let mut wires = WIDE.wires(alloc, schedule)?;
+    report_sums(alloc, report, case, &mut wires)?;
+    report_asked(alloc, report, case, &wires.calls)?;
+    report_order(alloc, report, case, &wires.calls, rests)?;
+    report_held(report, case, &wires)
+}
+
 // The answer to the second question comes a step late.
 #[test]
 fn windows_are_asked_for_while_others_are_copied(rt: HostRuntime) -> Result<(), Fail> {
     let alloc = rt.alloc();
     let mut report = Report::new(alloc);
-    let case = Case {
-        shows: "two windows",
-        run: 0,
-    };
     let rests = first_read(alloc)?;
-    report.holds(case, "few steps", rests < MOST_STEPS)?;
-    let mut wires = WIDE.wires(alloc, steps(alloc, rests.min(MOST_STEPS))?)?;
-    let told = copy_windows(alloc, &mut wires)?;
-    let sums = "read 4096 written 4096 zeroed 134217728 skipped 0";
-    report.text(case, "sums", told.as_str(), sums)?;
-    report_asked(alloc, &mut report, case, &wires.calls)?;
-    report_order(alloc, &mut report, case, &wires.calls, rests)?;
-    report_held(&mut report, case, &wires)?;
+    report_windows(alloc, &mut report, rests)?;
     report.settle(&rt);
     Ok(())
 }

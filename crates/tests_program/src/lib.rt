@@ -7,6 +7,8 @@
 #[cfg(test)]
 mod asked;
 #[cfg(test)]
+mod breaches;
+#[cfg(test)]
 mod copies;
 #[cfg(test)]
 mod copies_board;
@@ -19,11 +21,15 @@ mod copies_sized;
 #[cfg(test)]
 mod copies_turned;
 #[cfg(test)]
+mod failing;
+#[cfg(test)]
 mod information;
 #[cfg(test)]
 mod links;
 #[cfg(test)]
 mod outside;
+#[cfg(test)]
+mod peers;
 #[cfg(test)]
 mod played;
 #[cfg(test)]

@@ -1,112 +1,20 @@
-//! The one kind of wires over which all runs go: links that answer by lists, clients that ask for links, or exports that are
-//! served. They keep what moved on which link, in order, and one link may not do as it should. They tell nothing of their calls,
-//! and what they answer is no matter here.
+//! The one kind of wires over which all runs go, and such a run. They keep what moved on which link, in order, and one link or one
+//! call may not do as it should. They tell nothing of their calls, and what they answer is no matter here.
 
-ghost use Rattle.std.specs.Prelude.{◌≡◌, ◌≤◌, ◌<◌, None, length, OnErr};
-ghost use Rattle.lnbd_link.specs.Count.{Rises};
-ghost use Rattle.lnbd_link.specs.Answers.{AcceptFailed, IfMoved, IfSent, ReadFailed, WriteFailed};
+ghost use Rattle.std.specs.Prelude.{◌≡◌, None};
 
+use crate::peers::Counted;
+pub use crate::peers::Peers;
 use crate::report::{Case, Report};
 use crate::served::destination_at;
 use lnbd_cli::run;
-use lnbd_inbound::InboundWires;
-use lnbd_link::{
-    Accepted, Got, ListSink, ListSource, ListWires, Took, Want, WireFailed, Wires, raised,
-};
-use lnbd_memnet::ServedWires;
+use lnbd_faulty::FaultyWires;
+use lnbd_link::{Accepted, Got, ListSink, ListSource, Took, Want, WireFailed, Wires};
 use lnbd_model::Target;
 use lnbd_spawn::ListSpawner;
 use lnbd_store::MemoryStore;
 use std::alloc::Global;
 use std::test::Fail;
-
-/// What is behind the wires.
-#[derive(Drop)]
-pub enum Peers {
-    Lists(ListWires),
-    Clients(InboundWires),
-    Exports(ServedWires),
-}
-
-impl Peers {
-    fn connect(&mut self, to: &Target) -> Result<u32, WireFailed> {
-        match self {
-            Peers::Lists(wires) => wires.connect(to),
-            Peers::Clients(wires) => wires.connect(to),
-            Peers::Exports(wires) => wires.connect(to),
-        }
-    }
-
-    fn listen(&mut self, at: &Target) -> Result<u32, WireFailed> {
-        match self {
-            Peers::Lists(wires) => wires.listen(at),
-            Peers::Clients(wires) => wires.listen(at),
-            Peers::Exports(wires) => wires.listen(at),
-        }
-    }
-
-    fn accept(&mut self, listener: u32) -> Accepted {
-        match self {
-            Peers::Lists(wires) => wires.accept(listener),
-            Peers::Clients(wires) => wires.accept(listener),
-            Peers::Exports(wires) => wires.accept(listener),
-        }
-    }
-
-    fn read(&mut self, link: u32, into: &mut [u8]) -> Got
-        requires { 0 < length into.old }
-        ensures { IfMoved result (λ n. (0 < n) × (n ≤ length into.old)) }
-    {
-        match self {
-            Peers::Lists(wires) => wires.read(link, into),
-            Peers::Clients(wires) => wires.read(link, into),
-            Peers::Exports(wires) => wires.read(link, into),
-        }
-    }
-
-    fn write(&mut self, link: u32, from: &[u8]) -> Took
-        requires { 0 < length from.now }
-        ensures { IfSent result (λ n. (0 < n) × (n ≤ length from.now)) }
-    {
-        match self {
-            Peers::Lists(wires) => wires.write(link, from),
-            Peers::Clients(wires) => wires.write(link, from),
-            Peers::Exports(wires) => wires.write(link, from),
-        }
-    }
-
-    fn pause(&mut self, wants: &[Want]) {
-        match self {
-            Peers::Lists(wires) => wires.pause(wants),
-            Peers::Clients(wires) => wires.pause(wants),
-            Peers::Exports(wires) => wires.pause(wants),
-        }
-    }
-
-    fn shut(&mut self, link: u32) {
-        match self {
-            Peers::Lists(wires) => wires.shut(link),
-            Peers::Clients(wires) => wires.shut(link),
-            Peers::Exports(wires) => wires.shut(link),
-        }
-    }
-
-    fn faults(&self) -> u64 {
-        match self {
-            Peers::Lists(wires) => wires.faults(),
-            Peers::Clients(wires) => wires.faults(),
-            Peers::Exports(wires) => wires.faults(),
-        }
-    }
-
-    fn idles(&self) -> u64 {
-        match self {
-            Peers::Lists(wires) => wires.idles(),
-            Peers::Clients(wires) => wires.idles(),
-            Peers::Exports(wires) => wires.idles(),
-        }
-    }
-}
 
 /// What goes wrong.
 #[derive(Clone, Copy)]
@@ -116,6 +24,18 @@ pub enum Fault {
     Closes { link: u32, bytes: usize },
     /// The connect of this number, counted from 0, ends at the destination.
     Strays { connect: u32 },
+    /// The connect, listen, accept, read or write of this number, counted together from 0, fails.
+    Fails { call: u64 },
+}
+
+impl Fault {
+    /// The number of the call that fails. No run has so many calls where it says none.
+    fn call(self) -> u64 {
+        match self {
+            Fault::Fails { call } => call,
+            Fault::Nothing | Fault::Closes { .. } | Fault::Strays { .. } => u64::MAX,
+        }
+    }
 }
 
 /// A read or a write, and what it moved. A schedule counts the same calls.
@@ -129,12 +49,10 @@ pub enum Heard {
 #[derive(Drop)]
 pub struct Outside {
     alloc: Global,
-    peers: Peers,
+    wires: FaultyWires<Counted>,
     fault: Fault,
     moved: usize,
     connects: u32,
-    faults: u64,
-    idles: u64,
     pub calls: Vec<Heard>,
 }
 
@@ -142,12 +60,10 @@ impl Outside {
     pub fn new(alloc: Global, peers: Peers, fault: Fault) -> Outside {
         Outside {
             alloc,
-            peers,
+            wires: FaultyWires::new(Counted::new(peers), fault.call()),
             fault,
             moved: 0,
             connects: 0,
-            faults: 0,
-            idles: 0,
             calls: Vec::new(alloc),
         }
     }
@@ -159,7 +75,7 @@ impl Outside {
 
     /// What the export at this place of the list holds now, if there is one.
     pub fn exported(&self, place: usize) -> Option<&[u8]> {
-        match &self.peers {
+        match &self.wires.inner().peers {
             Peers::Exports(wires) if place < wires.exports() => Some(wires.bytes(place)),
             _ => None,
         }
@@ -167,7 +83,7 @@ impl Outside {
 
     /// How often memory ran out behind the exports.
     pub fn shorts(&self) -> u64 {
-        match &self.peers {
+        match &self.wires.inner().peers {
             Peers::Exports(wires) => wires.shorts(),
             _ => 0,
         }
@@ -184,59 +100,6 @@ impl Outside {
         Ok(written)
     }
 
-    /// The wires' own count of faults is taken over.
-    fn look(&mut self)
-        ensures rising { self.old.faults ≤ self.new.faults }
-        ensures idles { self.new.idles ≡ self.old.idles }
-    {
-        self.faults = self.faults.max(self.peers.faults());
-    }
-
-    /// A call failed.
-    fn fail(&mut self)
-        ensures cause { Rises 1 self.old.faults self.new.faults }
-        ensures rising { self.old.faults ≤ self.new.faults }
-        ensures idles { self.new.idles ≡ self.old.idles }
-    {
-        self.faults = raised(self.faults, 1);
-    }
-
-    /// What an accept came to is counted.
-    fn judge_accept(&mut self, answer: Accepted)
-        ensures rising { self.old.faults ≤ self.new.faults }
-        ensures cause { AcceptFailed answer → Rises 1 self.old.faults self.new.faults }
-        ensures idles { self.new.idles ≡ self.old.idles }
-    {
-        match answer {
-            Accepted::Failed => self.fail(),
-            Accepted::Link(_) | Accepted::NotReady => self.look(),
-        }
-    }
-
-    /// The same of a read.
-    fn judge_read(&mut self, got: Got)
-        ensures rising { self.old.faults ≤ self.new.faults }
-        ensures cause { ReadFailed got → Rises 1 self.old.faults self.new.faults }
-        ensures idles { self.new.idles ≡ self.old.idles }
-    {
-        match got {
-            Got::Failed => self.fail(),
-            Got::Bytes(_) | Got::NotReady | Got::End => self.look(),
-        }
-    }
-
-    /// The same of a write.
-    fn judge_write(&mut self, took: Took)
-        ensures rising { self.old.faults ≤ self.new.faults }
-        ensures cause { WriteFailed took → Rises 1 self.old.faults self.new.faults }
-        ensures idles { self.new.idles ≡ self.old.idles }
-    {
-        match took {
-            Took::Failed => self.fail(),
-            Took::Bytes(_) | Took::NotReady => self.look(),
-        }
-    }
-
     /// How many bytes may move on this link before its peer closes it.
     fn left(&self, link: u32) -> usize {
         match self.fault {
@@ -247,8 +110,7 @@ impl Outside {
 
     /// So many bytes moved on a link.
     fn count(&mut self, link: u32, bytes: usize)
-        ensures faults { self.new.faults ≡ self.old.faults }
-        ensures idles { self.new.idles ≡ self.old.idles }
+        ensures { self.new.wires ≡ self.old.wires }
     {
         match self.fault {
             Fault::Closes { link: on, bytes: _ } if on == link => {
@@ -262,40 +124,7 @@ impl Outside {
     fn strays(&self) -> bool {
         match self.fault {
             Fault::Strays { connect } => connect == self.connects,
-            Fault::Nothing | Fault::Closes { .. } => false,
-        }
-    }
-
-    /// A link to this address, or to the one at which it ends.
-    fn dial(&mut self, to: &Target) -> Result<u32, WireFailed>
-        ensures faults { self.new.faults ≡ self.old.faults }
-        ensures idles { self.new.idles ≡ self.old.idles }
-    {
-        let strays = self.strays();
-        self.connects = self.connects.saturating_add(1);
-        if strays {
-            if let Ok(other) = destination_at(self.alloc) {
-                return self.peers.connect(&other);
-            }
-        }
-        self.peers.connect(to)
-    }
-
-    /// What a connect or a listen came to is counted.
-    fn linked(&mut self, answer: Result<u32, WireFailed>) -> Result<u32, WireFailed>
-        ensures rising { self.old.faults ≤ self.new.faults }
-        ensures cause { OnErr result (Rises 1 self.old.faults self.new.faults) }
-        ensures idles { self.new.idles ≡ self.old.idles }
-    {
-        match answer {
-            Ok(link) => {
-                self.look();
-                Ok(link)
-            }
-            Err(failed) => {
-                self.fail();
-                Err(failed)
-            }
+            Fault::Nothing | Fault::Closes { .. } | Fault::Fails { .. } => false,
         }
     }
 }
@@ -305,24 +134,27 @@ impl Wires for Outside {
 
     ghost contents = { λ w. None };
 
-    ghost faults = { λ w. w.faults };
+    ghost faults = { λ w. ⟦<FaultyWires<Counted> as Wires>⟧.faults w.wires };
 
-    ghost idles = { λ w. w.idles };
+    ghost idles = { λ w. ⟦<FaultyWires<Counted> as Wires>⟧.idles w.wires };
 
     fn connect(&mut self, to: &Target) -> Result<u32, WireFailed> {
-        let answer = self.dial(to);
-        self.linked(answer)
+        let strays = self.strays();
+        self.connects = self.connects.saturating_add(1);
+        if strays {
+            if let Ok(other) = destination_at(self.alloc) {
+                return self.wires.connect(&other);
+            }
+        }
+        self.wires.connect(to)
     }
 
     fn listen(&mut self, at: &Target) -> Result<u32, WireFailed> {
-        let answer = self.peers.listen(at);
-        self.linked(answer)
+        self.wires.listen(at)
     }
 
     fn accept(&mut self, listener: u32) -> Accepted {
-        let answer = self.peers.accept(listener);
-        self.judge_accept(answer);
-        answer
+        self.wires.accept(listener)
     }
 
     fn read(&mut self, link: u32, into: &mut [u8]) -> Got {
@@ -331,8 +163,7 @@ impl Wires for Outside {
             return Got::End;
         }
         let (front, _) = into.split_at_mut(left);
-        let got = self.peers.read(link, front);
-        self.judge_read(got);
+        let got = self.wires.read(link, front);
         let bytes = got.moved();
         self.count(link, bytes);
         let _ = self.calls.push(Heard::Read { link, bytes });
@@ -345,8 +176,7 @@ impl Wires for Outside {
             return Took::Bytes(from.len());
         }
         let (front, _) = from.split_at(left);
-        let took = self.peers.write(link, front);
-        self.judge_write(took);
+        let took = self.wires.write(link, front);
         let count = took.moved();
         self.count(link, count);
         keep(&mut self.calls, link, front, count);
@@ -354,22 +184,19 @@ impl Wires for Outside {
     }
 
     fn pause(&mut self, wants: &[Want]) {
-        self.peers.pause(wants);
-        self.look();
-        self.idles = raised(self.idles, 1).max(self.peers.idles());
+        self.wires.pause(wants);
     }
 
     fn shut(&mut self, link: u32) {
-        self.peers.shut(link);
-        self.look();
+        self.wires.shut(link);
     }
 
     fn faults(&self) -> u64 {
-        self.faults
+        self.wires.faults()
     }
 
     fn idles(&self) -> u64 {
-        self.idles
+        self.wires.idles()
     }
 }
 
@@ -382,11 +209,12 @@ fn keep(calls: &mut Vec<Heard>, link: u32, from: &[u8], count: usize) {
     }
 }
 
-/// The call of the input, and that of the output, which fails, and how many bytes the output takes.
+/// The call of the input, that of the output and that of the error stream which fails, and how many bytes the output takes.
 #[derive(Clone, Copy)]
 pub struct Streams {
     pub input_fails_at: Option<usize>,
     pub output_fails_at: Option<usize>,
+    pub error_fails_at: Option<usize>,
     pub output_room: usize,
 }
 
@@ -397,6 +225,7 @@ pub const ROOM: usize = 4096;
 pub const STREAMS: Streams = Streams {
     input_fails_at: None,
     output_fails_at: None,
+    error_fails_at: None,
     output_room: ROOM,
 };
 
@@ -418,7 +247,7 @@ pub fn played(
 ) -> Result<Ended, Fail> {
     let mut input = ListSource::new(script, streams.input_fails_at);
     let mut out = ListSink::new(alloc, streams.output_room, streams.output_fails_at)?;
-    let mut err = ListSink::new(alloc, ROOM, None)?;
+    let mut err = ListSink::new(alloc, ROOM, streams.error_fails_at)?;
     let mut store = MemoryStore::new(alloc, Vec::new(alloc), None);
     let mut spawn = ListSpawner::new(alloc, Vec::new(alloc));
     let status = run(

@@ -97,16 +97,37 @@ fn report_asks(
     Ok(())
 }
 
-/// Copies, and reports what differs.
-fn play(alloc: Global, report: &mut Report, transfer: &Transfer) -> Result<(), Fail> {
+/// Reports what differs of a copy that is over.
+fn report_copy(
+    alloc: Global,
+    report: &mut Report,
+    transfer: &Transfer,
+    ended: &Ended,
+    wires: &Outside,
+) -> Result<(), Fail> {
     let shows = transfer.shows;
     let case = Case { shows, run: 0 };
-    let mut wires = transfer.wires(alloc, Schedule::List(Vec::new(alloc)))?;
-    let ended = copied(alloc, transfer.options, &BETWEEN, &mut wires)?;
-    report_end(report, case, &ended, "", transfer.err, transfer.status)?;
+    report_end(report, case, ended, "", transfer.err, transfer.status)?;
     report_asks(alloc, report, transfer, &wires.calls)?;
-    report.holds(case, "source", holds(&wires, 0, transfer.source))?;
-    report.holds(case, "destination", holds(&wires, 1, transfer.holds))
+    report.holds(case, "source", holds(wires, 0, transfer.source))?;
+    report.holds(case, "destination", holds(wires, 1, transfer.holds))
+}
+
+/// Copies over these wires, and reports what differs.
+fn play_over(
+    alloc: Global,
+    report: &mut Report,
+    transfer: &Transfer,
+    wires: &mut Outside,
+) -> Result<(), Fail> {
+    let ended = copied(alloc, transfer.options, &BETWEEN, wires)?;
+    report_copy(alloc, report, transfer, &ended, wires)
+}
+
+/// Copies, and reports what differs.
+fn play(alloc: Global, report: &mut Report, transfer: &Transfer) -> Result<(), Fail> {
+    let mut wires = transfer.wires(alloc, Schedule::List(Vec::new(alloc)))?;
+    play_over(alloc, report, transfer, &mut wires)
 }
 
 /// Copies by each row of a table.

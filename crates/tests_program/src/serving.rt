@@ -3,7 +3,9 @@
 
 ghost use Rattle.lnbd_memnet.specs.Schedule.{Moves};
 
-use crate::outside::{Fault, Outside, Peers, STREAMS, finish, report_end, report_written};
+use crate::outside::{
+    Fault, Finished, Outside, Peers, STREAMS, finish, report_end, report_written,
+};
 use crate::report::{Case, Report};
 use crate::served::{Disk, Run, alone, holds};
 use crate::session::all_of;
@@ -72,11 +74,15 @@ const SERVE: [&str; 4] = ["serve", "nbd://localhost", "--size", "65536"];
 
 const SERVED: &str = "serving 65536\nsessions 1\n";
 
-fn serve(alloc: Global, report: &mut Report, client: Client) -> Result<(), Fail> {
+/// Reports how a client was served.
+fn report_served(
+    alloc: Global,
+    report: &mut Report,
+    client: &Client,
+    finished: &Finished,
+) -> Result<(), Fail> {
     let shows = client.shows;
     let case = Case { shows, run: 0 };
-    let wires = client_of(alloc, &client)?;
-    let finished = finish(alloc, &SERVE, Vec::new(alloc), STREAMS, wires)?;
     report_end(
         report,
         case,
@@ -88,6 +94,12 @@ fn serve(alloc: Global, report: &mut Report, client: Client) -> Result<(), Fail>
     report.number(case, "faults", finished.wires.faults(), 0)?;
     let written = all_of(alloc, client.written)?;
     report_written(report, case, &finished.wires, written.as_slice())
+}
+
+fn serve(alloc: Global, report: &mut Report, client: Client) -> Result<(), Fail> {
+    let wires = client_of(alloc, &client)?;
+    let finished = finish(alloc, &SERVE, Vec::new(alloc), STREAMS, wires)?;
+    report_served(alloc, report, &client, &finished)
 }
 
 /// A script against the server of one export of 4,096 bytes, each of them 0x11: what is printed, what is said of the end, the
@@ -251,6 +263,33 @@ fn export_of(alloc: Global, schedule: Schedule) -> Result<Outside, Fail>
     Ok(Outside::new(alloc, Peers::Exports(wires), Fault::Nothing))
 }
 
+/// Reports how a script ended.
+fn report_script(
+    report: &mut Report,
+    script: &Script,
+    run: usize,
+    finished: &Finished,
+) -> Result<(), Fail> {
+    let shows = script.shows;
+    let case = Case { shows, run };
+    report_end(
+        report,
+        case,
+        &finished.ended,
+        script.answers,
+        script.said,
+        script.status,
+    )?;
+    report.holds(case, "held", holds(&finished.wires, 0, script.holds))?;
+    report.number(case, "short of memory", finished.wires.shorts(), 0)
+}
+
+/// Plays a script over these wires.
+fn finished_of(alloc: Global, script: &Script, wires: Outside) -> Result<Finished, Fail> {
+    let lines = String::from_str(alloc, script.lines)?.into_bytes();
+    finish(alloc, &["nbdcalls"], lines, STREAMS, wires)
+}
+
 fn play(
     alloc: Global,
     report: &mut Report,
@@ -260,22 +299,9 @@ fn play(
 ) -> Result<(), Fail>
     requires { Moves schedule }
 {
-    let shows = script.shows;
-    let case = Case { shows, run };
     let wires = export_of(alloc, schedule)?;
-    let lines = String::from_str(alloc, script.lines)?.into_bytes();
-    let finished = finish(alloc, &["nbdcalls"], lines, STREAMS, wires)?;
-    let ended = &finished.ended;
-    report_end(
-        report,
-        case,
-        ended,
-        script.answers,
-        script.said,
-        script.status,
-    )?;
-    report.holds(case, "held", holds(&finished.wires, 0, script.holds))?;
-    report.number(case, "short of memory", finished.wires.shorts(), 0)
+    let finished = finished_of(alloc, script, wires)?;
+    report_script(report, script, run, &finished)
 }
 
 #[test]

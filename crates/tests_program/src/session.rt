@@ -290,6 +290,12 @@ impl Texts {
         }
     }
 
+    /// The script, and all that is to be printed.
+    pub fn into_parts(self) -> (String, String) {
+        let Texts { script, answers } = self;
+        (script, answers)
+    }
+
     /// A line, and its answer.
     pub fn push(&mut self, line: &str, answer: &str) -> Result<(), Fail> {
         push_line(&mut self.script, line)?;
@@ -375,6 +381,7 @@ fn streams_of(session: &Session) -> Streams {
     Streams {
         input_fails_at: session.input_fails_at,
         output_fails_at: session.output_fails_at,
+        error_fails_at: None,
         output_room: session.output_room,
     }
 }

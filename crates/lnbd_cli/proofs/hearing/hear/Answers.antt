@@ -36,4 +36,5 @@ pub returns-in-Test-clause-says : goal.returns-in-Test-clause-says
 returns-in-Test-clause-says g c = says_as c.args.question.what (what.Test c.in-Test.predicate) _ _ _ _ c.hear_export-in-Test.result c.in-Test.is c.hear_export-in-Test.ensures.says
 
 pub returns-in-Test-clause-fails : goal.returns-in-Test-clause-fails
-returns-in-Test-clause-fails g c = fails_as c.args.question.what (what.Test c.in-Test.predicate) c.args.question.json _ _ _ c.hear_export-in-Test.result c.in-Test.is c.hear_export-in-Test.ensures.fails
+returns-in-Test-clause-fails g c = fails_as c.args.question.what
+    (what.Test c.in-Test.predicate) c.args.question.json _ _ _ c.hear_export-in-Test.result c.in-Test.is c.hear_export-in-Test.ensures.fails

@@ -5,7 +5,8 @@ use Rattle.lnbd_cli.proofs.hearing.hear_export.Goals as goal
 pub returns-in-Ok-clause-says : goal.returns-in-Ok-clause-says
 returns-in-Ok-clause-says g c =
     rw c.heard.ensures
-    (heard_ok c.export_news.result _ (if_both c.export_news.result c.export_news.ensures.text c.export_news.ensures.end (λ news is ends. record { found = c.in-Ok.found; collected = c.in-Ok.ensures.collects; is = is; ends = ends })))
+    (heard_ok c.export_news.result _ (if_both c.export_news.result c.export_news.ensures.text c.export_news.ensures.end
+    (λ news is ends. record { found = c.in-Ok.found; collected = c.in-Ok.ensures.collects; is = is; ends = ends })))
 
 pub returns-in-Ok-clause-fails : goal.returns-in-Ok-clause-fails
 returns-in-Ok-clause-fails g c = rw c.heard.ensures (heard_err c.export_news.result _ (inr (refl, (Ok c.in-Ok.found, c.in-Ok.ensures.collects))))

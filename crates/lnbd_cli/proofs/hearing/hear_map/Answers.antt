@@ -5,7 +5,8 @@ use Rattle.lnbd_cli.proofs.hearing.hear_map.Goals as goal
 pub returns-in-Ok-clause-says : goal.returns-in-Ok-clause-says
 returns-in-Ok-clause-says g c =
     rw c.heard.ensures
-    (map_says c.args.sums c.args.json c.args.context _ _ _ c.map_news.result c.as_slice.result.now c.in-Ok.extents c.as_slice.ensures c.map_news.ensures.text c.map_news.ensures.end c.in-Ok.ensures.maps)
+    (map_says c.args.sums c.args.json c.args.context _ _ _ c.map_news.result c.as_slice.result.now c.in-Ok.extents c.as_slice.ensures c.map_news.ensures.text c.map_news.ensures.end
+    c.in-Ok.ensures.maps)
 
 pub returns-in-Ok-clause-fails : goal.returns-in-Ok-clause-fails
 returns-in-Ok-clause-fails g c = rw c.heard.ensures (heard_err c.map_news.result _ (inr (refl, (Ok c.in-Ok.extents, c.in-Ok.ensures.maps))))

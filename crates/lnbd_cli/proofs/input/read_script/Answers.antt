@@ -18,6 +18,7 @@ pub returns-in-Err-Line-clause-reads : goal.returns-in-Err-Line-clause-reads
 returns-in-Err-Line-clause-reads g c all is =
     let front = c.deref.ensures.value ∙ c.in-Ok.ensures.came all is in (
       fault all c.in-Err-Line.number (subst (λ (l : List ℕ). IsFault l c.in-Err-Line.number) front (c.in-Err-Line.ensures.fault _ (ap Err c.in-Err-Line.field-0-is))),
-      none all (λ asked s. refused c.in-Err-Line.field-0 c.in-Err-Line.number asked c.in-Err-Line.field-0-is (c.in-Err-Line.ensures.accepts asked (subst (λ (l : List ℕ). IsScript l asked) (sym front) s))),
+      none all (λ asked s. refused c.in-Err-Line.field-0 c.in-Err-Line.number asked c.in-Err-Line.field-0-is
+          (c.in-Err-Line.ensures.accepts asked (subst (λ (l : List ℕ). IsScript l asked) (sym front) s))),
       c.in-Ok.ensures.left all is,
     )

@@ -1,5 +1,5 @@
-use Rattle.std.proofs.Common.{ap, Err, refl, sym}
-use Rattle.lnbd_cli.specs.Serves.{Counted, Failed, Served}
+use Rattle.std.proofs.Common.{refl, sym}
+use Rattle.lnbd_cli.specs.Serves.{AllServed, Counted, Failed}
 use Rattle.lnbd_cli.proofs.ServeLemmas.{as_failed, told_link, told_output, told_silent}
 use Rattle.lnbd_cli.proofs.serving.serve_export.Goals as goal
 
@@ -7,13 +7,22 @@ pub serve-requires : goal.serve-requires
 serve-requires g c = sym c.requires.name
 
 pub returns-in-Ok-look-clause-ends : goal.returns-in-Ok-look-clause-ends
-returns-in-Ok-look-clause-ends g c = Served _ refl (record { start = c.args.export; generated = c.requires; end = c.serve.new.export; runs = c.in-Ok.ensures.runs; lines = c.in-Ok.ensures.lines; front = c.in-Ok.ensures.front })
+returns-in-Ok-look-clause-ends g c = AllServed _ refl (record {
+  start = c.args.export;
+  generated = c.requires;
+  end = c.serve.new.export;
+  runs = c.in-Ok.ensures.runs;
+  lines = c.in-Ok.ensures.lines;
+  front = c.in-Ok.ensures.front;
+})
 
 pub returns-in-Ok-clause-ends : goal.returns-in-Ok-clause-ends
-returns-in-Ok-clause-ends g c = Counted _ (as_failed _ c.in-Err-look.ensures.only) (record { start = c.args.export; generated = c.requires; end = c.serve.new.export; runs = c.in-Ok.ensures.runs; lines = c.in-Ok.ensures.lines; front = c.in-Ok.ensures.front })
+returns-in-Ok-clause-ends g c = Counted _ (as_failed _ c.in-Err-look.ensures.only)
+    (record { start = c.args.export; generated = c.requires; end = c.serve.new.export; runs = c.in-Ok.ensures.runs; lines = c.in-Ok.ensures.lines; front = c.in-Ok.ensures.front })
 
 pub returns-clause-ends : goal.returns-clause-ends
-returns-clause-ends g c = Failed c.in-Err.fault (ap Err c.told.ensures.told) (record { start = c.args.export; generated = c.requires; end = c.serve.new.export; runs = c.in-Err.ensures.runs; lines = c.in-Err.ensures.lines; front = c.in-Err.ensures.front })
+returns-clause-ends g c = Failed c.in-Err.fault c.told.result refl c.told.ensures.told
+    (record { start = c.args.export; generated = c.requires; end = c.serve.new.export; runs = c.in-Err.ensures.runs; lines = c.in-Err.ensures.lines; front = c.in-Err.ensures.front })
 
 pub returns-clause-link : goal.returns-clause-link
 returns-clause-link g c = told_link c.in-Err.fault c.told.result _ _ c.told.ensures.told c.in-Err.ensures.link

@@ -12,7 +12,11 @@ pub returns-clause-info : goal.returns-clause-info
 returns-clause-info g c q asks = record { end = c.tool-end.result; ends = (c.tool-end.ensures.did (asked.Info q.what q.json q.place) asks).does; tells = c.print_end.ensures.tells }
 
 pub returns-clause-serve : goal.returns-clause-serve
-returns-clause-serve g c s asks = record { end = c.tool-end.result; ends = (c.tool-end.ensures.did (asked.Serve s.place s.size s.seed s.read_only s.sessions) asks).does; tells = c.print_end.ensures.tells }
+returns-clause-serve g c s asks = record {
+  end = c.tool-end.result;
+  ends = (c.tool-end.ensures.did (asked.Serve s.place s.size s.seed s.read_only s.sessions) asks).does;
+  tells = c.print_end.ensures.tells;
+}
 
 pub returns-clause-copy : goal.returns-clause-copy
 returns-clause-copy g c t asks = record { end = c.tool-end.result; ends = (c.tool-end.ensures.did (asked.Copy t.options t.from t.to) asks).does; tells = c.print_end.ensures.tells }
@@ -24,10 +28,12 @@ pub returns-clause-refused : goal.returns-clause-refused
 returns-clause-refused g c none = record { end = c.tool-end.result; ends = c.tool-end.ensures.refused none; tells = c.print_end.ensures.tells }
 
 pub returns-clause-known : goal.returns-clause-known
-returns-clause-known g c a asks = known a (λ (t : List ℕ). Prints g.E.Sink.taken g.E.Sink.faults c.args.err.now c.print_end.new.err t) c.tool-end.result c.print_end.result (c.tool-end.ensures.did a asks).known c.print_end.ensures.tells
+returns-clause-known g c a asks = known a (λ (t : List ℕ). Prints g.E.Sink.taken g.E.Sink.faults c.args.err.now c.print_end.new.err t) c.tool-end.result c.print_end.result
+    (c.tool-end.ensures.did a asks).known c.print_end.ensures.tells
 
 pub returns-clause-refused_known : goal.returns-clause-refused_known
-returns-clause-refused_known g c none = refused_known c.args.words.now (λ (t : List ℕ). Prints g.E.Sink.taken g.E.Sink.faults c.args.err.now c.print_end.new.err t) c.tool-end.result c.print_end.result (c.tool-end.ensures.refused none) c.print_end.ensures.tells
+returns-clause-refused_known g c none = refused_known c.args.words.now
+    (λ (t : List ℕ). Prints g.E.Sink.taken g.E.Sink.faults c.args.err.now c.print_end.new.err t) c.tool-end.result c.print_end.result (c.tool-end.ensures.refused none) c.print_end.ensures.tells
 
 pub returns-clause-well : goal.returns-clause-well
 returns-clause-well g c other is = ends_well c.tool-end.result c.print_end.result _ (c.tool-end.ensures.well other) c.print_end.ensures.done c.print_end.ensures.untrue is
@@ -38,24 +44,48 @@ returns-clause-patient g c other is = ends_well c.tool-end.result c.print_end.re
 pub returns-clause-complete : goal.returns-clause-complete
 returns-clause-complete g c lawful quiet sound =
     let asks = lawful.asks in
-    calls_done c.print_end.result (known asked.Calls (λ (t : List ℕ). Prints g.E.Sink.taken g.E.Sink.faults c.args.err.now c.print_end.new.err t) c.tool-end.result c.print_end.result (c.tool-end.ensures.did asked.Calls asks).known c.print_end.ensures.tells) (λ e. (c.tool-end.ensures.did asked.Calls asks).accepts lawful.holds (of_end (λ (t : List ℕ). Prints g.E.Sink.taken g.E.Sink.faults c.args.err.now c.print_end.new.err t) c.tool-end.result 1 c.print_end.result (λ n. omega (arith, n)) c.print_end.ensures.tells e))
-    (λ e. quiet.sound (c.tool-end.ensures.link (c.print_end.ensures.link e))) (λ e. quiet.patient (c.tool-end.ensures.silent (c.print_end.ensures.silent e))) (λ e. sound.1 (c.tool-end.ensures.output (c.print_end.ensures.output e))) (λ e. sound.0 (c.tool-end.ensures.input (c.print_end.ensures.input e)))
+    calls_done c.print_end.result (known asked.Calls (λ (t : List ℕ). Prints g.E.Sink.taken g.E.Sink.faults c.args.err.now c.print_end.new.err t) c.tool-end.result c.print_end.result
+    (c.tool-end.ensures.did asked.Calls asks).known c.print_end.ensures.tells)
+    (λ e. (c.tool-end.ensures.did asked.Calls asks).accepts lawful.holds
+    (of_end (λ (t : List ℕ). Prints g.E.Sink.taken g.E.Sink.faults c.args.err.now c.print_end.new.err t) c.tool-end.result 1 c.print_end.result
+    (λ n. omega (arith, n)) c.print_end.ensures.tells e))
+    (λ e. quiet.sound (c.tool-end.ensures.link (c.print_end.ensures.link e))) (λ e. quiet.patient (c.tool-end.ensures.silent (c.print_end.ensures.silent e)))
+    (λ e. sound.1 (c.tool-end.ensures.output (c.print_end.ensures.output e))) (λ e. sound.0 (c.tool-end.ensures.input (c.print_end.ensures.input e)))
 
 pub returns-clause-info_complete : goal.returns-clause-info_complete
-returns-clause-info_complete g c q asks quiet output = info_done c.print_end.result (known (asked.Info q.what q.json q.place) (λ (t : List ℕ). Prints g.E.Sink.taken g.E.Sink.faults c.args.err.now c.print_end.new.err t) c.tool-end.result c.print_end.result (c.tool-end.ensures.did (asked.Info q.what q.json q.place) asks).known c.print_end.ensures.tells) (λ e. quiet.sound (c.tool-end.ensures.link (c.print_end.ensures.link e))) (λ e. quiet.patient (c.tool-end.ensures.silent (c.print_end.ensures.silent e))) (λ e. output (c.tool-end.ensures.output (c.print_end.ensures.output e)))
+returns-clause-info_complete g c q asks quiet output = info_done c.print_end.result
+    (known (asked.Info q.what q.json q.place) (λ (t : List ℕ). Prints g.E.Sink.taken g.E.Sink.faults c.args.err.now c.print_end.new.err t) c.tool-end.result c.print_end.result
+    (c.tool-end.ensures.did (asked.Info q.what q.json q.place) asks).known c.print_end.ensures.tells) (λ e. quiet.sound (c.tool-end.ensures.link (c.print_end.ensures.link e)))
+    (λ e. quiet.patient (c.tool-end.ensures.silent (c.print_end.ensures.silent e))) (λ e. output (c.tool-end.ensures.output (c.print_end.ensures.output e)))
 
 pub returns-clause-serve_complete : goal.returns-clause-serve_complete
-returns-clause-serve_complete g c s asks quiet output = serve_done c.print_end.result (known (asked.Serve s.place s.size s.seed s.read_only s.sessions) (λ (t : List ℕ). Prints g.E.Sink.taken g.E.Sink.faults c.args.err.now c.print_end.new.err t) c.tool-end.result c.print_end.result (c.tool-end.ensures.did (asked.Serve s.place s.size s.seed s.read_only s.sessions) asks).known c.print_end.ensures.tells) (λ e. quiet.sound (c.tool-end.ensures.link (c.print_end.ensures.link e))) (λ e. quiet.patient (c.tool-end.ensures.silent (c.print_end.ensures.silent e))) (λ e. output (c.tool-end.ensures.output (c.print_end.ensures.output e)))
+returns-clause-serve_complete g c s asks quiet output = serve_done c.print_end.result
+    (known (asked.Serve s.place s.size s.seed s.read_only s.sessions)
+    (λ (t : List ℕ). Prints g.E.Sink.taken g.E.Sink.faults c.args.err.now c.print_end.new.err t) c.tool-end.result c.print_end.result
+    (c.tool-end.ensures.did (asked.Serve s.place s.size s.seed s.read_only s.sessions) asks).known c.print_end.ensures.tells)
+    (λ e. quiet.sound (c.tool-end.ensures.link (c.print_end.ensures.link e))) (λ e. quiet.patient (c.tool-end.ensures.silent (c.print_end.ensures.silent e)))
+    (λ e. output (c.tool-end.ensures.output (c.print_end.ensures.output e)))
 
 pub returns-clause-copy_complete : goal.returns-clause-copy_complete
-returns-clause-copy_complete g c t asks quiet = copy_done c.print_end.result (known (asked.Copy t.options t.from t.to) (λ (t : List ℕ). Prints g.E.Sink.taken g.E.Sink.faults c.args.err.now c.print_end.new.err t) c.tool-end.result c.print_end.result (c.tool-end.ensures.did (asked.Copy t.options t.from t.to) asks).known c.print_end.ensures.tells) (λ e. quiet.sound (c.tool-end.ensures.link (c.print_end.ensures.link e))) (λ e. quiet.patient (c.tool-end.ensures.silent (c.print_end.ensures.silent e)))
+returns-clause-copy_complete g c t asks quiet = copy_done c.print_end.result
+    (known (asked.Copy t.options t.from t.to) (λ (t : List ℕ). Prints g.E.Sink.taken g.E.Sink.faults c.args.err.now c.print_end.new.err t) c.tool-end.result c.print_end.result
+    (c.tool-end.ensures.did (asked.Copy t.options t.from t.to) asks).known c.print_end.ensures.tells) (λ e. quiet.sound (c.tool-end.ensures.link (c.print_end.ensures.link e)))
+    (λ e. quiet.patient (c.tool-end.ensures.silent (c.print_end.ensures.silent e)))
 
 pub returns-clause-selftest_complete : goal.returns-clause-selftest_complete
 returns-clause-selftest_complete g c t asks small output =
-    test_done c.print_end.result (known (asked.Selftest t.seed t.size) (λ (t : List ℕ). Prints g.E.Sink.taken g.E.Sink.faults c.args.err.now c.print_end.new.err t) c.tool-end.result c.print_end.result (c.tool-end.ensures.did (asked.Selftest t.seed t.size) asks).known c.print_end.ensures.tells) (λ e. (c.tool-end.ensures.did (asked.Selftest t.seed t.size) asks).accepts.0 small (of_end (λ (t : List ℕ). Prints g.E.Sink.taken g.E.Sink.faults c.args.err.now c.print_end.new.err t) c.tool-end.result 6 c.print_end.result (λ n. omega (arith, n)) c.print_end.ensures.tells e)) (λ e. output (c.tool-end.ensures.output (c.print_end.ensures.output e)))
+    test_done c.print_end.result (known (asked.Selftest t.seed t.size)
+    (λ (t : List ℕ). Prints g.E.Sink.taken g.E.Sink.faults c.args.err.now c.print_end.new.err t) c.tool-end.result c.print_end.result
+    (c.tool-end.ensures.did (asked.Selftest t.seed t.size) asks).known c.print_end.ensures.tells)
+    (λ e. (c.tool-end.ensures.did (asked.Selftest t.seed t.size) asks).accepts.0 small
+    (of_end (λ (t : List ℕ). Prints g.E.Sink.taken g.E.Sink.faults c.args.err.now c.print_end.new.err t) c.tool-end.result 6 c.print_end.result
+    (λ n. omega (arith, n)) c.print_end.ensures.tells e)) (λ e. output (c.tool-end.ensures.output (c.print_end.ensures.output e)))
 
 pub returns-clause-selftest_refuses : goal.returns-clause-selftest_refuses
-returns-clause-selftest_refuses g c t asks large = by_status (λ (s : ℕ). (s ≡ 6) ⊎ (s ≡ 9)) (λ (t : List ℕ). Prints g.E.Sink.taken g.E.Sink.faults c.args.err.now c.print_end.new.err t) c.tool-end.result c.print_end.result (inr refl) ((c.tool-end.ensures.did (asked.Selftest t.seed t.size) asks).accepts.1 large) c.print_end.ensures.tells
+returns-clause-selftest_refuses g c t asks large = by_status (λ (s : ℕ). (s ≡ 6) ⊎ (s ≡ 9))
+    (λ (t : List ℕ). Prints g.E.Sink.taken g.E.Sink.faults c.args.err.now c.print_end.new.err t) c.tool-end.result c.print_end.result (inr refl)
+    ((c.tool-end.ensures.did (asked.Selftest t.seed t.size) asks).accepts.1 large) c.print_end.ensures.tells
 
 pub returns-clause-decided : goal.returns-clause-decided
-returns-clause-decided g c = came_known (Refused c.args.words.now c.args.wires.now c.tool-end.new.wires c.args.out.now c.tool-end.new.out) (λ (t : List ℕ). Prints g.E.Sink.taken g.E.Sink.faults c.args.err.now c.print_end.new.err t) c.tool-end.result c.print_end.result c.tool-end.ensures.decided c.print_end.ensures.tells
+returns-clause-decided g c = came_known (Refused c.args.words.now c.args.wires.now c.tool-end.new.wires c.args.out.now c.tool-end.new.out)
+    (λ (t : List ℕ). Prints g.E.Sink.taken g.E.Sink.faults c.args.err.now c.print_end.new.err t) c.tool-end.result c.print_end.result c.tool-end.ensures.decided c.print_end.ensures.tells

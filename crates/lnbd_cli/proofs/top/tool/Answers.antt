@@ -7,7 +7,8 @@ pub act-requires : goal.act-requires
 act-requires g c = room _ c.in-Ok.asked c.in-Ok.ensures.asks
 
 pub returns-in-Ok-clause-did : goal.returns-in-Ok-clause-did
-returns-in-Ok-clause-did g c a asks = as_asked (Did g.I.Source.left c.args.input.now c.act.new.input g.W.Wires.told c.args.wires.now c.act.new.wires g.O.Sink.taken c.args.out.now c.act.new.out c.act.result) c.in-Ok.asked a (c.in-Ok.ensures.accepts a asks) c.act.ensures.did
+returns-in-Ok-clause-did g c a asks = as_asked (Did g.I.Source.left c.args.input.now c.act.new.input g.W.Wires.told c.args.wires.now c.act.new.wires g.O.Sink.taken c.args.out.now
+    c.act.new.out c.act.result) c.in-Ok.asked a (c.in-Ok.ensures.accepts a asks) c.act.ensures.did
 
 pub returns-in-Ok-clause-unread : goal.returns-in-Ok-clause-unread
 returns-in-Ok-clause-unread g c other = c.act.ensures.unread (never_reads c.args.words.now c.in-Ok.asked c.in-Ok.ensures.asks other)

@@ -1,0 +1,18 @@
+-- What a `BufferSeal` owns: the same as a `Box<Buffer>`, or nothing.
+use base.Fml.{Fml, ftrue}
+use base.Stored.{Coded}
+use denote.RawPtr.{Ptr}
+use Rattle.std.specs.declared.option.Option.{Option}
+use Rattle.std.specs.declared.option.Option.TheVariants.{None, Some}
+use Rattle.std.specs.Coded.{coded_option}
+use Rattle.std.specs.Box.Ownership.{box_owns}
+use Rattle.std.specs.Global.{Global}
+use Rattle.std_heap.specs.contracts.GlobalAllocator.TheImpl.{ghosts}
+use Rattle.lnbd_session.specs.contracts.buffer.Buffer.{the_row}
+
+abbrev pub buffer_owns : Global → Ptr → Option the_row.Denot → Fml
+buffer_owns alloc at None = ftrue
+buffer_owns alloc at (Some buffer) = box_owns (ghosts.dealloc_token alloc) the_row at buffer
+
+abbrev pub buffer_coded : Coded (Option the_row.Denot)
+buffer_coded = coded_option the_row.coded

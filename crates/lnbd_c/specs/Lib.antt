@@ -1,0 +1,4 @@
+pub mod Answers
+pub mod Buffers
+pub mod BufferSealing
+pub mod Sealing
