@@ -1,5 +1,6 @@
 # A read that is answered in 200,000 pieces, in rising order, in falling order with gaps that are filled later, and in random order: its bytes are the same. Falling
-# order takes at most twice the time of rising order, and random order three times, by the clock, with the peer's share, the best of three runs: in quadratic time they took 70 and more.
+# order takes at most twice the time of rising order, by the clock and with the peer's share, the best of three runs; in quadratic time it took 70 times and more. Random
+# order takes 1.7 to 1.8 times that of rising order where nothing else is at work, and three times are allowed for.
 . checks/need.sh
 need python3 python3
 
