@@ -35,8 +35,8 @@ else
   done
 fi
 
-# What a start costs beyond the program's own, at best of many: by the clock, or of the processor where others keep the machine busy. At most 5 ms where the
-# program's own start takes the 1.4 ms of a free machine, and as much more where that takes longer.
+# What a start costs beyond the program's own, at best of many: by the clock, or of the processor where others keep the machine busy. At most 5 ms. Where
+# it is more, and the program's own start, 1.4 ms on a free machine, takes more than 2, nothing is judged.
 if tools/start --of-dist >/dev/null 2>&1; then
   ./lnbd selftest 0 0 >/dev/null 2>&1
   cost=$(python3 - <<'PY'
@@ -55,7 +55,8 @@ for _ in range(200):
         best[path] = tuple(map(min, best.get(path, (9, 9)), run(path)))
 clock, processor = (1000 * (one - other) for one, other in zip(best['./lnbd'], best['dist/lnbd']))
 own = 1000 * min(best['dist/lnbd'])
-print('ok' if min(clock, processor) <= 5 * max(1, own / 1.4) else 'failed', f'a start by ./lnbd costs {clock:.1f} ms more by the clock, {processor:.1f} of the processor, than {own:.1f}', sep=': ')
+verdict = 'ok' if min(clock, processor) <= 5 else 'skipped' if own > 2 else 'failed'
+print(verdict, f'a start by ./lnbd costs {clock:.1f} ms more by the clock, {processor:.1f} of the processor, than {own:.1f}', sep=': ')
 PY
 )
   echo "$cost"
