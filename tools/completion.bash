@@ -5,6 +5,8 @@ _lnbd() {
   # (bash takes '=' for a word of its own)
   [ "$before" = = ] && before=${COMP_WORDS[COMP_CWORD - 2]}
   [ "$word" = = ] && word=
+  # (the words of a program, behind --run, are taken for files)
+  [ "$tool" = serve ] && [ "$before" != --run ] && [[ " ${COMP_WORDS[*]:2:COMP_CWORD-2} " = *' --run '* ]] && before=--file
   if [ "$COMP_CWORD" -eq 1 ]; then
     words='nbdcalls nbdinfo nbdcopy serve selftest help --help --version'
   else
@@ -15,11 +17,19 @@ _lnbd() {
       nbdinfo:--context) words='base:allocation' ;;
       nbdcopy:--connections | nbdcopy:--request-size | nbdcopy:--requests | nbdcopy:--sparse | nbdcopy:-[CRS]) ;;
       serve:--size | serve:--seed | serve:--sessions) ;;
+      serve:--file)
+        mapfile -t COMPREPLY < <(compgen -f -- "$word")
+        return
+        ;;
+      serve:--run)
+        mapfile -t COMPREPLY < <(compgen -c -- "$word")
+        return
+        ;;
       nbdinfo:*) words='--json --list --size --is --can --map --context --totals --help nbd:// nbd+unix:///?socket=' ;;
       nbdcopy:*)
         words='--allocated --connections --destination-is-zero --flush --no-extents --request-size --requests --sparse --help nbd:// nbd+unix:///?socket='
         ;;
-      serve:*) words='--size --seed --sessions --read-only --help nbd:// nbd+unix:///?socket=' ;;
+      serve:*) words='--size --seed --file --sessions --read-only --run --help nbd:// nbd+unix:///?socket=' ;;
       nbdcalls:* | selftest:*) words=--help ;;
     esac
   fi

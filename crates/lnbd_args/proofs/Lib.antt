@@ -11,4 +11,6 @@ pub mod ReadLemmas
 pub mod NumberLemmas
 pub mod ToolLemmas
 pub mod InfoLemmas
+pub mod RunLemmas
 pub mod OneReading
+pub mod ServeLemmas

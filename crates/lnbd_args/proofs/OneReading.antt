@@ -9,6 +9,8 @@ use Rattle.lnbd_uri.proofs.AnswerLemmas.{address_has_no_fault, fault_once}
 use Rattle.lnbd_uri.proofs.ReadingLemmas.{place_once}
 use Rattle.lnbd_args.specs.declared.asked.Asked.{Asked}
 use Rattle.lnbd_args.specs.declared.asked.Asked.TheVariants as asked
+use Rattle.lnbd_store.specs.declared.serving.Content.{Content}
+use Rattle.lnbd_store.specs.declared.serving.Content.TheVariants.{Made, File}
 use Rattle.lnbd_plan.specs.declared.options.CopyOptions.{CopyOptions}
 use Rattle.lnbd_args.specs.declared.asked.Predicate.{Predicate}
 use Rattle.lnbd_args.specs.declared.asked.Predicate.TheVariants.{IsReadOnly, IsRotational, IsTls, CanCache, CanDf, CanFastZero, CanFlush, CanFua, CanMultiConn, CanTrim, CanZero, CanWrite, CanRead, CanConnect, CanStructuredReply}
@@ -17,12 +19,13 @@ use Rattle.lnbd_args.specs.declared.asked.What.TheVariants as what
 use Rattle.lnbd_args.specs.declared.fault.ArgsFault.{ArgsFault}
 use Rattle.lnbd_args.specs.declared.fault.ArgsFault.TheVariants.{NoMemory, Usage, Uri}
 use Rattle.lnbd_args.specs.Clap.{is_table}
-use Rattle.lnbd_args.specs.Tools.{Asks, FirstFault, IsContext, IsCopyOptions, IsInfo, IsMisplaced, IsNameOf, IsNumber, IsNumberOr, IsServe, IsSize, IsWhat, Reads, Wanted, addresses, calls, chosen, copy, copy_rules, info, info_rules, selftest, serve, serve_rules, with_map}
+use Rattle.lnbd_args.specs.Tools.{Asks, FirstFault, IsContext, IsCopyOptions, IsInfo, IsMisplaced, IsNameOf, IsNumber, IsNumberOr, IsServe, IsSize, IsWhat, Hosts, IsContent, Reads, Serves, Wanted, given_address, addresses, calls, chosen, copy, copy_rules, info, info_rules, selftest, serve, serve_rules, with_map}
 use Rattle.lnbd_args.specs.Words.{AreParts, Part, Rule, Word, is_given, places, value_of}
 use Rattle.lnbd_args.proofs.InfoLemmas.{option_of}
 use Rattle.lnbd_args.proofs.NumberLemmas.{number_once}
 use Rattle.lnbd_args.proofs.ReadLemmas.{parts_once}
-use Rattle.lnbd_args.proofs.ToolLemmas.{name_is, other_tool, rest_is, same_pair}
+use Rattle.lnbd_args.proofs.ToolLemmas.{name_is, none_some, other_tool, rest_is, same_pair, some_is}
+use Rattle.lnbd_args.proofs.RunLemmas.{split_once}
 
 -- ---- numbers and options
 
@@ -145,21 +148,45 @@ info_once words one two json other a b h k =
     let there = subst (λ (x : List Part). IsInfo x two other) (sym parts) k.5 in
     (what_once h.2 one two h.5.what_is there.what_is, h.5.json_is ∙ sym there.json_is, name_is a b [] [] (sym h.4 ∙ ap places parts ∙ k.4))
 
-abbrev SameServe : ℕ → ℕ → Bool → ℕ → Word → ℕ → ℕ → Bool → ℕ → Word → Type 0
-SameServe size seed read_only sessions a size' seed' read_only' sessions' b = (size ≡ size') × (seed ≡ seed') × (read_only ≡ read_only') × (sessions ≡ sessions') × (a ≡ b)
+content_once : (parts : List Part) (one two : Content) → IsContent parts one → IsContent parts two → one ≡ two
+content_once parts (Made seed size) (Made seed' size') h k =
+    let sizes = size_once _ size size' h.1 k.1 in
+    let seeds = number_or_once 0 _ seed seed' h.2 k.2 in
+    λ i. Made (seeds i) (sizes i)
+content_once parts (Made seed size) (File path) h k = absurd (none_some path (sym h.0 ∙ k.0))
+content_once parts (File path) (Made seed size) h k = absurd (none_some path (sym k.0 ∙ h.0))
+content_once parts (File path) (File path') h k = ap File (some_is path path' (sym h.0 ∙ k.0))
 
-serve_once : (words : List Word) (size seed : ℕ) (read_only : Bool) (sessions : ℕ) (a : Word) (size' seed' : ℕ) (read_only' : Bool) (sessions' : ℕ) (b : Word)
-    → Reads words (serve size seed read_only sessions a) → Reads words (serve size' seed' read_only' sessions' b) → SameServe size seed read_only sessions a size' seed' read_only' sessions' b
-serve_once words size seed read_only sessions a size' seed' read_only' sessions' b h k =
-    let parts = same_parts serve_rules false refl _ words h.0 k.0 h.1 k.1 h.2 k.2 h.3 k.3 in
-    let here = h.4.1 in
-    let there = subst (λ (x : List Part). IsServe x size' seed' read_only' sessions') (sym parts) k.4.1 in (
-      size_once _ size size' here.size_is there.size_is,
-      number_or_once 0 _ seed seed' here.seed_is there.seed_is,
-      here.read_only_is ∙ sym there.read_only_is,
-      number_or_once 1 _ sessions sessions' here.sessions_is.number there.sessions_is.number,
-      name_is a b [] [] (sym h.4.0 ∙ ap places parts ∙ k.4.0),
-    )
+-- two readings of serve's words are the same
+pub record SameServe (one two : Content) (b b' : Bool) (m n : ℕ) (v w : Word) (vs ws : List Word) : Type 0 where
+  pub content : one ≡ two
+  pub read_only : b ≡ b'
+  pub sessions : m ≡ n
+  pub address : v ≡ w
+  pub run : vs ≡ ws
+
+pub hosts_once : (own : List Word) (content content' : Content) (read_only read_only' : Bool) (sessions sessions' : ℕ) (a b : Word) (run run' : List Word) → run ≡ run'
+    → Hosts own content read_only sessions a → Hosts own content' read_only' sessions' b → SameServe content content' read_only read_only' sessions sessions' a b run run'
+hosts_once own content content' read_only read_only' sessions sessions' a b run run' same h k =
+    let parts = parts_once serve_rules false refl own h.parts k.parts h.are k.are in
+    let there = subst (λ (x : List Part). IsServe x content' read_only' sessions') (sym parts) k.serves in
+    record {
+      content = content_once h.parts content content' h.serves.content_is there.content_is;
+      read_only = h.serves.read_only_is ∙ sym there.read_only_is;
+      sessions = number_or_once 1 _ sessions sessions' h.serves.sessions_is.number there.sessions_is.number;
+      address = name_is a b [] [] (sym h.place_is ∙ ap places parts ∙ k.place_is);
+      run = same;
+    }
+
+serve_once : (words : List Word) (content : Content) (read_only : Bool) (sessions : ℕ) (a : Word) (run : List Word) (content' : Content) (read_only' : Bool) (sessions' : ℕ) (b : Word)
+    (run' : List Word) → Reads words (serve content read_only sessions a run) → Reads words (serve content' read_only' sessions' b run')
+    → SameServe content content' read_only read_only' sessions sessions' a b run run'
+serve_once words content read_only sessions a run content' read_only' sessions' b run' h k =
+    let rest = rest_is _ _ h.0 k.0 (sym h.1 ∙ k.1) in
+    let there = subst (λ (x : List Word). Serves x content' read_only' sessions' b run') (sym rest) k.2 in
+    let split = split_once h.0 h.2.own run there.own run' h.2.split there.split in
+    hosts_once h.2.own content content' read_only read_only' sessions sessions' a b run run' split.1 h.2.hosts
+    (subst (λ (x : List Word). Hosts x content' read_only' sessions' b) (sym split.0) there.hosts)
 
 selftest_once : (words : List Word) (seed size seed' size' : ℕ) → Reads words (selftest seed size) → Reads words (selftest seed' size') → (seed ≡ seed') × (size ≡ size')
 selftest_once words seed size seed' size' h k =
@@ -177,30 +204,31 @@ pub reads_once : (words : List Word) (one two : Wanted) → Reads words one → 
 reads_once words calls calls h k = refl
 reads_once words calls (copy options from to) h k = two_tools words _ _ _ _ refl h k.1
 reads_once words calls (info asked json address) h k = two_tools words _ _ _ _ refl h k.1
-reads_once words calls (serve size seed read_only sessions address) h k = two_tools words _ _ _ _ refl h k.1
+reads_once words calls (serve content read_only sessions address run) h k = two_tools words _ _ _ _ refl h k.1
 reads_once words calls (selftest seed size) h k = two_tools words _ _ _ _ refl h k.1
 reads_once words (copy options from to) calls h k = two_tools words _ _ _ _ refl h.1 k
 reads_once words (copy options from to) (copy options' from' to') h k =
     let same = copy_once words options options' from to from' to' h k in λ i. copy (same.0 i) (same.1 i) (same.2 i)
 reads_once words (copy options from to) (info asked json address) h k = two_tools words _ _ _ _ refl h.1 k.1
-reads_once words (copy options from to) (serve size seed read_only sessions address) h k = two_tools words _ _ _ _ refl h.1 k.1
+reads_once words (copy options from to) (serve content read_only sessions address run) h k = two_tools words _ _ _ _ refl h.1 k.1
 reads_once words (copy options from to) (selftest seed size) h k = two_tools words _ _ _ _ refl h.1 k.1
 reads_once words (info asked json address) calls h k = two_tools words _ _ _ _ refl h.1 k
 reads_once words (info asked json address) (copy options from to) h k = two_tools words _ _ _ _ refl h.1 k.1
 reads_once words (info asked json address) (info asked' json' address') h k =
     let same = info_once words asked asked' json json' address address' h k in λ i. info (same.0 i) (same.1 i) (same.2 i)
-reads_once words (info asked json address) (serve size seed read_only sessions address') h k = two_tools words _ _ _ _ refl h.1 k.1
+reads_once words (info asked json address) (serve content read_only sessions address' run) h k = two_tools words _ _ _ _ refl h.1 k.1
 reads_once words (info asked json address) (selftest seed size) h k = two_tools words _ _ _ _ refl h.1 k.1
-reads_once words (serve size seed read_only sessions address) calls h k = two_tools words _ _ _ _ refl h.1 k
-reads_once words (serve size seed read_only sessions address) (copy options from to) h k = two_tools words _ _ _ _ refl h.1 k.1
-reads_once words (serve size seed read_only sessions address) (info asked json address') h k = two_tools words _ _ _ _ refl h.1 k.1
-reads_once words (serve size seed read_only sessions address) (serve size' seed' read_only' sessions' address') h k =
-    let same = serve_once words size seed read_only sessions address size' seed' read_only' sessions' address' h k in λ i. serve (same.0 i) (same.1 i) (same.2 i) (same.3 i) (same.4 i)
-reads_once words (serve size seed read_only sessions address) (selftest seed' size') h k = two_tools words _ _ _ _ refl h.1 k.1
+reads_once words (serve content read_only sessions address run) calls h k = two_tools words _ _ _ _ refl h.1 k
+reads_once words (serve content read_only sessions address run) (copy options from to) h k = two_tools words _ _ _ _ refl h.1 k.1
+reads_once words (serve content read_only sessions address run) (info asked json address') h k = two_tools words _ _ _ _ refl h.1 k.1
+reads_once words (serve content read_only sessions address run) (serve content' read_only' sessions' address' run') h k =
+    let same = serve_once words content read_only sessions address run content' read_only' sessions' address' run' h k in
+    λ i. serve (same.content i) (same.read_only i) (same.sessions i) (same.address i) (same.run i)
+reads_once words (serve content read_only sessions address run) (selftest seed' size') h k = two_tools words _ _ _ _ refl h.1 k.1
 reads_once words (selftest seed size) calls h k = two_tools words _ _ _ _ refl h.1 k
 reads_once words (selftest seed size) (copy options from to) h k = two_tools words _ _ _ _ refl h.1 k.1
 reads_once words (selftest seed size) (info asked json address) h k = two_tools words _ _ _ _ refl h.1 k.1
-reads_once words (selftest seed size) (serve size' seed' read_only sessions address) h k = two_tools words _ _ _ _ refl h.1 k.1
+reads_once words (selftest seed size) (serve content read_only sessions address run) h k = two_tools words _ _ _ _ refl h.1 k.1
 reads_once words (selftest seed size) (selftest seed' size') h k =
     let same = selftest_once words seed size seed' size' h k in λ i. selftest (same.0 i) (same.1 i)
 
@@ -213,7 +241,7 @@ pub asks_once : (words : List Word) (one two : Asked) → Asks words one → Ask
 asks_once words asked.Calls asked.Calls h k = refl
 asks_once words asked.Calls (asked.Copy options from to) h k = two_tools words _ _ _ _ refl h k.2.1
 asks_once words asked.Calls (asked.Info what json place) h k = two_tools words _ _ _ _ refl h k.1.1
-asks_once words asked.Calls (asked.Serve place size seed read_only sessions) h k = two_tools words _ _ _ _ refl h k.1.1
+asks_once words asked.Calls (asked.Serve s) h k = two_tools words _ _ _ _ refl h k.1.1
 asks_once words asked.Calls (asked.Selftest seed size) h k = two_tools words _ _ _ _ refl h k.1
 asks_once words (asked.Copy options from to) asked.Calls h k = two_tools words _ _ _ _ refl h.2.1 k
 asks_once words (asked.Copy options from to) (asked.Copy options' from' to') h k =
@@ -222,7 +250,7 @@ asks_once words (asked.Copy options from to) (asked.Copy options' from' to') h k
     let second = same_place h.1 k.1 to to' same.2 h.4 k.4 in
     λ i. asked.Copy (same.0 i) (first i) (second i)
 asks_once words (asked.Copy options from to) (asked.Info what json place) h k = two_tools words _ _ _ _ refl h.2.1 k.1.1
-asks_once words (asked.Copy options from to) (asked.Serve place size seed read_only sessions) h k = two_tools words _ _ _ _ refl h.2.1 k.1.1
+asks_once words (asked.Copy options from to) (asked.Serve s) h k = two_tools words _ _ _ _ refl h.2.1 k.1.1
 asks_once words (asked.Copy options from to) (asked.Selftest seed size) h k = two_tools words _ _ _ _ refl h.2.1 k.1
 asks_once words (asked.Info what json place) asked.Calls h k = two_tools words _ _ _ _ refl h.1.1 k
 asks_once words (asked.Info what json place) (asked.Copy options from to) h k = two_tools words _ _ _ _ refl h.1.1 k.2.1
@@ -230,20 +258,21 @@ asks_once words (asked.Info what json place) (asked.Info what' json' place') h k
     let same = info_once words what what' json json' h.0 k.0 h.1 k.1 in
     let there = same_place h.0 k.0 place place' same.2 h.2 k.2 in
     λ i. asked.Info (same.0 i) (same.1 i) (there i)
-asks_once words (asked.Info what json place) (asked.Serve place' size seed read_only sessions) h k = two_tools words _ _ _ _ refl h.1.1 k.1.1
+asks_once words (asked.Info what json place) (asked.Serve s) h k = two_tools words _ _ _ _ refl h.1.1 k.1.1
 asks_once words (asked.Info what json place) (asked.Selftest seed size) h k = two_tools words _ _ _ _ refl h.1.1 k.1
-asks_once words (asked.Serve place size seed read_only sessions) asked.Calls h k = two_tools words _ _ _ _ refl h.1.1 k
-asks_once words (asked.Serve place size seed read_only sessions) (asked.Copy options from to) h k = two_tools words _ _ _ _ refl h.1.1 k.2.1
-asks_once words (asked.Serve place size seed read_only sessions) (asked.Info what json place') h k = two_tools words _ _ _ _ refl h.1.1 k.1.1
-asks_once words (asked.Serve place size seed read_only sessions) (asked.Serve place' size' seed' read_only' sessions') h k =
-    let same = serve_once words size seed read_only sessions h.0 size' seed' read_only' sessions' k.0 h.1 k.1 in
-    let there = same_place h.0 k.0 place place' same.4 h.2 k.2 in
-    λ i. asked.Serve (there i) (same.0 i) (same.1 i) (same.2 i) (same.3 i)
-asks_once words (asked.Serve place size seed read_only sessions) (asked.Selftest seed' size') h k = two_tools words _ _ _ _ refl h.1.1 k.1
+asks_once words (asked.Serve s) asked.Calls h k = two_tools words _ _ _ _ refl h.1.1 k
+asks_once words (asked.Serve s) (asked.Copy options from to) h k = two_tools words _ _ _ _ refl h.1.1 k.2.1
+asks_once words (asked.Serve s) (asked.Info what json place') h k = two_tools words _ _ _ _ refl h.1.1 k.1.1
+asks_once words (asked.Serve s) (asked.Serve t) h k =
+    let same = serve_once words s.content s.read_only s.sessions h.0 s.run t.content t.read_only t.sessions k.0 t.run h.1 k.1 in
+    let there = same_place h.0 k.0 s.place t.place same.address h.2 k.2 in
+    let uri : s.uri ≡ t.uri = h.3 ∙ (λ i. given_address (same.run i) (same.address i)) ∙ sym k.3 in
+    λ i. asked.Serve (record { place = there i; content = same.content i; read_only = same.read_only i; sessions = same.sessions i; uri = uri i; run = same.run i })
+asks_once words (asked.Serve s) (asked.Selftest seed' size') h k = two_tools words _ _ _ _ refl h.1.1 k.1
 asks_once words (asked.Selftest seed size) asked.Calls h k = two_tools words _ _ _ _ refl h.1 k
 asks_once words (asked.Selftest seed size) (asked.Copy options from to) h k = two_tools words _ _ _ _ refl h.1 k.2.1
 asks_once words (asked.Selftest seed size) (asked.Info what json place) h k = two_tools words _ _ _ _ refl h.1 k.1.1
-asks_once words (asked.Selftest seed size) (asked.Serve place size' seed' read_only sessions) h k = two_tools words _ _ _ _ refl h.1 k.1.1
+asks_once words (asked.Selftest seed size) (asked.Serve s) h k = two_tools words _ _ _ _ refl h.1 k.1.1
 asks_once words (asked.Selftest seed size) (asked.Selftest seed' size') h k =
     let same = selftest_once words seed size seed' size' h k in λ i. asked.Selftest (same.0 i) (same.1 i)
 
@@ -276,7 +305,7 @@ read_of : (words : List Word) (a : Asked) → Asks words a → Read words
 read_of words asked.Calls h = record { wanted = calls; reads = h; placed = tt }
 read_of words (asked.Copy options from to) h = record { wanted = copy options h.0 h.1; reads = h.2; placed = ((from, h.3), ((to, h.4), tt)) }
 read_of words (asked.Info what json place) h = record { wanted = info what json h.0; reads = h.1; placed = ((place, h.2), tt) }
-read_of words (asked.Serve place size seed read_only sessions) h = record { wanted = serve size seed read_only sessions h.0; reads = h.1; placed = ((place, h.2), tt) }
+read_of words (asked.Serve s) h = record { wanted = serve s.content s.read_only s.sessions h.0 s.run; reads = h.1; placed = ((s.place, h.2), tt) }
 read_of words (asked.Selftest seed size) h = record { wanted = selftest seed size; reads = h; placed = tt }
 
 -- words that ask for something have no address out of place

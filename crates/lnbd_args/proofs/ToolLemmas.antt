@@ -7,19 +7,20 @@ use Rattle.clap.specs.Walk.{Row, first_of}
 use Rattle.lnbd_model.specs.declared.target.Place.{Place}
 use Rattle.lnbd_uri.specs.Address.{IsAddress}
 use Rattle.lnbd_uri.specs.declared.fault.UriFault.{UriFault}
+use Rattle.lnbd_store.specs.declared.serving.Content.{Content}
 use Rattle.lnbd_plan.specs.declared.options.CopyOptions.{CopyOptions}
 use Rattle.lnbd_args.specs.declared.asked.What.{What}
 use Rattle.lnbd_args.specs.declared.fault.ArgsFault.{ArgsFault}
 use Rattle.lnbd_args.specs.declared.fault.ArgsFault.TheVariants.{Uri}
 use Rattle.lnbd_args.specs.Clap.{Tells, first_id, is_table, room, second_id}
-use Rattle.lnbd_args.specs.Tools.{FirstFault, IsInfo, info_rules, with_map, IsCopyOptions, IsFaultOf, IsMisplaced, IsNumber, IsServe, Reads, Wanted, addresses, calls, copy, copy_rules, info, selftest, serve, serve_rules}
+use Rattle.lnbd_args.specs.Tools.{FirstFault, IsInfo, info_rules, with_map, IsCopyOptions, IsFaultOf, IsMisplaced, IsNumber, Reads, Serves, Wanted, addresses, calls, copy, copy_rules, info, selftest, serve}
 use Rattle.lnbd_args.specs.Words.{AreParts, Part, Rule, Word, places}
 use Rattle.lnbd_args.proofs.ReadLemmas.{parts_once}
 
-none_some : {X : Type 0} (x : X) → ◌≡◌ {A = Option X} None (Some x) → ⊥
+pub none_some : {X : Type 0} (x : X) → ◌≡◌ {A = Option X} None (Some x) → ⊥
 none_some x e = absurd (cc)
 
-some_is : {X : Type 0} (x y : X) → Some x ≡ Some y → x ≡ y
+pub some_is : {X : Type 0} (x y : X) → Some x ≡ Some y → x ≡ y
 some_is x y e = cc
 
 -- ---- places
@@ -60,17 +61,16 @@ only_copy ws calls h nay = other_tool _ _ _ _ refl h
 only_copy ws (copy options from to) h nay =
     nay options from to h.2 (subst (λ x. AreParts copy_rules x h.2) (sym (rest_is _ _ ws h.0 h.1)) h.3) h.4.0 h.4.1
 only_copy ws (info asked json address) h nay = other_tool _ _ _ _ refl h.1
-only_copy ws (serve size seed read_only sessions address) h nay = other_tool _ _ _ _ refl h.1
+only_copy ws (serve content read_only sessions address run) h nay = other_tool _ _ _ _ refl h.1
 only_copy ws (selftest seed size) h nay = other_tool _ _ _ _ refl h.1
 
 pub only_serve : (ws : List Word) (wanted : Wanted) → Reads (codes "serve" ∷ ws) wanted
-    → ((size seed : ℕ) (read_only : Bool) (sessions : ℕ) (address : Word) (parts : List Part) → AreParts serve_rules ws parts → places parts ≡ address ∷ []
-    → IsServe parts size seed read_only sessions → ⊥) → ⊥
+    → ((content : Content) (read_only : Bool) (sessions : ℕ) (address : Word) (run : List Word) → Serves ws content read_only sessions address run → ⊥) → ⊥
 only_serve ws calls h nay = other_tool _ _ _ _ refl h
 only_serve ws (copy options from to) h nay = other_tool _ _ _ _ refl h.1
 only_serve ws (info asked json address) h nay = other_tool _ _ _ _ refl h.1
-only_serve ws (serve size seed read_only sessions address) h nay =
-    nay size seed read_only sessions address h.2 (subst (λ x. AreParts serve_rules x h.2) (sym (rest_is _ _ ws h.0 h.1)) h.3) h.4.0 h.4.1
+only_serve ws (serve content read_only sessions address run) h nay =
+    nay content read_only sessions address run (subst (λ x. Serves x content read_only sessions address run) (sym (rest_is _ _ ws h.0 h.1)) h.2)
 only_serve ws (selftest seed size) h nay = other_tool _ _ _ _ refl h.1
 
 pub only_selftest : (ws : List Word) (wanted : Wanted) → Reads (codes "selftest" ∷ ws) wanted
@@ -78,7 +78,7 @@ pub only_selftest : (ws : List Word) (wanted : Wanted) → Reads (codes "selftes
 only_selftest ws calls h nay = other_tool _ _ _ _ refl h
 only_selftest ws (copy options from to) h nay = other_tool _ _ _ _ refl h.1
 only_selftest ws (info asked json address) h nay = other_tool _ _ _ _ refl h.1
-only_selftest ws (serve size seed read_only sessions address) h nay = other_tool _ _ _ _ refl h.1
+only_selftest ws (serve content read_only sessions address run) h nay = other_tool _ _ _ _ refl h.1
 only_selftest ws (selftest seed size) h nay =
     nay h.4.0 h.4.1 seed size h.2 (subst (λ x. AreParts [] x h.2) (sym (rest_is _ _ ws h.0 h.1)) h.3) h.4.2 h.4.3 h.4.4
 
@@ -88,7 +88,7 @@ only_info ws calls h nay = other_tool _ _ _ _ refl h
 only_info ws (copy options from to) h nay = other_tool _ _ _ _ refl h.1
 only_info ws (info asked json address) h nay =
     nay asked json address h.2 (subst (λ x. AreParts info_rules (with_map x) h.2) (sym (rest_is _ _ ws h.0 h.1)) h.3) h.4 h.5
-only_info ws (serve size seed read_only sessions address) h nay = other_tool _ _ _ _ refl h.1
+only_info ws (serve content read_only sessions address run) h nay = other_tool _ _ _ _ refl h.1
 only_info ws (selftest seed size) h nay = other_tool _ _ _ _ refl h.1
 
 -- ---- words that ask for nothing
@@ -141,7 +141,7 @@ pub only_calls : (w : Word) (ws : List Word) (wanted : Wanted) → Reads (codes 
 only_calls w ws calls h = let n = ap length (rest_is _ _ _ _ h) in absurd (omega (arith, n))
 only_calls w ws (copy options from to) h = other_tool _ _ _ _ refl h.1
 only_calls w ws (info asked json address) h = other_tool _ _ _ _ refl h.1
-only_calls w ws (serve size seed read_only sessions address) h = other_tool _ _ _ _ refl h.1
+only_calls w ws (serve content read_only sessions address run) h = other_tool _ _ _ _ refl h.1
 only_calls w ws (selftest seed size) h = other_tool _ _ _ _ refl h.1
 
 pub calls_alone : (ws : List Word) → 0 < length ws → (wanted : Wanted) → Reads (codes "nbdcalls" ∷ ws) wanted → ⊥
@@ -157,12 +157,12 @@ pub no_tool : (tool : Word) (ws : List Word) → tool ≢ codes "nbdcalls" → t
 no_tool tool ws a b c d e calls h = a (name_is _ _ _ _ h)
 no_tool tool ws a b c d e (copy options from to) h = b (name_is _ _ _ _ h.1)
 no_tool tool ws a b c d e (info asked json address) h = c (name_is _ _ _ _ h.1)
-no_tool tool ws a b c d e (serve size seed read_only sessions address) h = d (name_is _ _ _ _ h.1)
+no_tool tool ws a b c d e (serve content read_only sessions address run) h = d (name_is _ _ _ _ h.1)
 no_tool tool ws a b c d e (selftest seed size) h = e (name_is _ _ _ _ h.1)
 
 pub no_words : (wanted : Wanted) → Reads [] wanted → ⊥
 no_words calls h = let n = ap length h in absurd (omega (arith, n))
 no_words (copy options from to) h = let n = ap length h.1 in absurd (omega (arith, n))
 no_words (info asked json address) h = let n = ap length h.1 in absurd (omega (arith, n))
-no_words (serve size seed read_only sessions address) h = let n = ap length h.1 in absurd (omega (arith, n))
+no_words (serve content read_only sessions address run) h = let n = ap length h.1 in absurd (omega (arith, n))
 no_words (selftest seed size) h = let n = ap length h.1 in absurd (omega (arith, n))

@@ -1,7 +1,7 @@
 -- What the words of each tool ask for.
-use Rattle.std.specs.Prelude.{ℕ, ◌^◌, ◌<◌, ◌≤◌, ◌≡◌, ◌⊎◌, ◌&&◌, ◌||◌, ⊤, Bool, true, false, not, List, [], ◌∷◌, ◌++◌, Option, Some, None, codes, drop, length, if◌then◌else◌, nat_eq}
+use Rattle.std.specs.Prelude.{ℕ, ◌^◌, ◌<◌, ◌≤◌, ◌≡◌, ◌≢◌, ◌⊎◌, ◌&&◌, ◌||◌, ⊤, Bool, true, false, not, List, [], ◌∷◌, ◌++◌, Option, Some, None, codes, drop, length, if◌then◌else◌, nat_eq}
 use Rattle.std.specs.Int.{is_power_of_two}
-use Rattle.std.specs.List.{starts_with}
+use Rattle.std.specs.List.{All, starts_with}
 use Rattle.std.specs.Str.{all_ascii_digits, bytes_eq}
 use Rattle.std.specs.Str.Parse.{digits_value}
 use Rattle.lnbd_model.specs.declared.target.Place.{Place}
@@ -12,6 +12,8 @@ use Rattle.lnbd_args.specs.declared.fault.ArgsFault.{ArgsFault}
 use Rattle.lnbd_args.specs.declared.fault.ArgsFault.TheVariants.{NoMemory, Usage, Uri}
 use Rattle.lnbd_args.specs.declared.asked.Asked.{Asked}
 use Rattle.lnbd_args.specs.declared.asked.Asked.TheVariants.{Calls, Copy, Info, Serve, Selftest}
+use Rattle.lnbd_store.specs.declared.serving.Content.{Content}
+use Rattle.lnbd_store.specs.declared.serving.Content.TheVariants.{Made, File}
 use Rattle.lnbd_plan.specs.declared.options.CopyOptions.{CopyOptions}
 use Rattle.lnbd_args.specs.declared.asked.Predicate.{Predicate}
 use Rattle.lnbd_args.specs.declared.asked.Predicate.TheVariants.{IsReadOnly, IsRotational, IsTls, CanCache, CanDf, CanFastZero, CanFlush, CanFua, CanMultiConn, CanTrim, CanZero, CanWrite, CanRead, CanConnect, CanStructuredReply}
@@ -42,7 +44,7 @@ info_rules = flag (codes "json") ∷ flag (codes "list") ∷ flag (codes "size")
     ∷ valued (codes "is") ∷ valued (codes "can") ∷ []
 
 abbrev pub serve_rules : List Rule
-serve_rules = valued (codes "size") ∷ valued (codes "seed") ∷ valued (codes "sessions") ∷ flag (codes "read-only") ∷ []
+serve_rules = valued (codes "size") ∷ valued (codes "seed") ∷ valued (codes "file") ∷ valued (codes "sessions") ∷ flag (codes "read-only") ∷ []
 
 -- ---- numbers
 
@@ -148,16 +150,54 @@ pub record IsInfo (parts : List Part) (asked : What) (json : Bool) : Type 0 wher
 
 -- ---- serve
 
--- the size of what is served is always given
+-- what stands behind serve's own words: nothing, or `--run` and a program with its words
+abbrev pub run_words : List Word → List Word
+run_words [] = []
+run_words (program ∷ words) = codes "--run" ∷ program ∷ words
+
+-- the words are serve's own, which the first `--run` ends, and then these that run a program
+pub record IsSplit (words own run : List Word) : Type 0 where
+  pub joined : words ≡ own ++ run_words run
+  pub first : All (λ word. word ≢ codes "--run") own
+
+-- the address that the program is given, as its last word; none where none is run
+abbrev pub given_address : List Word → Word → Word
+given_address [] address = []
+given_address (program ∷ words) address = address
+
+-- each has 4,096 bytes at most
+abbrev pub AreShort : List Word → Type 0
+AreShort words = All (λ word. length word ≤ 4096) words
+
+-- the size of what is made is always given
 abbrev pub IsSize : Option Word → ℕ → Type 0
 IsSize None n = ⊥
 IsSize (Some digits) n = IsNumber digits n × (n ≤ 1073741824)
 
-pub record IsServe (parts : List Part) (size seed : ℕ) (read_only : Bool) (sessions : ℕ) : Type 0 where
-  pub size_is : IsSize (value_of (codes "size") parts) size
-  pub seed_is : IsNumberOr 0 (value_of (codes "seed") parts) seed
+-- what is served: bytes made from a number, or those of the file whose path is given, 4,096 bytes at most, in place of size and seed
+abbrev pub IsContent : List Part → Content → Type 0
+IsContent parts (Made seed size) = (value_of (codes "file") parts ≡ None) × IsSize (value_of (codes "size") parts) size × IsNumberOr 0 (value_of (codes "seed") parts) seed
+IsContent parts (File path) =
+    (value_of (codes "file") parts ≡ Some path) × (length path ≤ 4096) × (is_given (codes "size") parts ≡ false) × (is_given (codes "seed") parts ≡ false)
+
+pub record IsServe (parts : List Part) (content : Content) (read_only : Bool) (sessions : ℕ) : Type 0 where
+  pub content_is : IsContent parts content
   pub sessions_is : IsWithin 1 1 1000000 (value_of (codes "sessions") parts) sessions
   pub read_only_is : read_only ≡ is_given (codes "read-only") parts
+
+-- serve's own words ask for this
+pub record Hosts (own : List Word) (content : Content) (read_only : Bool) (sessions : ℕ) (address : Word) : Type 0 where
+  pub parts : List Part
+  pub are : AreParts serve_rules own parts
+  pub place_is : places parts ≡ address ∷ []
+  pub serves : IsServe parts content read_only sessions
+
+-- the words behind `serve` ask for this
+pub record Serves (words : List Word) (content : Content) (read_only : Bool) (sessions : ℕ) (address : Word) (run : List Word) : Type 0 where
+  pub own : List Word
+  pub split : IsSplit words own run
+  pub short : AreShort (given_address run address ∷ run)
+  pub hosts : Hosts own content read_only sessions address
 
 -- ---- the words of all tools
 
@@ -166,7 +206,7 @@ pub data Wanted : Type 0 where
   calls : Wanted
   copy : CopyOptions → Word → Word → Wanted
   info : What → Bool → Word → Wanted
-  serve : ℕ → ℕ → Bool → ℕ → Word → Wanted
+  serve : Content → Bool → ℕ → Word → List Word → Wanted
   selftest : ℕ → ℕ → Wanted
 
 -- the words are the tool's name and then these parts, of which P holds
@@ -179,7 +219,7 @@ Reads words calls = words ≡ codes "nbdcalls" ∷ []
 Reads words (copy options from to) = Tool (codes "nbdcopy") copy_rules (λ parts. (places parts ≡ from ∷ to ∷ []) × IsCopyOptions parts options) words
 Reads words (info asked json address) =
     (rest : List Word) × (words ≡ codes "nbdinfo" ∷ rest) × (parts : List Part) × AreParts info_rules (with_map rest) parts × (places parts ≡ address ∷ []) × IsInfo parts asked json
-Reads words (serve size seed read_only sessions address) = Tool (codes "serve") serve_rules (λ parts. (places parts ≡ address ∷ []) × IsServe parts size seed read_only sessions) words
+Reads words (serve content read_only sessions address run) = (rest : List Word) × (words ≡ codes "serve" ∷ rest) × Serves rest content read_only sessions address run
 Reads words (selftest seed size) =
     Tool (codes "selftest") [] (λ parts. (first : Word) × (second : Word) × (places parts ≡ first ∷ second ∷ []) × IsNumber first seed × IsNumber second size) words
 
@@ -188,14 +228,15 @@ abbrev pub Asks : List Word → Asked → Type 0
 Asks words Calls = Reads words calls
 Asks words (Copy options from to) = (first : Word) × (second : Word) × Reads words (copy options first second) × IsAddress first from × IsAddress second to
 Asks words (Info asked json place) = (address : Word) × Reads words (info asked json address) × IsAddress address place
-Asks words (Serve place size seed read_only sessions) = (address : Word) × Reads words (serve size seed read_only sessions address) × IsAddress address place
+Asks words (Serve s) =
+    (address : Word) × Reads words (serve s.content s.read_only s.sessions address s.run) × IsAddress address s.place × (s.uri ≡ given_address s.run address)
 Asks words (Selftest seed size) = Reads words (selftest seed size)
 
 -- the addresses, in their order
 abbrev pub addresses : Wanted → List Word
 addresses (copy options from to) = from ∷ to ∷ []
 addresses (info asked json address) = address ∷ []
-addresses (serve size seed read_only sessions address) = address ∷ []
+addresses (serve content read_only sessions address run) = address ∷ []
 addresses _ = []
 
 -- the first that isn't an address has this fault

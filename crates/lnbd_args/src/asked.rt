@@ -3,6 +3,7 @@
 
 use lnbd_model::{Place, Text};
 use lnbd_plan::CopyOptions;
+use lnbd_store::Serving;
 
 /// A yes or no question about an export (nbdinfo(1), `--is` and `--can`).
 #[derive(Clone, Copy, Debug, PartialEq, Eq)]
@@ -74,17 +75,9 @@ pub enum Asked {
         json: bool,
         place: Place,
     },
-    /// serve
-    Serve {
-        place: Place,
-        /// Bytes, 1,073,741,824 at most.
-        size: u64,
-        /// The number that the content is made from.
-        seed: u64,
-        read_only: bool,
-        /// How many clients are served, 1 to 1,000,000.
-        sessions: u32,
-    },
+    /// serve: a size of 1,073,741,824 at most, or a file; 1 to 1,000,000 clients; and a program, if
+    /// one is run.
+    Serve(Serving),
     /// selftest: the number that the content is made from, and its bytes, which have no limit here.
     Selftest {
         seed: u64,

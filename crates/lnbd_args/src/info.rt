@@ -18,8 +18,9 @@ use crate::command::read_parts;
 use crate::fault::ArgsFault;
 use crate::look::{has_value, is_given, value};
 use crate::rule::info_rules;
+use crate::text::text;
 use clap::ArgMatches;
-use lnbd_model::{NoMemory, Text, TextFault};
+use lnbd_model::Text;
 use std::alloc::{AllocError, Global};
 
 /// What is asked of the export.
@@ -157,11 +158,7 @@ fn context(alloc: Global, given: Option<&str>) -> Result<Text, ArgsFault>
         Some(name) => name,
         None => "base:allocation",
     };
-    match Text::from_bytes(alloc, name.as_bytes()) {
-        Ok(text) => Ok(text),
-        Err(TextFault::NoMemory) => Err(ArgsFault::NoMemory),
-        Err(_) => Err(ArgsFault::Usage),
-    }
+    text(alloc, name)
 }
 
 /// `--map`, with or without `--totals`

@@ -17,10 +17,13 @@ mod number;
 mod rule;
 mod selftest;
 mod serve;
+mod split;
+mod text;
 mod words;
 
 pub use asked::{Asked, Predicate, What};
 pub use fault::ArgsFault;
 pub use laws::one_reading;
 pub use lnbd_plan::CopyOptions;
+pub use lnbd_store::{Content, Serving};
 pub use words::read_words;

@@ -5,11 +5,14 @@ use Rattle.std.specs.Prelude.{OnOk, if◌then◌else◌, is_ok}
 use Rattle.std.specs.declared.alloc.Global.{Global}
 use Rattle.lnbd_args.specs.declared.asked.Asked.{Asked}
 use Rattle.lnbd_args.specs.declared.asked.Asked.TheVariants as asked
+use Rattle.lnbd_store.specs.declared.serving.Content.{Content}
+use Rattle.lnbd_store.specs.declared.serving.Content.TheVariants.{Made, File}
+use Rattle.lnbd_cli.specs.Beside.{IsBesideDone, is_all_done, is_beside_status}
 use Rattle.lnbd_cli.specs.Calls.{IsPlayDone, is_calls_status}
 use Rattle.lnbd_cli.specs.Copies.{IsCopyDone, is_copy_status}
 use Rattle.lnbd_cli.specs.Ends.{Came, End, IsReported, is_one_of, status_of}
 use Rattle.lnbd_cli.specs.Informs.{IsInfoDone, is_info_status}
-use Rattle.lnbd_cli.specs.Runs.{IsRefused, is_known}
+use Rattle.lnbd_cli.specs.Runs.{IsRefused, is_known, is_serving_known}
 use Rattle.lnbd_cli.specs.Serves.{IsServeDone, is_serve_status}
 use Rattle.lnbd_cli.specs.Trials.{is_test_status}
 use Rattle.lnbd_cli.specs.declared.ending.Fault.TheVariants as fault
@@ -24,6 +27,11 @@ pub of_end : (Q : List ℕ → Type 0) (end : End) (n status : ℕ) → n ≢ 9 
 of_end Q end n status other (inl told) is = sym told.0 ∙ is
 of_end Q end n status other (inr told) is = absurd (other (sym is ∙ told.0))
 
+-- the statuses of a run of which all was done are its end's
+pub of_done : (Q : List ℕ → Type 0) (end : End) (status : ℕ) → is_all_done status ≡ true → IsReported end Q status → status_of end ≡ status
+of_done Q end status done (inl told) = sym told.0
+of_done Q end status done (inr told) = cc (sym (ap is_all_done told.0) ∙ done)
+
 -- a run of which one of two holds, or which came to such an end, came to it with its status and its line
 pub came_known : {A : Type 0} (Ends : End → Type 0) (Q : List ℕ → Type 0) (end : End) (status : ℕ) → A ⊎ Ends end → IsReported end Q status → A ⊎ Came Ends Q status
 came_known Ends Q end status (inl known) told = inl known
@@ -32,7 +40,12 @@ came_known Ends Q end status (inr ends) told = inr (record { end = end; ends = e
 known_short : (a : Asked) → is_known a 9 ≡ true
 known_short asked.Calls = refl
 known_short (asked.Info what json place) = refl
-known_short (asked.Serve place size seed read_only sessions) = refl
+known_short (asked.Serve s) = serving_short s.content s.run
+  where
+    serving_short : (content : Content) (run : List (List ℕ)) → is_serving_known content run 9 ≡ true
+    serving_short (Made seed size) [] = refl
+    serving_short (Made seed size) (program ∷ words) = refl
+    serving_short (File path) run = refl
 known_short (asked.Copy options from to) = refl
 known_short (asked.Selftest seed size) = refl
 
@@ -129,6 +142,22 @@ serve_done s is link silent output = done (one_of (0 ∷ 4 ∷ 5 ∷ 7 ∷ 8 ∷
     done (inr (inr (inr (inr (inl e))))) = absurd (output e)
     done (inr (inr (inr (inr (inr (inl e)))))) = inr (inr e)
     done (inr (inr (inr (inr (inr (inr e)))))) = absurd e
+
+pub beside_done : (s : ℕ) → is_beside_status s ≡ true → (s ≡ 5 → ⊥) → (s ≡ 7 → ⊥) → (s ≡ 8 → ⊥) → (s ≡ 11 → ⊥) → (s ≡ 13 → ⊥) → IsBesideDone s
+beside_done s is link silent output store spawn = done (one_of (0 ∷ 4 ∷ 5 ∷ 6 ∷ 7 ∷ 8 ∷ 9 ∷ 11 ∷ 12 ∷ 13 ∷ []) s is)
+  where
+    done : IsOneOf (0 ∷ 4 ∷ 5 ∷ 6 ∷ 7 ∷ 8 ∷ 9 ∷ 11 ∷ 12 ∷ 13 ∷ []) s → IsBesideDone s
+    done (inl e) = inl e
+    done (inr (inl e)) = inr (inl e)
+    done (inr (inr (inl e))) = absurd (link e)
+    done (inr (inr (inr (inl e)))) = inr (inr (inl e))
+    done (inr (inr (inr (inr (inl e))))) = absurd (silent e)
+    done (inr (inr (inr (inr (inr (inl e)))))) = absurd (output e)
+    done (inr (inr (inr (inr (inr (inr (inl e))))))) = inr (inr (inr (inl e)))
+    done (inr (inr (inr (inr (inr (inr (inr (inl e)))))))) = absurd (store e)
+    done (inr (inr (inr (inr (inr (inr (inr (inr (inl e))))))))) = inr (inr (inr (inr e)))
+    done (inr (inr (inr (inr (inr (inr (inr (inr (inr (inl e)))))))))) = absurd (spawn e)
+    done (inr (inr (inr (inr (inr (inr (inr (inr (inr (inr e)))))))))) = absurd e
 
 pub copy_done : (s : ℕ) → is_copy_status s ≡ true → (s ≡ 5 → ⊥) → (s ≡ 7 → ⊥) → IsCopyDone s
 copy_done s is link silent = done (one_of (0 ∷ 3 ∷ 4 ∷ 5 ∷ 6 ∷ 7 ∷ 9 ∷ []) s is)

@@ -1,5 +1,5 @@
 -- How a run of nbdinfo ends once its text is printed.
-use Rattle.std.proofs.Common.{◌≡◌, ◌≢◌, inl, inr, ℕ, Bool, true, false, List, Option, Result, Ok, Err, refl, sym, ◌∙◌, ap}
+use Rattle.std.proofs.Common.{◌≡◌, ◌≢◌, inl, inr, ℕ, Bool, true, false, List, Option, Result, Ok, Err, sym, ◌∙◌, ap}
 use Rattle.lnbd_link.specs.Call.{Call}
 use Rattle.lnbd_cli.specs.Ends.{End, status_of}
 use Rattle.lnbd_cli.specs.Heard.{Says}

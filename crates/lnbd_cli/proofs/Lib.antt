@@ -1,3 +1,4 @@
+mod BesideLemmas
 mod InputLemmas
 mod CallLemmas
 mod CopyLemmas
@@ -5,5 +6,6 @@ mod EndLemmas
 mod HeardLemmas
 mod InfoLemmas
 mod ServeLemmas
+mod ServingLemmas
 mod ToolLemmas
 pub mod TrialLemmas

@@ -1,11 +1,20 @@
 -- What a run did is what its words asked.
-use Rattle.std.proofs.Common.{◌≡◌, ◌≤◌, ◌^◌, ◌⊎◌, inl, inr, ℕ, List, Option, Some, None, Result, Ok, Err, refl, sym, subst, arith, String}
+use Rattle.std.proofs.Common.{◌≡◌, ◌≢◌, ◌≤◌, ◌∷◌, ◌⊎◌, inl, inr, ℕ, true, List, [], Option, Some, None, Result, Ok, Err, refl, sym, subst, arith, String}
 use Rattle.std.specs.Prelude.{IsErrOf}
 use Rattle.std.specs.declared.alloc.Global.{Global}
-use Rattle.lnbd_args.specs.Tools.{Asks, IsSize}
-use Rattle.lnbd_args.specs.Words.{Word}
-use Rattle.lnbd_cli.specs.Asks.{Ask, IsCalls}
-use Rattle.lnbd_cli.specs.Runs.{AskTest}
+use Rattle.lnbd_args.specs.Tools.{Asks, IsContent, IsSize}
+use Rattle.lnbd_args.specs.Words.{Part, Word}
+use Rattle.lnbd_child.specs.Loading.{IsFew, IsMade}
+use Rattle.lnbd_spawn.specs.declared.deed.Deed.{Deed}
+use Rattle.lnbd_store.specs.Call.{Call as Move}
+use Rattle.lnbd_store.specs.Shelf.{Shelf}
+use Rattle.lnbd_store.specs.declared.serving.Content.{Content}
+use Rattle.lnbd_store.specs.declared.serving.Content.TheVariants.{Made, File}
+use Rattle.lnbd_store.specs.declared.serving.Serving.{Serving}
+use Rattle.lnbd_cli.specs.Asks.{Ask, AskFile, AskProgram, IsCalls, IsFile}
+use Rattle.lnbd_cli.specs.Beside as beside
+use Rattle.lnbd_cli.specs.Hosts.{ServeDoes}
+use Rattle.lnbd_cli.specs.Runs.{AskTest, is_serving_known}
 use Rattle.lnbd_args.specs.declared.asked.Asked.{Asked}
 use Rattle.lnbd_args.specs.declared.asked.Asked.TheVariants as asked
 use Rattle.lnbd_args.specs.declared.fault.ArgsFault.{ArgsFault}
@@ -13,7 +22,7 @@ use Rattle.lnbd_args.specs.declared.fault.ArgsFault.TheVariants as args
 use Rattle.lnbd_link.specs.Call.{Call}
 use Rattle.lnbd_cli.specs.Calls as calls
 use Rattle.lnbd_cli.specs.Copies as copies
-use Rattle.lnbd_cli.specs.Did.{Did, HasRoom, IsOnWires, NeverReads}
+use Rattle.lnbd_cli.specs.Did.{AsksNoFile, AsksNoProgram, Did, HasRoom, IsOnWires, NeverReads}
 use Rattle.lnbd_cli.specs.Informs as informs
 use Rattle.lnbd_cli.specs.Serves as serves
 use Rattle.lnbd_cli.specs.Trials as trials
@@ -32,42 +41,104 @@ pub as_asked : (P : Asked → Type 0) (x a : Asked) → (◌≡◌ {A = Result A
 as_asked P x a (inl is) p = let same : x ≡ a = cc is in subst P same p
 as_asked P x a (inr is) p = absurd (cc is)
 
-size_small : (given : Option Word) (n : ℕ) → IsSize given n → n ≤ 2 ^ 30
-size_small None n small = absurd small
-size_small (Some digits) n small = omega (arith, small.1)
+-- what words may ask to be made fits in memory
+few : (parts : List Part) (content : Content) → IsContent parts content → IsFew content
+few parts (Made seed size) is = omega (arith, (small _ size is.1))
+  where
+    small : (given : Option Word) (n : ℕ) → IsSize given n → n ≤ 1073741824
+    small None n is = absurd is
+    small (Some digits) n is = is.1
+few parts (File path) is = tt
 
 pub room : (words : List Word) (a : Asked) → Asks words a → HasRoom a
 room words asked.Calls asks = tt
 room words (asked.Info what json place) asks = tt
-room words (asked.Serve place size seed read_only sessions) asks = size_small _ size asks.1.4.1.size_is
+room words (asked.Serve s) asks = few asks.1.2.hosts.parts s.content asks.1.2.hosts.serves.content_is
 room words (asked.Copy options from to) asks = tt
 room words (asked.Selftest seed size) asks = tt
 
 pub never_reads : (words : List (String Global)) (a : Asked) → Ask words a → ¬ IsCalls words → NeverReads a
 never_reads words asked.Calls asks other = other asks
 never_reads words (asked.Info what json place) asks other = tt
-never_reads words (asked.Serve place size seed read_only sessions) asks other = tt
+never_reads words (asked.Serve s) asks other = tt
 never_reads words (asked.Copy options from to) asks other = tt
 never_reads words (asked.Selftest seed size) asks other = tt
 
 pub on_wires : (words : List (String Global)) (a : Asked) → Ask words a → ¬ AskTest words → IsOnWires a
 on_wires words asked.Calls asks other = tt
 on_wires words (asked.Info what json place) asks other = tt
-on_wires words (asked.Serve place size seed read_only sessions) asks other = tt
+on_wires words (asked.Serve s) asks other = tt
 on_wires words (asked.Copy options from to) asks other = tt
 on_wires words (asked.Selftest seed size) asks other = other (record { seed = seed; size = size }, asks)
 
+-- Where no file and no program is asked for, the tool asks for none.
+
+pub no_file : (words : List (String Global)) (a : Asked) → Ask words a → ¬ AskFile words → AsksNoFile a
+no_file words asked.Calls asks other = tt
+no_file words (asked.Info what json place) asks other = tt
+no_file words (asked.Serve s) asks other = made s.content (λ file. other (s, asks, file))
+  where
+    made : (content : Content) → ¬ IsFile content → IsMade content
+    made (Made seed size) none = tt
+    made (File path) none = absurd (none tt)
+no_file words (asked.Copy options from to) asks other = tt
+no_file words (asked.Selftest seed size) asks other = tt
+
+pub no_program : (words : List (String Global)) (a : Asked) → Ask words a → ¬ AskProgram words → AsksNoProgram a
+no_program words asked.Calls asks other = tt
+no_program words (asked.Info what json place) asks other = tt
+no_program words (asked.Serve s) asks other = none s.run (λ some. other (s, asks, some))
+  where
+    none : (run : List (List ℕ)) → ¬ (run ≢ []) → run ≡ []
+    none [] never = refl
+    none (program ∷ words) never = absurd (never (λ e. cc e))
+no_program words (asked.Copy options from to) asks other = tt
+no_program words (asked.Selftest seed size) asks other = tt
+
 -- Where memory ran out before it was known what they ask, nothing was done.
 
-module _ {I W O : Type 0} (left : I → Option (List ℕ)) (input : I) (told : W → Option (List Call)) (wires : W) (taken : O → Option (List ℕ)) (out : O) where
-  unbegun : (a : Asked) → Did left input input told wires wires taken out out (Err fault.NoMemory) a
-  unbegun asked.Calls = record { does = calls.NotRead (inr refl) (refl, refl); known = refl; accepts = λ held e. cc e }
-  unbegun (asked.Info what json place) = record { does = informs.Unbegun refl refl refl; known = refl; accepts = tt }
-  unbegun (asked.Serve place size seed read_only sessions) = record { does = serves.Unbegun refl refl refl; known = refl; accepts = tt }
-  unbegun (asked.Copy options from to) = record { does = (copies.Unbegun refl refl, refl); known = refl; accepts = tt }
-  unbegun (asked.Selftest seed size) = record { does = (trials.Unmade refl refl, refl); known = refl; accepts = (λ small e. cc e, λ large. inr refl) }
+module _ {I W O S P : Type 0} (left : I → Option (List ℕ)) (input : I) (told : W → Option (List Call)) (wires : W) (taken : O → Option (List ℕ)) (out : O)
+    (moved : S → Option (List Move)) (shelf : S → Option Shelf) (store : S) (deeds : P → Option (List Deed)) (spawn : P) where
+  -- so does each tool end
+  abbrev Unmade : Asked → Type 0
+  Unmade a = Did left input input told wires wires taken out out moved shelf store store deeds spawn spawn (Err fault.NoMemory) a
+
+  hosting : (s : Serving) (content : Content) (run : List (List ℕ)) → ServeDoes content run s told wires wires taken out out moved store store deeds spawn spawn (Err fault.NoMemory)
+  hosting s (Made seed size) [] = serves.Unbegun refl refl refl
+  hosting s (Made seed size) (program ∷ words) = beside.Unbegun refl (refl, refl, refl, refl)
+  hosting s (File path) run = beside.Unbegun refl (refl, refl, refl, refl)
+
+  short : (content : Content) (run : List (List ℕ)) → is_serving_known content run 9 ≡ true
+  short (Made seed size) [] = refl
+  short (Made seed size) (program ∷ words) = refl
+  short (File path) run = refl
+
+  unbegun : (a : Asked) → Unmade a
+  unbegun asked.Calls = record { does = calls.NotRead (inr refl) (refl, refl); known = refl; accepts = λ held e. cc e; store_same = λ none. refl; spawn_same = λ none. refl; file = tt; child = tt }
+  unbegun (asked.Info what json place) = record { does = informs.Unbegun refl refl refl; known = refl; accepts = tt; store_same = λ none. refl; spawn_same = λ none. refl; file = tt; child = tt }
+  unbegun (asked.Serve s) = record {
+    does = hosting s s.content s.run;
+    known = short s.content s.run;
+    accepts = tt;
+    store_same = λ none. refl;
+    spawn_same = λ none. refl;
+    file = λ here done. cc done;
+    child = λ here done. cc done;
+  }
+  unbegun (asked.Copy options from to) = record { does = (copies.Unbegun refl refl, refl); known = refl; accepts = tt; store_same = λ none. refl; spawn_same = λ none. refl; file = tt; child = tt }
+  unbegun (asked.Selftest seed size) = record {
+    does = (trials.Unmade refl refl, refl);
+    known = refl;
+    accepts = (λ small e. cc e, λ large. inr refl);
+    store_same = λ none. refl;
+    spawn_same = λ none. refl;
+    file = tt;
+    child = tt;
+  }
 
   pub unread : (why : Fault) (a : Asked) → (◌≡◌ {A = Result Asked Fault} (Err why) (Ok a)) ⊎ (◌≡◌ {A = Result Asked Fault} (Err why) (Err fault.NoMemory))
-      → Did left input input told wires wires taken out out (Err why) a
+      → Did left input input told wires wires taken out out moved shelf store store deeds spawn spawn (Err why) a
   unread why a (inl is) = absurd (cc is)
-  unread why a (inr is) = let same : why ≡ fault.NoMemory = cc is in subst (λ (w : Fault). Did left input input told wires wires taken out out (Err w) a) (sym same) (unbegun a)
+  unread why a (inr is) =
+      let same : why ≡ fault.NoMemory = cc is in
+      subst (λ (w : Fault). Did left input input told wires wires taken out out moved shelf store store deeds spawn spawn (Err w) a) (sym same) (unbegun a)

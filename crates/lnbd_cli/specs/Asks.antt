@@ -1,5 +1,5 @@
 -- What the words ask for, and of which tool; or that they ask for nothing.
-use Rattle.std.specs.Prelude.{List, String, map, string_bytes}
+use Rattle.std.specs.Prelude.{◌≡◌, ◌≢◌, ◌∷◌, ℕ, Bool, true, false, List, [], String, map, string_bytes}
 use Rattle.std.specs.declared.alloc.Global.{Global}
 use Rattle.lnbd_args.specs.declared.asked.Asked.{Asked}
 use Rattle.lnbd_args.specs.declared.asked.Asked.TheVariants as asked
@@ -10,6 +10,9 @@ use Rattle.lnbd_cli.specs.declared.copying.Transfer.{Transfer}
 use Rattle.lnbd_cli.specs.declared.hearing.Question.{Question}
 use Rattle.lnbd_cli.specs.declared.selftesting.Trial.{Trial}
 use Rattle.lnbd_cli.specs.declared.serving.Service.{Service}
+use Rattle.lnbd_store.specs.declared.serving.Content.{Content}
+use Rattle.lnbd_store.specs.declared.serving.Content.TheVariants.{Made, File}
+use Rattle.lnbd_store.specs.declared.serving.Serving.{Serving}
 
 -- The words as they are spelled name a tool and ask this of it.
 abbrev pub Ask : List (String Global) → Asked → Type 0
@@ -23,9 +26,39 @@ IsCalls words = Ask words asked.Calls
 abbrev pub IsInfo : List (String Global) → Question → Type 0
 IsInfo words q = Ask words (asked.Info q.what q.json q.place)
 
--- serve: this is to be served
+-- what serving made contents alone is asked as: there is no address for a program, and no program
+abbrev pub serving_of : Service → Serving
+serving_of s = record { place = s.place; content = Made s.seed s.size; read_only = s.read_only; sessions = s.sessions; uri = []; run = [] }
+
+-- serve: these contents are to be made and served
 abbrev pub IsServe : List (String Global) → Service → Type 0
-IsServe words s = Ask words (asked.Serve s.place s.size s.seed s.read_only s.sessions)
+IsServe words s = Ask words (asked.Serve (serving_of s))
+
+-- made contents are served, and no program runs beside
+abbrev pub is_alone : Content → (run : List (List ℕ)) → Bool
+is_alone (Made seed size) [] = true
+is_alone (Made seed size) (program ∷ words) = false
+is_alone (File path) run = false
+
+-- serve: a file is to be served, or something beside a program
+abbrev pub IsBeside : List (String Global) → Serving → Type 0
+IsBeside words s = Ask words (asked.Serve s) × (is_alone s.content s.run ≡ false)
+
+-- They ask for that.
+abbrev pub AskBeside : List (String Global) → Type 0
+AskBeside words = (s : Serving) × IsBeside words s
+
+-- a file is served
+abbrev pub IsFile : Content → Type 0
+IsFile (Made seed size) = ⊥
+IsFile (File path) = Unit {0}
+
+-- They ask for a file to be served, or for a program to be run.
+abbrev pub AskFile : List (String Global) → Type 0
+AskFile words = (s : Serving) × Ask words (asked.Serve s) × IsFile s.content
+
+abbrev pub AskProgram : List (String Global) → Type 0
+AskProgram words = (s : Serving) × Ask words (asked.Serve s) × (s.run ≢ [])
 
 -- nbdcopy: this is to be copied
 abbrev pub IsCopy : List (String Global) → Transfer → Type 0

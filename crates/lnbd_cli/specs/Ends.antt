@@ -71,6 +71,8 @@ abbrev pub ruling_text : Ruling → List ℕ
 ruling_text (ruling.Copy rule) = rule_text rule
 ruling_text (ruling.NoContext context) = codes "no-context " ++ context
 ruling_text (ruling.TooLarge size) = codes "selftest-size " ++ decimal size ++ codes " 16777216"
+ruling_text (ruling.FileSize length) = codes "file-size " ++ decimal length ++ codes " 1073741824"
+ruling_text (ruling.Changed length end) = codes "changed " ++ decimal length ++ codes " " ++ decimal end
 
 abbrev pub fault_text : Fault → List ℕ
 fault_text fault.Usage = codes "usage"

@@ -6,7 +6,9 @@ pub mod Calls
 pub mod Heard
 pub mod Informs
 pub mod Serves
+pub mod Beside
 pub mod Copies
 pub mod Trials
 pub mod Runs
+pub mod Hosts
 pub mod Did

@@ -1,17 +1,23 @@
 -- What a run is, by what its words ask; and which statuses each tool tells.
-use Rattle.std.specs.Prelude.{◌≡◌, ℕ, Bool, List, Option, Ok, Err, String}
+use Rattle.std.specs.Prelude.{◌≡◌, ◌∷◌, ℕ, Bool, List, [], Option, Ok, Err, String}
 use Rattle.std.specs.declared.alloc.Global.{Global}
 use Rattle.lnbd_args.specs.declared.asked.Asked.{Asked}
 use Rattle.lnbd_args.specs.declared.asked.Asked.TheVariants as asked
 use Rattle.lnbd_link.specs.Call.{Call}
+use Rattle.lnbd_spawn.specs.declared.deed.Deed.{Deed}
+use Rattle.lnbd_store.specs.Call.{Call as Move}
+use Rattle.lnbd_store.specs.declared.serving.Content.{Content}
+use Rattle.lnbd_store.specs.declared.serving.Content.TheVariants.{Made, File}
+use Rattle.lnbd_store.specs.declared.serving.Serving.{Serving}
 use Rattle.lnbd_cli.specs.declared.copying.Transfer.{Transfer}
 use Rattle.lnbd_cli.specs.declared.hearing.Question.{Question}
 use Rattle.lnbd_cli.specs.declared.selftesting.Trial.{Trial}
 use Rattle.lnbd_cli.specs.declared.serving.Service.{Service}
-use Rattle.lnbd_cli.specs.Asks.{IsCalls, IsSelftest, Refuses}
+use Rattle.lnbd_cli.specs.Asks.{IsBeside, IsCalls, IsSelftest, Refuses}
+use Rattle.lnbd_cli.specs.Beside.{BesideEnds, is_beside_status}
 use Rattle.lnbd_cli.specs.Calls.{CallsEnds, HoldsScript, is_calls_status}
 use Rattle.lnbd_cli.specs.Copies.{CopyEnds, is_copy_status}
-use Rattle.lnbd_cli.specs.Ends.{End, IsPatient, IsSound}
+use Rattle.lnbd_cli.specs.Ends.{End, IsPatient, IsReported, IsSound, Prints}
 use Rattle.lnbd_cli.specs.Informs.{InfoEnds, is_info_status}
 use Rattle.lnbd_cli.specs.Serves.{ServeEnds, is_serve_status}
 use Rattle.lnbd_cli.specs.Trials.{TestEnds, is_test_status}
@@ -30,6 +36,23 @@ RunsInfo q told wires wires' taken out out' end = InfoEnds q (told wires) (told 
 -- serve: this was served
 abbrev pub RunsServe : {W O : Type 0} → Service → (told : W → Option (List Call)) (wires wires' : W) (taken : O → Option (List ℕ)) (out out' : O) → End → Type 0
 RunsServe service told wires wires' taken out out' end = ServeEnds service (told wires) (told wires') (taken out) (taken out') (wires' ≡ wires) (out' ≡ out) end
+
+-- serve: this was served, a file or beside a program
+abbrev pub RunsBeside : {W O S P : Type 0} → Serving → (told : W → Option (List Call)) (wires wires' : W) (taken : O → Option (List ℕ)) (out out' : O)
+    (moved : S → Option (List Move)) (store store' : S) (deeds : P → Option (List Deed)) (spawn spawn' : P) → End → Type 0
+RunsBeside s told wires wires' taken out out' moved store store' deeds spawn spawn' end =
+    BesideEnds s (told wires) (told wires') (taken out) (taken out') (moved store) (moved store') (deeds spawn) (deeds spawn')
+    ((wires' ≡ wires) × (out' ≡ out) × (store' ≡ store) × (spawn' ≡ spawn)) end
+
+-- What the words ask to be served so came to an end of which this holds.
+abbrev pub Beside : {W O S P : Type 0} → List (String Global) → (told : W → Option (List Call)) (wires wires' : W) (taken : O → Option (List ℕ)) (out out' : O)
+    (moved : S → Option (List Move)) (store store' : S) (deeds : P → Option (List Deed)) (spawn spawn' : P) → (Tell : End → Type 0) → Type 0
+Beside words told wires wires' taken out out' moved store store' deeds spawn spawn' Tell =
+    (s : Serving) → IsBeside words s → (end : End) × RunsBeside s told wires wires' taken out out' moved store store' deeds spawn spawn' end × Tell end
+
+-- This status and the line on err tell an end.
+abbrev pub Tells : {E : Type 0} → (taken : E → Option (List ℕ)) (faults : E → ℕ) (err err' : E) → (status : ℕ) → End → Type 0
+Tells taken faults err err' status end = IsReported end (Prints taken faults err err') status
 
 -- nbdcopy: this was copied, and nothing printed on out
 abbrev pub RunsCopy : {W O : Type 0} → Transfer → (told : W → Option (List Call)) (wires wires' : W) (out out' : O) → End → Type 0
@@ -67,14 +90,28 @@ pub record AreQuiet {W : Type 0} (faults idles : W → ℕ) (old new : W) : Type
 abbrev pub AreSound : {I O : Type 0} → (faults : I → ℕ) (input input' : I) (failures : O → ℕ) (out out' : O) → Type 0
 AreSound faults input input' failures out out' = IsSound faults input input' × IsSound failures out out'
 
+-- No call failed on the wires, the output, the store and the spawner, and the wires waited for less than is borne.
+pub record Still {W O S P : Type 0} (faults idles : W → ℕ) (wires wires' : W) (failures : O → ℕ) (out out' : O) (stored : S → ℕ) (store store' : S) (spawned : P → ℕ) (spawn spawn' : P)
+    : Type 0 where
+  pub quiet : AreQuiet faults idles wires wires'
+  pub printed : IsSound failures out out'
+  pub stores : IsSound stored store store'
+  pub spawns : IsSound spawned spawn spawn'
+
 -- They ask for a copy in memory.
 abbrev pub AskTest : List (String Global) → Type 0
 AskTest words = (trial : Trial) × IsSelftest words trial
+
+-- The statuses that serve tells, by whether it serves made contents alone.
+abbrev pub is_serving_known : Content → (run : List (List ℕ)) → (status : ℕ) → Bool
+is_serving_known (Made seed size) [] status = is_serve_status status
+is_serving_known (Made seed size) (program ∷ words) status = is_beside_status status
+is_serving_known (File path) run status = is_beside_status status
 
 -- The statuses that a tool tells.
 abbrev pub is_known : Asked → (status : ℕ) → Bool
 is_known asked.Calls status = is_calls_status status
 is_known (asked.Info what json place) status = is_info_status status
-is_known (asked.Serve place size seed read_only sessions) status = is_serve_status status
+is_known (asked.Serve s) status = is_serving_known s.content s.run status
 is_known (asked.Copy options from to) status = is_copy_status status
 is_known (asked.Selftest seed size) status = is_test_status status

@@ -21,6 +21,10 @@ pub(crate) enum Ruling {
     NoContext(Text),
     /// So many bytes are more than a selftest copies.
     TooLarge(u64),
+    /// A file of so many bytes is longer than one that is served.
+    FileSize(u64),
+    /// A file that told so many bytes ended before the byte at this place.
+    Changed { length: u64, end: u64 },
 }
 
 /// Why a run does not end well. Of those that are found in one call the first of this order is told: want of input, of memory and of a grammar, a failed link, local
@@ -71,6 +75,8 @@ fn status_of_fault(why: &Fault) -> u8
     ensures silent { result ≡ 7 → why.now ≡ fault.Silent }
     ensures output { result ≡ 8 → why.now ≡ fault.Output }
     ensures input { result ≡ 10 → why.now ≡ fault.Input }
+    ensures store { result ≡ 11 → why.now ≡ fault.Store }
+    ensures spawn { result ≡ 13 → why.now ≡ fault.Spawn }
 {
     match why {
         Fault::Usage | Fault::Uri(_) | Fault::Line(_) => 1,
@@ -97,6 +103,8 @@ fn status_of(end: &End) -> u8
     ensures silent { result ≡ 7 → end.now ≡ Err fault.Silent }
     ensures output { result ≡ 8 → end.now ≡ Err fault.Output }
     ensures input { result ≡ 10 → end.now ≡ Err fault.Input }
+    ensures store { result ≡ 11 → end.now ≡ Err fault.Store }
+    ensures spawn { result ≡ 13 → end.now ≡ Err fault.Spawn }
 {
     match end {
         Ok(holds) => { if *holds { 0 } else { 2 } }
@@ -153,6 +161,18 @@ fn push_too_large(text: &mut String, size: u64) -> Result<(), AllocError>
     write!(text, "selftest-size {size} 16777216")
 }
 
+fn push_file_size(text: &mut String, length: u64) -> Result<(), AllocError>
+    ensures { OnOk result (string_bytes text.new ≡ string_bytes text.old ++ ruling_text (ruling.FileSize length)) }
+{
+    write!(text, "file-size {length} 1073741824")
+}
+
+fn push_changed(text: &mut String, length: u64, end: u64) -> Result<(), AllocError>
+    ensures { OnOk result (string_bytes text.new ≡ string_bytes text.old ++ ruling_text (ruling.Changed length end)) }
+{
+    write!(text, "changed {length} {end}")
+}
+
 fn push_ruling(text: &mut String, why: &Ruling) -> Result<(), AllocError>
     ensures { OnOk result (string_bytes text.new ≡ string_bytes text.old ++ ruling_text why.now) }
 {
@@ -160,6 +180,8 @@ fn push_ruling(text: &mut String, why: &Ruling) -> Result<(), AllocError>
         Ruling::Copy(rule) => push_rule(text, *rule),
         Ruling::NoContext(context) => push_no_context(text, context),
         Ruling::TooLarge(size) => push_too_large(text, *size),
+        Ruling::FileSize(length) => push_file_size(text, *length),
+        Ruling::Changed { length, end } => push_changed(text, *length, *end),
     }
 }
 
@@ -231,6 +253,8 @@ pub(crate) fn print_end<E: Sink>(alloc: Global, end: &End, err: &mut E) -> u8
     ensures silent { result ≡ 7 → end.now ≡ Err fault.Silent }
     ensures output { result ≡ 8 → end.now ≡ Err fault.Output }
     ensures input { result ≡ 10 → end.now ≡ Err fault.Input }
+    ensures store { result ≡ 11 → end.now ≡ Err fault.Store }
+    ensures spawn { result ≡ 13 → end.now ≡ Err fault.Spawn }
 {
     let mut text = String::new(alloc);
     match push_line(&mut text, end) {

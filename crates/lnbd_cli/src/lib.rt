@@ -2,6 +2,7 @@
 //! the status that it ends with. Nothing is read or written but through the traits of the outside.
 #![tactic(auto)]
 
+mod beside;
 mod calling;
 mod copying;
 mod counts;

@@ -4,14 +4,16 @@ ghost use Rattle.std.specs.Prelude.{◌≡◌, ◌⊎◌, ◌<◌, ◌≤◌, Er
 ghost use Rattle.lnbd_args.specs.declared.asked.Asked.{Asked};
 ghost use Rattle.lnbd_link.specs.Count.{Rises};
 ghost use Rattle.lnbd_script.specs.Seen.{patience};
-ghost use Rattle.lnbd_cli.specs.Asks.{Ask, AskNothing, IsCalls, IsCopy, IsInfo, IsSelftest, IsServe};
+ghost use Rattle.lnbd_store.specs.declared.serving.Serving.{Serving};
+ghost use Rattle.lnbd_cli.specs.Asks.{Ask, AskBeside, AskFile, AskNothing, AskProgram, IsBeside, IsCalls, IsCopy, IsInfo, IsSelftest, IsServe};
+ghost use Rattle.lnbd_cli.specs.Beside.{FileServed, IsBesideDone, ProgramRan, is_all_done};
 ghost use Rattle.lnbd_cli.specs.Calls.{IsPlayDone};
 ghost use Rattle.lnbd_cli.specs.Copies.{IsCopyDone};
-ghost use Rattle.lnbd_cli.specs.Did.{Did, HasRoom, IsOnWires, NeverReads};
+ghost use Rattle.lnbd_cli.specs.Did.{Did, DidAsked, HasRoom, IsOnWires, NeverReads};
 ghost use Rattle.lnbd_cli.specs.Ends.{Came, IsPatient, IsSound, Prints};
 ghost use Rattle.lnbd_cli.specs.Informs.{IsInfoDone};
 ghost use Rattle.lnbd_cli.specs.Inputs.{ReadAtMost};
-ghost use Rattle.lnbd_cli.specs.Runs.{AreQuiet, AreSound, AskTest, IsPlay, IsRefused, Nothing, Refused, RunsCalls, RunsCopy, RunsInfo, RunsSelftest, RunsServe, is_known};
+ghost use Rattle.lnbd_cli.specs.Runs.{AreQuiet, AreSound, AskTest, Beside, IsPlay, IsRefused, Nothing, Refused, RunsCalls, RunsCopy, RunsInfo, RunsSelftest, RunsServe, Still, Tells, is_known};
 ghost use Rattle.lnbd_cli.specs.Serves.{IsServeDone};
 ghost use Rattle.lnbd_cli.specs.Limits.{most_read, most_tested};
 ghost use Rattle.lnbd_cli.specs.declared.copying.Transfer.{Transfer};
@@ -27,7 +29,7 @@ use crate::hearing::Question;
 use crate::informing::inform;
 use crate::reading::read;
 use crate::selftesting::{Trial, test};
-use crate::serving::{Service, host};
+use crate::serving::attend;
 use lnbd_args::Asked;
 use lnbd_link::{Sink, Source, Wires};
 use lnbd_spawn::Spawner;
@@ -38,8 +40,9 @@ use std::alloc::Global;
 ///
 /// 0: all is done. 1: words or a script are in no grammar. 2: what nbdinfo was asked is false. 3: the peer answered an option or a command by an error. 4: it broke
 /// the protocol, or ended before the run was done; a client of serve broke it. 5: a link failed. 6: the server did not agree to a map's context, two exports don't
-/// fit for a copy, or a selftest's size is too large. 7: the wires were idle for too long. 8: `out` failed. 9: memory ran out. 10: `input` failed. Every status but 0
-/// and 2 prints its line on `err`. No tool of today tells 11, a local file's fault, 12, how a child ended, or 13, a program that could not be started.
+/// fit for a copy, or the size of a selftest or of a served file is too large. 7: the wires were idle for too long. 8: `out` failed. 9: memory ran out. 10: `input`
+/// failed. 11: a call on a local file failed. 12: the program beside which serve ran ended badly. 13: it could not be started, or how it ended could not be had. Every
+/// status but 0 and 2 prints its line on `err`.
 pub fn run<W: Wires, I: Source, O: Sink, E: Sink, S: Store, P: Spawner>(
     alloc: Global,
     words: &[String],
@@ -54,6 +57,7 @@ pub fn run<W: Wires, I: Source, O: Sink, E: Sink, S: Store, P: Spawner>(
     ensures calls { IsCalls words.now → Came (RunsCalls I.left input.old input.new W.told wires.old wires.new O.taken out.old out.new) (Prints E.taken E.faults err.old err.new) result }
     ensures info { (q : Question) → IsInfo words.now q → Came (RunsInfo q W.told wires.old wires.new O.taken out.old out.new) (Prints E.taken E.faults err.old err.new) result }
     ensures serve { (s : Service) → IsServe words.now s → Came (RunsServe s W.told wires.old wires.new O.taken out.old out.new) (Prints E.taken E.faults err.old err.new) result }
+    ensures beside { Beside words.now W.told wires.old wires.new O.taken out.old out.new S.told store.old store.new P.told spawn.old spawn.new (Tells E.taken E.faults err.old err.new result) }
     ensures copy { (t : Transfer) → IsCopy words.now t → Came (RunsCopy t W.told wires.old wires.new out.old out.new) (Prints E.taken E.faults err.old err.new) result }
     ensures selftest { (t : Trial) → IsSelftest words.now t → Came (RunsSelftest t wires.old wires.new O.taken out.old out.new) (Prints E.taken E.faults err.old err.new) result }
 
@@ -68,9 +72,13 @@ pub fn run<W: Wires, I: Source, O: Sink, E: Sink, S: Store, P: Spawner>(
     ensures unread { (¬ IsCalls words.now) → input.new ≡ input.old }
     ensures most { ReadAtMost most_read (I.left input.old) (I.left input.new) }
 
-    // No tool of today asks for a local file or for a program.
-    ensures store { store.new ≡ store.old }
-    ensures spawner { spawn.new ≡ spawn.old }
+    // On 0, 4 and 12 a file that was served is what its clients' requests make of it, and a program was run once.
+    ensures file { (s : Serving) → IsBeside words.now s → is_all_done result ≡ true → FileServed s (W.told wires.old) (W.told wires.new) (S.shelf store.old) (S.shelf store.new) result }
+    ensures child { (s : Serving) → IsBeside words.now s → is_all_done result ≡ true → ProgramRan s (P.told spawn.old) (P.told spawn.new) result }
+
+    // Files are opened for no other words, and no program is started for others.
+    ensures store { (¬ AskFile words.now) → store.new ≡ store.old }
+    ensures spawner { (¬ AskProgram words.now) → spawn.new ≡ spawn.old }
 
     // No other status is told.
     ensures known { (asked : Asked) → Ask words.now asked → is_known asked result ≡ true }
@@ -81,6 +89,8 @@ pub fn run<W: Wires, I: Source, O: Sink, E: Sink, S: Store, P: Spawner>(
     ensures silent_cause { result ≡ 7 → Rises patience (W.idles wires.old) (W.idles wires.new) }
     ensures output_cause { result ≡ 8 → Rises 1 (O.faults out.old) (O.faults out.new) }
     ensures input_cause { result ≡ 10 → Rises 1 (I.faults input.old) (I.faults input.new) }
+    ensures store_cause { result ≡ 11 → Rises 1 (S.faults store.old) (S.faults store.new) }
+    ensures spawn_cause { result ≡ 13 → Rises 1 (P.faults spawn.old) (P.faults spawn.new) }
     ensures well { (¬ AskTest words.now) → (result ≡ 0) ⊎ (result ≡ 2) → IsSound W.faults wires.old wires.new }
     ensures patient { (¬ AskTest words.now) → (result ≡ 0) ⊎ (result ≡ 2) → IsPatient W.idles wires.old wires.new }
 
@@ -88,30 +98,35 @@ pub fn run<W: Wires, I: Source, O: Sink, E: Sink, S: Store, P: Spawner>(
     ensures complete { IsPlay words.now (I.left input.old) → AreQuiet W.faults W.idles wires.old wires.new → AreSound I.faults input.old input.new O.faults out.old out.new → IsPlayDone result }
     ensures info_complete { (q : Question) → IsInfo words.now q → AreQuiet W.faults W.idles wires.old wires.new → IsSound O.faults out.old out.new → IsInfoDone result }
     ensures serve_complete { (s : Service) → IsServe words.now s → AreQuiet W.faults W.idles wires.old wires.new → IsSound O.faults out.old out.new → IsServeDone result }
+    ensures beside_done { AskBeside words.now → Still W.faults W.idles wires.old wires.new O.faults out.old out.new S.faults store.old store.new P.faults spawn.old spawn.new → IsBesideDone result }
     ensures copy_complete { (t : Transfer) → IsCopy words.now t → AreQuiet W.faults W.idles wires.old wires.new → IsCopyDone result }
     ensures selftest_complete { (t : Trial) → IsSelftest words.now t → t.size ≤ most_tested → IsSound O.faults out.old out.new → (result ≡ 0) ⊎ (result ≡ 9) }
     ensures selftest_refuses { (t : Trial) → IsSelftest words.now t → most_tested < t.size → (result ≡ 6) ⊎ (result ≡ 9) }
 {
-    let end = tool(alloc, words, input, wires, out);
+    let end = tool(alloc, words, input, wires, out, store, spawn);
     print_end(alloc, &end, err)
 }
 
 /// Does what the words ask, but for the line of its end.
-fn act<W: Wires, I: Source, O: Sink>(
+fn act<W: Wires, I: Source, O: Sink, S: Store, P: Spawner>(
     alloc: Global,
     asked: Asked,
     input: &mut I,
     wires: &mut W,
     out: &mut O,
+    store: &mut S,
+    spawn: &mut P,
 ) -> End
     requires { HasRoom asked }
-    ensures did { Did I.left input.old input.new W.told wires.old wires.new O.taken out.old out.new result asked }
+    ensures did { Did I.left input.old input.new W.told wires.old wires.new O.taken out.old out.new S.told S.shelf store.old store.new P.told spawn.old spawn.new result asked }
     ensures unread { NeverReads asked → input.new ≡ input.old }
     ensures most { ReadAtMost most_read (I.left input.old) (I.left input.new) }
     ensures link { result ≡ Err fault.Link → Rises 1 (W.faults wires.old) (W.faults wires.new) }
     ensures silent { result ≡ Err fault.Silent → Rises patience (W.idles wires.old) (W.idles wires.new) }
     ensures output { result ≡ Err fault.Output → Rises 1 (O.faults out.old) (O.faults out.new) }
     ensures input { result ≡ Err fault.Input → Rises 1 (I.faults input.old) (I.faults input.new) }
+    ensures storing { result ≡ Err fault.Store → Rises 1 (S.faults store.old) (S.faults store.new) }
+    ensures spawning { result ≡ Err fault.Spawn → Rises 1 (P.faults spawn.old) (P.faults spawn.new) }
     ensures well { IsOnWires asked → OnOk result (IsSound W.faults wires.old wires.new) }
     ensures patient { IsOnWires asked → OnOk result (IsPatient W.idles wires.old wires.new) }
 {
@@ -120,50 +135,41 @@ fn act<W: Wires, I: Source, O: Sink>(
         Asked::Info { what, json, place } => {
             inform(alloc, Question { what, json, place }, wires, out)
         }
-        Asked::Serve {
-            place,
-            size,
-            seed,
-            read_only,
-            sessions,
-        } => {
-            let service = Service {
-                place,
-                size,
-                seed,
-                read_only,
-                sessions,
-            };
-            host(alloc, &service, wires, out)
-        }
+        Asked::Serve(asked) => attend(alloc, asked, wires, out, store, spawn),
         Asked::Copy { options, from, to } => copy(alloc, Transfer { options, from, to }, wires),
         Asked::Selftest { seed, size } => test(alloc, Trial { seed, size }, out),
     }
 }
 
 /// A run but for its line.
-fn tool<W: Wires, I: Source, O: Sink>(
+fn tool<W: Wires, I: Source, O: Sink, S: Store, P: Spawner>(
     alloc: Global,
     words: &[String],
     input: &mut I,
     wires: &mut W,
     out: &mut O,
+    store: &mut S,
+    spawn: &mut P,
 ) -> End
-    ensures did { (asked : Asked) → Ask words.now asked → Did I.left input.old input.new W.told wires.old wires.new O.taken out.old out.new result asked }
+    ensures did { DidAsked words.now I.left input.old input.new W.told wires.old wires.new O.taken out.old out.new S.told S.shelf store.old store.new P.told spawn.old spawn.new result }
     ensures decided { ((asked : Asked) × Ask words.now asked) ⊎ Refused words.now wires.old wires.new out.old out.new result }
     ensures refused { AskNothing words.now → IsRefused words.now result }
     ensures refused_alone { AskNothing words.now → Nothing wires.old wires.new out.old out.new }
     ensures unread { (¬ IsCalls words.now) → input.new ≡ input.old }
+    ensures store { (¬ AskFile words.now) → store.new ≡ store.old }
+    ensures spawner { (¬ AskProgram words.now) → spawn.new ≡ spawn.old }
     ensures most { ReadAtMost most_read (I.left input.old) (I.left input.new) }
     ensures link { result ≡ Err fault.Link → Rises 1 (W.faults wires.old) (W.faults wires.new) }
     ensures silent { result ≡ Err fault.Silent → Rises patience (W.idles wires.old) (W.idles wires.new) }
     ensures output { result ≡ Err fault.Output → Rises 1 (O.faults out.old) (O.faults out.new) }
     ensures input { result ≡ Err fault.Input → Rises 1 (I.faults input.old) (I.faults input.new) }
+    ensures storing { result ≡ Err fault.Store → Rises 1 (S.faults store.old) (S.faults store.new) }
+    ensures spawning { result ≡ Err fault.Spawn → Rises 1 (P.faults spawn.old) (P.faults spawn.new) }
     ensures well { (¬ AskTest words.now) → OnOk result (IsSound W.faults wires.old wires.new) }
     ensures patient { (¬ AskTest words.now) → OnOk result (IsPatient W.idles wires.old wires.new) }
 {
     match read(alloc, words) {
-        Ok(asked) => act(alloc, asked, input, wires, out),
+        Ok(asked) => act(alloc, asked, input, wires, out, store, spawn),
         Err(fault) => Err(fault),
     }
 }

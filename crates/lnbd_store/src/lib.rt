@@ -7,11 +7,13 @@ mod file;
 mod files;
 mod log;
 mod memory;
+mod serving;
 mod side;
 mod store;
 
 pub use contents::Contents;
 pub use file::StoreFile;
 pub use memory::MemoryStore;
+pub use serving::{Content, Serving};
 pub use side::Side;
 pub use store::{Store, StoreFailed, StoreGot, StoreTook};

@@ -7,6 +7,8 @@
 #[cfg(test)]
 mod asked;
 #[cfg(test)]
+mod beside;
+#[cfg(test)]
 mod breaches;
 #[cfg(test)]
 mod copies;

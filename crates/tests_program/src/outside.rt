@@ -237,7 +237,26 @@ pub struct Ended {
     pub err: ListSink,
 }
 
-/// Runs the program with this input. No other function calls it.
+/// Runs the program with this input, over these files and programs. No other function calls it.
+pub fn played_beside(
+    alloc: Global,
+    words: &[String],
+    script: Vec<u8>,
+    streams: Streams,
+    wires: &mut Outside,
+    store: &mut MemoryStore,
+    spawn: &mut ListSpawner,
+) -> Result<Ended, Fail> {
+    let mut input = ListSource::new(script, streams.input_fails_at);
+    let mut out = ListSink::new(alloc, streams.output_room, streams.output_fails_at)?;
+    let mut err = ListSink::new(alloc, ROOM, streams.error_fails_at)?;
+    let status = run(
+        alloc, words, &mut input, wires, &mut out, &mut err, store, spawn,
+    );
+    Ok(Ended { status, out, err })
+}
+
+/// Runs the program with this input, where there are no files and no programs.
 pub fn played(
     alloc: Global,
     words: &[String],
@@ -245,15 +264,9 @@ pub fn played(
     streams: Streams,
     wires: &mut Outside,
 ) -> Result<Ended, Fail> {
-    let mut input = ListSource::new(script, streams.input_fails_at);
-    let mut out = ListSink::new(alloc, streams.output_room, streams.output_fails_at)?;
-    let mut err = ListSink::new(alloc, ROOM, streams.error_fails_at)?;
     let mut store = MemoryStore::new(alloc, Vec::new(alloc), None);
     let mut spawn = ListSpawner::new(alloc, Vec::new(alloc));
-    let status = run(
-        alloc, words, &mut input, wires, &mut out, &mut err, &mut store, &mut spawn,
-    );
-    Ok(Ended { status, out, err })
+    played_beside(alloc, words, script, streams, wires, &mut store, &mut spawn)
 }
 
 /// Words that are owned.

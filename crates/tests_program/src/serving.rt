@@ -23,7 +23,7 @@ const ASKED: &str = "49484156454f5054 00000007 00000006 00000000 0000 \
 
 /// What is written: the hello; GO's replies, which are the export of 65,536 bytes with its flags, the sizes of blocks, and
 /// ACK; and the first four bytes of the contents of seed 0.
-const HELLO: &str = "4e42444d41474943 49484156454f5054 0003";
+pub const HELLO: &str = "4e42444d41474943 49484156454f5054 0003";
 
 const GO: &str = "0003e889045565a9 00000007 00000003 0000000c 0000 0000000000010000 056d \
      0003e889045565a9 00000007 00000003 0000000e 0003 00000001 00001000 02000000 \
@@ -58,9 +58,9 @@ static CLIENTS: [Client; 2] = [
     },
 ];
 
-/// Wires by which one client comes in.
-fn client_of(alloc: Global, client: &Client) -> Result<Outside, Fail> {
-    let sent = Bytes::from_vec(all_of(alloc, client.sent)?);
+/// Wires by which a client comes in that sends these bytes.
+pub fn client_of(alloc: Global, sent: &[&str]) -> Result<Outside, Fail> {
+    let sent = Bytes::from_vec(all_of(alloc, sent)?);
     let link = ListLink {
         fails: false,
         reads: vec![in alloc; ReadAnswer::Bytes(sent)]?,
@@ -97,7 +97,7 @@ fn report_served(
 }
 
 fn serve(alloc: Global, report: &mut Report, client: Client) -> Result<(), Fail> {
-    let wires = client_of(alloc, &client)?;
+    let wires = client_of(alloc, client.sent)?;
     let finished = finish(alloc, &SERVE, Vec::new(alloc), STREAMS, wires)?;
     report_served(alloc, report, &client, &finished)
 }

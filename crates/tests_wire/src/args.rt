@@ -1,13 +1,13 @@
 //! Lists of words by example. What each asks for was read off the tools' grammar by hand.
 
 use crate::told::{Row, push_number, push_numbers, push_word, push_wrong, same, stretched};
-use lnbd_args::{ArgsFault, Asked, Predicate, What, read_words};
+use lnbd_args::{ArgsFault, Asked, Content, Predicate, Serving, What, read_words};
 use lnbd_model::{NoMemory, Place};
 use lnbd_plan::CopyOptions;
 use std::alloc::Global;
 
 // The options in their order, with 1 for what is so, and the names of the exports.
-static CASES: [Row; 65] = [
+static CASES: [Row; 97] = [
     ("nbdcalls", "calls"),
     ("nbdcalls x", "usage"),
     ("", "usage"),
@@ -98,6 +98,65 @@ static CASES: [Row; 65] = [
     ("serve nbd://h/a --size 1073741825", "usage"),
     ("serve nbd://h/a --size 1 --sessions 0", "usage"),
     ("serve nbd://h/a --size 1 -é", "usage"),
+    ("serve nbd://h/a --file d", "serve a file d 0 1"),
+    (
+        "serve --file=dir/d --read-only nbd://h/a --sessions 4",
+        "serve a file dir/d 1 4",
+    ),
+    ("serve nbd://h/a --file=-d", "serve a file -d 0 1"),
+    ("serve nbd://h/a --file d\0", "serve a file d\0 0 1"),
+    ("serve nbd://h/a --file d --size 1", "usage"),
+    ("serve nbd://h/a --size 1 --file d", "usage"),
+    ("serve nbd://h/a --file d --seed 0", "usage"),
+    ("serve nbd://h/a --seed=0 --file d", "usage"),
+    ("serve nbd://h/a --file d --file d", "usage"),
+    ("serve nbd://h/a --file", "usage"),
+    ("serve nbd://h/a --file=", "usage"),
+    ("serve nbd://h/a --file ", "usage"),
+    ("serve --file d", "usage"),
+    (
+        "serve nbd://h/a --size 1 --run p",
+        "serve a 1 0 0 1 run nbd://h/a p",
+    ),
+    (
+        "serve nbd://h/a --file d --sessions 2 --run p x",
+        "serve a file d 0 2 run nbd://h/a p x",
+    ),
+    (
+        "serve nbd://h/%61 --size 1 --run p\0",
+        "serve a 1 0 0 1 run nbd://h/%61 p\0",
+    ),
+    (
+        "serve nbd://h/a --size 1 --run p --size 3 -x - -- --run --help",
+        "serve a 1 0 0 1 run nbd://h/a p --size 3 -x - -- --run --help",
+    ),
+    (
+        "serve nbd://h/a --size 1 --run --run",
+        "serve a 1 0 0 1 run nbd://h/a --run",
+    ),
+    (
+        "serve nbd://h/a --size 1 --run ",
+        "serve a 1 0 0 1 run nbd://h/a ",
+    ),
+    (
+        "serve --size 1 -- nbd://h/a --run p",
+        "serve a 1 0 0 1 run nbd://h/a p",
+    ),
+    (
+        "serve --size 1 nbd://h/a -- --run p",
+        "serve a 1 0 0 1 run nbd://h/a p",
+    ),
+    ("serve --size 1 -- --run p", "usage"),
+    ("serve nbd://h/a --size 1 --run", "usage"),
+    ("serve nbd://h/a --size 1 -- --run", "usage"),
+    ("serve nbd://h/a --run p --size 1", "usage"),
+    ("serve --size 1 --run p nbd://h/a", "usage"),
+    ("serve nbd://h/a --size --run p", "usage"),
+    ("serve nbd://h/a --size 1 --run=p", "usage"),
+    ("serve nbd://h/a --size 1 --runs p", "usage"),
+    ("serve nbd://h/a --size 1 -run p", "usage"),
+    ("serve x --size 1 --run p", "uri Scheme"),
+    ("nbdinfo nbd://h/a --run p", "usage"),
     ("selftest 5 16777217", "selftest 5 16777217"),
     ("selftest 5", "usage"),
     ("selftest 5 -6", "usage"),
@@ -170,6 +229,42 @@ fn push_what(told: &mut String, what: &What) -> Result<(), NoMemory> {
     Ok(())
 }
 
+fn push_content(told: &mut String, content: &Content) -> Result<(), NoMemory> {
+    match content {
+        Content::Made { seed, size } => push_numbers(told, &[*size, *seed]),
+        Content::File(path) => {
+            told.push_str(" file")?;
+            push_word(told, path.as_str())
+        }
+    }
+}
+
+// Where a program is run, the address that it is given and its words stand at the end.
+fn push_serving(told: &mut String, serving: &Serving) -> Result<(), NoMemory> {
+    told.push_str("serve")?;
+    push_word(told, serving.place.name.as_str())?;
+    push_content(told, &serving.content)?;
+    push_numbers(told, &[yes(serving.read_only), serving.sessions as u64])?;
+    let run = serving.run.as_slice();
+    if run.is_empty() {
+        return push_uri(told, serving.uri.as_str());
+    }
+    told.push_str(" run")?;
+    push_word(told, serving.uri.as_str())?;
+    for word in run {
+        push_word(told, word.as_str())?;
+    }
+    Ok(())
+}
+
+// Where none is run, no address is kept.
+fn push_uri(told: &mut String, uri: &str) -> Result<(), NoMemory> {
+    if uri != "" {
+        push_word(told, uri)?;
+    }
+    Ok(())
+}
+
 fn push_asked(told: &mut String, asked: Asked) -> Result<(), NoMemory> {
     match asked {
         Asked::Calls => told.push_str("calls")?,
@@ -179,17 +274,7 @@ fn push_asked(told: &mut String, asked: Asked) -> Result<(), NoMemory> {
             push_number(told, yes(json))?;
             push_word(told, place.name.as_str())?;
         }
-        Asked::Serve {
-            place,
-            size,
-            seed,
-            read_only,
-            sessions,
-        } => {
-            told.push_str("serve")?;
-            push_word(told, place.name.as_str())?;
-            push_numbers(told, &[size, seed, yes(read_only), sessions as u64])?;
-        }
+        Asked::Serve(serving) => push_serving(told, &serving)?,
         Asked::Selftest { seed, size } => {
             told.push_str("selftest")?;
             push_numbers(told, &[seed, size])?;
@@ -223,18 +308,97 @@ fn words_ask_for_what_their_grammar_says(rt: HostRuntime) -> Result<(), NoMemory
     Ok(())
 }
 
-// No words at all, and a context of 4,096 bytes and of one more.
+/// Words of which one is stretched, and whether they are read.
+struct Long {
+    front: &'static str,
+    letters: usize,
+    back: &'static str,
+    is_read: bool,
+}
+
+static LONG: [Long; 11] = [
+    Long {
+        front: "nbdinfo nbd://h/a --map=",
+        letters: 4096,
+        back: "",
+        is_read: true,
+    },
+    Long {
+        front: "nbdinfo nbd://h/a --map=",
+        letters: 4097,
+        back: "",
+        is_read: false,
+    },
+    Long {
+        front: "serve nbd://h/a --file ",
+        letters: 4096,
+        back: "",
+        is_read: true,
+    },
+    Long {
+        front: "serve nbd://h/a --file ",
+        letters: 4097,
+        back: "",
+        is_read: false,
+    },
+    Long {
+        front: "serve nbd://h/a --size 1 --run ",
+        letters: 4096,
+        back: " x",
+        is_read: true,
+    },
+    Long {
+        front: "serve nbd://h/a --size 1 --run ",
+        letters: 4097,
+        back: " x",
+        is_read: false,
+    },
+    Long {
+        front: "serve nbd://h/a --size 1 --run p x ",
+        letters: 4096,
+        back: " y",
+        is_read: true,
+    },
+    Long {
+        front: "serve nbd://h/a --size 1 --run p x ",
+        letters: 4097,
+        back: " y",
+        is_read: false,
+    },
+    Long {
+        front: "serve nbd://h/",
+        letters: 4088,
+        back: " --size 1 --run p",
+        is_read: true,
+    },
+    Long {
+        front: "serve nbd://h/",
+        letters: 4089,
+        back: " --size 1 --run p",
+        is_read: false,
+    },
+    Long {
+        front: "serve nbd://h/",
+        letters: 4096,
+        back: " --size 1",
+        is_read: true,
+    },
+];
+
 #[test]
 fn lengths_are_kept(rt: HostRuntime) -> Result<(), NoMemory> {
     let alloc = rt.alloc();
-    let mut told = String::new(alloc);
-    push_told(alloc, &mut told, &[])?;
-    for letters in [4096, 4097] {
-        let text = stretched(alloc, "nbdinfo nbd://h/a --map=", letters, "")?;
+    let mut wrong = String::new(alloc);
+    for long in &LONG {
+        let text = stretched(alloc, long.front, long.letters, long.back)?;
         let words = words(alloc, text.as_str())?;
-        let is_read = read_words(alloc, words.as_slice()).is_ok();
-        push_number(&mut told, yes(is_read))?;
+        if read_words(alloc, words.as_slice()).is_ok() != long.is_read {
+            push_number(&mut wrong, long.letters as u64)?;
+            push_word(&mut wrong, long.front)?;
+        }
     }
-    same(&rt, told.as_str(), "usage 1 0");
+    // No words at all.
+    push_told(alloc, &mut wrong, &[])?;
+    same(&rt, wrong.as_str(), "usage");
     Ok(())
 }

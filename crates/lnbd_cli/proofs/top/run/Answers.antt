@@ -1,8 +1,11 @@
-use Rattle.std.proofs.Common.{◌≡◌, ◌⊎◌, inr, ℕ, List, refl, arith}
+use Rattle.std.proofs.Common.{◌≡◌, ◌⊎◌, inr, ℕ, true, List, refl, sym, subst, arith}
 use Rattle.lnbd_args.specs.declared.asked.Asked.TheVariants as asked
+use Rattle.lnbd_cli.specs.Asks.{serving_of}
+use Rattle.lnbd_cli.specs.Beside.{FileServed, ProgramRan, is_all_done}
 use Rattle.lnbd_cli.specs.Ends.{Prints}
 use Rattle.lnbd_cli.specs.Runs.{Refused}
-use Rattle.lnbd_cli.proofs.EndLemmas.{by_status, came_known, calls_done, copy_done, ends_well, info_done, known, of_end, refused_known, serve_done, test_done}
+use Rattle.lnbd_cli.proofs.EndLemmas.{beside_done, by_status, came_known, calls_done, copy_done, ends_well, info_done, known, of_done, of_end, refused_known, serve_done, test_done}
+use Rattle.lnbd_cli.proofs.ServingLemmas.{beside_known, beside_run}
 use Rattle.lnbd_cli.proofs.top.run.Goals as goal
 
 pub returns-clause-calls : goal.returns-clause-calls
@@ -14,9 +17,18 @@ returns-clause-info g c q asks = record { end = c.tool-end.result; ends = (c.too
 pub returns-clause-serve : goal.returns-clause-serve
 returns-clause-serve g c s asks = record {
   end = c.tool-end.result;
-  ends = (c.tool-end.ensures.did (asked.Serve s.place s.size s.seed s.read_only s.sessions) asks).does;
+  ends = (c.tool-end.ensures.did (asked.Serve (serving_of s)) asks).does;
   tells = c.print_end.ensures.tells;
 }
+
+pub returns-clause-beside : goal.returns-clause-beside
+returns-clause-beside g c s asks = (
+  c.tool-end.result,
+  beside_run g.W.Wires.told c.args.wires.now c.tool-end.new.wires g.O.Sink.taken c.args.out.now c.tool-end.new.out
+      g.S.Store.told g.S.Store.shelf c.args.store.now c.tool-end.new.store g.P.Spawner.told c.args.spawn.now c.tool-end.new.spawn c.tool-end.result s s.content s.run asks.1
+      (c.tool-end.ensures.did (asked.Serve s) asks.0).does,
+  c.print_end.ensures.tells,
+)
 
 pub returns-clause-copy : goal.returns-clause-copy
 returns-clause-copy g c t asks = record { end = c.tool-end.result; ends = (c.tool-end.ensures.did (asked.Copy t.options t.from t.to) asks).does; tells = c.print_end.ensures.tells }
@@ -60,9 +72,9 @@ returns-clause-info_complete g c q asks quiet output = info_done c.print_end.res
 
 pub returns-clause-serve_complete : goal.returns-clause-serve_complete
 returns-clause-serve_complete g c s asks quiet output = serve_done c.print_end.result
-    (known (asked.Serve s.place s.size s.seed s.read_only s.sessions)
+    (known (asked.Serve (serving_of s))
     (λ (t : List ℕ). Prints g.E.Sink.taken g.E.Sink.faults c.args.err.now c.print_end.new.err t) c.tool-end.result c.print_end.result
-    (c.tool-end.ensures.did (asked.Serve s.place s.size s.seed s.read_only s.sessions) asks).known c.print_end.ensures.tells)
+    (c.tool-end.ensures.did (asked.Serve (serving_of s)) asks).known c.print_end.ensures.tells)
     (λ e. quiet.sound (c.tool-end.ensures.link (c.print_end.ensures.link e))) (λ e. quiet.patient (c.tool-end.ensures.silent (c.print_end.ensures.silent e)))
     (λ e. output (c.tool-end.ensures.output (c.print_end.ensures.output e)))
 
@@ -89,3 +101,26 @@ returns-clause-selftest_refuses g c t asks large = by_status (λ (s : ℕ). (s �
 pub returns-clause-decided : goal.returns-clause-decided
 returns-clause-decided g c = came_known (Refused c.args.words.now c.args.wires.now c.tool-end.new.wires c.args.out.now c.tool-end.new.out)
     (λ (t : List ℕ). Prints g.E.Sink.taken g.E.Sink.faults c.args.err.now c.print_end.new.err t) c.tool-end.result c.print_end.result c.tool-end.ensures.decided c.print_end.ensures.tells
+
+pub returns-clause-file : goal.returns-clause-file
+returns-clause-file g c s asks done =
+    let is = of_done (λ (t : List ℕ). Prints g.E.Sink.taken g.E.Sink.faults c.args.err.now c.print_end.new.err t) c.tool-end.result c.print_end.result done c.print_end.ensures.tells in
+    subst (FileServed s (g.W.Wires.told c.args.wires.now) (g.W.Wires.told c.tool-end.new.wires) (g.S.Store.shelf c.args.store.now) (g.S.Store.shelf c.tool-end.new.store)) is
+    ((c.tool-end.ensures.did (asked.Serve s) asks.0).file asks.1 (subst (λ (n : ℕ). is_all_done n ≡ true) (sym is) done))
+
+pub returns-clause-child : goal.returns-clause-child
+returns-clause-child g c s asks done =
+    let is = of_done (λ (t : List ℕ). Prints g.E.Sink.taken g.E.Sink.faults c.args.err.now c.print_end.new.err t) c.tool-end.result c.print_end.result done c.print_end.ensures.tells in
+    subst (ProgramRan s (g.P.Spawner.told c.args.spawn.now) (g.P.Spawner.told c.tool-end.new.spawn)) is
+    ((c.tool-end.ensures.did (asked.Serve s) asks.0).child asks.1 (subst (λ (n : ℕ). is_all_done n ≡ true) (sym is) done))
+
+pub returns-clause-beside_done : goal.returns-clause-beside_done
+returns-clause-beside_done g c here still =
+    let s = here.0 in
+    let asks = here.1.0 in
+    beside_done c.print_end.result (beside_known s.content s.run c.print_end.result here.1.1
+    (known (asked.Serve s) (λ (t : List ℕ). Prints g.E.Sink.taken g.E.Sink.faults c.args.err.now c.print_end.new.err t) c.tool-end.result c.print_end.result
+    (c.tool-end.ensures.did (asked.Serve s) asks).known c.print_end.ensures.tells))
+    (λ e. still.quiet.sound (c.tool-end.ensures.link (c.print_end.ensures.link e))) (λ e. still.quiet.patient (c.tool-end.ensures.silent (c.print_end.ensures.silent e)))
+    (λ e. still.printed (c.tool-end.ensures.output (c.print_end.ensures.output e))) (λ e. still.stores (c.tool-end.ensures.storing (c.print_end.ensures.store e)))
+    (λ e. still.spawns (c.tool-end.ensures.spawning (c.print_end.ensures.spawn e)))

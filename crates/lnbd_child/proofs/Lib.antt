@@ -1,0 +1,10 @@
+pub mod TouchLemmas
+pub mod FileLemmas
+pub mod GrownLemmas
+pub mod CallLemmas
+pub mod LoadLemmas
+pub mod LengthLemmas
+pub mod CauseLemmas
+pub mod HostLemmas
+pub mod CloseLemmas
+pub mod ServeLemmas

@@ -1,0 +1,11 @@
+pub mod Grown
+pub mod Reading
+pub mod Writing
+pub mod Touches
+pub mod Steps
+pub mod Causes
+pub mod Loading
+pub mod Child
+pub mod Hosting
+pub mod Closing
+pub mod Serving
