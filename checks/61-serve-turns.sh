@@ -12,6 +12,7 @@ import os, socket, struct, subprocess, sys, threading, time
 program, path = sys.argv[1], sys.argv[2]
 SIZE = 1 << 30
 STATUSES = 60
+ROUNDS = 3
 
 
 def told(name, holds, why):
@@ -61,15 +62,21 @@ class Client:
         return cookie, self.read(length)
 
 
-# What it takes to fill as much memory at all, in this very moment.
-filling = subprocess.run([sys.executable, '-c', f"import resource; b'x' * {SIZE}; r = resource.getrusage(resource.RUSAGE_SELF); print(r.ru_utime + r.ru_stime)"],
-                         stdout=subprocess.PIPE, text=True, timeout=120)
-least = float(filling.stdout)
-server = subprocess.Popen([program, 'serve', f'nbd+unix:///?socket={path}', '--size', str(SIZE), '--sessions', '2'], stdout=subprocess.PIPE, text=True)
-line = server.stdout.readline()
-took = spent(server)
-told('it listens over 1 GiB within 1.2 times the processor time of filling as much memory', line == f'serving {SIZE}\n' and took <= 1.2 * least,
-     f'{took:.2f} s, where filling takes {least:.2f}, and it printed {line!r}')
+# What it takes to fill as much memory at all, and to listen over it, in turn; the least of three, since memory that the host has to give first costs either more.
+filled, took = [], []
+for _ in range(ROUNDS):
+    if took:
+        server.kill()
+        server.wait()
+        os.unlink(path)
+    filling = subprocess.run([sys.executable, '-c', f"import resource; b'x' * {SIZE}; r = resource.getrusage(resource.RUSAGE_SELF); print(r.ru_utime + r.ru_stime)"],
+                             stdout=subprocess.PIPE, text=True, timeout=120)
+    filled.append(float(filling.stdout))
+    server = subprocess.Popen([program, 'serve', f'nbd+unix:///?socket={path}', '--size', str(SIZE), '--sessions', '2'], stdout=subprocess.PIPE, text=True)
+    line = server.stdout.readline()
+    took.append(spent(server))
+told('it listens over 1 GiB within 1.2 times the processor time of filling as much memory', line == f'serving {SIZE}\n' and min(took) <= 1.2 * min(filled),
+     f'{min(took):.2f} s, where filling takes {min(filled):.2f}, and it printed {line!r}')
 
 # One client asks for sixty block statuses of an export in 131,071 runs, and a second, once the first of them is on its way, for 512 bytes.
 one, other = Client(), Client()
