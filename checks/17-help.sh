@@ -28,4 +28,4 @@ for tool in $planned; do
     echo "failed: $tool ended with $code, and the page or the README calls it otherwise"
   fi
 done
-[ "$(wc -w <<<"$planned")" -eq 1 ] || echo "failed: the page has these planned tools: $planned"
+[ "$(wc -w <<<"$planned")" -eq 0 ] || echo "failed: the page has these planned tools: $planned"

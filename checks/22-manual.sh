@@ -38,7 +38,7 @@ for page in lnbd.1 lnbd.3 $(ls docs | sed -n 's/^\([a-z]*\)\.md$/lnbd-\1.1/p' | 
 done
 
 # Long lines of commands are not cut: each block of the pages stands in the text as it is.
-for tool in $(sed -n '/^What works today/,/^Planned/s/^  \([a-z]\{2,\}\) .*/\1/p' docs/help.txt | sort -u | grep -v '^nbdcalls$'); do
+for tool in $(sed -n '/^What works today/,/^Exit status/s/^  \([a-z]\{2,\}\) .*/\1/p' docs/help.txt | sort -u | grep -v '^nbdcalls$'); do
   missing=
   LC_ALL=C.UTF-8 MANWIDTH=80 man -l -P cat "$dir/lnbd-$tool.1" 2>/dev/null >"$dir/text"
   for word in $(sed -n "/^  $tool /,/^\$/p" docs/help.txt | grep -oE -- '--[a-z-]+' | grep -v '^--help$' | sort -u); do

@@ -10,7 +10,7 @@ offered() {
 # said NAME WANTED GOT: two lists are the same.
 said() { if [ "$2" = "$3" ]; then echo "ok: $1"; else echo "failed: $1: $(diff <(echo "$2") <(echo "$3") | tr '\n' ' ')"; fi; }
 
-tools=$(sed -n '/^What works today/,/^Planned/s/^  \([a-z]\{2,\}\) .*/\1/p' docs/help.txt | sort -u)
+tools=$(sed -n '/^What works today/,/^Exit status/s/^  \([a-z]\{2,\}\) .*/\1/p' docs/help.txt | sort -u)
 said 'each tool is offered' "$(printf '%s\nhelp\n--help\n--version\n' "$tools" | sort -u)" "$(offered lnbd '')"
 for tool in $tools; do
   wanted=$({ sed -n "/^  $tool /,/^\$/p" docs/help.txt | grep -oE -- '--[a-z-]+' | grep -v '^--totals$'; [ "$tool" = nbdinfo ] && echo --totals; echo --help; } | sort -u)

@@ -38,7 +38,7 @@ wanted = {
     '## Replies to options': ['ACK', 'SERVER', 'INFO', 'META_CONTEXT'] + re.findall(r'^\| \d+ \| `(ERR_\w+)` \|', errors, re.M),
     '## Lines of a status': [name for name, _ in table(errors, '## Description')],
     'Faults of an address:': variants('crates/lnbd_uri/src/fault.rt', 'UriFault'),
-    'Rules, and what else breaks a connection:': kebab(variants('crates/lnbd_plan/src/fault.rt', 'Rule')) + ['no-context', 'selftest-size', 'file-size', 'changed'] +
+    'Rules, and what else breaks a connection:': kebab(variants('crates/lnbd_plan/src/fault.rt', 'Rule')) + ['no-context', 'range', 'selftest-size', 'file-size', 'changed'] +
         [name for name in variants(f'{model}/breach.rt', 'Broken') if name != 'Breach'] + ['Client'],
 }
 

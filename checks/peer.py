@@ -11,7 +11,7 @@ extents=data, exact or exact:N       all is data (the default); or pieces of N b
 handshake=NAME                       this fault in each handshake, from connection `since` (1) on
 fault=KIND:N:NAME                    the Nth READ, WRITE or STATUS of all connections has this fault
 log=PATH                             `came KIND OFFSET LENGTH` for each command, and `done ..` as soon as its right answer goes out; `came LINK N 0` for
-                                     connection N, from 0
+                                     connection N, from 0, and `came DISC 0 0`
 """
 
 import mmap
@@ -250,6 +250,7 @@ class Client:
     def command(self):
         kind, cookie, offset, length = self.head()
         if kind == DISC:
+            self.peer.note("came", "DISC", 0, 0)
             raise Gone
         data = self.exactly(length) if kind == WRITE else bytes(length) if kind in (ZEROES, TRIM) else b""
         self.peer.note("came", NAMES[kind], offset, length)

@@ -1,4 +1,5 @@
-# Sourced by the checks of copies: `program`, a folder `dir` that goes at the end, and servers of six kinds, which end with the check.
+# Sourced by the checks of copies and dumps: `program`, which may be set before, a folder `dir` that goes at the end, and servers of six kinds, which end
+# with the check.
 . checks/need.sh
 need nbdkit nbdkit
 need qemu-utils qemu-nbd
@@ -6,7 +7,7 @@ need nbd-server nbd-server
 need libnbd-bin nbdcopy
 need python3 python3
 
-program=$(tools/built lnbd) || exit 1
+program=${program:-$(tools/built lnbd)} || exit 1
 dir=$(mktemp -d)
 # Its own path: where python3 is a script that looks for it, that takes longer than what is done here.
 python=$(python3 -c 'import sys; print(sys.executable)')

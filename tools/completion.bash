@@ -8,14 +8,15 @@ _lnbd() {
   # (the words of a program, behind --run, are taken for files)
   [ "$tool" = serve ] && [ "$before" != --run ] && [[ " ${COMP_WORDS[*]:2:COMP_CWORD-2} " = *' --run '* ]] && before=--file
   if [ "$COMP_CWORD" -eq 1 ]; then
-    words='nbdcalls nbdinfo nbdcopy serve selftest help --help --version'
+    words='nbdcalls nbdinfo nbdcopy nbddump serve selftest help --help --version'
   else
     case $tool:$before in
-      help:*) words='nbdcalls nbdinfo nbdcopy serve selftest errors recipes lnbd' ;;
+      help:*) words='nbdcalls nbdinfo nbdcopy nbddump serve selftest errors recipes lnbd' ;;
       nbdinfo:--is) words='read-only rotational tls' ;;
       nbdinfo:--can) words='cache connect df fast-zero flush fua multi-conn read structured-reply trim write zero' ;;
       nbdinfo:--context) words='base:allocation' ;;
       nbdcopy:--connections | nbdcopy:--request-size | nbdcopy:--requests | nbdcopy:--sparse | nbdcopy:-[CRS]) ;;
+      nbddump:--length | nbddump:--offset) ;;
       serve:--size | serve:--seed | serve:--sessions) ;;
       serve:--file)
         mapfile -t COMPREPLY < <(compgen -f -- "$word")
@@ -29,6 +30,7 @@ _lnbd() {
       nbdcopy:*)
         words='--allocated --connections --destination-is-zero --flush --no-extents --request-size --requests --sparse --help nbd:// nbd+unix:///?socket='
         ;;
+      nbddump:*) words='--length --offset --help nbd:// nbd+unix:///?socket=' ;;
       serve:*) words='--size --seed --file --sessions --read-only --run --help nbd:// nbd+unix:///?socket=' ;;
       nbdcalls:* | selftest:*) words=--help ;;
     esac

@@ -19,7 +19,7 @@ use Rattle.lnbd_args.specs.declared.asked.What.TheVariants as what
 use Rattle.lnbd_args.specs.declared.fault.ArgsFault.{ArgsFault}
 use Rattle.lnbd_args.specs.declared.fault.ArgsFault.TheVariants.{NoMemory, Usage, Uri}
 use Rattle.lnbd_args.specs.Clap.{is_table}
-use Rattle.lnbd_args.specs.Tools.{Asks, FirstFault, IsContext, IsCopyOptions, IsInfo, IsMisplaced, IsNameOf, IsNumber, IsNumberOr, IsServe, IsSize, IsWhat, Hosts, IsContent, Reads, Serves, Wanted, given_address, addresses, calls, chosen, copy, copy_rules, info, info_rules, selftest, serve, serve_rules, with_map}
+use Rattle.lnbd_args.specs.Tools.{Asks, FirstFault, IsContext, IsCopyOptions, IsInfo, IsLength, IsMisplaced, IsNameOf, IsNumber, IsNumberOr, IsRange, IsServe, IsSize, IsWhat, Hosts, IsContent, Reads, Serves, Wanted, given_address, addresses, calls, chosen, copy, copy_rules, dump, dump_rules, info, info_rules, selftest, serve, serve_rules, with_map}
 use Rattle.lnbd_args.specs.Words.{AreParts, Part, Rule, Word, is_given, places, value_of}
 use Rattle.lnbd_args.proofs.InfoLemmas.{option_of}
 use Rattle.lnbd_args.proofs.NumberLemmas.{number_once}
@@ -141,6 +141,20 @@ copy_once words one two a b c d h k =
     let both = same_pair a b c d (sym h.4.0 ∙ ap places parts ∙ k.4.0) in
     (copy_options_once h.2 one two h.4.1 (subst (λ (x : List Part). IsCopyOptions x two) (sym parts) k.4.1), both.0, both.1)
 
+length_once : (given : Option Word) (m n : Option ℕ) → IsLength given m → IsLength given n → m ≡ n
+length_once None m n h k = h ∙ sym k
+length_once (Some digits) m n h k = h.1 ∙ ap Some (number_once digits h.0 k.0 h.2 k.2) ∙ sym k.1
+
+dump_once : (words : List Word) (offset other : ℕ) (length more : Option ℕ) (a b : Word) → Reads words (dump offset length a) → Reads words (dump other more b)
+    → (offset ≡ other) × (length ≡ more) × (a ≡ b)
+dump_once words offset other length more a b h k =
+    let parts = same_parts dump_rules false refl _ words h.0 k.0 h.1 k.1 h.2 k.2 h.3 k.3 in
+    let there = subst (λ (x : List Part). IsRange x other more) (sym parts) k.4.1 in (
+      number_or_once 0 _ offset other h.4.1.offset_is there.offset_is,
+      length_once _ length more h.4.1.length_is there.length_is,
+      name_is a b [] [] (sym h.4.0 ∙ ap places parts ∙ k.4.0),
+    )
+
 info_once : (words : List Word) (one two : What) (json other : Bool) (a b : Word) → Reads words (info one json a) → Reads words (info two other b) → (one ≡ two) × (json ≡ other) × (a ≡ b)
 info_once words one two json other a b h k =
     let rest = rest_is _ _ h.0 k.0 (sym h.1 ∙ k.1) in
@@ -203,23 +217,34 @@ two_tools words x y rest other e h k = absurd (other_tool x y rest other e (sym 
 pub reads_once : (words : List Word) (one two : Wanted) → Reads words one → Reads words two → one ≡ two
 reads_once words calls calls h k = refl
 reads_once words calls (copy options from to) h k = two_tools words _ _ _ _ refl h k.1
+reads_once words calls (dump offset length address') h k = two_tools words _ _ _ _ refl h k.1
 reads_once words calls (info asked json address) h k = two_tools words _ _ _ _ refl h k.1
 reads_once words calls (serve content read_only sessions address run) h k = two_tools words _ _ _ _ refl h k.1
 reads_once words calls (selftest seed size) h k = two_tools words _ _ _ _ refl h k.1
 reads_once words (copy options from to) calls h k = two_tools words _ _ _ _ refl h.1 k
 reads_once words (copy options from to) (copy options' from' to') h k =
     let same = copy_once words options options' from to from' to' h k in λ i. copy (same.0 i) (same.1 i) (same.2 i)
+reads_once words (copy options from to) (dump offset length address') h k = two_tools words _ _ _ _ refl h.1 k.1
 reads_once words (copy options from to) (info asked json address) h k = two_tools words _ _ _ _ refl h.1 k.1
 reads_once words (copy options from to) (serve content read_only sessions address run) h k = two_tools words _ _ _ _ refl h.1 k.1
 reads_once words (copy options from to) (selftest seed size) h k = two_tools words _ _ _ _ refl h.1 k.1
+reads_once words (dump offset length address) calls h k = two_tools words _ _ _ _ refl h.1 k
+reads_once words (dump offset length address) (copy options from to) h k = two_tools words _ _ _ _ refl h.1 k.1
+reads_once words (dump offset length address) (dump offset' length' address') h k =
+    let same = dump_once words offset offset' length length' address address' h k in λ i. dump (same.0 i) (same.1 i) (same.2 i)
+reads_once words (dump offset length address) (info asked json address') h k = two_tools words _ _ _ _ refl h.1 k.1
+reads_once words (dump offset length address) (serve content read_only sessions address' run) h k = two_tools words _ _ _ _ refl h.1 k.1
+reads_once words (dump offset length address) (selftest seed size) h k = two_tools words _ _ _ _ refl h.1 k.1
 reads_once words (info asked json address) calls h k = two_tools words _ _ _ _ refl h.1 k
 reads_once words (info asked json address) (copy options from to) h k = two_tools words _ _ _ _ refl h.1 k.1
+reads_once words (info asked json address) (dump offset length address') h k = two_tools words _ _ _ _ refl h.1 k.1
 reads_once words (info asked json address) (info asked' json' address') h k =
     let same = info_once words asked asked' json json' address address' h k in λ i. info (same.0 i) (same.1 i) (same.2 i)
 reads_once words (info asked json address) (serve content read_only sessions address' run) h k = two_tools words _ _ _ _ refl h.1 k.1
 reads_once words (info asked json address) (selftest seed size) h k = two_tools words _ _ _ _ refl h.1 k.1
 reads_once words (serve content read_only sessions address run) calls h k = two_tools words _ _ _ _ refl h.1 k
 reads_once words (serve content read_only sessions address run) (copy options from to) h k = two_tools words _ _ _ _ refl h.1 k.1
+reads_once words (serve content read_only sessions address run) (dump offset length address') h k = two_tools words _ _ _ _ refl h.1 k.1
 reads_once words (serve content read_only sessions address run) (info asked json address') h k = two_tools words _ _ _ _ refl h.1 k.1
 reads_once words (serve content read_only sessions address run) (serve content' read_only' sessions' address' run') h k =
     let same = serve_once words content read_only sessions address run content' read_only' sessions' address' run' h k in
@@ -227,6 +252,7 @@ reads_once words (serve content read_only sessions address run) (serve content' 
 reads_once words (serve content read_only sessions address run) (selftest seed' size') h k = two_tools words _ _ _ _ refl h.1 k.1
 reads_once words (selftest seed size) calls h k = two_tools words _ _ _ _ refl h.1 k
 reads_once words (selftest seed size) (copy options from to) h k = two_tools words _ _ _ _ refl h.1 k.1
+reads_once words (selftest seed size) (dump offset length address') h k = two_tools words _ _ _ _ refl h.1 k.1
 reads_once words (selftest seed size) (info asked json address) h k = two_tools words _ _ _ _ refl h.1 k.1
 reads_once words (selftest seed size) (serve content read_only sessions address run) h k = two_tools words _ _ _ _ refl h.1 k.1
 reads_once words (selftest seed size) (selftest seed' size') h k =
@@ -240,6 +266,7 @@ same_place a b one two e h k = place_once a one two h (subst (λ (x : Word). IsA
 pub asks_once : (words : List Word) (one two : Asked) → Asks words one → Asks words two → one ≡ two
 asks_once words asked.Calls asked.Calls h k = refl
 asks_once words asked.Calls (asked.Copy options from to) h k = two_tools words _ _ _ _ refl h k.2.1
+asks_once words asked.Calls (asked.Dump place' offset length) h k = two_tools words _ _ _ _ refl h k.1.1
 asks_once words asked.Calls (asked.Info what json place) h k = two_tools words _ _ _ _ refl h k.1.1
 asks_once words asked.Calls (asked.Serve s) h k = two_tools words _ _ _ _ refl h k.1.1
 asks_once words asked.Calls (asked.Selftest seed size) h k = two_tools words _ _ _ _ refl h k.1
@@ -249,11 +276,22 @@ asks_once words (asked.Copy options from to) (asked.Copy options' from' to') h k
     let first = same_place h.0 k.0 from from' same.1 h.3 k.3 in
     let second = same_place h.1 k.1 to to' same.2 h.4 k.4 in
     λ i. asked.Copy (same.0 i) (first i) (second i)
+asks_once words (asked.Copy options from to) (asked.Dump place' offset length) h k = two_tools words _ _ _ _ refl h.2.1 k.1.1
 asks_once words (asked.Copy options from to) (asked.Info what json place) h k = two_tools words _ _ _ _ refl h.2.1 k.1.1
 asks_once words (asked.Copy options from to) (asked.Serve s) h k = two_tools words _ _ _ _ refl h.2.1 k.1.1
 asks_once words (asked.Copy options from to) (asked.Selftest seed size) h k = two_tools words _ _ _ _ refl h.2.1 k.1
+asks_once words (asked.Dump place offset length) asked.Calls h k = two_tools words _ _ _ _ refl h.1.1 k
+asks_once words (asked.Dump place offset length) (asked.Copy options from to) h k = two_tools words _ _ _ _ refl h.1.1 k.2.1
+asks_once words (asked.Dump place offset length) (asked.Dump place' offset' length') h k =
+    let same = dump_once words offset offset' length length' h.0 k.0 h.1 k.1 in
+    let there = same_place h.0 k.0 place place' same.2 h.2 k.2 in
+    λ i. asked.Dump (there i) (same.0 i) (same.1 i)
+asks_once words (asked.Dump place offset length) (asked.Info what json place') h k = two_tools words _ _ _ _ refl h.1.1 k.1.1
+asks_once words (asked.Dump place offset length) (asked.Serve s) h k = two_tools words _ _ _ _ refl h.1.1 k.1.1
+asks_once words (asked.Dump place offset length) (asked.Selftest seed size) h k = two_tools words _ _ _ _ refl h.1.1 k.1
 asks_once words (asked.Info what json place) asked.Calls h k = two_tools words _ _ _ _ refl h.1.1 k
 asks_once words (asked.Info what json place) (asked.Copy options from to) h k = two_tools words _ _ _ _ refl h.1.1 k.2.1
+asks_once words (asked.Info what json place) (asked.Dump place' offset length) h k = two_tools words _ _ _ _ refl h.1.1 k.1.1
 asks_once words (asked.Info what json place) (asked.Info what' json' place') h k =
     let same = info_once words what what' json json' h.0 k.0 h.1 k.1 in
     let there = same_place h.0 k.0 place place' same.2 h.2 k.2 in
@@ -262,6 +300,7 @@ asks_once words (asked.Info what json place) (asked.Serve s) h k = two_tools wor
 asks_once words (asked.Info what json place) (asked.Selftest seed size) h k = two_tools words _ _ _ _ refl h.1.1 k.1
 asks_once words (asked.Serve s) asked.Calls h k = two_tools words _ _ _ _ refl h.1.1 k
 asks_once words (asked.Serve s) (asked.Copy options from to) h k = two_tools words _ _ _ _ refl h.1.1 k.2.1
+asks_once words (asked.Serve s) (asked.Dump place' offset length) h k = two_tools words _ _ _ _ refl h.1.1 k.1.1
 asks_once words (asked.Serve s) (asked.Info what json place') h k = two_tools words _ _ _ _ refl h.1.1 k.1.1
 asks_once words (asked.Serve s) (asked.Serve t) h k =
     let same = serve_once words s.content s.read_only s.sessions h.0 s.run t.content t.read_only t.sessions k.0 t.run h.1 k.1 in
@@ -271,6 +310,7 @@ asks_once words (asked.Serve s) (asked.Serve t) h k =
 asks_once words (asked.Serve s) (asked.Selftest seed' size') h k = two_tools words _ _ _ _ refl h.1.1 k.1
 asks_once words (asked.Selftest seed size) asked.Calls h k = two_tools words _ _ _ _ refl h.1 k
 asks_once words (asked.Selftest seed size) (asked.Copy options from to) h k = two_tools words _ _ _ _ refl h.1 k.2.1
+asks_once words (asked.Selftest seed size) (asked.Dump place' offset length) h k = two_tools words _ _ _ _ refl h.1 k.1.1
 asks_once words (asked.Selftest seed size) (asked.Info what json place) h k = two_tools words _ _ _ _ refl h.1 k.1.1
 asks_once words (asked.Selftest seed size) (asked.Serve s) h k = two_tools words _ _ _ _ refl h.1 k.1.1
 asks_once words (asked.Selftest seed size) (asked.Selftest seed' size') h k =
@@ -304,6 +344,7 @@ record Read (words : List Word) : Type 0 where
 read_of : (words : List Word) (a : Asked) → Asks words a → Read words
 read_of words asked.Calls h = record { wanted = calls; reads = h; placed = tt }
 read_of words (asked.Copy options from to) h = record { wanted = copy options h.0 h.1; reads = h.2; placed = ((from, h.3), ((to, h.4), tt)) }
+read_of words (asked.Dump place offset length) h = record { wanted = dump offset length h.0; reads = h.1; placed = ((place, h.2), tt) }
 read_of words (asked.Info what json place) h = record { wanted = info what json h.0; reads = h.1; placed = ((place, h.2), tt) }
 read_of words (asked.Serve s) h = record { wanted = serve s.content s.read_only s.sessions h.0 s.run; reads = h.1; placed = ((s.place, h.2), tt) }
 read_of words (asked.Selftest seed size) h = record { wanted = selftest seed size; reads = h; placed = tt }

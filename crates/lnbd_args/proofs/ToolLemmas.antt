@@ -13,7 +13,7 @@ use Rattle.lnbd_args.specs.declared.asked.What.{What}
 use Rattle.lnbd_args.specs.declared.fault.ArgsFault.{ArgsFault}
 use Rattle.lnbd_args.specs.declared.fault.ArgsFault.TheVariants.{Uri}
 use Rattle.lnbd_args.specs.Clap.{Tells, first_id, is_table, room, second_id}
-use Rattle.lnbd_args.specs.Tools.{FirstFault, IsInfo, info_rules, with_map, IsCopyOptions, IsFaultOf, IsMisplaced, IsNumber, Reads, Serves, Wanted, addresses, calls, copy, copy_rules, info, selftest, serve}
+use Rattle.lnbd_args.specs.Tools.{FirstFault, IsInfo, info_rules, with_map, IsCopyOptions, IsFaultOf, IsMisplaced, IsNumber, IsRange, Reads, Serves, Wanted, addresses, calls, copy, copy_rules, dump, dump_rules, info, selftest, serve}
 use Rattle.lnbd_args.specs.Words.{AreParts, Part, Rule, Word, places}
 use Rattle.lnbd_args.proofs.ReadLemmas.{parts_once}
 
@@ -60,14 +60,26 @@ pub only_copy : (ws : List Word) (wanted : Wanted) → Reads (codes "nbdcopy" �
 only_copy ws calls h nay = other_tool _ _ _ _ refl h
 only_copy ws (copy options from to) h nay =
     nay options from to h.2 (subst (λ x. AreParts copy_rules x h.2) (sym (rest_is _ _ ws h.0 h.1)) h.3) h.4.0 h.4.1
+only_copy ws (dump offset length address) h nay = other_tool _ _ _ _ refl h.1
 only_copy ws (info asked json address) h nay = other_tool _ _ _ _ refl h.1
 only_copy ws (serve content read_only sessions address run) h nay = other_tool _ _ _ _ refl h.1
 only_copy ws (selftest seed size) h nay = other_tool _ _ _ _ refl h.1
+
+pub only_dump : (ws : List Word) (wanted : Wanted) → Reads (codes "nbddump" ∷ ws) wanted
+    → ((offset : ℕ) (length : Option ℕ) (address : Word) (parts : List Part) → AreParts dump_rules ws parts → places parts ≡ address ∷ [] → IsRange parts offset length → ⊥) → ⊥
+only_dump ws calls h nay = other_tool _ _ _ _ refl h
+only_dump ws (copy options from to) h nay = other_tool _ _ _ _ refl h.1
+only_dump ws (dump offset length address) h nay =
+    nay offset length address h.2 (subst (λ x. AreParts dump_rules x h.2) (sym (rest_is _ _ ws h.0 h.1)) h.3) h.4.0 h.4.1
+only_dump ws (info asked json address) h nay = other_tool _ _ _ _ refl h.1
+only_dump ws (serve content read_only sessions address run) h nay = other_tool _ _ _ _ refl h.1
+only_dump ws (selftest seed size) h nay = other_tool _ _ _ _ refl h.1
 
 pub only_serve : (ws : List Word) (wanted : Wanted) → Reads (codes "serve" ∷ ws) wanted
     → ((content : Content) (read_only : Bool) (sessions : ℕ) (address : Word) (run : List Word) → Serves ws content read_only sessions address run → ⊥) → ⊥
 only_serve ws calls h nay = other_tool _ _ _ _ refl h
 only_serve ws (copy options from to) h nay = other_tool _ _ _ _ refl h.1
+only_serve ws (dump offset length address) h nay = other_tool _ _ _ _ refl h.1
 only_serve ws (info asked json address) h nay = other_tool _ _ _ _ refl h.1
 only_serve ws (serve content read_only sessions address run) h nay =
     nay content read_only sessions address run (subst (λ x. Serves x content read_only sessions address run) (sym (rest_is _ _ ws h.0 h.1)) h.2)
@@ -77,6 +89,7 @@ pub only_selftest : (ws : List Word) (wanted : Wanted) → Reads (codes "selftes
     → ((first second : Word) (seed size : ℕ) (parts : List Part) → AreParts [] ws parts → places parts ≡ first ∷ second ∷ [] → IsNumber first seed → IsNumber second size → ⊥) → ⊥
 only_selftest ws calls h nay = other_tool _ _ _ _ refl h
 only_selftest ws (copy options from to) h nay = other_tool _ _ _ _ refl h.1
+only_selftest ws (dump offset length address) h nay = other_tool _ _ _ _ refl h.1
 only_selftest ws (info asked json address) h nay = other_tool _ _ _ _ refl h.1
 only_selftest ws (serve content read_only sessions address run) h nay = other_tool _ _ _ _ refl h.1
 only_selftest ws (selftest seed size) h nay =
@@ -86,6 +99,7 @@ pub only_info : (ws : List Word) (wanted : Wanted) → Reads (codes "nbdinfo" �
     → ((asked : What) (json : Bool) (address : Word) (parts : List Part) → AreParts info_rules (with_map ws) parts → places parts ≡ address ∷ [] → IsInfo parts asked json → ⊥) → ⊥
 only_info ws calls h nay = other_tool _ _ _ _ refl h
 only_info ws (copy options from to) h nay = other_tool _ _ _ _ refl h.1
+only_info ws (dump offset length address) h nay = other_tool _ _ _ _ refl h.1
 only_info ws (info asked json address) h nay =
     nay asked json address h.2 (subst (λ x. AreParts info_rules (with_map x) h.2) (sym (rest_is _ _ ws h.0 h.1)) h.3) h.4 h.5
 only_info ws (serve content read_only sessions address run) h nay = other_tool _ _ _ _ refl h.1
@@ -140,6 +154,7 @@ second_misplaced words wanted a b place e fault reads are address h is =
 pub only_calls : (w : Word) (ws : List Word) (wanted : Wanted) → Reads (codes "nbdcalls" ∷ w ∷ ws) wanted → ⊥
 only_calls w ws calls h = let n = ap length (rest_is _ _ _ _ h) in absurd (omega (arith, n))
 only_calls w ws (copy options from to) h = other_tool _ _ _ _ refl h.1
+only_calls w ws (dump offset length address) h = other_tool _ _ _ _ refl h.1
 only_calls w ws (info asked json address) h = other_tool _ _ _ _ refl h.1
 only_calls w ws (serve content read_only sessions address run) h = other_tool _ _ _ _ refl h.1
 only_calls w ws (selftest seed size) h = other_tool _ _ _ _ refl h.1
@@ -152,17 +167,19 @@ pub name_is : (x y : Word) (xs ys : List Word) → x ∷ xs ≡ y ∷ ys → x �
 name_is x y xs ys is = ap (λ l. get_or l 0 []) is
 
 -- a name that is none of the tools' reads nothing
-pub no_tool : (tool : Word) (ws : List Word) → tool ≢ codes "nbdcalls" → tool ≢ codes "nbdcopy" → tool ≢ codes "nbdinfo" → tool ≢ codes "serve" → tool ≢ codes "selftest"
+pub no_tool : (tool : Word) (ws : List Word) → tool ≢ codes "nbdcalls" → tool ≢ codes "nbdcopy" → tool ≢ codes "nbdinfo" → tool ≢ codes "serve" → tool ≢ codes "selftest" → tool ≢ codes "nbddump"
     → (wanted : Wanted) → Reads (tool ∷ ws) wanted → ⊥
-no_tool tool ws a b c d e calls h = a (name_is _ _ _ _ h)
-no_tool tool ws a b c d e (copy options from to) h = b (name_is _ _ _ _ h.1)
-no_tool tool ws a b c d e (info asked json address) h = c (name_is _ _ _ _ h.1)
-no_tool tool ws a b c d e (serve content read_only sessions address run) h = d (name_is _ _ _ _ h.1)
-no_tool tool ws a b c d e (selftest seed size) h = e (name_is _ _ _ _ h.1)
+no_tool tool ws a b c d e f calls h = a (name_is _ _ _ _ h)
+no_tool tool ws a b c d e f (copy options from to) h = b (name_is _ _ _ _ h.1)
+no_tool tool ws a b c d e f (dump offset length address) h = f (name_is _ _ _ _ h.1)
+no_tool tool ws a b c d e f (info asked json address) h = c (name_is _ _ _ _ h.1)
+no_tool tool ws a b c d e f (serve content read_only sessions address run) h = d (name_is _ _ _ _ h.1)
+no_tool tool ws a b c d e f (selftest seed size) h = e (name_is _ _ _ _ h.1)
 
 pub no_words : (wanted : Wanted) → Reads [] wanted → ⊥
 no_words calls h = let n = ap length h in absurd (omega (arith, n))
 no_words (copy options from to) h = let n = ap length h.1 in absurd (omega (arith, n))
+no_words (dump offset count address) h = let n = ap length h.1 in absurd (omega (arith, n))
 no_words (info asked json address) h = let n = ap length h.1 in absurd (omega (arith, n))
 no_words (serve content read_only sessions address run) h = let n = ap length h.1 in absurd (omega (arith, n))
 no_words (selftest seed size) h = let n = ap length h.1 in absurd (omega (arith, n))

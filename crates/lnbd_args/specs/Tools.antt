@@ -11,7 +11,7 @@ use Rattle.lnbd_uri.specs.declared.fault.UriFault.{UriFault}
 use Rattle.lnbd_args.specs.declared.fault.ArgsFault.{ArgsFault}
 use Rattle.lnbd_args.specs.declared.fault.ArgsFault.TheVariants.{NoMemory, Usage, Uri}
 use Rattle.lnbd_args.specs.declared.asked.Asked.{Asked}
-use Rattle.lnbd_args.specs.declared.asked.Asked.TheVariants.{Calls, Copy, Info, Serve, Selftest}
+use Rattle.lnbd_args.specs.declared.asked.Asked.TheVariants.{Calls, Copy, Dump, Info, Serve, Selftest}
 use Rattle.lnbd_store.specs.declared.serving.Content.{Content}
 use Rattle.lnbd_store.specs.declared.serving.Content.TheVariants.{Made, File}
 use Rattle.lnbd_plan.specs.declared.options.CopyOptions.{CopyOptions}
@@ -38,6 +38,9 @@ lettered name letter = record { name = name; letter = Some letter; has_value = t
 abbrev pub copy_rules : List Rule
 copy_rules = flag (codes "allocated") ∷ lettered (codes "connections") 67 ∷ flag (codes "destination-is-zero") ∷ flag (codes "flush")
     ∷ flag (codes "no-extents") ∷ valued (codes "request-size") ∷ lettered (codes "requests") 82 ∷ lettered (codes "sparse") 83 ∷ []
+
+abbrev pub dump_rules : List Rule
+dump_rules = valued (codes "length") ∷ valued (codes "offset") ∷ []
 
 abbrev pub info_rules : List Rule
 info_rules = flag (codes "json") ∷ flag (codes "list") ∷ flag (codes "size") ∷ flag (codes "map") ∷ valued (codes "context") ∷ flag (codes "totals")
@@ -85,6 +88,17 @@ pub record IsCopyOptions (parts : List Part) (options : CopyOptions) : Type 0 wh
   pub allocated : options.allocated ≡ is_given (codes "allocated") parts
   pub destination_is_zero : options.destination_is_zero ≡ is_given (codes "destination-is-zero") parts
   pub flush : options.flush ≡ is_given (codes "flush") parts
+
+-- ---- nbddump
+
+-- how many bytes are shown: a number, or none where all that follow are
+abbrev pub IsLength : Option Word → Option ℕ → Type 0
+IsLength None length = length ≡ None
+IsLength (Some digits) length = (n : ℕ) × (length ≡ Some n) × IsNumber digits n
+
+pub record IsRange (parts : List Part) (offset : ℕ) (length : Option ℕ) : Type 0 where
+  pub offset_is : IsNumberOr 0 (value_of (codes "offset") parts) offset
+  pub length_is : IsLength (value_of (codes "length") parts) length
 
 -- ---- nbdinfo
 
@@ -205,6 +219,7 @@ pub record Serves (words : List Word) (content : Content) (read_only : Bool) (se
 pub data Wanted : Type 0 where
   calls : Wanted
   copy : CopyOptions → Word → Word → Wanted
+  dump : ℕ → Option ℕ → Word → Wanted
   info : What → Bool → Word → Wanted
   serve : Content → Bool → ℕ → Word → List Word → Wanted
   selftest : ℕ → ℕ → Wanted
@@ -217,6 +232,7 @@ Tool name rules P words = (rest : List Word) × (words ≡ name ∷ rest) × (pa
 abbrev pub Reads : List Word → Wanted → Type 0
 Reads words calls = words ≡ codes "nbdcalls" ∷ []
 Reads words (copy options from to) = Tool (codes "nbdcopy") copy_rules (λ parts. (places parts ≡ from ∷ to ∷ []) × IsCopyOptions parts options) words
+Reads words (dump offset length address) = Tool (codes "nbddump") dump_rules (λ parts. (places parts ≡ address ∷ []) × IsRange parts offset length) words
 Reads words (info asked json address) =
     (rest : List Word) × (words ≡ codes "nbdinfo" ∷ rest) × (parts : List Part) × AreParts info_rules (with_map rest) parts × (places parts ≡ address ∷ []) × IsInfo parts asked json
 Reads words (serve content read_only sessions address run) = (rest : List Word) × (words ≡ codes "serve" ∷ rest) × Serves rest content read_only sessions address run
@@ -227,6 +243,7 @@ Reads words (selftest seed size) =
 abbrev pub Asks : List Word → Asked → Type 0
 Asks words Calls = Reads words calls
 Asks words (Copy options from to) = (first : Word) × (second : Word) × Reads words (copy options first second) × IsAddress first from × IsAddress second to
+Asks words (Dump place offset length) = (address : Word) × Reads words (dump offset length address) × IsAddress address place
 Asks words (Info asked json place) = (address : Word) × Reads words (info asked json address) × IsAddress address place
 Asks words (Serve s) =
     (address : Word) × Reads words (serve s.content s.read_only s.sessions address s.run) × IsAddress address s.place × (s.uri ≡ given_address s.run address)
@@ -235,6 +252,7 @@ Asks words (Selftest seed size) = Reads words (selftest seed size)
 -- the addresses, in their order
 abbrev pub addresses : Wanted → List Word
 addresses (copy options from to) = from ∷ to ∷ []
+addresses (dump offset length address) = address ∷ []
 addresses (info asked json address) = address ∷ []
 addresses (serve content read_only sessions address run) = address ∷ []
 addresses _ = []

@@ -68,6 +68,12 @@ pub enum Asked {
         from: Place,
         to: Place,
     },
+    /// nbddump: the bytes from an offset on, as many as are given or all that follow.
+    Dump {
+        place: Place,
+        offset: u64,
+        length: Option<u64>,
+    },
     /// nbdinfo
     Info {
         what: What,

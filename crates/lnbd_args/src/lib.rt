@@ -8,6 +8,7 @@ mod address;
 mod asked;
 mod command;
 mod copy;
+mod dump;
 mod fair;
 mod fault;
 mod info;

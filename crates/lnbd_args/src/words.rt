@@ -7,6 +7,7 @@ ghost use Rattle.lnbd_uri.specs.declared.fault.UriFault.{UriFault};
 
 use crate::asked::Asked;
 use crate::copy::copy;
+use crate::dump::dump;
 use crate::fault::ArgsFault;
 use crate::info::info;
 use crate::selftest::selftest;
@@ -38,6 +39,7 @@ fn asked(alloc: Global, words: &[String]) -> Result<Asked, ArgsFault>
     match tool.as_str() {
         "nbdcalls" => calls(rest),
         "nbdcopy" => copy(alloc, rest),
+        "nbddump" => dump(alloc, rest),
         "nbdinfo" => info(alloc, rest),
         "serve" => serve(alloc, rest),
         "selftest" => selftest(alloc, rest),

@@ -10,6 +10,7 @@ use Rattle.lnbd_store.specs.declared.serving.Content.TheVariants.{Made, File}
 use Rattle.lnbd_cli.specs.Beside.{IsBesideDone, is_all_done, is_beside_status}
 use Rattle.lnbd_cli.specs.Calls.{IsPlayDone, is_calls_status}
 use Rattle.lnbd_cli.specs.Copies.{IsCopyDone, is_copy_status}
+use Rattle.lnbd_cli.specs.Dumps.{IsDumpDone, is_dump_status}
 use Rattle.lnbd_cli.specs.Ends.{Came, End, IsReported, is_one_of, status_of}
 use Rattle.lnbd_cli.specs.Informs.{IsInfoDone, is_info_status}
 use Rattle.lnbd_cli.specs.Runs.{IsRefused, is_known, is_serving_known}
@@ -47,6 +48,7 @@ known_short (asked.Serve s) = serving_short s.content s.run
     serving_short (Made seed size) (program ∷ words) = refl
     serving_short (File path) run = refl
 known_short (asked.Copy options from to) = refl
+known_short (asked.Dump place offset length) = refl
 known_short (asked.Selftest seed size) = refl
 
 pub known : (a : Asked) (Q : List ℕ → Type 0) (end : End) (status : ℕ) → is_known a (status_of end) ≡ true → IsReported end Q status → is_known a status ≡ true
@@ -171,6 +173,20 @@ copy_done s is link silent = done (one_of (0 ∷ 3 ∷ 4 ∷ 5 ∷ 6 ∷ 7 ∷ 9
     done (inr (inr (inr (inr (inr (inl e)))))) = absurd (silent e)
     done (inr (inr (inr (inr (inr (inr (inl e))))))) = inr (inr (inr (inr e)))
     done (inr (inr (inr (inr (inr (inr (inr e))))))) = absurd e
+
+pub dump_done : (s : ℕ) → is_dump_status s ≡ true → (s ≡ 5 → ⊥) → (s ≡ 7 → ⊥) → (s ≡ 8 → ⊥) → IsDumpDone s
+dump_done s is link silent output = done (one_of (0 ∷ 3 ∷ 4 ∷ 5 ∷ 6 ∷ 7 ∷ 8 ∷ 9 ∷ []) s is)
+  where
+    done : IsOneOf (0 ∷ 3 ∷ 4 ∷ 5 ∷ 6 ∷ 7 ∷ 8 ∷ 9 ∷ []) s → IsDumpDone s
+    done (inl e) = inl e
+    done (inr (inl e)) = inr (inl e)
+    done (inr (inr (inl e))) = inr (inr (inl e))
+    done (inr (inr (inr (inl e)))) = absurd (link e)
+    done (inr (inr (inr (inr (inl e))))) = inr (inr (inr (inl e)))
+    done (inr (inr (inr (inr (inr (inl e)))))) = absurd (silent e)
+    done (inr (inr (inr (inr (inr (inr (inl e))))))) = absurd (output e)
+    done (inr (inr (inr (inr (inr (inr (inr (inl e)))))))) = inr (inr (inr (inr e)))
+    done (inr (inr (inr (inr (inr (inr (inr (inr e)))))))) = absurd e
 
 pub test_done : (s : ℕ) → is_test_status s ≡ true → s ≢ 6 → (s ≡ 8 → ⊥) → (s ≡ 0) ⊎ (s ≡ 9)
 test_done s is rule output = done (one_of (0 ∷ 6 ∷ 8 ∷ 9 ∷ []) s is)

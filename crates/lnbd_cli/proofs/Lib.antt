@@ -2,6 +2,7 @@ mod BesideLemmas
 mod InputLemmas
 mod CallLemmas
 mod CopyLemmas
+mod DumpLemmas
 mod EndLemmas
 mod HeardLemmas
 mod InfoLemmas

@@ -22,6 +22,7 @@ use Rattle.lnbd_args.specs.declared.fault.ArgsFault.TheVariants as args
 use Rattle.lnbd_link.specs.Call.{Call}
 use Rattle.lnbd_cli.specs.Calls as calls
 use Rattle.lnbd_cli.specs.Copies as copies
+use Rattle.lnbd_cli.specs.Dumps as dumps
 use Rattle.lnbd_cli.specs.Did.{AsksNoFile, AsksNoProgram, Did, HasRoom, IsOnWires, NeverReads}
 use Rattle.lnbd_cli.specs.Informs as informs
 use Rattle.lnbd_cli.specs.Serves as serves
@@ -55,6 +56,7 @@ room words asked.Calls asks = tt
 room words (asked.Info what json place) asks = tt
 room words (asked.Serve s) asks = few asks.1.2.hosts.parts s.content asks.1.2.hosts.serves.content_is
 room words (asked.Copy options from to) asks = tt
+room words (asked.Dump place offset length) asks = tt
 room words (asked.Selftest seed size) asks = tt
 
 pub never_reads : (words : List (String Global)) (a : Asked) → Ask words a → ¬ IsCalls words → NeverReads a
@@ -62,6 +64,7 @@ never_reads words asked.Calls asks other = other asks
 never_reads words (asked.Info what json place) asks other = tt
 never_reads words (asked.Serve s) asks other = tt
 never_reads words (asked.Copy options from to) asks other = tt
+never_reads words (asked.Dump place offset length) asks other = tt
 never_reads words (asked.Selftest seed size) asks other = tt
 
 pub on_wires : (words : List (String Global)) (a : Asked) → Ask words a → ¬ AskTest words → IsOnWires a
@@ -69,6 +72,7 @@ on_wires words asked.Calls asks other = tt
 on_wires words (asked.Info what json place) asks other = tt
 on_wires words (asked.Serve s) asks other = tt
 on_wires words (asked.Copy options from to) asks other = tt
+on_wires words (asked.Dump place offset length) asks other = tt
 on_wires words (asked.Selftest seed size) asks other = other (record { seed = seed; size = size }, asks)
 
 -- Where no file and no program is asked for, the tool asks for none.
@@ -82,6 +86,7 @@ no_file words (asked.Serve s) asks other = made s.content (λ file. other (s, as
     made (Made seed size) none = tt
     made (File path) none = absurd (none tt)
 no_file words (asked.Copy options from to) asks other = tt
+no_file words (asked.Dump place offset length) asks other = tt
 no_file words (asked.Selftest seed size) asks other = tt
 
 pub no_program : (words : List (String Global)) (a : Asked) → Ask words a → ¬ AskProgram words → AsksNoProgram a
@@ -93,6 +98,7 @@ no_program words (asked.Serve s) asks other = none s.run (λ some. other (s, ask
     none [] never = refl
     none (program ∷ words) never = absurd (never (λ e. cc e))
 no_program words (asked.Copy options from to) asks other = tt
+no_program words (asked.Dump place offset length) asks other = tt
 no_program words (asked.Selftest seed size) asks other = tt
 
 -- Where memory ran out before it was known what they ask, nothing was done.
@@ -126,6 +132,7 @@ module _ {I W O S P : Type 0} (left : I → Option (List ℕ)) (input : I) (told
     child = λ here done. cc done;
   }
   unbegun (asked.Copy options from to) = record { does = (copies.Unbegun refl refl, refl); known = refl; accepts = tt; store_same = λ none. refl; spawn_same = λ none. refl; file = tt; child = tt }
+  unbegun (asked.Dump place offset length) = record { does = dumps.Unbegun refl refl refl; known = refl; accepts = tt; store_same = λ none. refl; spawn_same = λ none. refl; file = tt; child = tt }
   unbegun (asked.Selftest seed size) = record {
     does = (trials.Unmade refl refl, refl);
     known = refl;

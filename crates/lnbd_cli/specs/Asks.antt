@@ -7,6 +7,7 @@ use Rattle.lnbd_args.specs.Tools.{Asks, IsMisplaced, Reads, Wanted}
 use Rattle.lnbd_cli.specs.declared.ending.Fault.{Fault}
 use Rattle.lnbd_cli.specs.declared.ending.Fault.TheVariants as fault
 use Rattle.lnbd_cli.specs.declared.copying.Transfer.{Transfer}
+use Rattle.lnbd_cli.specs.declared.dumping.Excerpt.{Excerpt}
 use Rattle.lnbd_cli.specs.declared.hearing.Question.{Question}
 use Rattle.lnbd_cli.specs.declared.selftesting.Trial.{Trial}
 use Rattle.lnbd_cli.specs.declared.serving.Service.{Service}
@@ -63,6 +64,10 @@ AskProgram words = (s : Serving) × Ask words (asked.Serve s) × (s.run ≢ [])
 -- nbdcopy: this is to be copied
 abbrev pub IsCopy : List (String Global) → Transfer → Type 0
 IsCopy words t = Ask words (asked.Copy t.options t.from t.to)
+
+-- nbddump: these bytes are to be shown
+abbrev pub IsDump : List (String Global) → Excerpt → Type 0
+IsDump words e = Ask words (asked.Dump e.place e.offset e.length)
 
 -- selftest: this copy is to be made in memory
 abbrev pub IsSelftest : List (String Global) → Trial → Type 0

@@ -14,7 +14,7 @@ use Rattle.lnbd_cli.specs.Beside.{FileServed, ProgramRan, is_all_done}
 use Rattle.lnbd_cli.specs.Calls.{HoldsScript}
 use Rattle.lnbd_cli.specs.Ends.{End, status_of}
 use Rattle.lnbd_cli.specs.Hosts.{ServeDoes}
-use Rattle.lnbd_cli.specs.Runs.{RunsCalls, RunsCopy, RunsInfo, RunsSelftest, is_known}
+use Rattle.lnbd_cli.specs.Runs.{RunsCalls, RunsCopy, RunsDump, RunsInfo, RunsSelftest, is_known}
 use Rattle.lnbd_cli.specs.Limits.{most_tested}
 
 abbrev pub Does : {I W O S P : Type 0} → Asked → (left : I → Option (List ℕ)) (input input' : I) (told : W → Option (List Call)) (wires wires' : W) (taken : O → Option (List ℕ)) (out out' : O)
@@ -26,6 +26,8 @@ Does (asked.Serve s) left input input' told wires wires' taken out out' moved st
     ServeDoes s.content s.run s told wires wires' taken out out' moved store store' deeds spawn spawn' end
 Does (asked.Copy options from to) left input input' told wires wires' taken out out' moved store store' deeds spawn spawn' end =
     RunsCopy (record { options = options; from = from; to = to }) told wires wires' out out' end
+Does (asked.Dump place offset length) left input input' told wires wires' taken out out' moved store store' deeds spawn spawn' end =
+    RunsDump (record { place = place; offset = offset; length = length }) told wires wires' taken out out' end
 Does (asked.Selftest seed size) left input input' told wires wires' taken out out' moved store store' deeds spawn spawn' end =
     RunsSelftest (record { seed = seed; size = size }) wires wires' taken out out' end
 
@@ -35,6 +37,7 @@ Accepts asked.Calls left end = HoldsScript left → status_of end ≢ 1
 Accepts (asked.Info what json place) left end = Unit {0}
 Accepts (asked.Serve s) left end = Unit {0}
 Accepts (asked.Copy options from to) left end = Unit {0}
+Accepts (asked.Dump place offset length) left end = Unit {0}
 Accepts (asked.Selftest seed size) left end = (size ≤ most_tested → status_of end ≢ 6) × (most_tested < size → (status_of end ≡ 6) ⊎ (status_of end ≡ 9))
 
 -- No file is asked for, and no program.
@@ -43,6 +46,7 @@ AsksNoFile asked.Calls = Unit {0}
 AsksNoFile (asked.Info what json place) = Unit {0}
 AsksNoFile (asked.Serve s) = IsMade s.content
 AsksNoFile (asked.Copy options from to) = Unit {0}
+AsksNoFile (asked.Dump place offset length) = Unit {0}
 AsksNoFile (asked.Selftest seed size) = Unit {0}
 
 abbrev pub AsksNoProgram : Asked → Type 0
@@ -50,6 +54,7 @@ AsksNoProgram asked.Calls = Unit {0}
 AsksNoProgram (asked.Info what json place) = Unit {0}
 AsksNoProgram (asked.Serve s) = s.run ≡ []
 AsksNoProgram (asked.Copy options from to) = Unit {0}
+AsksNoProgram (asked.Dump place offset length) = Unit {0}
 AsksNoProgram (asked.Selftest seed size) = Unit {0}
 
 -- Where a file or a program is served, all steps are done on a status that says so, and this is so.
@@ -58,6 +63,7 @@ WhereBeside asked.Calls end Is = Unit {0}
 WhereBeside (asked.Info what json place) end Is = Unit {0}
 WhereBeside (asked.Serve s) end Is = is_alone s.content s.run ≡ false → is_all_done (status_of end) ≡ true → Is s
 WhereBeside (asked.Copy options from to) end Is = Unit {0}
+WhereBeside (asked.Dump place offset length) end Is = Unit {0}
 WhereBeside (asked.Selftest seed size) end Is = Unit {0}
 
 pub record Did {I W O S P : Type 0} (left : I → Option (List ℕ)) (input input' : I) (told : W → Option (List Call)) (wires wires' : W) (taken : O → Option (List ℕ)) (out out' : O)
@@ -82,6 +88,7 @@ HasRoom asked.Calls = Unit {0}
 HasRoom (asked.Info what json place) = Unit {0}
 HasRoom (asked.Serve s) = IsFew s.content
 HasRoom (asked.Copy options from to) = Unit {0}
+HasRoom (asked.Dump place offset length) = Unit {0}
 HasRoom (asked.Selftest seed size) = Unit {0}
 
 -- The input is not read for it.
@@ -90,6 +97,7 @@ NeverReads asked.Calls = ⊥
 NeverReads (asked.Info what json place) = Unit {0}
 NeverReads (asked.Serve s) = Unit {0}
 NeverReads (asked.Copy options from to) = Unit {0}
+NeverReads (asked.Dump place offset length) = Unit {0}
 NeverReads (asked.Selftest seed size) = Unit {0}
 
 -- Wires are used for it.
@@ -98,4 +106,5 @@ IsOnWires asked.Calls = Unit {0}
 IsOnWires (asked.Info what json place) = Unit {0}
 IsOnWires (asked.Serve s) = Unit {0}
 IsOnWires (asked.Copy options from to) = Unit {0}
+IsOnWires (asked.Dump place offset length) = Unit {0}
 IsOnWires (asked.Selftest seed size) = ⊥

@@ -73,6 +73,8 @@ ruling_text (ruling.NoContext context) = codes "no-context " ++ context
 ruling_text (ruling.TooLarge size) = codes "selftest-size " ++ decimal size ++ codes " 16777216"
 ruling_text (ruling.FileSize length) = codes "file-size " ++ decimal length ++ codes " 1073741824"
 ruling_text (ruling.Changed length end) = codes "changed " ++ decimal length ++ codes " " ++ decimal end
+ruling_text (ruling.Range offset length size) = codes "range " ++ decimal offset ++ codes " " ++ decimal length ++ codes " " ++ decimal size
+ruling_text (ruling.Uneven size block) = codes "uneven " ++ decimal size ++ codes " " ++ decimal block
 
 abbrev pub fault_text : Fault → List ℕ
 fault_text fault.Usage = codes "usage"

@@ -10,6 +10,7 @@ use Rattle.lnbd_store.specs.declared.serving.Content.{Content}
 use Rattle.lnbd_store.specs.declared.serving.Content.TheVariants.{Made, File}
 use Rattle.lnbd_store.specs.declared.serving.Serving.{Serving}
 use Rattle.lnbd_cli.specs.declared.copying.Transfer.{Transfer}
+use Rattle.lnbd_cli.specs.declared.dumping.Excerpt.{Excerpt}
 use Rattle.lnbd_cli.specs.declared.hearing.Question.{Question}
 use Rattle.lnbd_cli.specs.declared.selftesting.Trial.{Trial}
 use Rattle.lnbd_cli.specs.declared.serving.Service.{Service}
@@ -17,6 +18,7 @@ use Rattle.lnbd_cli.specs.Asks.{IsBeside, IsCalls, IsSelftest, Refuses}
 use Rattle.lnbd_cli.specs.Beside.{BesideEnds, is_beside_status}
 use Rattle.lnbd_cli.specs.Calls.{CallsEnds, HoldsScript, is_calls_status}
 use Rattle.lnbd_cli.specs.Copies.{CopyEnds, is_copy_status}
+use Rattle.lnbd_cli.specs.Dumps.{DumpEnds, is_dump_status}
 use Rattle.lnbd_cli.specs.Ends.{End, IsPatient, IsReported, IsSound, Prints}
 use Rattle.lnbd_cli.specs.Informs.{InfoEnds, is_info_status}
 use Rattle.lnbd_cli.specs.Serves.{ServeEnds, is_serve_status}
@@ -57,6 +59,10 @@ Tells taken faults err err' status end = IsReported end (Prints taken faults err
 -- nbdcopy: this was copied, and nothing printed on out
 abbrev pub RunsCopy : {W O : Type 0} → Transfer → (told : W → Option (List Call)) (wires wires' : W) (out out' : O) → End → Type 0
 RunsCopy transfer told wires wires' out out' end = CopyEnds transfer (told wires) (told wires') (wires' ≡ wires) end × (out' ≡ out)
+
+-- nbddump: these bytes were shown
+abbrev pub RunsDump : {W O : Type 0} → Excerpt → (told : W → Option (List Call)) (wires wires' : W) (taken : O → Option (List ℕ)) (out out' : O) → End → Type 0
+RunsDump e told wires wires' taken out out' end = DumpEnds e (told wires) (told wires') (taken out) (taken out') (wires' ≡ wires) (out' ≡ out) end
 
 -- selftest: this copy was made in memory, and the wires are as they were
 abbrev pub RunsSelftest : {W O : Type 0} → Trial → (wires wires' : W) (taken : O → Option (List ℕ)) (out out' : O) → End → Type 0
@@ -114,4 +120,5 @@ is_known asked.Calls status = is_calls_status status
 is_known (asked.Info what json place) status = is_info_status status
 is_known (asked.Serve s) status = is_serving_known s.content s.run status
 is_known (asked.Copy options from to) status = is_copy_status status
+is_known (asked.Dump place offset length) status = is_dump_status status
 is_known (asked.Selftest seed size) status = is_test_status status

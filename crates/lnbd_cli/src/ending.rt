@@ -25,6 +25,10 @@ pub(crate) enum Ruling {
     FileSize(u64),
     /// A file that told so many bytes ended before the byte at this place.
     Changed { length: u64, end: u64 },
+    /// An export of this size has no such range; the length is 0 where none was asked for.
+    Range { offset: u64, length: u64, size: u64 },
+    /// The last bytes of an export of this size lie in no whole block, and some of them are to be shown.
+    Uneven { size: u64, block: u32 },
 }
 
 /// Why a run does not end well. Of those that are found in one call the first of this order is told: want of input, of memory and of a grammar, a failed link, local
@@ -173,6 +177,18 @@ fn push_changed(text: &mut String, length: u64, end: u64) -> Result<(), AllocErr
     write!(text, "changed {length} {end}")
 }
 
+fn push_range(text: &mut String, offset: u64, length: u64, size: u64) -> Result<(), AllocError>
+    ensures { OnOk result (string_bytes text.new ≡ string_bytes text.old ++ ruling_text (ruling.Range offset length size)) }
+{
+    write!(text, "range {offset} {length} {size}")
+}
+
+fn push_uneven(text: &mut String, size: u64, block: u32) -> Result<(), AllocError>
+    ensures { OnOk result (string_bytes text.new ≡ string_bytes text.old ++ ruling_text (ruling.Uneven size block)) }
+{
+    write!(text, "uneven {size} {block}")
+}
+
 fn push_ruling(text: &mut String, why: &Ruling) -> Result<(), AllocError>
     ensures { OnOk result (string_bytes text.new ≡ string_bytes text.old ++ ruling_text why.now) }
 {
@@ -182,6 +198,12 @@ fn push_ruling(text: &mut String, why: &Ruling) -> Result<(), AllocError>
         Ruling::TooLarge(size) => push_too_large(text, *size),
         Ruling::FileSize(length) => push_file_size(text, *length),
         Ruling::Changed { length, end } => push_changed(text, *length, *end),
+        Ruling::Range {
+            offset,
+            length,
+            size,
+        } => push_range(text, *offset, *length, *size),
+        Ruling::Uneven { size, block } => push_uneven(text, *size, *block),
     }
 }
 

@@ -6,6 +6,7 @@ mod beside;
 mod calling;
 mod copying;
 mod counts;
+mod dumping;
 mod ending;
 mod hearing;
 mod informing;

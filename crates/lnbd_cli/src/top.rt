@@ -5,18 +5,20 @@ ghost use Rattle.lnbd_args.specs.declared.asked.Asked.{Asked};
 ghost use Rattle.lnbd_link.specs.Count.{Rises};
 ghost use Rattle.lnbd_script.specs.Seen.{patience};
 ghost use Rattle.lnbd_store.specs.declared.serving.Serving.{Serving};
-ghost use Rattle.lnbd_cli.specs.Asks.{Ask, AskBeside, AskFile, AskNothing, AskProgram, IsBeside, IsCalls, IsCopy, IsInfo, IsSelftest, IsServe};
+ghost use Rattle.lnbd_cli.specs.Asks.{Ask, AskBeside, AskFile, AskNothing, AskProgram, IsBeside, IsCalls, IsCopy, IsDump, IsInfo, IsSelftest, IsServe};
 ghost use Rattle.lnbd_cli.specs.Beside.{FileServed, IsBesideDone, ProgramRan, is_all_done};
 ghost use Rattle.lnbd_cli.specs.Calls.{IsPlayDone};
 ghost use Rattle.lnbd_cli.specs.Copies.{IsCopyDone};
 ghost use Rattle.lnbd_cli.specs.Did.{Did, DidAsked, HasRoom, IsOnWires, NeverReads};
+ghost use Rattle.lnbd_cli.specs.Dumps.{IsDumpDone, IsShown, IsShownInPart};
 ghost use Rattle.lnbd_cli.specs.Ends.{Came, IsPatient, IsSound, Prints};
 ghost use Rattle.lnbd_cli.specs.Informs.{IsInfoDone};
 ghost use Rattle.lnbd_cli.specs.Inputs.{ReadAtMost};
-ghost use Rattle.lnbd_cli.specs.Runs.{AreQuiet, AreSound, AskTest, Beside, IsPlay, IsRefused, Nothing, Refused, RunsCalls, RunsCopy, RunsInfo, RunsSelftest, RunsServe, Still, Tells, is_known};
+ghost use Rattle.lnbd_cli.specs.Runs.{AreQuiet, AreSound, AskTest, Beside, IsPlay, IsRefused, Nothing, Refused, RunsCalls, RunsCopy, RunsDump, RunsInfo, RunsSelftest, RunsServe, Still, Tells, is_known};
 ghost use Rattle.lnbd_cli.specs.Serves.{IsServeDone};
 ghost use Rattle.lnbd_cli.specs.Limits.{most_read, most_tested};
 ghost use Rattle.lnbd_cli.specs.declared.copying.Transfer.{Transfer};
+ghost use Rattle.lnbd_cli.specs.declared.dumping.Excerpt.{Excerpt};
 ghost use Rattle.lnbd_cli.specs.declared.ending.Fault.TheVariants as fault;
 ghost use Rattle.lnbd_cli.specs.declared.hearing.Question.{Question};
 ghost use Rattle.lnbd_cli.specs.declared.selftesting.Trial.{Trial};
@@ -24,6 +26,7 @@ ghost use Rattle.lnbd_cli.specs.declared.serving.Service.{Service};
 
 use crate::calling::calls;
 use crate::copying::{Transfer, copy};
+use crate::dumping::{Excerpt, show};
 use crate::ending::{End, print_end};
 use crate::hearing::Question;
 use crate::informing::inform;
@@ -40,7 +43,7 @@ use std::alloc::Global;
 ///
 /// 0: all is done. 1: words or a script are in no grammar. 2: what nbdinfo was asked is false. 3: the peer answered an option or a command by an error. 4: it broke
 /// the protocol, or ended before the run was done; a client of serve broke it. 5: a link failed. 6: the server did not agree to a map's context, two exports don't
-/// fit for a copy, or the size of a selftest or of a served file is too large. 7: the wires were idle for too long. 8: `out` failed. 9: memory ran out. 10: `input`
+/// fit for a copy, an export has no such range to show, or the size of a selftest or of a served file is too large. 7: the wires were idle for too long. 8: `out` failed. 9: memory ran out. 10: `input`
 /// failed. 11: a call on a local file failed. 12: the program beside which serve ran ended badly. 13: it could not be started, or how it ended could not be had. Every
 /// status but 0 and 2 prints its line on `err`.
 pub fn run<W: Wires, I: Source, O: Sink, E: Sink, S: Store, P: Spawner>(
@@ -59,6 +62,7 @@ pub fn run<W: Wires, I: Source, O: Sink, E: Sink, S: Store, P: Spawner>(
     ensures serve { (s : Service) → IsServe words.now s → Came (RunsServe s W.told wires.old wires.new O.taken out.old out.new) (Prints E.taken E.faults err.old err.new) result }
     ensures beside { Beside words.now W.told wires.old wires.new O.taken out.old out.new S.told store.old store.new P.told spawn.old spawn.new (Tells E.taken E.faults err.old err.new result) }
     ensures copy { (t : Transfer) → IsCopy words.now t → Came (RunsCopy t W.told wires.old wires.new out.old out.new) (Prints E.taken E.faults err.old err.new) result }
+    ensures dump { (e : Excerpt) → IsDump words.now e → Came (RunsDump e W.told wires.old wires.new O.taken out.old out.new) (Prints E.taken E.faults err.old err.new) result }
     ensures selftest { (t : Trial) → IsSelftest words.now t → Came (RunsSelftest t wires.old wires.new O.taken out.old out.new) (Prints E.taken E.faults err.old err.new) result }
 
     // It is known what the words ask; or they are refused, or memory ran out before it was known, and nothing is done.
@@ -75,6 +79,10 @@ pub fn run<W: Wires, I: Source, O: Sink, E: Sink, S: Store, P: Spawner>(
     // On 0, 4 and 12 a file that was served is what its clients' requests make of it, and a program was run once.
     ensures file { (s : Serving) → IsBeside words.now s → is_all_done result ≡ true → FileServed s (W.told wires.old) (W.told wires.new) (S.shelf store.old) (S.shelf store.new) result }
     ensures child { (s : Serving) → IsBeside words.now s → is_all_done result ≡ true → ProgramRan s (P.told spawn.old) (P.told spawn.new) result }
+
+    // On 0 the dump of an honest export's bytes was printed, and on any status a front of it.
+    ensures shows { (e : Excerpt) → IsDump words.now e → result ≡ 0 → IsShown e (W.told wires.old) (W.told wires.new) (O.taken out.old) (O.taken out.new) }
+    ensures fronts { (e : Excerpt) → IsDump words.now e → IsShownInPart e (W.told wires.old) (W.told wires.new) (O.taken out.old) (O.taken out.new) }
 
     // Files are opened for no other words, and no program is started for others.
     ensures store { (¬ AskFile words.now) → store.new ≡ store.old }
@@ -100,6 +108,7 @@ pub fn run<W: Wires, I: Source, O: Sink, E: Sink, S: Store, P: Spawner>(
     ensures serve_complete { (s : Service) → IsServe words.now s → AreQuiet W.faults W.idles wires.old wires.new → IsSound O.faults out.old out.new → IsServeDone result }
     ensures beside_done { AskBeside words.now → Still W.faults W.idles wires.old wires.new O.faults out.old out.new S.faults store.old store.new P.faults spawn.old spawn.new → IsBesideDone result }
     ensures copy_complete { (t : Transfer) → IsCopy words.now t → AreQuiet W.faults W.idles wires.old wires.new → IsCopyDone result }
+    ensures dump_complete { (e : Excerpt) → IsDump words.now e → AreQuiet W.faults W.idles wires.old wires.new → IsSound O.faults out.old out.new → IsDumpDone result }
     ensures selftest_complete { (t : Trial) → IsSelftest words.now t → t.size ≤ most_tested → IsSound O.faults out.old out.new → (result ≡ 0) ⊎ (result ≡ 9) }
     ensures selftest_refuses { (t : Trial) → IsSelftest words.now t → most_tested < t.size → (result ≡ 6) ⊎ (result ≡ 9) }
 {
@@ -137,6 +146,20 @@ fn act<W: Wires, I: Source, O: Sink, S: Store, P: Spawner>(
         }
         Asked::Serve(asked) => attend(alloc, asked, wires, out, store, spawn),
         Asked::Copy { options, from, to } => copy(alloc, Transfer { options, from, to }, wires),
+        Asked::Dump {
+            place,
+            offset,
+            length,
+        } => show(
+            alloc,
+            Excerpt {
+                place,
+                offset,
+                length,
+            },
+            wires,
+            out,
+        ),
         Asked::Selftest { seed, size } => test(alloc, Trial { seed, size }, out),
     }
 }

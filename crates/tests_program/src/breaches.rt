@@ -3,253 +3,151 @@
 
 use crate::outside::{Ended, Fault, Finished, Outside, Peers, STREAMS, finish, report_end};
 use crate::report::{Case, Report};
-use crate::session::{
-    ASK_GO, CONNECT, GO, HANDSHAKE, HELLO, SESSION, SETTLE, Session, Texts, Told, all_of, count,
-    hold, play_texts,
-};
+use crate::session::{Session, Texts, all_of, count, hold, play_texts};
 use lnbd_link::{ListLink, ListWires, ReadAnswer};
 use lnbd_model::Bytes;
 use std::alloc::Global;
 use std::test::Fail;
 
-/// What comes before the bytes that break the protocol, and the state that it leaves.
-#[derive(Clone, Copy)]
-struct Stage {
-    reads: &'static [Told<'static>],
-    talk: &'static [(&'static str, &'static str)],
-    state: &'static str,
-    last: &'static str,
-    written: &'static [&'static str],
-}
+/// The names of bytes.
+const NAMES: &str = "# STRUCTURED_REPLY is acknowledged.
+STRUCTURED 0003e889045565a9 00000008 00000001 00000000
+# The client's flags and STRUCTURED_REPLY.
+ASK_STRUCTURED 00000003 49484156454f5054 00000008 00000000
+READ_16 25609513 0000 0000 0000000000000001 0000000000000000 00000010
+# EXTENDED_HEADERS is acknowledged.
+EXTENDED 0003e889045565a9 0000000b 00000001 00000000
+# GO's reply where SEND_DF is told.
+GO_DF 0003e889045565a9 00000007 00000003 0000000c 0000 0000000000100000 0081
+GO_DF 0003e889045565a9 00000007 00000001 00000000
+# Structured replies are acknowledged, and base:allocation is agreed under the number 1.
+ALLOCATION 0003e889045565a9 00000008 00000001 00000000
+ALLOCATION 0003e889045565a9 0000000a 00000004 00000013 00000001 626173653a616c6c6f636174696f6e
+ALLOCATION 0003e889045565a9 0000000a 00000001 00000000";
 
-/// A breach: its name, the bytes, and which of them shows it, counted from 1. Cuts behind fewer than `from` bytes are not played.
+/// What comes before the bytes that break the protocol, as lines of a session, and the state that it leaves.
+const NOTHING: &str = "connect tcp localhost 10809→connected
+.state negotiating
+.last opened 0 freed 0";
+
+const OPTIONS: &str = "<1 HELLO
+connect tcp localhost 10809→connected
+read→moved 18
+write→moved 4
+write→moved 28
+.state negotiating
+.last opened 0 freed 0
+> HANDSHAKE";
+
+const SIMPLE: &str = "<1 HELLO
+<1 GO
+connect tcp localhost 10809→connected
+settle→settled
+pread 16 0→cookie 1
+write→moved 28
+.state ready
+.last opened 1 freed 1
+> HANDSHAKE
+> READ_16";
+
+const CHUNKS: &str = "<1 HELLO
+<1 STRUCTURED
+<1 GO
+structured on→ok
+connect tcp localhost 10809→connected
+settle→settled
+pread 16 0→cookie 1
+write→moved 28
+.state ready
+.last opened 1 freed 1
+> ASK_STRUCTURED
+> ASK_GO
+> READ_16";
+
+const EXTENDED: &str = "<1 HELLO
+<1 EXTENDED
+<1 GO
+extended on→ok
+connect tcp localhost 10809→connected
+settle→settled
+pread 16 0→cookie 1
+write→moved 32
+.state ready
+.last opened 1 freed 1
+> 00000003 49484156454f5054 0000000b 00000000
+> ASK_GO
+> 21e41c71 0000 0000 0000000000000001 0000000000000000 0000000000000010";
+
+/// A breach in each line: what comes before, its name, which of its bytes shows it, counted from 1, behind how many bytes at least cuts are played, and its bytes.
+const BREACHES: &str = "NOTHING BadHello 8 1 4e42444d41474944
+NOTHING OldStyle 16 1 4e42444d41474943 0000420281861253
+NOTHING NotFixed 18 1 4e42444d41474943 49484156454f5054 0000
+OPTIONS BadOptionMagic 8 1 0003e889045565a8
+OPTIONS WrongOption 20 1 0003e889045565a9 00000006 00000001 00000000
+OPTIONS BadOptionLength 20 1 0003e889045565a9 00000007 00000003 00010001
+OPTIONS UnexpectedReply 20 1 0003e889045565a9 00000007 00000002 00000004 00000000
+OPTIONS TooManyReplies 22550 22450 0003e889045565a90000000700000003000000020009*1025
+OPTIONS BadText 23 1 0003e889045565a9 00000007 00000003 00000003 0001 ff
+OPTIONS NoExportInfo 20 1 0003e889045565a9 00000007 00000001 00000000
+OPTIONS SizeTooBig 32 1 0003e889045565a9 00000007 00000003 0000000c 0000 8000000000000000 0001
+SIMPLE BadReplyMagic 4 1 668e33ef
+SIMPLE UnknownCookie 16 1 67446698 00000000 0000000000000063
+CHUNKS SimpleForRead 16 1 67446698 00000000 0000000000000001
+CHUNKS BadChunkLength 20 1 668e33ef 0001 0002 0000000000000001 0000000b
+CHUNKS BadChunkType 20 1 668e33ef 0001 0007 0000000000000001 00000000
+CHUNKS OutOfRange 28 1 668e33ef 0001 0001 0000000000000001 00000009 0000000000000010
+CHUNKS ZeroError 26 1 668e33ef 0001 8001 0000000000000001 00000006 00000000 0000
+CHUNKS TooManyErrors 26644 26550 668e33ef00008001000000000000000100000006000000050000*1025
+EXTENDED MixedHeaders 4 1 67446698";
+
+/// A breach, and what comes before it.
 #[derive(Clone, Copy)]
-struct Broken {
-    name: &'static str,
-    stage: Stage,
-    bytes: &'static str,
+struct Broken<'a> {
+    stage: &'a str,
+    name: &'a str,
     told: usize,
     from: usize,
+    bytes: &'a str,
 }
 
-/// STRUCTURED_REPLY is acknowledged.
-const STRUCTURED: Told<'static> = Told::Bytes("0003e889045565a9 00000008 00000001 00000000");
+fn stage_of(name: &str) -> &'static str {
+    match name {
+        "OPTIONS" => OPTIONS,
+        "SIMPLE" => SIMPLE,
+        "CHUNKS" => CHUNKS,
+        "EXTENDED" => EXTENDED,
+        _ => NOTHING,
+    }
+}
 
-const STRUCTURED_ON: (&str, &str) = ("structured on", "ok");
+/// The first word of a line, and the rest.
+fn word_of(line: &str) -> (&str, &str) {
+    line.split_once(' ').unwrap_or((line, ""))
+}
 
-/// The client's flags and STRUCTURED_REPLY.
-const ASK_STRUCTURED: &str = "00000003 49484156454f5054 00000008 00000000";
+/// The breach of a line.
+fn broken_of<'a>(line: &'a str) -> Result<Broken<'a>, Fail> {
+    let (stage, line) = word_of(line);
+    let (name, line) = word_of(line);
+    let (told, line) = word_of(line);
+    let (from, bytes) = word_of(line);
+    Ok(Broken {
+        stage: stage_of(stage),
+        name,
+        told: told.parse::<usize>()?,
+        from: from.parse::<usize>()?,
+        bytes,
+    })
+}
 
-const READ: (&str, &str) = ("pread 16 0", "cookie 1");
-
-const READ_16: &str = "25609513 0000 0000 0000000000000001 0000000000000000 00000010";
-
-const NOTHING: Stage = Stage {
-    reads: &[],
-    talk: &[CONNECT],
-    state: "negotiating",
-    last: "opened 0 freed 0",
-    written: &[],
-};
-
-const OPTIONS: Stage = Stage {
-    reads: &[HELLO],
-    talk: &[
-        CONNECT,
-        ("read", "moved 18"),
-        ("write", "moved 4"),
-        ("write", "moved 28"),
-    ],
-    written: &[HANDSHAKE],
-    ..NOTHING
-};
-
-const SIMPLE: Stage = Stage {
-    reads: &[HELLO, GO],
-    talk: &[CONNECT, SETTLE, READ, ("write", "moved 28")],
-    state: "ready",
-    last: "opened 1 freed 1",
-    written: &[HANDSHAKE, READ_16],
-};
-
-const CHUNKS: Stage = Stage {
-    reads: &[HELLO, STRUCTURED, GO],
-    talk: &[STRUCTURED_ON, CONNECT, SETTLE, READ, ("write", "moved 28")],
-    written: &[ASK_STRUCTURED, ASK_GO, READ_16],
-    ..SIMPLE
-};
-
-const EXTENDED: Stage = Stage {
-    reads: &[
-        HELLO,
-        Told::Bytes("0003e889045565a9 0000000b 00000001 00000000"),
-        GO,
-    ],
-    talk: &[
-        ("extended on", "ok"),
-        CONNECT,
-        SETTLE,
-        READ,
-        ("write", "moved 32"),
-    ],
-    written: &[
-        "00000003 49484156454f5054 0000000b 00000000",
-        ASK_GO,
-        "21e41c71 0000 0000 0000000000000001 0000000000000000 0000000000000010",
-    ],
-    ..SIMPLE
-};
-
-/// Of a row that is cut at each byte.
-const BROKEN: Broken = Broken {
-    name: "",
-    stage: NOTHING,
-    bytes: "",
-    told: 0,
-    from: 1,
-};
-
-static BREACHES: [Broken; 20] = [
-    Broken {
-        name: "BadHello",
-        bytes: "4e42444d41474944",
-        told: 8,
-        ..BROKEN
-    },
-    Broken {
-        name: "OldStyle",
-        bytes: "4e42444d41474943 0000420281861253",
-        told: 16,
-        ..BROKEN
-    },
-    Broken {
-        name: "NotFixed",
-        bytes: "4e42444d41474943 49484156454f5054 0000",
-        told: 18,
-        ..BROKEN
-    },
-    Broken {
-        name: "BadOptionMagic",
-        stage: OPTIONS,
-        bytes: "0003e889045565a8",
-        told: 8,
-        ..BROKEN
-    },
-    Broken {
-        name: "WrongOption",
-        stage: OPTIONS,
-        bytes: "0003e889045565a9 00000006 00000001 00000000",
-        told: 20,
-        ..BROKEN
-    },
-    Broken {
-        name: "BadOptionLength",
-        stage: OPTIONS,
-        bytes: "0003e889045565a9 00000007 00000003 00010001",
-        told: 20,
-        ..BROKEN
-    },
-    Broken {
-        name: "UnexpectedReply",
-        stage: OPTIONS,
-        bytes: "0003e889045565a9 00000007 00000002 00000004 00000000",
-        told: 20,
-        ..BROKEN
-    },
-    Broken {
-        name: "TooManyReplies",
-        stage: OPTIONS,
-        bytes: "0003e889045565a90000000700000003000000020009*1025",
-        told: 22550,
-        from: 22_450,
-        ..BROKEN
-    },
-    Broken {
-        name: "BadText",
-        stage: OPTIONS,
-        bytes: "0003e889045565a9 00000007 00000003 00000003 0001 ff",
-        told: 23,
-        ..BROKEN
-    },
-    Broken {
-        name: "NoExportInfo",
-        stage: OPTIONS,
-        bytes: "0003e889045565a9 00000007 00000001 00000000",
-        told: 20,
-        ..BROKEN
-    },
-    Broken {
-        name: "SizeTooBig",
-        stage: OPTIONS,
-        bytes: "0003e889045565a9 00000007 00000003 0000000c 0000 8000000000000000 0001",
-        told: 32,
-        ..BROKEN
-    },
-    Broken {
-        name: "BadReplyMagic",
-        stage: SIMPLE,
-        bytes: "668e33ef",
-        told: 4,
-        ..BROKEN
-    },
-    Broken {
-        name: "UnknownCookie",
-        stage: SIMPLE,
-        bytes: "67446698 00000000 0000000000000063",
-        told: 16,
-        ..BROKEN
-    },
-    Broken {
-        name: "SimpleForRead",
-        stage: CHUNKS,
-        bytes: "67446698 00000000 0000000000000001",
-        told: 16,
-        ..BROKEN
-    },
-    Broken {
-        name: "BadChunkLength",
-        stage: CHUNKS,
-        bytes: "668e33ef 0001 0002 0000000000000001 0000000b",
-        told: 20,
-        ..BROKEN
-    },
-    Broken {
-        name: "BadChunkType",
-        stage: CHUNKS,
-        bytes: "668e33ef 0001 0007 0000000000000001 00000000",
-        told: 20,
-        ..BROKEN
-    },
-    Broken {
-        name: "OutOfRange",
-        stage: CHUNKS,
-        bytes: "668e33ef 0001 0001 0000000000000001 00000009 0000000000000010",
-        told: 28,
-        ..BROKEN
-    },
-    Broken {
-        name: "ZeroError",
-        stage: CHUNKS,
-        bytes: "668e33ef 0001 8001 0000000000000001 00000006 00000000 0000",
-        told: 26,
-        ..BROKEN
-    },
-    Broken {
-        name: "TooManyErrors",
-        stage: CHUNKS,
-        bytes: "668e33ef00008001000000000000000100000006000000050000*1025",
-        told: 26644,
-        from: 26_550,
-        ..BROKEN
-    },
-    Broken {
-        name: "MixedHeaders",
-        stage: EXTENDED,
-        bytes: "67446698",
-        told: 4,
-        ..BROKEN
-    },
-];
+/// A session of these lines.
+fn session_of<'a>(own: &'a str) -> Session<'a> {
+    Session {
+        names: NAMES,
+        base: "",
+        own,
+    }
+}
 
 /// How many calls of the wires and bytes over them the longest of these takes.
 const WIRES_ROOM: usize = 65_536;
@@ -275,7 +173,8 @@ fn push_breach(
         return texts.push_all(&[("read", "idle"), ("state", dead)]);
     }
     if 0 < cut {
-        push_read(alloc, texts, cut, broken.stage.state)?;
+        let state = session_of(broken.stage).value(".state ");
+        push_read(alloc, texts, cut, state)?;
     }
     push_read(alloc, texts, bytes.saturating_sub(cut), dead)
 }
@@ -289,22 +188,22 @@ fn texts_of(
     cut: usize,
 ) -> Result<Texts, Fail> {
     let mut texts = Texts::new(alloc);
-    texts.push_all(broken.stage.talk)?;
+    texts.push_talk(broken.stage)?;
     push_breach(alloc, &mut texts, broken, dead, bytes, cut)?;
-    texts.push("", broken.stage.last)?;
+    texts.push_last(&session_of(broken.stage))?;
     Ok(texts)
 }
 
-/// Plays a breach whole and with each cut. Its bytes come behind so many others.
+/// Plays a breach whole and with each cut, as this session.
 fn play_session(
     alloc: Global,
     report: &mut Report,
     broken: &Broken,
     session: &Session,
-    before: usize,
     dead: &str,
 ) -> Result<(), Fail> {
-    let bytes = count(alloc, session.reads)?.saturating_sub(before);
+    let before = count(alloc, &session_of(broken.stage))?;
+    let bytes = count(alloc, session)?.saturating_sub(before);
     let texts = texts_of(alloc, broken, dead, bytes, 0)?;
     play_texts(alloc, report, session, texts, 0)?;
     for cut in broken.from..bytes {
@@ -314,257 +213,170 @@ fn play_session(
     Ok(())
 }
 
-/// Plays a breach by these reads. The program ends with this line.
-fn play_reads<'a>(
-    alloc: Global,
-    report: &mut Report,
-    broken: &Broken,
-    reads: &'a [Told<'a>],
-    err: &'a str,
-    dead: &str,
-) -> Result<(), Fail> {
-    let session = Session {
-        shows: broken.name,
-        reads,
-        wires_room: WIRES_ROOM,
-        err,
-        status: 4,
-        written: broken.stage.written,
-        ..SESSION
-    };
-    let before = count(alloc, broken.stage.reads)?;
-    play_session(alloc, report, broken, &session, before, dead)
+/// The lines of its session.
+fn lines_of(alloc: Global, broken: &Broken) -> Result<String, Fail> {
+    let Broken {
+        stage,
+        name,
+        bytes,
+        ..
+    } = *broken;
+    let room = WIRES_ROOM;
+    let mut lines = format!(in alloc; "= {name}\n{stage}\n<1 {bytes}\n")?;
+    write!(
+        lines,
+        ".wires-room {room}\n.err lnbd: peer broke {name}\n.status 4"
+    )?;
+    Ok(lines)
 }
 
 /// Plays a breach, whole and with each cut.
 fn play_breach(alloc: Global, report: &mut Report, broken: &Broken) -> Result<(), Fail> {
     let name = broken.name;
-    let mut reads = Vec::from_slice(alloc, broken.stage.reads)?;
-    reads.push(Told::Bytes(broken.bytes))?;
-    let err = format!(in alloc; "lnbd: peer broke {name}\n")?;
+    let lines = lines_of(alloc, broken)?;
     let dead = format!(in alloc; "dead broke {name}")?;
-    play_reads(alloc, report, broken, &reads, err.as_str(), dead.as_str())
+    play_session(
+        alloc,
+        report,
+        broken,
+        &session_of(lines.as_str()),
+        dead.as_str(),
+    )
 }
 
 #[test]
 fn each_breach_is_told_at_its_byte(rt: HostRuntime) -> Result<(), Fail> {
     let alloc = rt.alloc();
     let mut report = Report::new(alloc);
-    for broken in BREACHES.iter() {
-        play_breach(alloc, &mut report, broken)?;
+    for line in BREACHES.split('\n') {
+        play_breach(alloc, &mut report, &broken_of(line)?)?;
     }
     report.settle(&rt);
     Ok(())
 }
 
-/// GO's reply where SEND_DF is told.
-const GO_DF: Told<'static> = Told::Bytes(
-    "0003e889045565a9 00000007 00000003 0000000c 0000 0000000000100000 0081 \
-     0003e889045565a9 00000007 00000001 00000000",
-);
-
-/// Structured replies are acknowledged, and base:allocation is agreed under the number 1.
-const AGREED: Told<'static> = Told::Bytes(
-    "0003e889045565a9 00000008 00000001 00000000 \
-     0003e889045565a9 0000000a 00000004 00000013 00000001 626173653a616c6c6f636174696f6e \
-     0003e889045565a9 0000000a 00000001 00000000",
-);
-
 /// A read of faulty content, but for that content.
-const FAULTY: Session<'static> = Session {
-    talk: &[
-        STRUCTURED_ON,
-        CONNECT,
-        SETTLE,
-        READ,
-        SETTLE,
-        ("done 1", "failed 71 16 00*16"),
-        ("state", "ready"),
-    ],
-    last: "opened 1 freed 1",
-    err: "lnbd: peer broke Content\n",
-    status: 4,
-    written: &[ASK_STRUCTURED, ASK_GO, READ_16],
-    ..SESSION
-};
+const FAULTY: &str = "structured on→ok
+connect tcp localhost 10809→connected
+settle→settled
+pread 16 0→cookie 1
+settle→settled
+done 1→failed 71 16 00*16
+state→ready
+.last opened 1 freed 1
+.err lnbd: peer broke Content
+.status 4
+> ASK_STRUCTURED
+> ASK_GO
+> READ_16";
+
+const FAULTY_READS: &str = "= content over earlier content
+<1 HELLO
+<1 STRUCTURED
+<1 GO
+<1 668e33ef 0000 0001 0000000000000001 00000018 0000000000000000 11*16 668e33ef 0001 0001 0000000000000001 00000009 0000000000000008 22
+
+= a hole of no bytes
+<1 HELLO
+<1 STRUCTURED
+<1 GO
+<1 668e33ef 0000 0001 0000000000000001 00000018 0000000000000000 11*16 668e33ef 0001 0002 0000000000000001 0000000c 0000000000000000 00000000
+
+= a second chunk of content where one was asked for
+<1 HELLO
+<1 STRUCTURED
+<1 GO_DF
+<1 668e33ef 0000 0001 0000000000000001 00000010 0000000000000000 11*8 668e33ef 0001 0001 0000000000000001 00000010 0000000000000008 22*8
+structured on→ok
+connect tcp localhost 10809→connected
+settle→settled
+pread 16 0 4→cookie 1
+settle→settled
+done 1→failed 71 16 00*16
+state→ready
+> ASK_STRUCTURED
+> ASK_GO
+> 25609513 0004 0000 0000000000000001 0000000000000000 00000010
+
+= a byte that is not told
+<1 HELLO
+<1 STRUCTURED
+<1 GO
+<1 668e33ef 0001 0001 0000000000000001 00000017 0000000000000000 11*15";
 
 /// A block status of faulty content, but for that content and its flags.
-const FAULTY_STATUS: Session<'static> = Session {
-    talk: &[
-        STRUCTURED_ON,
-        ("context base:allocation", "ok"),
-        CONNECT,
-        SETTLE,
-        ("block-status 8192 0", "cookie 1"),
-        SETTLE,
-        ("done 1", "failed 71 0 -"),
-        ("state", "ready"),
-    ],
-    last: "opened 2 freed 2",
-    written: &[
-        ASK_STRUCTURED,
-        "49484156454f5054 0000000a 0000001b 00000000 00000001 0000000f 626173653a616c6c6f636174696f6e",
-        ASK_GO,
-        "25609513 0000 0007 0000000000000001 0000000000000000 00002000",
-    ],
-    ..FAULTY
-};
+const FAULTY_STATUS: &str = "structured on→ok
+context base:allocation→ok
+connect tcp localhost 10809→connected
+settle→settled
+block-status 8192 0→cookie 1
+settle→settled
+done 1→failed 71 0 -
+state→ready
+.last opened 2 freed 2
+.err lnbd: peer broke Content
+.status 4
+> ASK_STRUCTURED
+> 49484156454f5054 0000000a 0000001b 00000000 00000001 0000000f 626173653a616c6c6f636174696f6e
+> ASK_GO
+> 25609513 0000 0007 0000000000000001 0000000000000000 00002000";
 
-static CONTENT_FAULTS: [Session<'static>; 10] = [
-    Session {
-        shows: "content over earlier content",
-        reads: &[
-            HELLO,
-            STRUCTURED,
-            GO,
-            Told::Bytes(
-                "668e33ef 0000 0001 0000000000000001 00000018 0000000000000000 11*16 \
-                 668e33ef 0001 0001 0000000000000001 00000009 0000000000000008 22",
-            ),
-        ],
-        ..FAULTY
-    },
-    Session {
-        shows: "a hole of no bytes",
-        reads: &[
-            HELLO,
-            STRUCTURED,
-            GO,
-            Told::Bytes(
-                "668e33ef 0000 0001 0000000000000001 00000018 0000000000000000 11*16 \
-                 668e33ef 0001 0002 0000000000000001 0000000c 0000000000000000 00000000",
-            ),
-        ],
-        ..FAULTY
-    },
-    Session {
-        shows: "a second chunk of content where one was asked for",
-        reads: &[
-            HELLO,
-            STRUCTURED,
-            GO_DF,
-            Told::Bytes(
-                "668e33ef 0000 0001 0000000000000001 00000010 0000000000000000 11*8 \
-                 668e33ef 0001 0001 0000000000000001 00000010 0000000000000008 22*8",
-            ),
-        ],
-        talk: &[
-            STRUCTURED_ON,
-            CONNECT,
-            SETTLE,
-            ("pread 16 0 4", "cookie 1"),
-            SETTLE,
-            ("done 1", "failed 71 16 00*16"),
-            ("state", "ready"),
-        ],
-        written: &[
-            ASK_STRUCTURED,
-            ASK_GO,
-            "25609513 0004 0000 0000000000000001 0000000000000000 00000010",
-        ],
-        ..FAULTY
-    },
-    Session {
-        shows: "a byte that is not told",
-        reads: &[
-            HELLO,
-            STRUCTURED,
-            GO,
-            Told::Bytes("668e33ef 0001 0001 0000000000000001 00000017 0000000000000000 11*15"),
-        ],
-        ..FAULTY
-    },
-    Session {
-        shows: "extents of a context that was not agreed",
-        reads: &[
-            HELLO,
-            AGREED,
-            GO,
-            Told::Bytes(
-                "668e33ef 0000 0005 0000000000000001 0000000c 00000001 00002000 00000000 \
-                 668e33ef 0001 0005 0000000000000001 0000000c 00000002 00002000 00000000",
-            ),
-        ],
-        ..FAULTY_STATUS
-    },
-    Session {
-        shows: "extents of a context twice",
-        reads: &[
-            HELLO,
-            AGREED,
-            GO,
-            Told::Bytes(
-                "668e33ef 0000 0005 0000000000000001 0000000c 00000001 00002000 00000000 \
-                 668e33ef 0001 0005 0000000000000001 0000000c 00000001 00002000 00000000",
-            ),
-        ],
-        ..FAULTY_STATUS
-    },
-    Session {
-        shows: "an extent of no bytes",
-        reads: &[
-            HELLO,
-            AGREED,
-            GO,
-            Told::Bytes(
-                "668e33ef 0001 0005 0000000000000001 00000014 00000001 00002000 00000000 00000000 00000003",
-            ),
-        ],
-        ..FAULTY_STATUS
-    },
-    Session {
-        shows: "a second extent where one was asked for",
-        reads: &[
-            HELLO,
-            AGREED,
-            GO,
-            Told::Bytes(
-                "668e33ef 0001 0005 0000000000000001 00000014 00000001 00001000 00000000 00001000 00000003",
-            ),
-        ],
-        talk: &[
-            STRUCTURED_ON,
-            ("context base:allocation", "ok"),
-            CONNECT,
-            SETTLE,
-            ("block-status 8192 0 8", "cookie 1"),
-            SETTLE,
-            ("done 1", "failed 71 0 -"),
-            ("state", "ready"),
-        ],
-        written: &[
-            ASK_STRUCTURED,
-            "49484156454f5054 0000000a 0000001b 00000000 00000001 0000000f 626173653a616c6c6f636174696f6e",
-            ASK_GO,
-            "25609513 0008 0007 0000000000000001 0000000000000000 00002000",
-        ],
-        ..FAULTY_STATUS
-    },
-    Session {
-        shows: "a context that is not told",
-        reads: &[
-            HELLO,
-            AGREED,
-            GO,
-            Told::Bytes("668e33ef 0001 0000 0000000000000001 00000000"),
-        ],
-        ..FAULTY_STATUS
-    },
-    Session {
-        shows: "a reply of no chunk",
-        reads: &[
-            HELLO,
-            AGREED,
-            GO,
-            Told::Bytes("67446698 00000000 0000000000000001"),
-        ],
-        ..FAULTY_STATUS
-    },
-];
+const FAULTY_STATUSES: &str = "= extents of a context that was not agreed
+<1 HELLO
+<1 ALLOCATION
+<1 GO
+<1 668e33ef 0000 0005 0000000000000001 0000000c 00000001 00002000 00000000 668e33ef 0001 0005 0000000000000001 0000000c 00000002 00002000 00000000
+
+= extents of a context twice
+<1 HELLO
+<1 ALLOCATION
+<1 GO
+<1 668e33ef 0000 0005 0000000000000001 0000000c 00000001 00002000 00000000 668e33ef 0001 0005 0000000000000001 0000000c 00000001 00002000 00000000
+
+= an extent of no bytes
+<1 HELLO
+<1 ALLOCATION
+<1 GO
+<1 668e33ef 0001 0005 0000000000000001 00000014 00000001 00002000 00000000 00000000 00000003
+
+= a second extent where one was asked for
+<1 HELLO
+<1 ALLOCATION
+<1 GO
+<1 668e33ef 0001 0005 0000000000000001 00000014 00000001 00001000 00000000 00001000 00000003
+structured on→ok
+context base:allocation→ok
+connect tcp localhost 10809→connected
+settle→settled
+block-status 8192 0 8→cookie 1
+settle→settled
+done 1→failed 71 0 -
+state→ready
+> ASK_STRUCTURED
+> 49484156454f5054 0000000a 0000001b 00000000 00000001 0000000f 626173653a616c6c6f636174696f6e
+> ASK_GO
+> 25609513 0008 0007 0000000000000001 0000000000000000 00002000
+
+= a context that is not told
+<1 HELLO
+<1 ALLOCATION
+<1 GO
+<1 668e33ef 0001 0000 0000000000000001 00000000
+
+= a reply of no chunk
+<1 HELLO
+<1 ALLOCATION
+<1 GO
+<1 67446698 00000000 0000000000000001";
 
 #[test]
 fn faulty_content_fails_its_command_alone(rt: HostRuntime) -> Result<(), Fail> {
-    hold(&rt, rt.alloc(), &[&CONTENT_FAULTS])
+    hold(
+        &rt,
+        rt.alloc(),
+        NAMES,
+        &[(FAULTY, FAULTY_READS), (FAULTY_STATUS, FAULTY_STATUSES)],
+    )
 }
 
 /// What a peer sends whose replies to two reads lie within each other: three parts of the handshake, and three chunks.
@@ -649,22 +461,21 @@ fn ending_texts(alloc: Global, bytes: usize) -> Result<Texts, Fail> {
         ("cookie 1", "cookie 2")
     };
     let mut texts = Texts::new(alloc);
-    texts.push_all(&[STRUCTURED_ON, CONNECT, SETTLE])?;
+    texts.push_talk(
+        "structured on→ok
+connect tcp localhost 10809→connected
+settle→settled",
+    )?;
     texts.push("pread-structured 8 0", one)?;
     texts.push("pread-structured 8 8", two)?;
-    texts.push_all(&[SETTLE])?;
+    texts.push("settle", "settled")?;
     texts.push_all(&told_at(bytes))?;
     texts.push("", "opened 4 freed 4")?;
     Ok(texts)
 }
 
 /// Reports a run whose peer ended the link behind so many bytes.
-fn report_ending(
-    report: &mut Report,
-    bytes: usize,
-    ended: &Ended,
-    answers: &str,
-) -> Result<(), Fail> {
+fn report_ending(report: &mut Report, bytes: usize, ended: &Ended, answers: &str) {
     let case = Case {
         shows: "a peer that ends two reads",
         run: bytes,
@@ -674,7 +485,7 @@ fn report_ending(
     } else {
         ("", 0)
     };
-    report_end(report, case, ended, answers, said, status)
+    report_end(report, case, ended, answers, said, status);
 }
 
 /// Plays this script with the peer that ends the link behind so many bytes.
@@ -687,7 +498,8 @@ fn finished_of(alloc: Global, script: Vec<u8>, bytes: usize) -> Result<Finished,
 fn play_ending(alloc: Global, report: &mut Report, bytes: usize) -> Result<(), Fail> {
     let (script, answers) = ending_texts(alloc, bytes)?.into_parts();
     let finished = finished_of(alloc, script.into_bytes(), bytes)?;
-    report_ending(report, bytes, &finished.ended, answers.as_str())
+    report_ending(report, bytes, &finished.ended, answers.as_str());
+    Ok(())
 }
 
 #[test]

@@ -136,7 +136,7 @@ fn copy_one(alloc: Global, text: &mut String, board: &mut Board) -> Result<(), F
 static ERRORS: [(u32, u32); 4] = [(5, 5), (28, 5), (71, 71), (5, 71)];
 
 /// Extents are kept for the request that asked for them.
-fn report_told(report: &mut Report, case: Case, board: &mut Board) -> Result<(), Fail> {
+fn report_told(report: &mut Report, case: Case, board: &mut Board) {
     let extents = [Extent {
         length: 512,
         flags: 3,
@@ -144,51 +144,41 @@ fn report_told(report: &mut Report, case: Case, board: &mut Board) -> Result<(),
     let _heard = Ticket::Extents.extents(board, b"base:allocation", 0, &extents, 0);
     match board.told() {
         [told] => {
-            report.number(case, "length", told.length, 512)?;
-            report.number(case, "flags", told.flags, 3)
+            report.number(case, "length", told.length, 512);
+            report.number(case, "flags", told.flags, 3);
         }
         _ => report.holds(case, "one extent", false),
     }
 }
 
-fn report_mapped(
-    alloc: Global,
-    report: &mut Report,
-    case: Case,
-    board: &mut Board,
-) -> Result<(), Fail> {
+fn report_mapped(alloc: Global, report: &mut Report, case: Case, board: &mut Board) {
     let _verdict = Ticket::Extents.complete(board, 0, none(alloc));
-    report.holds(case, "mapped", board.is_mapped())?;
-    report.holds(case, "whole", !board.is_short())?;
+    report.holds(case, "mapped", board.is_mapped());
+    report.holds(case, "whole", !board.is_short());
     board.forget_map();
-    report.holds(case, "map forgotten", !board.is_mapped())
+    report.holds(case, "map forgotten", !board.is_mapped());
 }
 
 /// A flush is noted, and an error that came first stands, but that of faulty content, 71, comes before it.
-fn report_flushed(
-    alloc: Global,
-    report: &mut Report,
-    case: Case,
-    board: &mut Board,
-) -> Result<(), Fail> {
+fn report_flushed(alloc: Global, report: &mut Report, case: Case, board: &mut Board) {
     let _verdict = Ticket::Flush.complete(board, 0, none(alloc));
-    report.holds(case, "flushed", board.is_flushed())?;
+    report.holds(case, "flushed", board.is_flushed());
     for (came, stands) in ERRORS.iter() {
         let _verdict = Ticket::Flush.complete(board, *came, none(alloc));
         let error = board.error().unwrap_or(0);
-        report.number(case, "error", error as u64, *stands as u64)?;
+        report.number(case, "error", error as u64, *stands as u64);
     }
-    report.number(case, "begun", board.begun(), 0)
+    report.number(case, "begun", board.begun(), 0);
 }
 
-fn file(alloc: Global, report: &mut Report, board: &mut Board) -> Result<(), Fail> {
+fn file(alloc: Global, report: &mut Report, board: &mut Board) {
     let case = Case {
         shows: "what comes is filed",
         run: 0,
     };
-    report_told(report, case, board)?;
-    report_mapped(alloc, report, case, board)?;
-    report_flushed(alloc, report, case, board)
+    report_told(report, case, board);
+    report_mapped(alloc, report, case, board);
+    report_flushed(alloc, report, case, board);
 }
 
 /// A slice is bound to the connection with the fewest, the lowest of several.
@@ -198,12 +188,13 @@ fn bind(alloc: Global, report: &mut Report) -> Result<(), Fail> {
         run: 0,
     };
     let mut bound = Bound::new(alloc, 2)?;
-    report.number(case, "first", bound.fewest() as u64, 0)?;
+    report.number(case, "first", bound.fewest() as u64, 0);
     bound.bind(0);
-    report.number(case, "second", bound.fewest() as u64, 1)?;
+    report.number(case, "second", bound.fewest() as u64, 1);
     bound.bind(1);
     bound.release(1);
-    report.number(case, "third", bound.fewest() as u64, 1)
+    report.number(case, "third", bound.fewest() as u64, 1);
+    Ok(())
 }
 
 /// The steps of a copied slice.
@@ -217,15 +208,15 @@ fn report_steps(alloc: Global, report: &mut Report) -> Result<(), Fail> {
     let told = copy_one(alloc, &mut text, &mut board);
     board.end();
     told?;
-    report.text(case, "steps", text.as_str(), COPIED)
+    report.text(case, "steps", text.as_str(), COPIED);
+    Ok(())
 }
 
 /// What is filed on a board.
-fn report_filed(alloc: Global, report: &mut Report) -> Result<(), Fail> {
+fn report_filed(alloc: Global, report: &mut Report) {
     let mut board = Board::new(alloc, HOW);
-    let told = file(alloc, report, &mut board);
+    file(alloc, report, &mut board);
     board.end();
-    told
 }
 
 #[test]
@@ -233,7 +224,7 @@ fn slices_stand_on_the_board(rt: HostRuntime) -> Result<(), Fail> {
     let alloc = rt.alloc();
     let mut report = Report::new(alloc);
     report_steps(alloc, &mut report)?;
-    report_filed(alloc, &mut report)?;
+    report_filed(alloc, &mut report);
     bind(alloc, &mut report)?;
     report.settle(&rt);
     Ok(())

@@ -1,7 +1,8 @@
-//! One failure anywhere: a script, a map and a copy in which each call of the wires fails in turn, until all is done; and a map whose output fails at each call.
+//! One failure anywhere: a script, a map, a dump and a copy in which each call of the wires fails in turn, until all is done; and a map and a dump whose output fails at each
+//! call.
 
 use crate::outside::{Ended, Fault, Finished, Outside, Peers, STREAMS, Streams, finish};
-use crate::report::{Case, Report};
+use crate::report::{Case, Report, text_of};
 use crate::served::{Disk, Run, holds, wires};
 use crate::session::all_of;
 use lnbd_link::{ListLink, ListWires, ReadAnswer};
@@ -9,7 +10,6 @@ use lnbd_memnet::Schedule;
 use lnbd_model::Bytes;
 use std::alloc::Global;
 use std::process::Abort;
-use std::str::from_utf8;
 use std::test::Fail;
 
 /// What is played while a call fails.
@@ -19,6 +19,8 @@ enum Scene {
     Script,
     /// A map of an export that is served.
     Map,
+    /// A dump of it.
+    Dump,
     /// A copy between two exports that are served.
     Copy,
 }
@@ -29,6 +31,8 @@ const MOST_CALLS: usize = 4096;
 const BY_SCRIPT: &[&str] = &["nbdcalls"];
 
 const TO_MAP: &[&str] = &["nbdinfo", "--map", "nbd://localhost/a"];
+
+const TO_DUMP: &[&str] = &["nbddump", "nbd://localhost/a"];
 
 const TO_COPY: &[&str] = &[
     "nbdcopy",
@@ -48,6 +52,17 @@ static READS: [&str; 3] = [
 ];
 
 const SOURCE: &[Run] = &[(0xaa, 393_216), (0, 262_144), (0xbb, 393_216)];
+
+/// What is printed of it.
+const DUMPED: &str =
+    "0000000000: aa aa aa aa aa aa aa aa aa aa aa aa aa aa aa aa  |................|
+*
+0000060000: 00 00 00 00 00 00 00 00 00 00 00 00 00 00 00 00  |................|
+*
+00000a0000: bb bb bb bb bb bb bb bb bb bb bb bb bb bb bb bb  |................|
+*
+00000ffff0: bb bb bb bb bb bb bb bb bb bb bb bb bb bb bb bb  |................|
+";
 
 const FROM: Disk<'static> = Disk {
     name: b"a",
@@ -92,6 +107,7 @@ fn words_of(scene: Scene) -> &'static [&'static str] {
     match scene {
         Scene::Script => BY_SCRIPT,
         Scene::Map => TO_MAP,
+        Scene::Dump => TO_DUMP,
         Scene::Copy => TO_COPY,
     }
 }
@@ -100,7 +116,7 @@ fn words_of(scene: Scene) -> &'static [&'static str] {
 fn peers_of(alloc: Global, scene: Scene) -> Result<Peers, Fail> {
     match scene {
         Scene::Script => listed(alloc),
-        Scene::Map | Scene::Copy => exports(alloc),
+        Scene::Map | Scene::Dump | Scene::Copy => exports(alloc),
     }
 }
 
@@ -113,42 +129,45 @@ fn finished_of(
 ) -> Result<Finished, Fail> {
     let script = match scene {
         Scene::Script => Vec::from_slice(alloc, SCRIPT.as_bytes())?,
-        Scene::Map | Scene::Copy => Vec::new(alloc),
+        Scene::Map | Scene::Dump | Scene::Copy => Vec::new(alloc),
     };
     let wires = Outside::new(alloc, peers_of(alloc, scene)?, fault);
     finish(alloc, words_of(scene), script, streams, wires)
 }
 
+/// Reports what a dump printed that did not come to its end: a front of the dump.
+fn report_front(report: &mut Report, case: Case, ended: &Ended) {
+    let printed = text_of(ended.out.bytes());
+    report.holds(case, "a front", DUMPED.starts_with(printed));
+}
+
 /// Reports the end of a run in which a call failed: its status, its line, and, of a script, that each callback that was admitted was freed.
-fn report_fault(report: &mut Report, case: Case, scene: Scene, ended: &Ended) -> Result<(), Fail> {
-    report.number(case, "status", ended.status as u64, 5)?;
-    report.stream(case, "said", ended.err.bytes(), "lnbd: link fault\n")?;
+fn report_fault(report: &mut Report, case: Case, scene: Scene, ended: &Ended) {
+    report.number(case, "status", ended.status as u64, 5);
+    report.stream(case, "said", ended.err.bytes(), "lnbd: link fault\n");
     match scene {
         Scene::Script => {
-            let lines = from_utf8(ended.out.bytes())?;
+            let lines = text_of(ended.out.bytes());
             report.holds(case, "all freed", lines.ends_with("\nopened 1 freed 1\n"))
         }
+        Scene::Dump => report_front(report, case, ended),
         Scene::Map | Scene::Copy => report.stream(case, "printed", ended.out.bytes(), ""),
     }
 }
 
 /// Reports a run with this call failing, and tells whether it ended with 0.
-fn report_run(
-    report: &mut Report,
-    case: Case,
-    scene: Scene,
-    finished: &Finished,
-) -> Result<bool, Fail> {
+fn report_run(report: &mut Report, case: Case, scene: Scene, finished: &Finished) -> bool {
     if finished.ended.status != 0 {
-        report_fault(report, case, scene, &finished.ended)?;
-        return Ok(false);
+        report_fault(report, case, scene, &finished.ended);
+        return false;
     }
     match scene {
-        Scene::Copy => report.holds(case, "equal", holds(&finished.wires, 1, SOURCE))?,
+        Scene::Copy => report.holds(case, "equal", holds(&finished.wires, 1, SOURCE)),
+        Scene::Dump => report.stream(case, "printed", finished.ended.out.bytes(), DUMPED),
         Scene::Script | Scene::Map => {}
     }
-    report.holds(case, "a call failed before", 0 < case.run)?;
-    Ok(true)
+    report.holds(case, "a call failed before", 0 < case.run);
+    true
 }
 
 /// Plays it with the call of the run's number failing, and tells whether it ended with 0.
@@ -157,7 +176,7 @@ fn fail_call(alloc: Global, report: &mut Report, case: Case, scene: Scene) -> Re
         call: case.run as u64,
     };
     let finished = finished_of(alloc, scene, fault, STREAMS)?;
-    report_run(report, case, scene, &finished)
+    Ok(report_run(report, case, scene, &finished))
 }
 
 /// Plays it with each call failing in turn, until a run ends with 0.
@@ -167,7 +186,8 @@ fn fail_calls(alloc: Global, report: &mut Report, shows: &str, scene: Scene) -> 
             return Ok(());
         }
     }
-    report.holds(Case { shows, run: 0 }, "an end with 0", false)
+    report.holds(Case { shows, run: 0 }, "an end with 0", false);
+    Ok(())
 }
 
 /// A test of a play.
@@ -189,67 +209,80 @@ fn a_map_tells_each_call_that_fails(rt: HostRuntime) -> Result<(), Fail> {
 }
 
 #[test]
+fn a_dump_tells_each_call_that_fails(rt: HostRuntime) -> Result<(), Fail> {
+    fail_each(&rt, rt.alloc(), "a dump", Scene::Dump)
+}
+
+#[test]
 fn a_copy_tells_each_call_that_fails(rt: HostRuntime) -> Result<(), Fail> {
     fail_each(&rt, rt.alloc(), "a copy", Scene::Copy)
 }
 
-/// Reports a map whose output failed, and tells whether it ended with 0.
-fn report_output(report: &mut Report, run: usize, ended: &Ended, said: &str) -> Result<bool, Fail> {
-    let case = Case {
-        shows: "an output that fails",
-        run,
-    };
+/// Reports a run whose output failed, and tells whether it ended with 0.
+fn report_output(report: &mut Report, case: Case, scene: Scene, ended: &Ended, said: &str) -> bool {
     if ended.status == 0 {
-        report.holds(case, "a call failed before", 0 < run)?;
-        return Ok(true);
+        report.holds(case, "a call failed before", 0 < case.run);
+        return true;
     }
-    report.number(case, "status", ended.status as u64, 8)?;
-    report.stream(case, "said", ended.err.bytes(), said)?;
-    Ok(false)
+    report.number(case, "status", ended.status as u64, 8);
+    report.stream(case, "said", ended.err.bytes(), said);
+    if let Scene::Dump = scene {
+        report_front(report, case, ended);
+    }
+    false
 }
 
-/// A map of which this call of the output fails, and none of the error stream or this one. Tells whether it ended with 0.
+/// A run of which this call of the output fails, and none of the error stream or this one. Tells whether it ended with 0.
 fn fail_output(
     alloc: Global,
     report: &mut Report,
-    run: usize,
+    case: Case,
+    scene: Scene,
     error_fails_at: Option<usize>,
     said: &str,
 ) -> Result<bool, Fail> {
     let streams = Streams {
-        output_fails_at: Some(run),
+        output_fails_at: Some(case.run),
         error_fails_at,
         ..STREAMS
     };
-    let finished = finished_of(alloc, Scene::Map, Fault::Nothing, streams)?;
-    report_output(report, run, &finished.ended, said)
+    let finished = finished_of(alloc, scene, Fault::Nothing, streams)?;
+    Ok(report_output(report, case, scene, &finished.ended, said))
 }
 
-/// A map of which each call of the output fails in turn, and none of the error stream or the first one too.
+/// Runs of which each call of the output fails in turn, and none of the error stream or the first one too.
 fn fail_outputs(
     alloc: Global,
     report: &mut Report,
+    scene: Scene,
     error_fails_at: Option<usize>,
     said: &str,
 ) -> Result<(), Fail> {
+    let shows = "an output that fails";
     for run in 0..MOST_CALLS {
-        if fail_output(alloc, report, run, error_fails_at, said)? {
+        if fail_output(
+            alloc,
+            report,
+            Case { shows, run },
+            scene,
+            error_fails_at,
+            said,
+        )? {
             return Ok(());
         }
     }
-    let case = Case {
-        shows: "an output that fails",
-        run: 0,
-    };
-    report.holds(case, "an end with 0", false)
+    report.holds(Case { shows, run: 0 }, "an end with 0", false);
+    Ok(())
 }
 
 #[test]
 fn an_output_that_fails_is_told(rt: HostRuntime) -> Result<(), Fail> {
     let alloc = rt.alloc();
     let mut report = Report::new(alloc);
-    fail_outputs(alloc, &mut report, None, "lnbd: output fault\n")?;
-    fail_outputs(alloc, &mut report, Some(0), "")?;
+    for scene in [Scene::Map, Scene::Dump] {
+        fail_outputs(alloc, &mut report, scene, None, "lnbd: output fault\n")?;
+        fail_outputs(alloc, &mut report, scene, Some(0), "")?;
+    }
     report.settle(&rt);
     Ok(())
 }

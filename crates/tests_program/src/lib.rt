@@ -23,6 +23,8 @@ mod copies_sized;
 #[cfg(test)]
 mod copies_turned;
 #[cfg(test)]
+mod dumps;
+#[cfg(test)]
 mod failing;
 #[cfg(test)]
 mod information;

@@ -307,10 +307,10 @@ pub fn report_end(
     printed: &str,
     said: &str,
     status: u8,
-) -> Result<(), Fail> {
-    report.stream(case, "printed", ended.out.bytes(), printed)?;
-    report.stream(case, "said", ended.err.bytes(), said)?;
-    report.number(case, "status", ended.status as u64, status as u64)
+) {
+    report.stream(case, "printed", ended.out.bytes(), printed);
+    report.stream(case, "said", ended.err.bytes(), said);
+    report.number(case, "status", ended.status as u64, status as u64);
 }
 
 /// Reports what went out over all links.
@@ -321,5 +321,6 @@ pub fn report_written(
     written: &[u8],
 ) -> Result<(), Fail> {
     let came = wires.written()?;
-    report.bytes(case, "written", came.as_slice(), written)
+    report.bytes(case, "written", came.as_slice(), written);
+    Ok(())
 }

@@ -92,7 +92,7 @@ fn report_asks(
         let run = link as usize;
         let asks = text_on(alloc, link, calls)?;
         let wanted = asks_on(transfer, link);
-        report.text(Case { shows, run }, "asked on link", asks.as_str(), wanted)?;
+        report.text(Case { shows, run }, "asked on link", asks.as_str(), wanted);
     }
     Ok(())
 }
@@ -107,10 +107,11 @@ fn report_copy(
 ) -> Result<(), Fail> {
     let shows = transfer.shows;
     let case = Case { shows, run: 0 };
-    report_end(report, case, ended, "", transfer.err, transfer.status)?;
+    report_end(report, case, ended, "", transfer.err, transfer.status);
     report_asks(alloc, report, transfer, &wires.calls)?;
-    report.holds(case, "source", holds(wires, 0, transfer.source))?;
-    report.holds(case, "destination", holds(wires, 1, transfer.holds))
+    report.holds(case, "source", holds(wires, 0, transfer.source));
+    report.holds(case, "destination", holds(wires, 1, transfer.holds));
+    Ok(())
 }
 
 /// Copies over these wires, and reports what differs.

@@ -1,83 +1,61 @@
 //! The selftest, in which nothing comes or goes on any link.
 
-use crate::session::{SESSION, Session, hold};
+use crate::session::hold;
 use std::test::Fail;
 
-static TESTED: [Session<'static>; 4] = [
-    Session {
-        shows: "sixteen blocks, four of them zeros",
-        words: &["selftest", "0", "65536"],
-        last: "seed 0 size 65536 read 49152 written 49152 zeroed 16384 equal",
-        ..SESSION
-    },
-    Session {
-        shows: "exports of no bytes",
-        words: &["selftest", "7", "0"],
-        last: "seed 7 size 0 read 0 written 0 zeroed 0 equal",
-        ..SESSION
-    },
-    Session {
-        shows: "exports of one byte",
-        words: &["selftest", "0", "1"],
-        last: "seed 0 size 1 read 1 written 1 zeroed 0 equal",
-        ..SESSION
-    },
-    Session {
-        shows: "a block of which there is one byte",
-        words: &["selftest", "0", "8193"],
-        last: "seed 0 size 8193 read 4097 written 4097 zeroed 4096 equal",
-        ..SESSION
-    },
-];
+const TESTED: &str = "= sixteen blocks, four of them zeros
+.words selftest 0 65536
+.last seed 0 size 65536 read 49152 written 49152 zeroed 16384 equal
+
+= exports of no bytes
+.words selftest 7 0
+.last seed 7 size 0 read 0 written 0 zeroed 0 equal
+
+= exports of one byte
+.words selftest 0 1
+.last seed 0 size 1 read 1 written 1 zeroed 0 equal
+
+= a block of which there is one byte
+.words selftest 0 8193
+.last seed 0 size 8193 read 4097 written 4097 zeroed 4096 equal";
 
 /// The most bytes that there may be. Of the 4,096 blocks of this seed 1,019 are zeros.
-static LARGEST: [Session<'static>; 1] = [Session {
-    shows: "as many bytes as there may be",
-    words: &["selftest", "5", "16777216"],
-    last: "seed 5 size 16777216 read 12603392 written 12603392 zeroed 4173824 equal",
-    ..SESSION
-}];
+const LARGEST: &str = "= as many bytes as there may be
+.words selftest 5 16777216
+.last seed 5 size 16777216 read 12603392 written 12603392 zeroed 4173824 equal";
 
-static NOT_TESTED: [Session<'static>; 5] = [
-    Session {
-        shows: "one byte more than there may be",
-        words: &["selftest", "0", "16777217"],
-        err: "lnbd: rule selftest-size 16777217 16777216\n",
-        status: 6,
-        ..SESSION
-    },
-    Session {
-        shows: "no size",
-        words: &["selftest", "0"],
-        err: "lnbd: usage\n",
-        status: 1,
-        ..SESSION
-    },
-    Session {
-        shows: "a size that is no number",
-        words: &["selftest", "0", "1k"],
-        err: "lnbd: usage\n",
-        status: 1,
-        ..SESSION
-    },
-    Session {
-        shows: "a third word",
-        words: &["selftest", "0", "1", "1"],
-        err: "lnbd: usage\n",
-        status: 1,
-        ..SESSION
-    },
-    Session {
-        shows: "an output that fails",
-        words: &["selftest", "0", "1"],
-        output_fails_at: Some(0),
-        err: "lnbd: output fault\n",
-        status: 8,
-        ..SESSION
-    },
-];
+const NOT_TESTED: &str = "= one byte more than there may be
+.words selftest 0 16777217
+.err lnbd: rule selftest-size 16777217 16777216
+.status 6
+
+= no size
+.words selftest 0
+.err lnbd: usage
+.status 1
+
+= a size that is no number
+.words selftest 0 1k
+.err lnbd: usage
+.status 1
+
+= a third word
+.words selftest 0 1 1
+.err lnbd: usage
+.status 1
+
+= an output that fails
+.words selftest 0 1
+.output-fails-at 0
+.err lnbd: output fault
+.status 8";
 
 #[test]
 fn selftest_copies_in_memory(rt: HostRuntime) -> Result<(), Fail> {
-    hold(&rt, rt.alloc(), &[&TESTED, &LARGEST, &NOT_TESTED])
+    hold(
+        &rt,
+        rt.alloc(),
+        "",
+        &[("", TESTED), ("", LARGEST), ("", NOT_TESTED)],
+    )
 }

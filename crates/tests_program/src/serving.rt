@@ -90,8 +90,8 @@ fn report_served(
         SERVED,
         client.said,
         client.status,
-    )?;
-    report.number(case, "faults", finished.wires.faults(), 0)?;
+    );
+    report.number(case, "faults", finished.wires.faults(), 0);
     let written = all_of(alloc, client.written)?;
     report_written(report, case, &finished.wires, written.as_slice())
 }
@@ -264,12 +264,7 @@ fn export_of(alloc: Global, schedule: Schedule) -> Result<Outside, Fail>
 }
 
 /// Reports how a script ended.
-fn report_script(
-    report: &mut Report,
-    script: &Script,
-    run: usize,
-    finished: &Finished,
-) -> Result<(), Fail> {
+fn report_script(report: &mut Report, script: &Script, run: usize, finished: &Finished) {
     let shows = script.shows;
     let case = Case { shows, run };
     report_end(
@@ -279,9 +274,9 @@ fn report_script(
         script.answers,
         script.said,
         script.status,
-    )?;
-    report.holds(case, "held", holds(&finished.wires, 0, script.holds))?;
-    report.number(case, "short of memory", finished.wires.shorts(), 0)
+    );
+    report.holds(case, "held", holds(&finished.wires, 0, script.holds));
+    report.number(case, "short of memory", finished.wires.shorts(), 0);
 }
 
 /// Plays a script over these wires.
@@ -301,7 +296,8 @@ fn play(
 {
     let wires = export_of(alloc, schedule)?;
     let finished = finished_of(alloc, script, wires)?;
-    report_script(report, script, run, &finished)
+    report_script(report, script, run, &finished);
+    Ok(())
 }
 
 #[test]

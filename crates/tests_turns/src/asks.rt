@@ -3,6 +3,7 @@
 use lnbd_link::{Accepted, Got, Took, Want, WireFailed, Wires};
 use lnbd_model::Target;
 use std::alloc::{AllocError, Global};
+use std::process::Abort;
 use std::str::from_utf8;
 
 /// A call of wires. Reads take up to three bytes, and writes offer five.
@@ -91,6 +92,11 @@ fn push_answer<W: Wires>(
         Ask::Faults => push_number(text, wires.faults()),
         Ask::Idles => push_number(text, wires.idles()),
     }
+}
+
+/// The one comparison of all tests.
+pub fn same(rt: &impl Abort, found: &str, wanted: &str) {
+    assert_eq!(rt; found, wanted);
 }
 
 /// Makes these calls. Their answers, a line each.

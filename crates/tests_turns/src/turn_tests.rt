@@ -1,6 +1,7 @@
 //! Handles over links in memory: what each call answers, and which handle gets which bytes. The replies are spelled as the NBD
 //! protocol has them.
 
+use crate::asks::same;
 use crate::party::Deed::{Count, Done, Join, Part, Pause, Pread, State, Take, Turn};
 use crate::party::{Deed, Keeper, Party, word_of};
 use crate::peer::{Peer, Told, address, wires_to};
@@ -102,16 +103,31 @@ const IN_ORDER: &[Deed] = &[
 const IN_ORDER_ANSWERED: &str =
     "0, 0, 1, created, negotiating, 1, 0, 1, negotiating, no handle, 0 callbacks, ";
 
+/// What these deeds answer where the links are to these peers.
+fn played(
+    alloc: Global,
+    first: &Peer,
+    second: &Peer,
+    room: usize,
+    deeds: &[Deed],
+) -> Result<String, Fail> {
+    let party = Party::of(alloc, wires_to(alloc, first, second, room, 1)?);
+    Ok(party.play(deeds)?)
+}
+
 #[test]
 fn each_handle_takes_the_bytes_of_its_own_link(rt: HostRuntime) -> Result<(), Fail> {
     let alloc = rt.alloc();
-    let party = Party::of(alloc, wires_to(alloc, &LATE, &PROMPT, 10_000, 1)?);
-    let mut found = party.play(OWN_LINKS)?;
-    let party = Party::of(alloc, wires_to(alloc, &SILENT, &SILENT, 1_000, 1)?);
-    found.push_str(party.play(IN_ORDER)?.as_str())?;
-    let mut wanted = String::from_str(alloc, OWN_LINKS_ANSWERED)?;
-    wanted.push_str(IN_ORDER_ANSWERED)?;
-    assert_eq!(rt; found, wanted);
+    same(
+        &rt,
+        played(alloc, &LATE, &PROMPT, 10_000, OWN_LINKS)?.as_str(),
+        OWN_LINKS_ANSWERED,
+    );
+    same(
+        &rt,
+        played(alloc, &SILENT, &SILENT, 1_000, IN_ORDER)?.as_str(),
+        IN_ORDER_ANSWERED,
+    );
     Ok(())
 }
 
@@ -203,15 +219,20 @@ fn push_writes(text: &mut String, alloc: Global) -> Result<(), Fail> {
 fn reads_and_writes_notice_what_the_wires_answered(rt: HostRuntime) -> Result<(), Fail> {
     let alloc = rt.alloc();
     let mut found = String::new(alloc);
-    push_noticed(&mut found, read_noticed(alloc, &GREETING, true)?)?;
-    push_noticed(&mut found, read_noticed(alloc, &QUIET, true)?)?;
-    push_noticed(&mut found, read_noticed(alloc, &ENDING, true)?)?;
-    push_noticed(&mut found, read_noticed(alloc, &FAILING, true)?)?;
-    push_noticed(&mut found, read_noticed(alloc, &GREETING, false)?)?;
+    for (peer, starts) in [
+        (&GREETING, true),
+        (&QUIET, true),
+        (&ENDING, true),
+        (&FAILING, true),
+        (&GREETING, false),
+    ] {
+        push_noticed(&mut found, read_noticed(alloc, peer, starts)?)?;
+    }
     push_writes(&mut found, alloc)?;
-    assert_eq!(rt;
+    same(
+        &rt,
         found.as_str(),
-        "18, not ready, ended, failed, idle, idle, 3, not ready, failed, negotiating"
+        "18, not ready, ended, failed, idle, idle, 3, not ready, failed, negotiating",
     );
     Ok(())
 }

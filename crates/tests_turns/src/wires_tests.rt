@@ -1,10 +1,11 @@
 //! Each kind of wires by rows of calls.
 
 use crate::asks::Ask::{Accept, Connect, Faults, Idles, Listen, Pause, Read, Shut, Write};
-use crate::asks::{Ask, play};
+use crate::asks::{Ask, play, same};
 use crate::peer::{Peer, Told, address, link_of, wires_to};
 use lnbd_inbound::InboundWires;
 use lnbd_link::{ListSink, ListSource, Sink, SinkTook, Source, SourceGot, WriteAnswer, raised};
+use lnbd_model::Target;
 use lnbd_sockets::{ReaderSource, SocketWires};
 use std::alloc::{AllocError, Global};
 use std::test::Fail;
@@ -118,34 +119,58 @@ const NO_SOCKET: &[Ask] = &[
 
 const NO_SOCKET_ANSWERED: &str = "failed, failed, failed, failed, failed, 5, , 1, ";
 
-#[test]
-fn calls_of_wires_are_answered(rt: HostRuntime) -> Result<(), Fail> {
-    let alloc = rt.alloc();
-    let to = address(alloc, b"ab")?;
-    let mut found = String::new(alloc);
-    let mut wires = wires_to(alloc, &UNREACHABLE, &CHANGEFUL, 1000, 3)?;
-    found.push_str(play(alloc, &mut wires, READS, &to)?.as_str())?;
-    let mut wires = wires_to(alloc, &UNREACHABLE, &CHANGEFUL, 1000, 3)?;
-    found.push_str(play(alloc, &mut wires, WRITES, &to)?.as_str())?;
-    let mut wires = wires_to(alloc, &UNREACHABLE, &CHANGEFUL, 11, 3)?;
-    found.push_str(play(alloc, &mut wires, PAST_THE_ROOM, &to)?.as_str())?;
+// A function for each kind of wires: one in which all of them are alive is proved in minutes.
+
+/// Calls of wires to listed peers with so much room.
+fn listed(alloc: Global, to: &Target, room: usize, asks: &[Ask]) -> Result<String, Fail> {
+    let mut wires = wires_to(alloc, &UNREACHABLE, &CHANGEFUL, room, 3)?;
+    Ok(play(alloc, &mut wires, asks, to)?)
+}
+
+/// Calls of wires by which a peer comes in.
+fn inbound(alloc: Global, to: &Target, asks: &[Ask]) -> Result<String, Fail> {
     let links = vec![in alloc; link_of(alloc, &UNREACHABLE)?]?;
     let mut wires = InboundWires::new(alloc, links, 100, 3)?;
-    found.push_str(play(alloc, &mut wires, ACCEPTS, &to)?.as_str())?;
-    let mut wires = SocketWires::new(alloc, &rt)?;
-    let nowhere = address(alloc, b"/no/such/socket")?;
-    found.push_str(play(alloc, &mut wires, NO_SOCKET, &nowhere)?.as_str())?;
-    let mut wanted = String::new(alloc);
-    for answers in [
+    Ok(play(alloc, &mut wires, asks, to)?)
+}
+
+#[test]
+fn calls_of_wires_in_memory_are_answered(rt: HostRuntime) -> Result<(), Fail> {
+    let alloc = rt.alloc();
+    let to = address(alloc, b"ab")?;
+    same(
+        &rt,
+        listed(alloc, &to, 1000, READS)?.as_str(),
         READS_ANSWERED,
+    );
+    same(
+        &rt,
+        listed(alloc, &to, 1000, WRITES)?.as_str(),
         WRITES_ANSWERED,
+    );
+    same(
+        &rt,
+        listed(alloc, &to, 11, PAST_THE_ROOM)?.as_str(),
         PAST_THE_ROOM_ANSWERED,
+    );
+    same(
+        &rt,
+        inbound(alloc, &to, ACCEPTS)?.as_str(),
         ACCEPTS_ANSWERED,
+    );
+    Ok(())
+}
+
+#[test]
+fn calls_of_wires_over_sockets_are_answered(rt: HostRuntime) -> Result<(), Fail> {
+    let alloc = rt.alloc();
+    let nowhere = address(alloc, b"/no/such/socket")?;
+    let mut wires = SocketWires::new(alloc, &rt)?;
+    same(
+        &rt,
+        play(alloc, &mut wires, NO_SOCKET, &nowhere)?.as_str(),
         NO_SOCKET_ANSWERED,
-    ] {
-        wanted.push_str(answers)?;
-    }
-    assert_eq!(rt; found, wanted);
+    );
     Ok(())
 }
 
@@ -186,9 +211,10 @@ fn streams_are_answered(rt: HostRuntime) -> Result<(), Fail> {
     let mut sink = ListSink::new(alloc, 4, Some(1))?;
     push_writes(&mut found, &mut sink)?;
     write!(found, " {}", raised(u64::MAX - 1, 3))?;
-    assert_eq!(rt;
+    same(
+        &rt,
         found.as_str(),
-        "2, failed, 1, end, 2, 1, end, end, 3, failed, 1, failed, abca 18446744073709551615"
+        "2, failed, 1, end, 2, 1, end, end, 3, failed, 1, failed, abca 18446744073709551615",
     );
     Ok(())
 }

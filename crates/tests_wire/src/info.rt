@@ -4,7 +4,7 @@ ghost use Rattle.std.specs.Prelude.{◌≡◌, ◌≤◌, ◌^◌};
 ghost use Rattle.lnbd_extents.specs.Lists.{span};
 ghost use Rattle.lnbd_info.specs.Map.{AreFilled};
 
-use crate::told::{push_number, same, text};
+use crate::told::{Told, same, text};
 use lnbd_args::Predicate;
 use lnbd_info::{
     Entry, Found, is_true, joined, write_json, write_listing, write_map, write_map_json,
@@ -78,7 +78,7 @@ fn a_map_is_told_as_text_and_as_json(rt: HostRuntime) -> Result<(), NoMemory> {
 }
 
 /// An export of this size and these flags, told under structured replies.
-fn told(alloc: Global, size: u64, flags: u16) -> ExportInfo {
+fn export(alloc: Global, size: u64, flags: u16) -> ExportInfo {
     ExportInfo {
         size,
         flags,
@@ -107,7 +107,7 @@ fn entry(
 
 /// All that can be told: extended headers, every flag, sizes of blocks and a description.
 fn all_told(alloc: Global) -> Result<ExportInfo, NoMemory> {
-    let mut info = told(alloc, 9, 0xfff);
+    let mut info = export(alloc, 9, 0xfff);
     info.extended = true;
     info.description = Some(text(alloc, "told")?);
     info.blocks = Some(Blocks {
@@ -120,7 +120,7 @@ fn all_told(alloc: Global) -> Result<ExportInfo, NoMemory> {
 
 /// An export that was asked for by its address, with its contexts.
 fn found(alloc: Global) -> Result<Entry, NoMemory> {
-    let mut info = told(alloc, 4096, 1);
+    let mut info = export(alloc, 4096, 1);
     info.contexts.push(Context {
         id: 1,
         name: text(alloc, "base:allocation")?,
@@ -189,23 +189,37 @@ export=\"\":
 \"is_rotational\":true}],\"protocol\":\"newstyle-fixed\",\"structured\":true}
 ";
 
+/// Three exports, of which the second one is refused.
+fn push_three(alloc: Global, out: &mut Vec<u8>) -> Result<(), NoMemory> {
+    let list = [
+        entry(alloc, "", "root disk", Ok(export(alloc, 512, 3)))?,
+        entry(alloc, "blue", "", Err(6))?,
+        entry(alloc, "été 2", "", Ok(export(alloc, 512, 3)))?,
+    ];
+    write_listing(alloc, &list, false, out)
+}
+
+/// One, as text and as JSON.
+fn push_one(
+    alloc: Global,
+    out: &mut Vec<u8>,
+    entry: Entry,
+    contexts: bool,
+) -> Result<(), NoMemory> {
+    let list = [entry];
+    write_listing(alloc, &list, contexts, out)?;
+    write_json(alloc, &list, contexts, out)
+}
+
 #[test]
 fn exports_are_told(rt: HostRuntime) -> Result<(), NoMemory> {
     let alloc = rt.alloc();
     let mut out = Vec::new(alloc);
-    let list = [
-        entry(alloc, "", "root disk", Ok(told(alloc, 512, 3)))?,
-        entry(alloc, "blue", "", Err(6))?,
-        entry(alloc, "été 2", "", Ok(told(alloc, 512, 3)))?,
-    ];
-    write_listing(alloc, &list, false, &mut out)?;
-    let refused = [entry(alloc, "a", "b", Err(1))?];
-    write_listing(alloc, &refused, false, &mut out)?;
-    write_json(alloc, &refused, false, &mut out)?;
+    push_three(alloc, &mut out)?;
+    push_one(alloc, &mut out, entry(alloc, "a", "b", Err(1))?, false)?;
     write_json(alloc, &[found(alloc)?], true, &mut out)?;
-    let all = [entry(alloc, "", "", Ok(all_told(alloc)?))?];
-    write_listing(alloc, &all, true, &mut out)?;
-    write_json(alloc, &all, true, &mut out)?;
+    let all = entry(alloc, "", "", Ok(all_told(alloc)?))?;
+    push_one(alloc, &mut out, all, true)?;
     same(&rt, from_utf8(&out).unwrap_or(""), LISTS);
     Ok(())
 }
@@ -223,14 +237,14 @@ static QUESTIONS: [(Predicate, u16); 8] = [
 
 #[test]
 fn questions_have_their_answers(rt: HostRuntime) -> Result<(), NoMemory> {
-    let mut answers = String::new(rt.alloc());
+    let mut answers = Told::new(rt.alloc());
     for (question, flags) in &QUESTIONS {
-        let is = is_true(*question, &told(rt.alloc(), 4096, *flags));
-        push_number(&mut answers, if is { 1 } else { 0 })?;
+        let is = is_true(*question, &export(rt.alloc(), 4096, *flags));
+        answers.number(if is { 1 } else { 0 });
     }
     let mut out = Vec::new(rt.alloc());
-    write_size(rt.alloc(), &told(rt.alloc(), 65536, 1), &mut out)?;
-    answers.push_str(from_utf8(&out).unwrap_or(""))?;
+    write_size(rt.alloc(), &export(rt.alloc(), 65536, 1), &mut out)?;
+    answers.push(from_utf8(&out).unwrap_or(""));
     same(&rt, answers.as_str(), " 0 1 1 1 0 1 1 165536\n");
     Ok(())
 }

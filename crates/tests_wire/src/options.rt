@@ -1,6 +1,6 @@
 //! Options: their requests and replies as they stand on the wire, put and read.
 
-use crate::told::{push_number, push_numbers, push_word, push_wrong, same, text};
+use crate::told::{Told, same, text};
 use lnbd_model::{NoMemory, Text, Texts};
 use lnbd_options::{
     Info, OptionFault, OptionHead, Read64, Request, put_info, put_meta, put_option, read_asked,
@@ -209,9 +209,9 @@ fn yes(is: bool) -> u64 {
     if is { 1 } else { 0 }
 }
 
-fn push_asked(alloc: Global, told: &mut String, option: u32, bytes: &[u8]) -> Result<(), NoMemory> {
+fn push_asked(alloc: Global, told: &mut Told, option: u32, bytes: &[u8]) {
     match read_asked(alloc, option, bytes) {
-        Ok(Request::Name(name)) => push_number(told, name.len() as u64),
+        Ok(Request::Name(name)) => told.number(name.len() as u64),
         Ok(
             Request::Info {
                 name,
@@ -219,20 +219,20 @@ fn push_asked(alloc: Global, told: &mut String, option: u32, bytes: &[u8]) -> Re
                 wants_description,
             },
         ) => {
-            push_word(told, name.as_str())?;
-            push_numbers(told, &[yes(wants_name), yes(wants_description)])
+            told.word(name.as_str());
+            told.numbers(&[yes(wants_name), yes(wants_description)]);
         }
         Ok(Request::Meta { name, queries }) => {
-            push_word(told, name.as_str())?;
-            push_number(told, queries.len() as u64)?;
-            push_word(told, queries.get(0).map_or("none", Text::as_str))
+            told.word(name.as_str());
+            told.number(queries.len() as u64);
+            told.word(queries.get(0).map_or("none", Text::as_str));
         }
-        Ok(Request::Plain) => push_word(told, "plain"),
-        Err(fault) => push_word(told, fault_name(fault)),
+        Ok(Request::Plain) => told.word("plain"),
+        Err(fault) => told.word(fault_name(fault)),
     }
 }
 
-fn push_head(told: &mut String, bytes: &[u8]) -> Result<(), NoMemory> {
+fn push_head(told: &mut Told, bytes: &[u8]) {
     match read_head(bytes) {
         Read64::Value(
             OptionHead {
@@ -240,50 +240,50 @@ fn push_head(told: &mut String, bytes: &[u8]) -> Result<(), NoMemory> {
                 kind,
                 length,
             },
-        ) => { push_numbers(told, &[option as u64, kind as u64, length as u64]) }
-        Read64::NeedMore => push_word(told, "more"),
+        ) => { told.numbers(&[option as u64, kind as u64, length as u64]) }
+        Read64::NeedMore => told.word("more"),
         Read64::BadMagic(magic) => {
-            push_word(told, "magic")?;
-            push_number(told, magic)
+            told.word("magic");
+            told.number(magic);
         }
     }
 }
 
-fn push_info(alloc: Global, told: &mut String, bytes: &[u8]) -> Result<(), NoMemory> {
+fn push_info(alloc: Global, told: &mut Told, bytes: &[u8]) {
     match read_info(alloc, bytes) {
-        Ok(Info::Export { size, flags }) => push_numbers(told, &[size, flags as u64]),
-        Ok(Info::Name(name)) => push_word(told, name.as_str()),
-        Ok(Info::Description(description)) => push_word(told, description.as_str()),
+        Ok(Info::Export { size, flags }) => told.numbers(&[size, flags as u64]),
+        Ok(Info::Name(name)) => told.word(name.as_str()),
+        Ok(Info::Description(description)) => told.word(description.as_str()),
         Ok(Info::Blocks(blocks)) => {
             let (minimum, preferred) = (blocks.minimum as u64, blocks.preferred as u64);
-            push_numbers(told, &[minimum, preferred, blocks.maximum as u64])
+            told.numbers(&[minimum, preferred, blocks.maximum as u64]);
         }
-        Ok(Info::Passed) => push_word(told, "passed"),
-        Err(fault) => push_word(told, fault_name(fault)),
+        Ok(Info::Passed) => told.word("passed"),
+        Err(fault) => told.word(fault_name(fault)),
     }
 }
 
-fn push_server(alloc: Global, told: &mut String, bytes: &[u8]) -> Result<(), NoMemory> {
+fn push_server(alloc: Global, told: &mut Told, bytes: &[u8]) {
     match read_server(alloc, bytes) {
         Ok(listed) => {
-            push_word(told, listed.name.as_str())?;
-            push_word(told, listed.description.as_str())
+            told.word(listed.name.as_str());
+            told.word(listed.description.as_str());
         }
-        Err(fault) => push_word(told, fault_name(fault)),
+        Err(fault) => told.word(fault_name(fault)),
     }
 }
 
-fn push_context(alloc: Global, told: &mut String, bytes: &[u8]) -> Result<(), NoMemory> {
+fn push_context(alloc: Global, told: &mut Told, bytes: &[u8]) {
     match read_context(alloc, bytes) {
         Ok(context) => {
-            push_number(told, context.id as u64)?;
-            push_word(told, context.name.as_str())
+            told.number(context.id as u64);
+            told.word(context.name.as_str());
         }
-        Err(fault) => push_word(told, fault_name(fault)),
+        Err(fault) => told.word(fault_name(fault)),
     }
 }
 
-fn push_read(alloc: Global, told: &mut String, body: Body, bytes: &[u8]) -> Result<(), NoMemory> {
+fn push_read(alloc: Global, told: &mut Told, body: Body, bytes: &[u8]) {
     match body {
         Body::Asked(option) => push_asked(alloc, told, option, bytes),
         Body::Head => push_head(told, bytes),
@@ -295,17 +295,17 @@ fn push_read(alloc: Global, told: &mut String, body: Body, bytes: &[u8]) -> Resu
 
 #[test]
 fn bodies_are_read(rt: HostRuntime) -> Result<(), NoMemory> {
-    let mut wrong = String::new(rt.alloc());
+    let mut wrong = Told::new(rt.alloc());
     for case in &CASES {
-        let mut told = String::new(rt.alloc());
-        push_read(rt.alloc(), &mut told, case.body, case.bytes)?;
-        push_wrong(&mut wrong, case.told, told.as_str(), case.told)?;
+        let mut told = Told::new(rt.alloc());
+        push_read(rt.alloc(), &mut told, case.body, case.bytes);
+        wrong.compare(case.told, told.as_str(), case.told);
     }
     let long = vec![in rt.alloc(); 97; 4097]?;
-    let mut told = String::new(rt.alloc());
-    push_asked(rt.alloc(), &mut told, 1, &long)?;
-    push_asked(rt.alloc(), &mut told, 1, &long[1..])?;
-    push_wrong(&mut wrong, "long names", told.as_str(), " bad text 4096")?;
+    let mut told = Told::new(rt.alloc());
+    push_asked(rt.alloc(), &mut told, 1, &long);
+    push_asked(rt.alloc(), &mut told, 1, &long[1..]);
+    wrong.compare("long names", told.as_str(), " bad text 4096");
     same(&rt, wrong.as_str(), "");
     Ok(())
 }

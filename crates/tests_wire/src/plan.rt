@@ -2,7 +2,7 @@
 
 ghost use Rattle.std.specs.Prelude.{◌≡◌};
 
-use crate::told::{push_numbers, same};
+use crate::told::{Told, same};
 use lnbd_extents::Ranges;
 use lnbd_model::NoMemory;
 use lnbd_plan::{CopyFault, Plan, Rule, Slice, pieces};
@@ -10,10 +10,9 @@ use lnbd_plan::{CopyFault, Plan, Rule, Slice, pieces};
 /// The greatest position.
 const LAST: u64 = (1 << 63) - 1;
 
-fn push_slice(told: &mut String, slice: &Slice) -> Result<(), NoMemory> {
-    push_numbers(told, &[slice.start, slice.length])?;
-    told.push_str(if slice.zero { " zero;" } else { " data;" })?;
-    Ok(())
+fn push_slice(told: &mut Told, slice: &Slice) {
+    told.numbers(&[slice.start, slice.length]);
+    told.push(if slice.zero { " zero;" } else { " data;" });
 }
 
 // The first and the last block are cut by the ends of the bytes; a block that has one other byte is data; a short block
@@ -27,9 +26,9 @@ fn bytes_have_their_pieces(rt: HostRuntime) -> Result<(), NoMemory> {
     pieces(1, &[0, 0, 9], 4096, &mut found)?;
     pieces(4294967294, &[0, 0, 9], 4294967295, &mut found)?;
     pieces(LAST - 2, &[0, 0, 9], 1, &mut found)?;
-    let mut told = String::new(rt.alloc());
+    let mut told = Told::new(rt.alloc());
     for slice in &found {
-        push_slice(&mut told, slice)?;
+        push_slice(&mut told, slice);
     }
     same(
         &rt,
@@ -40,43 +39,39 @@ fn bytes_have_their_pieces(rt: HostRuntime) -> Result<(), NoMemory> {
 }
 
 /// Takes the next slice, or tells that none is left.
-fn push_next(told: &mut String, plan: &mut Plan) -> Result<(), NoMemory>
+fn push_next(told: &mut Told, plan: &mut Plan)
     ensures { plan.new.end ≡ plan.old.end }
 {
     match plan.next() {
         Some(slice) => push_slice(told, &slice),
-        None => {
-            told.push_str(" none;")?;
-            Ok(())
-        }
+        None => told.push(" none;"),
     }
 }
 
 /// How many slices are left, and all of these.
-fn push_left(told: &mut String, plan: &mut Plan) -> Result<(), NoMemory>
+fn push_left(told: &mut Told, plan: &mut Plan)
     ensures { plan.new.end ≡ plan.old.end }
 {
     let left = plan.left();
-    push_numbers(told, &[left])?;
-    told.push(':')?;
+    told.number(left);
+    told.push(":");
     for _ in 0..left {
-        push_next(told, plan)?;
+        push_next(told, plan);
     }
-    Ok(())
 }
 
 // A range told zero from 100 to 700, cells of 256 and zero cells of 512. The next window goes on, and begins a slice, though no multiple lies there.
 #[test]
 fn windows_go_on(rt: HostRuntime) -> Result<(), NoMemory> {
-    let mut told = String::new(rt.alloc());
+    let mut told = Told::new(rt.alloc());
     let mut zero = Ranges::new(rt.alloc());
     zero.hold(100, 600)?;
     let mut plan = Plan::new(rt.alloc(), 256, 512, true);
     plan.window(0, 1000, &zero)?;
-    push_next(&mut told, &mut plan)?;
+    push_next(&mut told, &mut plan);
     plan.window(1000, 50, &zero)?;
-    push_left(&mut told, &mut plan)?;
-    push_next(&mut told, &mut plan)?;
+    push_left(&mut told, &mut plan);
+    push_next(&mut told, &mut plan);
     same(
         &rt,
         told.as_str(),
@@ -88,19 +83,19 @@ fn windows_go_on(rt: HostRuntime) -> Result<(), NoMemory> {
 // Ranges at both ends and zero ranges left out; and zeros that are copied are cut, too: each position is a slice here.
 #[test]
 fn zeros_are_left_out_or_cut(rt: HostRuntime) -> Result<(), NoMemory> {
-    let mut told = String::new(rt.alloc());
+    let mut told = Told::new(rt.alloc());
     let mut zero = Ranges::new(rt.alloc());
     zero.hold(0, 10)?;
     zero.hold(90, 20)?;
     let mut plan = Plan::new(rt.alloc(), 64, 64, false);
     plan.window(0, 100, &zero)?;
     plan.window(100, 0, &zero)?;
-    push_left(&mut told, &mut plan)?;
+    push_left(&mut told, &mut plan);
     let mut zero = Ranges::new(rt.alloc());
     zero.hold(1, 2)?;
     let mut plan = Plan::new(rt.alloc(), 1, 1, true);
     plan.window(0, 4, &zero)?;
-    push_left(&mut told, &mut plan)?;
+    push_left(&mut told, &mut plan);
     same(
         &rt,
         told.as_str(),
@@ -112,23 +107,23 @@ fn zeros_are_left_out_or_cut(rt: HostRuntime) -> Result<(), NoMemory> {
 // Windows of no positions, of one, and of all that are left, with ranges at both ends; and one of the greatest length.
 #[test]
 fn windows_reach_the_edges(rt: HostRuntime) -> Result<(), NoMemory> {
-    let mut told = String::new(rt.alloc());
+    let mut told = Told::new(rt.alloc());
     let mut zero = Ranges::new(rt.alloc());
     zero.hold(0, 1)?;
     zero.hold(LAST, 1)?;
     let mut plan = Plan::new(rt.alloc(), 4294967295, 1 << 27, true);
     plan.window(0, 0, &zero)?;
-    push_left(&mut told, &mut plan)?;
-    push_next(&mut told, &mut plan)?;
+    push_left(&mut told, &mut plan);
+    push_next(&mut told, &mut plan);
     plan.window(0, 1, &zero)?;
-    push_left(&mut told, &mut plan)?;
+    push_left(&mut told, &mut plan);
     plan.window(1, LAST, &zero)?;
-    push_next(&mut told, &mut plan)?;
+    push_next(&mut told, &mut plan);
     let zero = Ranges::new(rt.alloc());
     let mut plan = Plan::new(rt.alloc(), 1 << 31, 1, true);
     plan.window(0, 1 << 63, &zero)?;
-    push_numbers(&mut told, &[plan.left()])?;
-    push_next(&mut told, &mut plan)?;
+    told.number(plan.left());
+    push_next(&mut told, &mut plan);
     same(
         &rt,
         told.as_str(),
@@ -140,7 +135,7 @@ fn windows_reach_the_edges(rt: HostRuntime) -> Result<(), NoMemory> {
 // The text of each rule, as the program prints it.
 #[test]
 fn rules_are_printed(rt: HostRuntime) -> Result<(), NoMemory> {
-    let mut told = String::new(rt.alloc());
+    let mut told = Told::new(rt.alloc());
     for fault in [
         CopyFault::Rule(Rule::ReadOnly),
         CopyFault::Rule(Rule::Smaller {
@@ -157,7 +152,9 @@ fn rules_are_printed(rt: HostRuntime) -> Result<(), NoMemory> {
         }),
         CopyFault::from(NoMemory),
     ] {
-        write!(&mut told, "{fault}; ")?;
+        let text = told.text();
+        let appended = write!(text, "{fault}; ");
+        told.keep(appended);
     }
     same(
         &rt,

@@ -1,6 +1,6 @@
 //! The hello and the heads of the transmission phase: what each reads as, and that what is read is put as the same bytes.
 
-use crate::told::{push_numbers, push_wrong, same};
+use crate::told::{Told, same};
 use lnbd_model::{Kind, NoMemory};
 use lnbd_wire::{
     ChunkHead, ExtHead, ExtRequest, HelloRead, Read, RequestHead, SimpleHead, put_chunk_head,
@@ -256,32 +256,31 @@ static CASES: [Case; 44] = [
 ];
 
 /// What was read: fields, or the number that stands in place of the magic.
-fn push_told(told: &mut String, word: &str, numbers: &[u64]) -> Result<(), NoMemory> {
-    told.push_str(word)?;
-    push_numbers(told, numbers)
+fn push_told(told: &mut Told, word: &str, numbers: &[u64]) {
+    told.push(word);
+    told.numbers(numbers);
 }
 
-fn push_put(told: &mut String, is_same: bool) -> Result<(), NoMemory> {
+fn push_put(told: &mut Told, is_same: bool) {
     if !is_same {
-        told.push_str(", put otherwise")?;
+        told.push(", put otherwise");
     }
-    Ok(())
 }
 
-fn simple(told: &mut String, bytes: &[u8]) -> Result<(), NoMemory> {
+fn simple(told: &mut Told, bytes: &[u8]) {
     match read_simple(bytes) {
         Read::Value(SimpleHead { error, cookie }) => {
-            push_told(told, "value", &[error as u64, cookie])?;
+            push_told(told, "value", &[error as u64, cookie]);
             let mut out = [0; 16];
             put_simple(error, cookie, &mut out);
-            push_put(told, out.as_slice() == bytes)
+            push_put(told, out.as_slice() == bytes);
         }
         Read::NeedMore => push_told(told, "more", &[]),
         Read::BadMagic(magic) => push_told(told, "magic", &[magic as u64]),
     }
 }
 
-fn request(told: &mut String, bytes: &[u8]) -> Result<(), NoMemory> {
+fn request(told: &mut Told, bytes: &[u8]) {
     match read_request(bytes) {
         Read::Value(head) => {
             let RequestHead {
@@ -295,20 +294,20 @@ fn request(told: &mut String, bytes: &[u8]) -> Result<(), NoMemory> {
                 told,
                 "value",
                 &[flags as u64, kind as u64, cookie, offset, length as u64],
-            )?;
+            );
             let mut out = [0; 28];
             match Kind::from_code(kind) {
                 Some(kind) => put_request(kind, flags, cookie, offset, length, &mut out),
                 None => put_disconnect(&mut out),
             }
-            push_put(told, out.as_slice() == bytes)
+            push_put(told, out.as_slice() == bytes);
         }
         Read::NeedMore => push_told(told, "more", &[]),
         Read::BadMagic(magic) => push_told(told, "magic", &[magic as u64]),
     }
 }
 
-fn extended_request(told: &mut String, bytes: &[u8]) -> Result<(), NoMemory> {
+fn extended_request(told: &mut Told, bytes: &[u8]) {
     match read_request_ext(bytes) {
         Read::Value(head) => {
             let ExtRequest {
@@ -322,20 +321,20 @@ fn extended_request(told: &mut String, bytes: &[u8]) -> Result<(), NoMemory> {
                 told,
                 "value",
                 &[flags as u64, kind as u64, cookie, offset, length],
-            )?;
+            );
             let mut out = [0; 32];
             match Kind::from_code(kind) {
                 Some(kind) => put_request_ext(kind, flags, cookie, offset, length, &mut out),
                 None => put_disconnect_ext(&mut out),
             }
-            push_put(told, out.as_slice() == bytes)
+            push_put(told, out.as_slice() == bytes);
         }
         Read::NeedMore => push_told(told, "more", &[]),
         Read::BadMagic(magic) => push_told(told, "magic", &[magic as u64]),
     }
 }
 
-fn chunk(told: &mut String, bytes: &[u8]) -> Result<(), NoMemory> {
+fn chunk(told: &mut Told, bytes: &[u8]) {
     match read_chunk_head(bytes) {
         Read::Value(head) => {
             let ChunkHead {
@@ -348,17 +347,17 @@ fn chunk(told: &mut String, bytes: &[u8]) -> Result<(), NoMemory> {
                 told,
                 "value",
                 &[flags as u64, kind as u64, cookie, length as u64],
-            )?;
+            );
             let mut out = [0; 20];
             put_chunk_head(&head, &mut out);
-            push_put(told, out.as_slice() == bytes)
+            push_put(told, out.as_slice() == bytes);
         }
         Read::NeedMore => push_told(told, "more", &[]),
         Read::BadMagic(magic) => push_told(told, "magic", &[magic as u64]),
     }
 }
 
-fn extended_chunk(told: &mut String, bytes: &[u8]) -> Result<(), NoMemory> {
+fn extended_chunk(told: &mut Told, bytes: &[u8]) {
     match read_chunk_head_ext(bytes) {
         Read::Value(head) => {
             let ExtHead {
@@ -372,17 +371,17 @@ fn extended_chunk(told: &mut String, bytes: &[u8]) -> Result<(), NoMemory> {
                 told,
                 "value",
                 &[flags as u64, kind as u64, cookie, offset, length],
-            )?;
+            );
             let mut out = [0; 32];
             put_chunk_head_ext(&head, &mut out);
-            push_put(told, out.as_slice() == bytes)
+            push_put(told, out.as_slice() == bytes);
         }
         Read::NeedMore => push_told(told, "more", &[]),
         Read::BadMagic(magic) => push_told(told, "magic", &[magic as u64]),
     }
 }
 
-fn hello(told: &mut String, bytes: &[u8]) -> Result<(), NoMemory> {
+fn hello(told: &mut Told, bytes: &[u8]) {
     match read_hello(bytes) {
         HelloRead::Value(flags) => push_told(told, "value", &[flags as u64]),
         HelloRead::NeedMore => push_told(told, "more", &[]),
@@ -391,7 +390,7 @@ fn hello(told: &mut String, bytes: &[u8]) -> Result<(), NoMemory> {
     }
 }
 
-fn push_read(told: &mut String, head: Head, bytes: &[u8]) -> Result<(), NoMemory> {
+fn push_read(told: &mut Told, head: Head, bytes: &[u8]) {
     match head {
         Head::Simple => simple(told, bytes),
         Head::Request => request(told, bytes),
@@ -404,11 +403,11 @@ fn push_read(told: &mut String, head: Head, bytes: &[u8]) -> Result<(), NoMemory
 
 #[test]
 fn heads_are_put_and_read(rt: HostRuntime) -> Result<(), NoMemory> {
-    let mut wrong = String::new(rt.alloc());
+    let mut wrong = Told::new(rt.alloc());
     for case in &CASES {
-        let mut told = String::new(rt.alloc());
-        push_read(&mut told, case.head, case.bytes)?;
-        push_wrong(&mut wrong, case.told, told.as_str(), case.told)?;
+        let mut told = Told::new(rt.alloc());
+        push_read(&mut told, case.head, case.bytes);
+        wrong.compare(case.told, told.as_str(), case.told);
     }
     same(&rt, wrong.as_str(), "");
     Ok(())

@@ -32,3 +32,13 @@ pub returns-in-nbdinfo-clause-address : goal.returns-in-nbdinfo-clause-address
 returns-in-nbdinfo-clause-address c = λ fault is.
     let cut : map string_bytes c.args.words.now ≡ codes "nbdinfo" ∷ map string_bytes c.in-Some.rest.now = search rules in
     subst (λ (ws : List Word). IsMisplaced ws fault) (sym cut) (c.info.ensures.address fault is)
+
+pub returns-in-nbddump-clause-asked : goal.returns-in-nbddump-clause-asked
+returns-in-nbddump-clause-asked c =
+    let cut : map string_bytes c.args.words.now ≡ codes "nbddump" ∷ map string_bytes c.in-Some.rest.now = search rules in
+    subst (λ (ws : List Word). IfOk c.dump.result (λ asked. Asks ws asked)) (sym cut) c.dump.ensures.asked
+
+pub returns-in-nbddump-clause-address : goal.returns-in-nbddump-clause-address
+returns-in-nbddump-clause-address c = λ fault is.
+    let cut : map string_bytes c.args.words.now ≡ codes "nbddump" ∷ map string_bytes c.in-Some.rest.now = search rules in
+    subst (λ (ws : List Word). IsMisplaced ws fault) (sym cut) (c.dump.ensures.address fault is)

@@ -2,6 +2,7 @@ use Rattle.std.proofs.Common.{inl, refl, subst, sym, ◌∙◌, ap}
 use Rattle.lnbd_cli.specs.Did.{Did, HasRoom, IsOnWires, NeverReads}
 use Rattle.lnbd_cli.specs.Calls.{is_calls_status}
 use Rattle.lnbd_cli.specs.Copies.{is_copy_status}
+use Rattle.lnbd_cli.specs.Dumps.{is_dump_status}
 use Rattle.lnbd_cli.specs.Ends.{End, status_of}
 use Rattle.lnbd_cli.specs.Informs.{is_info_status}
 use Rattle.lnbd_cli.specs.Trials.{is_test_status}
@@ -55,6 +56,18 @@ returns-in-Copy-clause-did g c = subst (Did g.I.Source.left c.args.input.now c.a
       child = tt;
     })
 
+pub returns-in-Dump-clause-did : goal.returns-in-Dump-clause-did
+returns-in-Dump-clause-did g c = subst (Did g.I.Source.left c.args.input.now c.args.input.now g.W.Wires.told c.args.wires.now c.show.new.wires g.O.Sink.taken c.args.out.now c.show.new.out
+    g.S.Store.told g.S.Store.shelf c.args.store.now c.args.store.now g.P.Spawner.told c.args.spawn.now c.args.spawn.now c.show.result) (sym c.in-Dump.is) (record {
+      does = c.show.ensures.ends;
+      known = c.show.ensures.known;
+      accepts = tt;
+      store_same = λ none. refl;
+      spawn_same = λ none. refl;
+      file = tt;
+      child = tt;
+    })
+
 pub returns-in-Selftest-clause-did : goal.returns-in-Selftest-clause-did
 returns-in-Selftest-clause-did g c = subst (Did g.I.Source.left c.args.input.now c.args.input.now g.W.Wires.told c.args.wires.now c.args.wires.now g.O.Sink.taken c.args.out.now c.test.new.out
     g.S.Store.told g.S.Store.shelf c.args.store.now c.args.store.now g.P.Spawner.told c.args.spawn.now c.args.spawn.now c.test.result) (sym c.in-Selftest.is) (record {
@@ -96,6 +109,12 @@ returns-in-Copy-clause-storing g c e = cc (ap (λ (r : End). is_copy_status (sta
 
 pub returns-in-Copy-clause-spawning : goal.returns-in-Copy-clause-spawning
 returns-in-Copy-clause-spawning g c e = cc (ap (λ (r : End). is_copy_status (status_of r)) (sym e) ∙ c.copy.ensures.known)
+
+pub returns-in-Dump-clause-storing : goal.returns-in-Dump-clause-storing
+returns-in-Dump-clause-storing g c e = cc (ap (λ (r : End). is_dump_status (status_of r)) (sym e) ∙ c.show.ensures.known)
+
+pub returns-in-Dump-clause-spawning : goal.returns-in-Dump-clause-spawning
+returns-in-Dump-clause-spawning g c e = cc (ap (λ (r : End). is_dump_status (status_of r)) (sym e) ∙ c.show.ensures.known)
 
 pub returns-in-Selftest-clause-storing : goal.returns-in-Selftest-clause-storing
 returns-in-Selftest-clause-storing g c e = cc (ap (λ (r : End). is_test_status (status_of r)) (sym e) ∙ c.test.ensures.known)

@@ -1,10 +1,11 @@
-use Rattle.std.proofs.Common.{◌≡◌, ◌⊎◌, inr, ℕ, true, List, refl, sym, subst, arith}
+use Rattle.std.proofs.Common.{◌≡◌, ◌⊎◌, inr, ℕ, true, List, refl, sym, ap, subst, arith}
 use Rattle.lnbd_args.specs.declared.asked.Asked.TheVariants as asked
 use Rattle.lnbd_cli.specs.Asks.{serving_of}
 use Rattle.lnbd_cli.specs.Beside.{FileServed, ProgramRan, is_all_done}
 use Rattle.lnbd_cli.specs.Ends.{Prints}
 use Rattle.lnbd_cli.specs.Runs.{Refused}
-use Rattle.lnbd_cli.proofs.EndLemmas.{beside_done, by_status, came_known, calls_done, copy_done, ends_well, info_done, known, of_done, of_end, refused_known, serve_done, test_done}
+use Rattle.lnbd_cli.proofs.DumpLemmas.{shown_front, shown_whole}
+use Rattle.lnbd_cli.proofs.EndLemmas.{beside_done, by_status, came_known, calls_done, copy_done, dump_done, ends_well, info_done, known, of_done, of_end, refused_known, serve_done, test_done}
 use Rattle.lnbd_cli.proofs.ServingLemmas.{beside_known, beside_run}
 use Rattle.lnbd_cli.proofs.top.run.Goals as goal
 
@@ -32,6 +33,15 @@ returns-clause-beside g c s asks = (
 
 pub returns-clause-copy : goal.returns-clause-copy
 returns-clause-copy g c t asks = record { end = c.tool-end.result; ends = (c.tool-end.ensures.did (asked.Copy t.options t.from t.to) asks).does; tells = c.print_end.ensures.tells }
+
+pub returns-clause-dump : goal.returns-clause-dump
+returns-clause-dump g c e asks = record { end = c.tool-end.result; ends = (c.tool-end.ensures.did (asked.Dump e.place e.offset e.length) asks).does; tells = c.print_end.ensures.tells }
+
+pub returns-clause-shows : goal.returns-clause-shows
+returns-clause-shows g c e asks done = shown_whole e _ _ _ _ _ _ c.tool-end.result (c.tool-end.ensures.did (asked.Dump e.place e.offset e.length) asks).does (c.print_end.ensures.done done)
+
+pub returns-clause-fronts : goal.returns-clause-fronts
+returns-clause-fronts g c e asks = shown_front e _ _ _ _ _ _ c.tool-end.result (c.tool-end.ensures.did (asked.Dump e.place e.offset e.length) asks).does (λ same. ap g.O.Sink.taken same)
 
 pub returns-clause-selftest : goal.returns-clause-selftest
 returns-clause-selftest g c t asks = record { end = c.tool-end.result; ends = (c.tool-end.ensures.did (asked.Selftest t.seed t.size) asks).does; tells = c.print_end.ensures.tells }
@@ -83,6 +93,12 @@ returns-clause-copy_complete g c t asks quiet = copy_done c.print_end.result
     (known (asked.Copy t.options t.from t.to) (λ (t : List ℕ). Prints g.E.Sink.taken g.E.Sink.faults c.args.err.now c.print_end.new.err t) c.tool-end.result c.print_end.result
     (c.tool-end.ensures.did (asked.Copy t.options t.from t.to) asks).known c.print_end.ensures.tells) (λ e. quiet.sound (c.tool-end.ensures.link (c.print_end.ensures.link e)))
     (λ e. quiet.patient (c.tool-end.ensures.silent (c.print_end.ensures.silent e)))
+
+pub returns-clause-dump_complete : goal.returns-clause-dump_complete
+returns-clause-dump_complete g c e asks quiet output = dump_done c.print_end.result
+    (known (asked.Dump e.place e.offset e.length) (λ (t : List ℕ). Prints g.E.Sink.taken g.E.Sink.faults c.args.err.now c.print_end.new.err t) c.tool-end.result c.print_end.result
+    (c.tool-end.ensures.did (asked.Dump e.place e.offset e.length) asks).known c.print_end.ensures.tells) (λ e. quiet.sound (c.tool-end.ensures.link (c.print_end.ensures.link e)))
+    (λ e. quiet.patient (c.tool-end.ensures.silent (c.print_end.ensures.silent e))) (λ e. output (c.tool-end.ensures.output (c.print_end.ensures.output e)))
 
 pub returns-clause-selftest_complete : goal.returns-clause-selftest_complete
 returns-clause-selftest_complete g c t asks small output =

@@ -1,0 +1,15 @@
+pub mod Told
+pub mod Shown
+pub mod Heard
+pub mod HeardLaws
+pub mod Conduct
+pub mod Stops
+pub mod Leads
+pub mod Asks
+pub mod Takes
+pub mod Course
+pub mod Filling
+pub mod Showing
+pub mod Terms
+pub mod Talks
+pub mod Ends

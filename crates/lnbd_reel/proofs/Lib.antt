@@ -1,0 +1,4 @@
+pub mod ReelLemmas
+pub mod LayLemmas
+pub mod LaidLemmas
+pub mod ShownLemmas

@@ -1,0 +1,5 @@
+pub mod Ranges
+pub mod Reel
+pub mod Laying
+pub mod Output
+pub mod Said
