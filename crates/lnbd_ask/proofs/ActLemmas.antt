@@ -27,7 +27,8 @@ use Rattle.lnbd_poll.specs.Lends.{with_handle}
 use Rattle.lnbd_poll.specs.Seen.{Seen}
 use Rattle.lnbd_waits.specs.declared.waiting.Halt.{Halt}
 use Rattle.lnbd_waits.specs.declared.waiting.Halt.TheVariants as halt
-use Rattle.lnbd_ask.specs.Lists.{aborting, asking, is_opt_mode, naming, short_of, told_by}
+use Rattle.lnbd_poll.specs.States.{is_opt_mode}
+use Rattle.lnbd_ask.specs.Lists.{aborting, asking, naming, short_of, told_by}
 use Rattle.lnbd_ask.specs.Parts.{ActsOn, no_value}
 use Rattle.lnbd_waits.specs.Waits.{Holds}
 use Rattle.lnbd_waits.proofs.WaitLemmas.{at_handle}

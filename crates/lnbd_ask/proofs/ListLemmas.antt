@@ -32,7 +32,8 @@ use Rattle.lnbd_ask.specs.declared.fault.InfoFault.{InfoFault}
 use Rattle.lnbd_ask.specs.declared.fault.InfoFault.TheVariants as fault
 use Rattle.lnbd_ask.specs.declared.quiet.Quiet.{Quiet}
 use Rattle.lnbd_ask.specs.Asks.{IfLink}
-use Rattle.lnbd_ask.specs.Lists.{AsksEach, AsksFor, NegotiatesList, Breaks_off, GivesUp, HasInquired, HasListed, HasListedOn, Has_inquired, Inquires, Lists, None_left, Not_begun, Not_connected, Not_held, Runs_short, Tells, TellsAt, TellsEntries, aborting, answered, asking, begins_listing, begun_listing, entry_after, is_opt_mode, naming}
+use Rattle.lnbd_poll.specs.States.{is_opt_mode}
+use Rattle.lnbd_ask.specs.Lists.{AsksEach, AsksFor, NegotiatesList, Breaks_off, GivesUp, HasInquired, HasListed, HasListedOn, Has_inquired, Inquires, Lists, None_left, Not_begun, Not_connected, Not_held, Runs_short, Tells, TellsAt, TellsEntries, aborting, answered, asking, begins_listing, begun_listing, entry_after, naming}
 use Rattle.lnbd_ask.specs.Parts.{Acted, Acts, Follows, Gives, Part, Stops, Then, no_value}
 use Rattle.lnbd_waits.specs.Waits.{Holds}
 use Rattle.lnbd_ask.proofs.EndLemmas.{death_context, halt_context}

@@ -1,5 +1,5 @@
 -- How a server's exports are listed and asked for, and what comes of it.
-use Rattle.std.specs.Prelude.{◌≡◌, ◌==◌, ℕ, Bool, true, false, List, [], ◌∷◌, ◌++◌, Option, Some, None, Result, Ok, Err, if◌then◌else◌}
+use Rattle.std.specs.Prelude.{◌≡◌, ◌==◌, ℕ, true, List, [], ◌∷◌, ◌++◌, Option, Some, None, Result, Ok, Err, if◌then◌else◌}
 use Rattle.lnbd_model.specs.declared.export.ExportInfo.{ExportInfo}
 use Rattle.lnbd_model.specs.declared.export.Listed.{Listed}
 use Rattle.lnbd_model.specs.declared.state.State.{State}
@@ -18,6 +18,7 @@ use Rattle.lnbd_link.specs.Call as wire
 use Rattle.lnbd_link.specs.Call.{Connect, Shut}
 use Rattle.lnbd_link.specs.Part.{Grows}
 use Rattle.lnbd_info.specs.declared.told.Entry.{Entry}
+use Rattle.lnbd_poll.specs.States.{is_opt_mode}
 use Rattle.lnbd_poll.specs.Seen.{Seen}
 use Rattle.lnbd_waits.specs.declared.waiting.Awaited.TheVariants as awaited
 use Rattle.lnbd_waits.specs.declared.waiting.Halt.{Halt}
@@ -38,15 +39,6 @@ begun_listing = Start ∷ Set (OptMode true) ∷ Set (Structured true) ∷ Set (
 -- a link on which exports are about to be listed
 abbrev pub begins_listing : {K : Type 0} → (link : ℕ) → Seen K
 begins_listing link = record { link = link; history = begun_listing; unread = [] }
-
-abbrev pub is_opt_mode : State → Bool
-is_opt_mode state.Created = false
-is_opt_mode state.Negotiating = false
-is_opt_mode state.OptMode = true
-is_opt_mode state.Ready = false
-is_opt_mode state.Closing = false
-is_opt_mode state.Closed = false
-is_opt_mode (state.Dead cause) = false
 
 module _ {K : Type 0} where
   -- this option is asked, in opt mode

@@ -1,14 +1,14 @@
 //! The block status requests by which an export is asked for its map, one after another. What is told of it is not said here.
 
-ghost use Rattle.std.specs.Prelude.{◌≡◌, ◌≤◌, [], Err, OnErr, OnOk, length, min};
+ghost use Rattle.std.specs.Prelude.{◌≡◌, ◌≤◌, [], Err, OnErr, OnOk, length};
 ghost use Rattle.lnbd_extents.specs.Lists.{span};
 ghost use Rattle.lnbd_link.specs.Contents.{Keeps};
-ghost use Rattle.lnbd_link.specs.Count.{Rises};
+ghost use Rattle.lnbd_link.specs.Count.{Rises, patience};
 ghost use Rattle.lnbd_poll.specs.Seen.{Goes, Seen};
 ghost use Rattle.lnbd_ask.specs.declared.survey.Surveyor.{Surveyor as Calls};
 ghost use Rattle.lnbd_ask.specs.Maps.{cleared, issued, sent};
 ghost use Rattle.lnbd_ask.specs.MapSteps.{AsksOne, Inquired, IsFit, IsNotIssued};
-ghost use Rattle.lnbd_waits.specs.Waits.{Holds, patience};
+ghost use Rattle.lnbd_waits.specs.Waits.{Holds};
 
 use crate::laying::lay;
 use crate::stops::{Stop, stop_of};
@@ -124,12 +124,6 @@ fn ask<W: Wires>(
     }
 }
 
-fn smaller(a: u64, b: u64) -> u64
-    ensures { result ≡ min a b }
-{
-    if a <= b { a } else { b }
-}
-
 /// Asks for all whole blocks, one range after another, and lays what counts of the answers into the map. Each answer takes the
 /// asking on by a block at least.
 pub(crate) fn inquire<W: Wires>(
@@ -153,7 +147,7 @@ pub(crate) fn inquire<W: Wires>(
 {
     let mut at = 0;
     'rounds: while at < plan.whole {
-        let size = smaller(MAX_ASKED, plan.whole - at);
+        let size = MAX_ASKED.min(plan.whole - at);
         if let Err(stop) = ask(handles, wires, world, at, size, start) {
             return Err(stop);
         }

@@ -4,11 +4,11 @@ ghost use Rattle.std.specs.Prelude.{◌≡◌, ◌≢◌, ◌≤◌, ℕ, length
 ghost use Rattle.lnbd_handle.specs.Histories.{max_unretired};
 ghost use Rattle.lnbd_link.specs.Contents.{Keeps};
 ghost use Rattle.lnbd_link.specs.Call.{Shut};
-ghost use Rattle.lnbd_link.specs.Count.{Rises};
+ghost use Rattle.lnbd_link.specs.Count.{Rises, patience};
 ghost use Rattle.lnbd_link.specs.Part.{Adds};
 ghost use Rattle.lnbd_poll.specs.Seen.{Goes, Seen};
 ghost use Rattle.lnbd_standing.specs.Standing.{StandsFor};
-ghost use Rattle.lnbd_waits.specs.Waits.{Holds, patience};
+ghost use Rattle.lnbd_waits.specs.Waits.{Holds};
 ghost use Rattle.lnbd_ask.specs.Asks.{Collected, CollectedOn, Conversed, IfLink, IfSilent, Talked, base_allocation, begins, begun};
 ghost use Rattle.lnbd_ask.specs.Quiet.{Passes};
 

@@ -3,11 +3,11 @@
 
 ghost use Rattle.std.specs.Prelude.{◌≡◌, ◌≤◌, length, Err};
 ghost use Rattle.lnbd_link.specs.Contents.{Keeps};
-ghost use Rattle.lnbd_link.specs.Count.{Rises};
+ghost use Rattle.lnbd_link.specs.Count.{Rises, patience};
 ghost use Rattle.lnbd_poll.specs.Seen.{Goes, Seen};
 ghost use Rattle.lnbd_ask.specs.Lists.{AnswersInfo, AnswersList, AsksEach, AsksFor, AsksInfo, AsksList, EndsWith, GivesUp, Inquires, NegotiatesList, Surveys};
 ghost use Rattle.lnbd_ask.specs.Parts.{Done};
-ghost use Rattle.lnbd_waits.specs.Waits.{Holds, patience};
+ghost use Rattle.lnbd_waits.specs.Waits.{Holds};
 
 use crate::acts::{abort, ask_info, ask_list, name_export, tell_entry, tell_listing};
 use crate::entries::Entries;

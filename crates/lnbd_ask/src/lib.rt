@@ -21,4 +21,4 @@ pub use collecting::collect;
 pub use entries::Entries;
 pub use fault::InfoFault;
 pub use listing::list;
-pub use mapping::map;
+pub use mapping::{SIZE_END, least_block, map};

@@ -6,13 +6,13 @@ ghost use Rattle.lnbd_model.specs.declared.state.Cause.TheVariants as cause;
 ghost use Rattle.lnbd_handle.specs.Histories.{max_unretired};
 ghost use Rattle.lnbd_history.specs.Answers.{opt_answer_after, state_after};
 ghost use Rattle.lnbd_link.specs.Contents.{Keeps};
-ghost use Rattle.lnbd_link.specs.Count.{Rises};
+ghost use Rattle.lnbd_link.specs.Count.{Rises, patience};
 ghost use Rattle.lnbd_poll.specs.Seen.{Seen};
 ghost use Rattle.lnbd_standing.specs.Standing.{StandsFor};
 ghost use Rattle.lnbd_ask.specs.Asks.{IfLink, IfSilent};
 ghost use Rattle.lnbd_ask.specs.Lists.{HasInquired, HasListed, HasListedOn, TellsAt, TellsEntries, answered, begins_listing, begun_listing};
 ghost use Rattle.lnbd_ask.specs.Quiet.{Passes};
-ghost use Rattle.lnbd_waits.specs.Waits.{Holds, patience};
+ghost use Rattle.lnbd_waits.specs.Waits.{Holds};
 ghost use Rattle.lnbd_waits.specs.declared.waiting.Halt.TheVariants as halt;
 
 use crate::collecting::hang_up;

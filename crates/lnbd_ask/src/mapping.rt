@@ -1,6 +1,6 @@
 //! The map of an export: what its server tells of each of its blocks in one meta context.
 
-ghost use Rattle.std.specs.Prelude.{◌≡◌, ◌≤◌, ◌-◌, ◌^◌, ℕ, [], Err, IfErr, IfOk, OnOk, Some, length};
+ghost use Rattle.std.specs.Prelude.{◌<◌, ◌≤◌, ◌≡◌, ◌-◌, ◌^◌, ℕ, [], Err, IfErr, IfOk, OnOk, Some, length};
 ghost use Rattle.std.specs.Option.{option_copied};
 ghost use Rattle.lnbd_extents.specs.Lists.{span, with_extent};
 ghost use Rattle.lnbd_handle.specs.Histories.{max_unretired};
@@ -8,7 +8,7 @@ ghost use Rattle.lnbd_history.specs.Refusals.{minimum};
 ghost use Rattle.lnbd_info.specs.Map.{AreFilled};
 ghost use Rattle.lnbd_link.specs.Contents.{Keeps};
 ghost use Rattle.lnbd_link.specs.Call.{Shut};
-ghost use Rattle.lnbd_link.specs.Count.{Rises};
+ghost use Rattle.lnbd_link.specs.Count.{Rises, patience};
 ghost use Rattle.lnbd_link.specs.Part.{Adds};
 ghost use Rattle.lnbd_poll.specs.Seen.{Goes, Seen};
 ghost use Rattle.lnbd_standing.specs.Standing.{StandsFor};
@@ -16,7 +16,7 @@ ghost use Rattle.lnbd_ask.specs.declared.survey.Surveyor.{Surveyor as Calls};
 ghost use Rattle.lnbd_ask.specs.Asks.{IfLink, IfSilent, begins, begun};
 ghost use Rattle.lnbd_ask.specs.Maps.{Mapped, export_known, is_agreed, known_after, known_at, least_block};
 ghost use Rattle.lnbd_ask.specs.MapSteps.{Discussed, IsFit, MappedOn, Talked_over, Taught, plan_of, planned};
-ghost use Rattle.lnbd_waits.specs.Waits.{Holds, patience};
+ghost use Rattle.lnbd_waits.specs.Waits.{Holds};
 
 use crate::asking::{Plan, inquire};
 use crate::fault::InfoFault;
@@ -37,11 +37,12 @@ use std::alloc::Global;
 const MAX_MINIMUM_BLOCK: u32 = 65_536;
 
 /// The first size that no export has (libnbd: sizes are below 2^63).
-const SIZE_END: u64 = 1 << 63;
+pub const SIZE_END: u64 = 1 << 63;
 
 /// The least block of an export of which this was told.
-fn least_block(told: Option<Blocks>) -> u64
+pub fn least_block(told: Option<Blocks>) -> u64
     ensures value { result ≡ least_block (minimum told) }
+    ensures some { (0 < result) × (result ≤ 65536) }
 {
     match told {
         Some(blocks) => {

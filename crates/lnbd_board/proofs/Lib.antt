@@ -3,6 +3,7 @@ pub mod Spelling
 pub mod Runs
 pub mod Inside
 pub mod Copied
+pub mod Held
 pub mod Once
 pub mod Steps
 pub mod Moves

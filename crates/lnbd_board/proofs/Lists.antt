@@ -215,6 +215,15 @@ none_covers p r (x ∷ xs) h (inr k) =
     elim (covers x.said.command p) as (λ b. cond b (x.said ∷ over p xs) (over p xs) ≡ [] → covers r.said.command p ≡ false)
     [ true ↦ λ f. absurd (cc (f)) | false ↦ λ f. none_covers p r xs f k ] h
 
+-- none reads it
+pub none_reads : (p : ℕ) (r : Request) (xs : List Request) → reads_over p xs ≡ [] → IsIn r xs → reads r.said.command p ≡ false
+none_reads p r [] none there = absurd there
+none_reads p r (x ∷ xs) none there =
+    elim (reads x.said.command p) as (λ b. reads x.said.command p ≡ b → cond b (x.said ∷ reads_over p xs) (reads_over p xs) ≡ [] → reads r.said.command p ≡ false) [
+      | true ↦ λ is k. absurd (cc (k))
+      | false ↦ λ is k. elim there [ inl same ↦ ap (λ (y : Request). reads y.said.command p) (sym same) ∙ is | inr more ↦ none_reads p r xs k more ]
+    ] refl none
+
 -- exactly one is over it
 pub record OneOver (p : ℕ) (x : Said) (xs : List Request) : Type 0 where
   pub request : Request

@@ -1,15 +1,17 @@
 -- Lemmas on slices and the pieces of their bytes.
-use Rattle.std.proofs.Common.{◌≡◌, ℕ, zero, suc, ◌+◌, ◌-◌, ◌<◌, ◌≤◌, List, [], ◌∷◌, ◌++◌, Bool, true, false, cond, refl, ap, sym, ◌∙◌, arith, length, get_or, append_assoc, length-append}
+use Rattle.std.proofs.Common.{◌≡◌, ℕ, zero, suc, ◌+◌, ◌-◌, ◌<◌, ◌≤◌, List, [], ◌∷◌, ◌++◌, Bool, true, false, cond, refl, ap, sym, ◌∙◌, arith, length, get_or, append_assoc, length-append, inl, inr, Some}
 use Rattle.std.proofs.lemmas.Grind.{common_steps}
 use Rattle.std.proofs.lemmas.Bool.Decides.{nat_tests}
 use Rattle.std.proofs.Math.ListN.{length-replicate, get_or-replicate}
+use Rattle.std.proofs.lemmas.Option.{slice_get-get_or}
 use Rattle.lnbd_extents.specs.Positions.{within}
-use Rattle.lnbd_asked.specs.Honest.{covers, has, Leaves}
+use Rattle.lnbd_asked.specs.Honest.{covers, has}
 use Rattle.lnbd_plan.specs.declared.grid.Slice.{Slice}
 use Rattle.lnbd_plan.specs.Laws.{slices_at}
 use Rattle.lnbd_board.specs.declared.how.How.{How}
 use Rattle.lnbd_board.specs.Requests.{Said, done, done_with, over_said, said_unanswered, Suits}
 use Rattle.lnbd_board.specs.Pieces.{Piece, Bytes, Zeros, spell, spell1, ask_of, is_passed, kind_of, wrote}
+use Rattle.lnbd_board.specs.Carried.{Puts}
 use Rattle.lnbd_board.specs.Rows.{slice_at, lies_in}
 
 -- What the test says.
@@ -80,13 +82,15 @@ pub has_piece : (how : How) (p at : ℕ) (piece : Piece) → has (ask_of how at 
 has_piece how p at (Bytes bytes) = refl
 has_piece how p at (Zeros n) = rw (length-replicate {A = ℕ} n 0) refl
 
--- and leaves its bytes there
-pub leaves_piece : (how : How) (p at byte : ℕ) (piece : Piece) → within (at, length (spell1 piece)) p ≡ true → Leaves (ask_of how at piece) p byte → byte ≡ get_or (spell1 piece) (p - at) 0
-leaves_piece how p at byte (Bytes bytes) h l = l.0 refl
-leaves_piece how p at byte (Zeros n) h l =
+-- and puts its bytes there
+pub puts_piece : (how : How) (p at byte : ℕ) (piece : Piece) → within (at, length (spell1 piece)) p ≡ true → get_or (spell1 piece) (p - at) 0 ≡ byte → Puts (ask_of how at piece) p byte
+puts_piece how p at byte (Bytes bytes) h is =
+    let w = within_true at (length bytes) p h in
+    inl (refl, slice_get-get_or bytes (p - at) 0 (omega (arith, w.0, w.1)) ∙ ap (λ (b : ℕ). Some b) is)
+puts_piece how p at byte (Zeros n) h is =
     let w = within_true at (length (spell1 (Zeros n))) p h in
     let e = length-replicate {A = ℕ} n 0 in
-    l.1 refl ∙ sym (get_or-replicate n (p - at) 0 0 (omega (arith, w.0, w.1, e)))
+    inr (refl, sym is ∙ get_or-replicate n (p - at) 0 0 (omega (arith, w.0, w.1, e)))
 
 -- what comes back of a change is what it was asked with
 pub suits_piece : (how : How) (at : ℕ) (piece : Piece) (buf : List ℕ) → Suits (ask_of how at piece) buf → done_with (ask_of how at piece) buf ≡ done (ask_of how at piece)

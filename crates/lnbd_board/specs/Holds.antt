@@ -1,8 +1,8 @@
 -- What a copy that succeeded leaves, and what it asks at most once.
-use Rattle.std.specs.Prelude.{◌≡◌, ℕ, ◌<◌, ◌≤◌, Bool, true, false, List, [], ◌++◌, length, take, drop, get_or, Some}
+use Rattle.std.specs.Prelude.{◌≡◌, ℕ, ◌≤◌, Bool, true, false, List, [], ◌++◌, length, take, drop, Some}
 use Rattle.lnbd_model.specs.declared.kind.Kind.TheVariants.{BlockStatus}
 use Rattle.lnbd_asked.specs.Transcript.{Dealt}
-use Rattle.lnbd_asked.specs.Honest.{Honest, Done, has}
+use Rattle.lnbd_asked.specs.Honest.{Done, has}
 use Rattle.lnbd_history.specs.Commands.{Command}
 use Rattle.lnbd_asked.specs.Link.{Nobody}
 use Rattle.lnbd_plan.specs.declared.grid.Slice.{Slice}
@@ -10,7 +10,7 @@ use Rattle.lnbd_plan.specs.declared.cells.Cells.{Cells}
 use Rattle.lnbd_plan.specs.Laws.{IsPlannedOnce}
 use Rattle.lnbd_board.specs.declared.how.How.{How}
 use Rattle.lnbd_board.specs.declared.row.Row.{Row}
-use Rattle.lnbd_board.specs.Requests.{Request, over, reads_over, IsDealt}
+use Rattle.lnbd_board.specs.Requests.{Request, over, reads_over}
 use Rattle.lnbd_board.specs.Rows.{Stands}
 
 -- the first bytes are the source's, and the rest is as at the start
@@ -41,18 +41,6 @@ pub record IsCopied (how : How) (cells : Cells) (told : ℕ → Bool) (size : �
   pub planned : (p : ℕ) → IsPlannedOnce cells told 0 size p slices
   pub left_out : cells.zeros ≡ false → how.skip ≡ true
   pub over : Stands how slices [] source destination
-
--- The destination holds the source, for whatever contents the two exports have, where both servers are honest over what was dealt with them. Contents
--- and servers are the premises: they are not the copy's to keep.
-abbrev pub HoldsIfHonest : How → (ℕ → Bool) → (size room : ℕ) → Dealt → Dealt → Type 0
-HoldsIfHonest how told size room source destination =
-    (from to end : List ℕ) → Honest from source from → Honest to destination end → WasToldSize source size → WasToldSize destination room → size ≤ room →
-    ((p : ℕ) → p < size → told p ≡ true → WasToldZero source p) → (how.skip ≡ true → (p : ℕ) → p < size → get_or to p 0 ≡ 0) → Holds from to end
-
--- A copy that is copied is held.
-abbrev pub CopiedIsHeld : Type 0
-CopiedIsHeld = (how : How) (cells : Cells) (told : ℕ → Bool) (size room : ℕ) (slices : List Slice) (asked changed : List Request) (source destination : Dealt) →
-    IsCopied how cells told size slices asked changed → IsDealt asked source → IsDealt changed destination → HoldsIfHonest how told size room source destination
 
 -- No position of the source is read twice, and none of the destination is changed twice.
 pub record IsOnce (source destination : List Request) : Type 0 where

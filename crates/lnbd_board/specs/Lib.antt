@@ -5,5 +5,6 @@ pub mod Asks
 pub mod Files
 pub mod Board
 pub mod Holds
+pub mod Carried
 pub mod Turns
 pub mod Bound

@@ -1,11 +1,17 @@
 //! The laws, as contracts of functions that do nothing.
 
-ghost use Rattle.lnbd_board.specs.Holds.{CopiedIsHeld, EachIsAskedOnce};
+ghost use Rattle.lnbd_board.specs.Carried.{CarriedIsHeld, CopiedIsCarried};
+ghost use Rattle.lnbd_board.specs.Holds.{EachIsAskedOnce};
 ghost use Rattle.lnbd_board.specs.Turns.{CallsAreKept, ExtentsAreKept, FlushIsKept, NothingStands};
 
-/// Where each slice is over and both servers are honest, the destination holds the source.
-pub fn copied_is_held()
-    ensures { CopiedIsHeld }
+/// Where each slice is over, each byte that the source told was asked of the destination, and that was done.
+pub fn copied_is_carried()
+    ensures { CopiedIsCarried }
+{}
+
+/// So the destination holds the source, where both servers are honest.
+pub fn carried_is_held()
+    ensures { CarriedIsHeld }
 {}
 
 /// At every state no position of the source is read twice, none of the destination is changed twice, and

@@ -19,7 +19,9 @@ pub use ask::{Ask, Change};
 pub use board::Board;
 pub use bound::Bound;
 pub use how::How;
-pub use laws::{copied_is_held, each_is_asked_once, others_are_kept, turns_are_kept};
+pub use laws::{
+    carried_is_held, copied_is_carried, each_is_asked_once, others_are_kept, turns_are_kept,
+};
 pub use next::Next;
 pub use pieces::Pieces;
 pub use row::{Row, Stage};

@@ -1,7 +1,6 @@
 -- What each fault comes from.
 use Rattle.std.specs.Prelude.{ℕ, ◌≤◌}
-use Rattle.lnbd_link.specs.Count.{Rises}
-use Rattle.lnbd_serve.specs.Served.{patience}
+use Rattle.lnbd_link.specs.Count.{Rises, patience}
 use Rattle.lnbd_serve.specs.declared.fault.ServeFault.{ServeFault}
 use Rattle.lnbd_serve.specs.declared.fault.ServeFault.TheVariants as serving
 use Rattle.lnbd_child.specs.declared.fault.RunFault.{RunFault}

@@ -1,6 +1,6 @@
 //! What is done once all have left: the file is written back, and the last line printed.
 
-ghost use Rattle.std.specs.Prelude.{◌≡◌, ◌≤◌, Err, IfErr, OnErr, OnOk, true};
+ghost use Rattle.std.specs.Prelude.{◌≡◌, ◌≤◌, Err, IfErr, IsOk, OnErr, OnOk, true};
 ghost use Rattle.lnbd_link.specs.Count.{Rises};
 ghost use Rattle.lnbd_serve.specs.Printed.{is_served};
 ghost use Rattle.lnbd_child.specs.Causes.{Because, Ends, Never, Rose};
@@ -40,7 +40,8 @@ fn write_back<S: Store>(asked: &Serving, bytes: &[u8], store: &mut S) -> Result<
 
 /// The answer, by how the last line was printed.
 fn answered(told: Result<(), Unprinted>, attended: Attended) -> Result<u32, RunFault>
-    ensures { result ≡ answered told attended }
+    ensures value { result ≡ answered told attended }
+    ensures told { OnOk result (IsOk told) }
 {
     match told {
         Ok(()) => answer_of(attended),
@@ -65,6 +66,7 @@ pub(crate) fn close<S: Store, O: Sink>(
     ensures cause { IfErr result (Because ⊥ (Unit {0}) (Ends (Rises 1 (O.faults out.old) (O.faults out.new))) (Rose S.faults store.old store.new) Never) }
     ensures later { S.faults store.old ≤ S.faults store.new }
     ensures printing { O.faults out.old ≤ O.faults out.new }
+    ensures well { OnOk result (O.faults out.new ≡ O.faults out.old) }
 {
     let before = store.faults();
     match write_back(asked, bytes, store) {

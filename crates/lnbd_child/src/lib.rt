@@ -14,6 +14,6 @@ mod writing;
 pub use fault::RunFault;
 pub use laws::serving_keeps_length;
 pub use lnbd_store::{Content, Serving};
-pub use reading::{Unread, read_whole};
+pub use reading::{MAX_FILE, Unread, read_whole};
 pub use serving::serve_child;
 pub use writing::write_whole;

@@ -18,7 +18,7 @@ use std::alloc::Global;
 use thiserror::Error;
 
 /// How many bytes a file that is served has at most.
-const MAX_FILE: u64 = 1 << 30;
+pub const MAX_FILE: u64 = 1 << 30;
 
 /// Why a file was not read whole.
 #[derive(Clone, Copy, Debug, PartialEq, Eq, Error)]

@@ -1,6 +1,6 @@
 //! Serving a file, or made contents, to clients and to a child program, from the file's reading to the answer.
 
-ghost use Rattle.std.specs.Prelude.{◌≡◌, ◌≤◌, [], ℕ, Err, IfErr, IfOk, None, Some, true};
+ghost use Rattle.std.specs.Prelude.{◌≡◌, ◌≤◌, [], ℕ, Err, IfErr, IfOk, OnOk, None, Some, true};
 ghost use Rattle.lnbd_link.specs.Count.{Rises};
 ghost use Rattle.lnbd_serve.specs.Printed.{is_served};
 ghost use Rattle.lnbd_serve.specs.Steps.{Went};
@@ -78,6 +78,7 @@ fn host<W: Wires, O: Sink, P: Spawner>(
     ensures faults { W.faults wires.old ≤ W.faults wires.new }
     ensures idles { W.idles wires.old ≤ W.idles wires.new }
     ensures printing { O.faults out.old ≤ O.faults out.new }
+    ensures well { OnOk result (O.faults out.new ≡ O.faults out.old) }
     ensures starting { P.faults spawn.old ≤ P.faults spawn.new }
 {
     match print_serving(alloc, export.size(), out) {
@@ -108,6 +109,7 @@ fn attend<W: Wires, O: Sink, P: Spawner>(
     ensures faults { W.faults wires.old ≤ W.faults wires.new }
     ensures idles { W.idles wires.old ≤ W.idles wires.new }
     ensures printing { O.faults out.old ≤ O.faults out.new }
+    ensures well { OnOk result (O.faults out.new ≡ O.faults out.old) }
     ensures starting { P.faults spawn.old ≤ P.faults spawn.new }
 {
     let before = wires.faults();
@@ -163,6 +165,7 @@ pub fn serve_child<W: Wires, O: Sink, S: Store, P: Spawner>(
     ensures faults { W.faults wires.old ≤ W.faults wires.new }
     ensures idles { W.idles wires.old ≤ W.idles wires.new }
     ensures printing { O.faults out.old ≤ O.faults out.new }
+    ensures well { OnOk result (O.faults out.new ≡ O.faults out.old) }
     ensures storing { S.faults store.old ≤ S.faults store.new }
     ensures starting { P.faults spawn.old ≤ P.faults spawn.new }
 {

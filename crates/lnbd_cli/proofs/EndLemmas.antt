@@ -1,10 +1,13 @@
 -- What the status of a run tells of its end, and how its line is made.
-use Rattle.std.proofs.Common.{◌≡◌, ◌≢◌, ◌==◌, ◌||◌, ◌⊎◌, inl, inr, ℕ, Bool, true, false, List, [], ◌∷◌, Result, Ok, Err, refl, sym, ◌∙◌, ap, append_assoc, ◌++◌, subst, arith, String}
+use Rattle.std.proofs.Common.{◌≡◌, ◌≢◌, ◌==◌, ◌||◌, ◌⊎◌, inl, inr, ℕ, ◌+◌, ◌<◌, ◌≤◌, ◌^◌, min, Bool, true, false, List, [], ◌∷◌, Result, Ok, Err, refl, sym, ◌∙◌, ap, append_assoc, ◌++◌, subst, arith, String}
 use Rattle.std.proofs.lemmas.Bool.Decides.{nat_tests}
 use Rattle.std.specs.Prelude.{OnOk, if◌then◌else◌, is_ok}
 use Rattle.std.specs.declared.alloc.Global.{Global}
 use Rattle.lnbd_args.specs.declared.asked.Asked.{Asked}
 use Rattle.lnbd_args.specs.declared.asked.Asked.TheVariants as asked
+use Rattle.lnbd_link.specs.Call.{Call}
+use Rattle.lnbd_link.specs.Count.{Rises}
+use Rattle.lnbd_link.specs.Failed.{failed}
 use Rattle.lnbd_store.specs.declared.serving.Content.{Content}
 use Rattle.lnbd_store.specs.declared.serving.Content.TheVariants.{Made, File}
 use Rattle.lnbd_cli.specs.Beside.{IsBesideDone, is_all_done, is_beside_status}
@@ -203,3 +206,7 @@ pub pushed : {E : Type 0} (result : Result (Unit {0}) E) (old mid new word text 
     → OnOk result (new ≡ old ++ (word ++ text))
 pushed (Ok done) old mid new word text shown e same first = e ∙ ap (λ (m : List ℕ). m ++ shown) first ∙ ap (λ (s : List ℕ). (old ++ word) ++ s) same ∙ append_assoc old word text
 pushed (Err short) old mid new word text shown e same first = tt
+
+-- A count of the calls that failed rose: more of them failed.
+pub rose_by_fault : (before after : List Call) (f g : ℕ) → f ≡ failed before → failed before < 2 ^ 63 → g ≡ failed after → Rises 1 f g → failed before < failed after
+rose_by_fault before after f g first few last rises = let rose : min (f + 1) 18446744073709551615 ≤ g = rises in omega (arith, first, few, last, rose)

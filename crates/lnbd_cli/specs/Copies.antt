@@ -43,8 +43,8 @@ pub record HasParted (options : CopyOptions) (from to : Place) (calls : List Cal
   pub driven : AreDriven calls
   pub left : AreLeftBy options from to calls
 
--- What was asked to be copied, from one place to another, was copied by the calls that this transcript grew by, and these were made as the words say; and from a place to
--- itself too they conduct such a copy to its end.
+-- What was asked to be copied, from one place to another, was copied by the calls that this transcript grew by, and these were made as the words say: whatever the servers keep,
+-- each byte that was told of the source was asked to be written, unchanged, and that was done. From a place to itself too they conduct such a copy to its end.
 pub record HasCopied (asked : Transfer) (told told' : Option (List Call)) : Type 0 where
   pub copied : asked.from ≢ asked.to → Copies asked.from asked.to asked.options.destination_is_zero told told'
   pub made : asked.from ≢ asked.to → GrewBy (WasMade asked.options asked.from asked.to) told told'

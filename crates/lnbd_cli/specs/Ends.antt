@@ -1,15 +1,17 @@
 -- How a run of any tool ends, its status and its line, and whether those that count faults rose in it.
-use Rattle.std.specs.Prelude.{◌≡◌, ◌⊎◌, ◌++◌, ◌∷◌, ◌==◌, ◌||◌, ℕ, Bool, true, false, List, [], Option, Some, None, Result, Ok, Err, codes, decimal}
-use Rattle.lnbd_link.specs.Count.{Rises}
-use Rattle.lnbd_link.specs.Part.{Takes}
+use Rattle.std.specs.Prelude.{◌≡◌, ◌<◌, ◌⊎◌, ◌++◌, ◌∷◌, ◌==◌, ◌||◌, ℕ, Bool, true, false, List, [], Option, Some, None, Result, Ok, Err, codes, decimal}
+use Rattle.lnbd_child.specs.Reading.{max_file}
+use Rattle.lnbd_link.specs.Call.{Call}
+use Rattle.lnbd_link.specs.Count.{Rises, patience}
+use Rattle.lnbd_link.specs.Failed.{failed}
+use Rattle.lnbd_link.specs.Part.{Takes, TakesFront}
 use Rattle.lnbd_model.specs.Breach.{name_of}
 use Rattle.lnbd_model.specs.declared.breach.Broken.{Broken}
 use Rattle.lnbd_model.specs.declared.breach.Broken.TheVariants as broken
 use Rattle.lnbd_plan.specs.declared.fault.Rule.{Rule}
 use Rattle.lnbd_plan.specs.declared.fault.Rule.TheVariants as rule
-use Rattle.lnbd_script.specs.Seen.{patience}
-use Rattle.lnbd_script.specs.Streams.{TakesFront}
 use Rattle.lnbd_uri.specs.Fault.{name_of as uri_name}
+use Rattle.lnbd_cli.specs.Limits.{most_tested}
 use Rattle.lnbd_cli.specs.declared.ending.Fault.{Fault}
 use Rattle.lnbd_cli.specs.declared.ending.Fault.TheVariants as fault
 use Rattle.lnbd_cli.specs.declared.ending.Ruling.{Ruling}
@@ -70,8 +72,8 @@ rule_text (rule.Unfit minimum maximum) = codes "unfit " ++ decimal minimum ++ co
 abbrev pub ruling_text : Ruling → List ℕ
 ruling_text (ruling.Copy rule) = rule_text rule
 ruling_text (ruling.NoContext context) = codes "no-context " ++ context
-ruling_text (ruling.TooLarge size) = codes "selftest-size " ++ decimal size ++ codes " 16777216"
-ruling_text (ruling.FileSize length) = codes "file-size " ++ decimal length ++ codes " 1073741824"
+ruling_text (ruling.TooLarge size) = codes "selftest-size " ++ decimal size ++ codes " " ++ decimal most_tested
+ruling_text (ruling.FileSize length) = codes "file-size " ++ decimal length ++ codes " " ++ decimal max_file
 ruling_text (ruling.Changed length end) = codes "changed " ++ decimal length ++ codes " " ++ decimal end
 ruling_text (ruling.Range offset length size) = codes "range " ++ decimal offset ++ codes " " ++ decimal length ++ codes " " ++ decimal size
 ruling_text (ruling.Uneven size block) = codes "uneven " ++ decimal size ++ codes " " ++ decimal block
@@ -125,3 +127,7 @@ IsSound faults old new = ¬ Rises 1 (faults old) (faults new)
 -- the wires waited for less than is borne
 abbrev pub IsPatient : {W : Type 0} → (idles : W → ℕ) → (old new : W) → Type 0
 IsPatient idles old new = ¬ Rises patience (idles old) (idles new)
+
+-- Where the calls are told, before and after, more of them failed after.
+abbrev pub ShowsFault : (old new : Option (List Call)) → Type 0
+ShowsFault old new = (before after : List Call) → old ≡ Some before → new ≡ Some after → failed before < failed after

@@ -1,9 +1,8 @@
 -- What a run of nbdinfo is: what the server told, and what was printed.
 use Rattle.std.specs.Prelude.{◌≡◌, ◌⊎◌, ◌∷◌, ℕ, Bool, List, [], Option, Some, Result, Ok, Err}
 use Rattle.lnbd_link.specs.Call.{Call}
-use Rattle.lnbd_link.specs.Part.{Takes}
+use Rattle.lnbd_link.specs.Part.{Takes, TakesFront}
 use Rattle.lnbd_records.specs.Options.{opt_info}
-use Rattle.lnbd_script.specs.Streams.{TakesFront}
 use Rattle.lnbd_cli.specs.declared.ending.Fault.{Fault}
 use Rattle.lnbd_cli.specs.declared.ending.Fault.TheVariants as fault
 use Rattle.lnbd_cli.specs.declared.hearing.Question.{Question}

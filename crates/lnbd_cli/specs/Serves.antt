@@ -1,10 +1,10 @@
 -- What a run of serve is: the export that the words ask for, how it was served, and what was printed.
 use Rattle.std.specs.Prelude.{◌≡◌, ◌⊎◌, ◌∷◌, ◌++◌, ℕ, Bool, true, List, [], Option, Result, Ok, Err}
 use Rattle.lnbd_link.specs.Call.{Call}
-use Rattle.lnbd_link.specs.Part.{Takes}
+use Rattle.lnbd_link.specs.Part.{Takes, TakesFront}
 use Rattle.lnbd_export.specs.Export.{Export, size}
 use Rattle.lnbd_export.specs.Generated.{IsGenerated}
-use Rattle.lnbd_serve.specs.Printed.{Ran, Runs, TakesFront, is_served, serving_line, sessions_line}
+use Rattle.lnbd_serve.specs.Printed.{Ran, Runs, is_served, serving_line, sessions_line}
 use Rattle.lnbd_serve.specs.declared.fault.ServeFault.{ServeFault}
 use Rattle.lnbd_serve.specs.declared.fault.ServeFault.TheVariants as serving
 use Rattle.lnbd_cli.specs.declared.ending.Fault.{Fault}

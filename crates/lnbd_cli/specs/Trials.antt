@@ -1,10 +1,9 @@
 -- What a run of selftest is: the copy that was made in memory, what its line tells, and how the run ended.
 use Rattle.std.specs.Prelude.{◌≡◌, ◌<◌, ◌∷◌, ◌++◌, ℕ, Bool, true, List, [], Option, Ok, Err, codes, decimal}
-use Rattle.lnbd_link.specs.Part.{Takes}
+use Rattle.lnbd_link.specs.Part.{Takes, TakesFront}
 use Rattle.lnbd_memnet.specs.Wires.{Served}
 use Rattle.lnbd_plan.specs.declared.summary.Summary.{Summary}
 use Rattle.lnbd_rehearsal.specs.Rehearsed.{HasRehearsed}
-use Rattle.lnbd_script.specs.Streams.{TakesFront}
 use Rattle.lnbd_cli.specs.declared.ending.Fault.TheVariants as fault
 use Rattle.lnbd_cli.specs.declared.ending.Ruling.TheVariants as ruling
 use Rattle.lnbd_cli.specs.declared.selftesting.Trial.{Trial}

@@ -1,8 +1,7 @@
 //! serve with a file, or beside a program: what is told of how that ends. Made contents alone are served in `serving`.
 
 ghost use Rattle.std.specs.Prelude.{◌≡◌, [], Err, OnOk, true};
-ghost use Rattle.lnbd_link.specs.Count.{Rises};
-ghost use Rattle.lnbd_script.specs.Seen.{patience};
+ghost use Rattle.lnbd_link.specs.Count.{Rises, patience};
 ghost use Rattle.lnbd_child.specs.Loading.{IsFew, IsMade};
 ghost use Rattle.lnbd_cli.specs.Beside.{FileServed, ProgramRan, TellsChild, TellsRunFault, is_all_done, is_beside_status};
 ghost use Rattle.lnbd_cli.specs.Ends.{status_of};
@@ -68,6 +67,7 @@ pub(crate) fn serve_beside<W: Wires, O: Sink, S: Store, P: Spawner>(
     ensures spawning { result ≡ Err fault.Spawn → Rises 1 (P.faults spawn.old) (P.faults spawn.new) }
     ensures well { OnOk result (¬ Rises 1 (W.faults wires.old) (W.faults wires.new)) }
     ensures patient { OnOk result (¬ Rises patience (W.idles wires.old) (W.idles wires.new)) }
+    ensures output_well { OnOk result (O.faults out.new ≡ O.faults out.old) }
 {
     let faults = wires.faults();
     let idles = wires.idles();

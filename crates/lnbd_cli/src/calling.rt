@@ -1,8 +1,7 @@
 //! nbdcalls: a script is read and played, and how such a run ends.
 
 ghost use Rattle.std.specs.Prelude.{◌≡◌, ◌≢◌, Ok, Err, OnOk, true};
-ghost use Rattle.lnbd_link.specs.Count.{Rises};
-ghost use Rattle.lnbd_script.specs.Seen.{patience};
+ghost use Rattle.lnbd_link.specs.Count.{Rises, patience};
 ghost use Rattle.lnbd_cli.specs.Calls.{CallsEnds, HoldsScript, PlayEnds, is_calls_status};
 ghost use Rattle.lnbd_cli.specs.Ends.{status_of};
 ghost use Rattle.lnbd_cli.specs.Inputs.{ReadAtMost};
@@ -27,6 +26,7 @@ fn play_script<W: Wires, O: Sink>(alloc: Global, script: &Script, wires: &mut W,
     ensures output { result ≡ Err fault.Output → Rises 1 (O.faults out.old) (O.faults out.new) }
     ensures well { OnOk result (¬ Rises 1 (W.faults wires.old) (W.faults wires.new)) }
     ensures patient { OnOk result (¬ Rises patience (W.idles wires.old) (W.idles wires.new)) }
+    ensures output_well { OnOk result (O.faults out.new ≡ O.faults out.old) }
 {
     let faults = wires.faults();
     let idles = wires.idles();
@@ -61,6 +61,8 @@ pub(crate) fn calls<I: Source, W: Wires, O: Sink>(
     ensures output { result ≡ Err fault.Output → Rises 1 (O.faults out.old) (O.faults out.new) }
     ensures well { OnOk result (¬ Rises 1 (W.faults wires.old) (W.faults wires.new)) }
     ensures patient { OnOk result (¬ Rises patience (W.idles wires.old) (W.idles wires.new)) }
+    ensures output_well { OnOk result (O.faults out.new ≡ O.faults out.old) }
+    ensures input_well { OnOk result (I.faults input.new ≡ I.faults input.old) }
 {
     match read_script(alloc, input) {
         Ok(script) => play_script(alloc, &script, wires, out),

@@ -1,8 +1,7 @@
 //! nbdcopy: a copy from one export to another, and how such a run ends (nbdcopy(1)).
 
 ghost use Rattle.std.specs.Prelude.{◌≡◌, Err, OnOk, true};
-ghost use Rattle.lnbd_link.specs.Count.{Rises};
-ghost use Rattle.lnbd_script.specs.Seen.{patience};
+ghost use Rattle.lnbd_link.specs.Count.{Rises, patience};
 ghost use Rattle.lnbd_cli.specs.Copies.{CopyEnds, TellsCopyFault, is_copy_status};
 ghost use Rattle.lnbd_cli.specs.Ends.{status_of};
 ghost use Rattle.lnbd_cli.specs.declared.ending.Fault.TheVariants as fault;

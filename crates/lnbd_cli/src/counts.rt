@@ -1,22 +1,21 @@
-//! A last look at what the wires counted in a run. Which of their calls were made is no matter here.
+//! What the wires counted: a last look at it in a run, and that they count the calls that they tell. What the calls were for is no
+//! matter here.
 
-ghost use Rattle.std.specs.Prelude.{◌≡◌, ◌⊎◌, Err, IfErr, OnOk, false, true};
-ghost use Rattle.lnbd_link.specs.Count.{Rises};
-ghost use Rattle.lnbd_script.specs.Seen.{patience};
+ghost use Rattle.std.specs.Prelude.{◌≡◌, ◌<◌, ◌⊎◌, ◌^◌, Err, IfErr, List, OnOk, Some};
+ghost use Rattle.lnbd_link.specs.Call.{Call};
+ghost use Rattle.lnbd_link.specs.Count.{Rises, patience};
+ghost use Rattle.lnbd_link.specs.Failed.{failed};
 ghost use Rattle.lnbd_cli.specs.declared.ending.Fault.TheVariants as fault;
 
 use crate::ending::Fault;
-use lnbd_link::{Wires, raised};
+use lnbd_link::{Wires, is_long, rose};
 
-/// How many pauses are borne in which nothing came.
-const PATIENCE: u64 = 1_000_000_000;
-
-/// Whether a count rose by so much. One that stands at its end did.
-fn rose(by: u64, before: u64, after: u64) -> bool
-    ensures risen { result ≡ true → Rises by before after }
-    ensures still { result ≡ false → ¬ Rises by before after }
+/// Wires that tell their calls have counted those of them that failed, which are fewer than 2 ^ 63.
+pub(crate) fn tally<W: Wires>(wires: &W)
+    ensures counted { (calls : List Call) → W.told wires.now ≡ Some calls → W.faults wires.now ≡ failed calls }
+    ensures few { (calls : List Call) → W.told wires.now ≡ Some calls → failed calls < 2 ^ 63 }
 {
-    raised(before, by) <= after
+    let _ = wires.faults();
 }
 
 /// The last look, where these were the counts when the run began: a call failed, or else they waited for as long as is borne, if so.
@@ -30,7 +29,7 @@ pub(crate) fn look<W: Wires>(faults: u64, idles: u64, wires: &W) -> Result<(), F
     if rose(1, faults, wires.faults()) {
         return Err(Fault::Link);
     }
-    if rose(PATIENCE, idles, wires.idles()) {
+    if is_long(idles, wires.idles()) {
         return Err(Fault::Silent);
     }
     Ok(())

@@ -1,8 +1,7 @@
 //! nbddump: bytes of an export are shown, and how such a run ends (nbddump(1)).
 
 ghost use Rattle.std.specs.Prelude.{◌≡◌, Err, OnOk, true};
-ghost use Rattle.lnbd_link.specs.Count.{Rises};
-ghost use Rattle.lnbd_script.specs.Seen.{patience};
+ghost use Rattle.lnbd_link.specs.Count.{Rises, patience};
 ghost use Rattle.lnbd_cli.specs.Dumps.{DumpEnds, TellsDumpFault, is_dump_status};
 ghost use Rattle.lnbd_cli.specs.Ends.{status_of};
 ghost use Rattle.lnbd_cli.specs.declared.ending.Fault.TheVariants as fault;
@@ -65,6 +64,7 @@ pub(crate) fn show<W: Wires, O: Sink>(
     ensures output { result ≡ Err fault.Output → Rises 1 (O.faults out.old) (O.faults out.new) }
     ensures well { OnOk result (¬ Rises 1 (W.faults wires.old) (W.faults wires.new)) }
     ensures patient { OnOk result (¬ Rises patience (W.idles wires.old) (W.idles wires.new)) }
+    ensures output_well { OnOk result (O.faults out.new ≡ O.faults out.old) }
 {
     let Excerpt {
         place,

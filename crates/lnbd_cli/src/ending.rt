@@ -5,10 +5,11 @@ ghost use Rattle.lnbd_cli.specs.declared.ending.Fault.TheVariants as fault;
 ghost use Rattle.lnbd_cli.specs.declared.ending.Ruling.TheVariants as ruling;
 ghost use Rattle.lnbd_cli.specs.Ends.{IsReported, Prints, broken_text, end_line, fault_line, fault_text, peer_text, rule_text, ruling_text, status_of, status_of_fault};
 
-use lnbd_link::Sink;
+use lnbd_child::MAX_FILE;
+use lnbd_link::{Sink, put};
 use lnbd_model::{Broken, Text};
 use lnbd_plan::Rule;
-use lnbd_script::put;
+use lnbd_rehearsal::MOST;
 use lnbd_uri::UriFault;
 use std::alloc::{AllocError, Global};
 
@@ -162,13 +163,15 @@ fn push_no_context(text: &mut String, context: &Text) -> Result<(), AllocError>
 fn push_too_large(text: &mut String, size: u64) -> Result<(), AllocError>
     ensures { OnOk result (string_bytes text.new ≡ string_bytes text.old ++ ruling_text (ruling.TooLarge size)) }
 {
-    write!(text, "selftest-size {size} 16777216")
+    let most = MOST;
+    write!(text, "selftest-size {size} {most}")
 }
 
 fn push_file_size(text: &mut String, length: u64) -> Result<(), AllocError>
     ensures { OnOk result (string_bytes text.new ≡ string_bytes text.old ++ ruling_text (ruling.FileSize length)) }
 {
-    write!(text, "file-size {length} 1073741824")
+    let most = MAX_FILE;
+    write!(text, "file-size {length} {most}")
 }
 
 fn push_changed(text: &mut String, length: u64, end: u64) -> Result<(), AllocError>

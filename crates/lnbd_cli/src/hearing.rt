@@ -3,8 +3,7 @@
 ghost use Rattle.std.specs.Prelude.{◌≡◌, ◌≢◌, ◌≤◌, ◌^◌, IfErr, IfOk, None, Ok, false, true};
 ghost use Rattle.lnbd_extents.specs.Lists.{span};
 ghost use Rattle.lnbd_info.specs.Map.{AreFilled};
-ghost use Rattle.lnbd_link.specs.Count.{Rises};
-ghost use Rattle.lnbd_script.specs.Seen.{patience};
+ghost use Rattle.lnbd_link.specs.Count.{Rises, patience};
 ghost use Rattle.lnbd_cli.specs.Heard.{IsMapText, IsSumsText, IsToldAs, Says, SaysExport, SaysList, SaysMap, Unheard};
 ghost use Rattle.lnbd_cli.specs.Heard.{end_of_entries, export_text, exports_text, extents_text, heard, is_allocation, is_heard, is_so};
 ghost use Rattle.lnbd_cli.specs.Ends.{status_of_fault};

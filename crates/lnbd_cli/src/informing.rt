@@ -1,8 +1,7 @@
 //! nbdinfo: a server is asked, what it tells is printed, and how such a run ends (nbdinfo(1)).
 
 ghost use Rattle.std.specs.Prelude.{◌≡◌, Err, OnOk, true};
-ghost use Rattle.lnbd_link.specs.Count.{Rises};
-ghost use Rattle.lnbd_script.specs.Seen.{patience};
+ghost use Rattle.lnbd_link.specs.Count.{Rises, patience};
 ghost use Rattle.lnbd_cli.specs.Ends.{status_of};
 ghost use Rattle.lnbd_cli.specs.Informs.{EndsAs, InfoEnds, IsPrinted, is_info_status};
 ghost use Rattle.lnbd_cli.specs.declared.ending.Fault.TheVariants as fault;
@@ -10,8 +9,7 @@ ghost use Rattle.lnbd_cli.specs.declared.ending.Fault.TheVariants as fault;
 use crate::counts::look;
 use crate::ending::{End, Fault};
 use crate::hearing::{News, Question, hear};
-use lnbd_link::{Sink, Wires};
-use lnbd_script::put;
+use lnbd_link::{Sink, Wires, put};
 use std::alloc::Global;
 
 /// The option by which an export is asked for (NBD protocol, "NBD_OPT_INFO").
@@ -34,6 +32,7 @@ fn ended(answer: Result<bool, u32>) -> End
 fn tell<O: Sink>(news: News, out: &mut O) -> End
     ensures tells { IsPrinted result news.text.items news.end (O.taken out.old) (O.taken out.new) }
     ensures output { result ≡ Err fault.Output → Rises 1 (O.faults out.old) (O.faults out.new) }
+    ensures output_well { OnOk result (O.faults out.new ≡ O.faults out.old) }
 {
     match put(out, &news.text) {
         Ok(()) => ended(news.end),
@@ -55,6 +54,7 @@ pub(crate) fn inform<W: Wires, O: Sink>(
     ensures output { result ≡ Err fault.Output → Rises 1 (O.faults out.old) (O.faults out.new) }
     ensures well { OnOk result (¬ Rises 1 (W.faults wires.old) (W.faults wires.new)) }
     ensures patient { OnOk result (¬ Rises patience (W.idles wires.old) (W.idles wires.new)) }
+    ensures output_well { OnOk result (O.faults out.new ≡ O.faults out.old) }
 {
     let faults = wires.faults();
     let idles = wires.idles();

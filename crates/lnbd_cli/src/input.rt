@@ -37,6 +37,7 @@ fn read_all<I: Source>(alloc: Global, input: &mut I) -> Result<Vec<u8>, Short>
     ensures left { OnOk result (ReadUpTo most_read (I.left input.old) (I.left input.new)) }
     ensures most { ReadAtMost most_read (I.left input.old) (I.left input.new) }
     ensures later { I.faults input.old ≤ I.faults input.new }
+    ensures well { OnOk result (I.faults input.new ≡ I.faults input.old) }
     ensures failed { IsErrOf result Short.Failed → Rises 1 (I.faults input.old) (I.faults input.new) }
 {
     let mut bytes = Vec::new(alloc);
@@ -60,6 +61,7 @@ fn read_all<I: Source>(alloc: Global, input: &mut I) -> Result<Vec<u8>, Short>
 pub(crate) fn read_script<I: Source>(alloc: Global, input: &mut I) -> Result<Script, Unread>
     ensures reads { (all : List ℕ) → I.left input.old ≡ Some all → ReadsScript result all (I.left input.new) }
     ensures most { ReadAtMost most_read (I.left input.old) (I.left input.new) }
+    ensures well { OnOk result (I.faults input.new ≡ I.faults input.old) }
     ensures cause { IfErr result (λ unread. IsCaused unread (I.faults input.old) (I.faults input.new)) }
 {
     let bytes = match read_all(alloc, input) {

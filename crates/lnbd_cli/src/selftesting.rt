@@ -8,11 +8,10 @@ ghost use Rattle.lnbd_cli.specs.Trials.{TellsTrial, TestEnds, is_test_status, mo
 ghost use Rattle.lnbd_cli.specs.declared.ending.Fault.TheVariants as fault;
 
 use crate::ending::{End, Fault, Ruling};
-use lnbd_link::Sink;
+use lnbd_link::{Sink, put};
 use lnbd_model::NoMemory;
 use lnbd_plan::Summary;
 use lnbd_rehearsal::{MOST, rehearse};
-use lnbd_script::put;
 use std::alloc::{AllocError, Global};
 
 /// Which copy is made.
@@ -72,6 +71,7 @@ pub(crate) fn test<O: Sink>(alloc: Global, trial: Trial, out: &mut O) -> End
     ensures ends { TestEnds trial (O.taken out.old) (O.taken out.new) (out.new ≡ out.old) result }
     ensures known { is_test_status (status_of result) ≡ true }
     ensures output { result ≡ Err fault.Output → Rises 1 (O.faults out.old) (O.faults out.new) }
+    ensures output_well { OnOk result (O.faults out.new ≡ O.faults out.old) }
     ensures small { trial.size ≤ most_tested → status_of result ≢ 6 }
     ensures large { most_tested < trial.size → status_of result ≡ 6 }
 {

@@ -3,8 +3,7 @@
 ghost use Rattle.std.specs.Prelude.{◌≡◌, ◌≤◌, ◌^◌, Err, IfOk, OnOk, true};
 ghost use Rattle.lnbd_child.specs.Loading.{IsFew};
 ghost use Rattle.lnbd_cli.specs.Hosts.{IsTask, ServeDid};
-ghost use Rattle.lnbd_link.specs.Count.{Rises};
-ghost use Rattle.lnbd_script.specs.Seen.{patience};
+ghost use Rattle.lnbd_link.specs.Count.{Rises, patience};
 ghost use Rattle.lnbd_export.specs.Generated.{IsGenerated};
 ghost use Rattle.lnbd_cli.specs.Ends.{status_of};
 ghost use Rattle.lnbd_cli.specs.Serves.{ServeEnds, TellsServeFault, is_serve_status};
@@ -112,6 +111,7 @@ fn serve_export<W: Wires, O: Sink>(
     ensures output { result ≡ Err fault.Output → Rises 1 (O.faults out.old) (O.faults out.new) }
     ensures well { OnOk result (¬ Rises 1 (W.faults wires.old) (W.faults wires.new)) }
     ensures patient { OnOk result (¬ Rises patience (W.idles wires.old) (W.idles wires.new)) }
+    ensures output_well { OnOk result (O.faults out.new ≡ O.faults out.old) }
 {
     let sessions = service.sessions;
     let faults = wires.faults();
@@ -140,6 +140,7 @@ pub(crate) fn host<W: Wires, O: Sink>(
     ensures output { result ≡ Err fault.Output → Rises 1 (O.faults out.old) (O.faults out.new) }
     ensures well { OnOk result (¬ Rises 1 (W.faults wires.old) (W.faults wires.new)) }
     ensures patient { OnOk result (¬ Rises patience (W.idles wires.old) (W.idles wires.new)) }
+    ensures output_well { OnOk result (O.faults out.new ≡ O.faults out.old) }
 {
     match export_of(alloc, service) {
         Ok(export) => serve_export(alloc, service, export, wires, out),
@@ -165,6 +166,7 @@ pub(crate) fn attend<W: Wires, O: Sink, S: Store, P: Spawner>(
     ensures spawning { result ≡ Err fault.Spawn → Rises 1 (P.faults spawn.old) (P.faults spawn.new) }
     ensures well { OnOk result (¬ Rises 1 (W.faults wires.old) (W.faults wires.new)) }
     ensures patient { OnOk result (¬ Rises patience (W.idles wires.old) (W.idles wires.new)) }
+    ensures output_well { OnOk result (O.faults out.new ≡ O.faults out.old) }
 {
     match task_of(asked) {
         Task::Alone(service) => host(alloc, &service, wires, out),

@@ -2,8 +2,7 @@
 
 ghost use Rattle.std.specs.Prelude.{◌≡◌, ◌⊎◌, ◌<◌, ◌≤◌, Err, OnOk, true, false};
 ghost use Rattle.lnbd_args.specs.declared.asked.Asked.{Asked};
-ghost use Rattle.lnbd_link.specs.Count.{Rises};
-ghost use Rattle.lnbd_script.specs.Seen.{patience};
+ghost use Rattle.lnbd_link.specs.Count.{Rises, patience};
 ghost use Rattle.lnbd_store.specs.declared.serving.Serving.{Serving};
 ghost use Rattle.lnbd_cli.specs.Asks.{Ask, AskBeside, AskFile, AskNothing, AskProgram, IsBeside, IsCalls, IsCopy, IsDump, IsInfo, IsSelftest, IsServe};
 ghost use Rattle.lnbd_cli.specs.Beside.{FileServed, IsBesideDone, ProgramRan, is_all_done};
@@ -11,7 +10,7 @@ ghost use Rattle.lnbd_cli.specs.Calls.{IsPlayDone};
 ghost use Rattle.lnbd_cli.specs.Copies.{IsCopyDone};
 ghost use Rattle.lnbd_cli.specs.Did.{Did, DidAsked, HasRoom, IsOnWires, NeverReads};
 ghost use Rattle.lnbd_cli.specs.Dumps.{IsDumpDone, IsShown, IsShownInPart};
-ghost use Rattle.lnbd_cli.specs.Ends.{Came, IsPatient, IsSound, Prints};
+ghost use Rattle.lnbd_cli.specs.Ends.{Came, IsPatient, IsSound, Prints, ShowsFault};
 ghost use Rattle.lnbd_cli.specs.Informs.{IsInfoDone};
 ghost use Rattle.lnbd_cli.specs.Inputs.{ReadAtMost};
 ghost use Rattle.lnbd_cli.specs.Runs.{AreQuiet, AreSound, AskTest, Beside, IsPlay, IsRefused, Nothing, Refused, RunsCalls, RunsCopy, RunsDump, RunsInfo, RunsSelftest, RunsServe, Still, Tells, is_known};
@@ -26,6 +25,7 @@ ghost use Rattle.lnbd_cli.specs.declared.serving.Service.{Service};
 
 use crate::calling::calls;
 use crate::copying::{Transfer, copy};
+use crate::counts::tally;
 use crate::dumping::{Excerpt, show};
 use crate::ending::{End, print_end};
 use crate::hearing::Question;
@@ -92,8 +92,10 @@ pub fn run<W: Wires, I: Source, O: Sink, E: Sink, S: Store, P: Spawner>(
     ensures known { (asked : Asked) → Ask words.now asked → is_known asked result ≡ true }
     ensures refused_known { AskNothing words.now → (result ≡ 1) ⊎ (result ≡ 9) }
 
-    // These come only where their count rose. On 0 and 2 no call on the wires failed, and they waited for less than is borne.
+    // These come only where their count rose, and 5 only with a call that failed, where the wires tell their calls. On 0 and 2 no call on
+    // the wires failed, they waited for less than is borne, and the counts of `out` and `input` stand as before.
     ensures link_cause { result ≡ 5 → Rises 1 (W.faults wires.old) (W.faults wires.new) }
+    ensures link_shown { result ≡ 5 → ShowsFault (W.told wires.old) (W.told wires.new) }
     ensures silent_cause { result ≡ 7 → Rises patience (W.idles wires.old) (W.idles wires.new) }
     ensures output_cause { result ≡ 8 → Rises 1 (O.faults out.old) (O.faults out.new) }
     ensures input_cause { result ≡ 10 → Rises 1 (I.faults input.old) (I.faults input.new) }
@@ -101,6 +103,8 @@ pub fn run<W: Wires, I: Source, O: Sink, E: Sink, S: Store, P: Spawner>(
     ensures spawn_cause { result ≡ 13 → Rises 1 (P.faults spawn.old) (P.faults spawn.new) }
     ensures well { (¬ AskTest words.now) → (result ≡ 0) ⊎ (result ≡ 2) → IsSound W.faults wires.old wires.new }
     ensures patient { (¬ AskTest words.now) → (result ≡ 0) ⊎ (result ≡ 2) → IsPatient W.idles wires.old wires.new }
+    ensures output_well { (result ≡ 0) ⊎ (result ≡ 2) → O.faults out.new ≡ O.faults out.old }
+    ensures input_well { (result ≡ 0) ⊎ (result ≡ 2) → I.faults input.new ≡ I.faults input.old }
 
     // Where no count rose, all is done, the peer told an error or broke off, a rule doesn't hold, or memory ran out.
     ensures complete { IsPlay words.now (I.left input.old) → AreQuiet W.faults W.idles wires.old wires.new → AreSound I.faults input.old input.new O.faults out.old out.new → IsPlayDone result }
@@ -112,7 +116,10 @@ pub fn run<W: Wires, I: Source, O: Sink, E: Sink, S: Store, P: Spawner>(
     ensures selftest_complete { (t : Trial) → IsSelftest words.now t → t.size ≤ most_tested → IsSound O.faults out.old out.new → (result ≡ 0) ⊎ (result ≡ 9) }
     ensures selftest_refuses { (t : Trial) → IsSelftest words.now t → most_tested < t.size → (result ≡ 6) ⊎ (result ≡ 9) }
 {
+    // What the wires count is what they tell, before and after: so a link fault shows its call.
+    tally(wires);
     let end = tool(alloc, words, input, wires, out, store, spawn);
+    tally(wires);
     print_end(alloc, &end, err)
 }
 
@@ -138,6 +145,8 @@ fn act<W: Wires, I: Source, O: Sink, S: Store, P: Spawner>(
     ensures spawning { result ≡ Err fault.Spawn → Rises 1 (P.faults spawn.old) (P.faults spawn.new) }
     ensures well { IsOnWires asked → OnOk result (IsSound W.faults wires.old wires.new) }
     ensures patient { IsOnWires asked → OnOk result (IsPatient W.idles wires.old wires.new) }
+    ensures output_well { OnOk result (O.faults out.new ≡ O.faults out.old) }
+    ensures input_well { OnOk result (I.faults input.new ≡ I.faults input.old) }
 {
     match asked {
         Asked::Calls => calls(alloc, input, wires, out),
@@ -190,6 +199,8 @@ fn tool<W: Wires, I: Source, O: Sink, S: Store, P: Spawner>(
     ensures spawning { result ≡ Err fault.Spawn → Rises 1 (P.faults spawn.old) (P.faults spawn.new) }
     ensures well { (¬ AskTest words.now) → OnOk result (IsSound W.faults wires.old wires.new) }
     ensures patient { (¬ AskTest words.now) → OnOk result (IsPatient W.idles wires.old wires.new) }
+    ensures output_well { OnOk result (O.faults out.new ≡ O.faults out.old) }
+    ensures input_well { OnOk result (I.faults input.new ≡ I.faults input.old) }
 {
     match read(alloc, words) {
         Ok(asked) => act(alloc, asked, input, wires, out, store, spawn),

@@ -13,7 +13,8 @@ use Rattle.lnbd_plan.specs.declared.grid.Slice.{Slice}
 use Rattle.lnbd_plan.specs.Laws.{IsPlannedOnce}
 use Rattle.lnbd_board.specs.declared.ticket.Ticket.{Ticket}
 use Rattle.lnbd_board.specs.Files as board
-use Rattle.lnbd_course.specs.Answered.{IsUnread, WasAnsweredFirst}
+use Rattle.lnbd_board.specs.Carried.{IsUnread}
+use Rattle.lnbd_course.specs.Answered.{WasAnsweredFirst}
 use Rattle.lnbd_course.specs.Between.{Between}
 use Rattle.lnbd_course.specs.Told as course
 use Rattle.lnbd_course.proofs.Answering.{nothing_is_read_behind, ranges_were_answered}

@@ -9,7 +9,7 @@ use Rattle.lnbd_course.specs.Flushes.{IsFlushed}
 use Rattle.lnbd_course.specs.Told as course
 use Rattle.lnbd_course.proofs.AllDone.{ended_are_all_done}
 use Rattle.lnbd_course.proofs.Flushing.{ended_flushed}
-use Rattle.lnbd_course.proofs.Placed.{ended_copies}
+use Rattle.lnbd_course.proofs.Placed.{ended_carries}
 use Rattle.lnbd_copy.specs.Deciding.{AreAlive}
 use Rattle.lnbd_copy.specs.Driven.{IsAllDone}
 use Rattle.lnbd_copy.specs.Job as job
@@ -29,7 +29,7 @@ all_is_done j way now calls held is over well answered on two =
     let planned = planned_whole j way now calls is over on.has s two in
     let unasked : way.asked ≡ None = is.asked ∙ ap (λ (b : Bool). if b then windows.wanted j.windows else None) over.heard in
     record {
-      copied = ended_copies way.from way.to j.terms.size way.how on.has way.slices now calls j.windows.plan.cells is.planned.parts between over.rows well planned two;
+      carried = ended_carries way.from way.to j.terms.size way.how on.has way.slices now calls j.windows.plan.cells is.planned.parts between over.rows well planned two;
       done = ended_are_all_done way.from way.to j.terms.size way.how on.has way.slices now calls (known_of way) between
           (subst (λ (o : Option (ℕ × ℕ)). course.Told way.how on.has way.slices now calls [] o (known_of way)) unasked s.told) over.rows well answered two;
       whole = all_finished j way now calls is on.has s well two planned over;

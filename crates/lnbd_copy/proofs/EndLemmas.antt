@@ -21,7 +21,8 @@ use Rattle.lnbd_board.specs.Files as board
 use Rattle.lnbd_course.specs.AllDone.{WereAllDone}
 use Rattle.lnbd_course.specs.Asks.{GrewBy, HasAskedOnce}
 use Rattle.lnbd_course.specs.Between.{Between}
-use Rattle.lnbd_course.specs.Copied.{Copied, Copies}
+use Rattle.lnbd_course.specs.Carried.{HasCarried}
+use Rattle.lnbd_course.specs.Copied.{Copies}
 use Rattle.lnbd_course.specs.Course.{IsPlannedWhole}
 use Rattle.lnbd_course.specs.Driven.{AreDriven}
 use Rattle.lnbd_course.specs.Flushes.{IsFlushed, IsUnflushed}
@@ -34,7 +35,8 @@ use Rattle.lnbd_course.proofs.Holding.{take_drop}
 use Rattle.lnbd_course.proofs.AllDone.{ended_are_all_done}
 use Rattle.lnbd_course.proofs.Once.{ended_asks_once}
 use Rattle.lnbd_course.proofs.Placing.{taking_keeps_between}
-use Rattle.lnbd_course.proofs.Placed.{ended_copies, links_are_of_sides}
+use Rattle.lnbd_course.proofs.Ending.{carrying_copies}
+use Rattle.lnbd_course.proofs.Placed.{ended_carries, links_are_of_sides}
 use Rattle.lnbd_course.proofs.Sparing.{ended_spares}
 use Rattle.lnbd_course.proofs.Telling.{known_was_told, sides_are_of_source}
 use Rattle.lnbd_copy.specs.declared.job.Phase.{Phase}
@@ -393,15 +395,15 @@ finished copy start told j there parts none well on =
           subst (λ (block : ℕ). ReadsNoZeros block (dealt_with copy.from calls)) on.settled.first.settled.grain
           (subst (λ (f : Place). ReadsNoZeros on.job.terms.grain (dealt_with f calls)) on.from (way_spares on.job on.way copy.board calls on.is over leaving.has s well apart)))
           on.on);
-      copied = λ two.
+      carried = λ two.
           let apart : on.way.from ≢ on.way.to = λ e. two (sym on.from ∙ e ∙ on.to) in
           told_as start told
           (λ calls is.
           let leaving : IsLeaving on.way copy.board calls [] =
           subst (λ (h : List (Held Ticket)). IsLeaving on.way copy.board calls h) none (subst (λ (p : Bool). IsUnderWay p on.way copy.board calls copy.held) parting is) in
           let s = stands_alone on.way copy.board calls leaving in
-          copied_as on.way copy calls on.from on.to skip
-          (ended_copies on.way.from on.way.to on.job.terms.size on.way.how leaving.has on.way.slices copy.board calls on.job.windows.plan.cells on.is.planned.parts
+          carried_as on.way copy calls on.from on.to skip
+          (ended_carries on.way.from on.way.to on.job.terms.size on.way.how leaving.has on.way.slices copy.board calls on.job.windows.plan.cells on.is.planned.parts
           (between_sized on.way on.job.terms.size leaving.has copy.board calls on.is.size s) over.rows well (planned_whole on.job on.way copy.board calls on.is over leaving.has s apart) apart))
           on.on;
       unflushed = λ unwanted two.
@@ -454,8 +456,11 @@ finished copy start told j there parts none well on =
       whole = λ two. way_whole copy start told well on over two;
     }
   where
-    copied_as : (way : Way) (copy : Seen) (calls : List wire.Call) → way.from ≡ copy.from → way.to ≡ copy.to → way.how.skip ≡ copy.options.destination_is_zero → Copied way.from way.to way.how.skip calls → Copied copy.from copy.to copy.options.destination_is_zero calls
-    copied_as way copy calls from to skip c = subst (λ (b : Bool). Copied copy.from copy.to b calls) skip (subst (λ (t : Place). Copied copy.from t way.how.skip calls) to (subst (λ (f : Place). Copied f way.to way.how.skip calls) from c))
+    carried_as : (way : Way) (copy : Seen) (calls : List wire.Call) → way.from ≡ copy.from → way.to ≡ copy.to → way.how.skip ≡ copy.options.destination_is_zero →
+        HasCarried way.from way.to way.how.skip calls → HasCarried copy.from copy.to copy.options.destination_is_zero calls
+    carried_as way copy calls from to skip c =
+        subst (λ (b : Bool). HasCarried copy.from copy.to b calls) skip
+        (subst (λ (t : Place). HasCarried copy.from t way.how.skip calls) to (subst (λ (f : Place). HasCarried f way.to way.how.skip calls) from c))
 
 -- What was copied since the transcript was this, was copied by the part that it grew by.
 
@@ -466,12 +471,16 @@ told_part {Is} a b told all part is grown =
     let same : since.before ≡ grew.0 = same_calls since.before grew.0 (sym since.was ∙ grew.1) in
     subst Is (same_rest since.before since.calls part (sym since.now ∙ grew.2 ∙ ap (λ (l : List wire.Call). l ++ part) (sym same))) since.is
 
--- A copy that is done has copied what it was to copy, whatever it held meanwhile.
-pub done_copies : (copy new : Seen) (a b c : Option (List wire.Call)) → new ≡ record copy { start = new.start; held = new.held; board = new.board; job = new.job } → c ≡ b → copy.from ≢ copy.to → IsDone a b new →
-    Copies copy.from copy.to copy.options.destination_is_zero a c
-done_copies copy new a b c kept same two done =
+-- A copy that is done has carried what it was to copy, whatever it held meanwhile.
+pub done_carries : (copy new : Seen) (a b c : Option (List wire.Call)) → new ≡ record copy { start = new.start; held = new.held; board = new.board; job = new.job } → c ≡ b → copy.from ≢ copy.to → IsDone a b new →
+    GrewBy (HasCarried copy.from copy.to copy.options.destination_is_zero) a c
+done_carries copy new a b c kept same two done =
     let so = subst (λ (s : Seen). IsDone a b s) kept done in
-    subst (λ (t : Option (List wire.Call)). Copies copy.from copy.to copy.options.destination_is_zero a t) (sym same) (told_part a b (so.copied two))
+    subst (λ (t : Option (List wire.Call)). GrewBy (HasCarried copy.from copy.to copy.options.destination_is_zero) a t) (sym same) (told_part a b (so.carried two))
+
+-- So it has copied.
+pub grown_copies : (from to : Place) (blank : Bool) (a b : Option (List wire.Call)) → GrewBy (HasCarried from to blank) a b → Copies from to blank a b
+grown_copies from to blank a b carried all part is grown = carrying_copies from to blank part (carried all part is grown)
 
 -- It asked nothing twice.
 pub done_asks : (copy new : Seen) (a b c : Option (List wire.Call)) → new ≡ record copy { start = new.start; held = new.held; board = new.board; job = new.job } → c ≡ b → copy.from ≢ copy.to → IsDone a b new → GrewBy (HasAskedOnce copy.options.allocated copy.options.destination_is_zero copy.from copy.to) a c

@@ -6,6 +6,7 @@ use Rattle.lnbd_plan.specs.declared.options.CopyOptions.{CopyOptions}
 use Rattle.lnbd_plan.specs.declared.summary.Summary.{Summary}
 use Rattle.lnbd_course.specs.AllDone.{WereAllDone}
 use Rattle.lnbd_course.specs.Asks.{GrewBy, HasAskedOnce}
+use Rattle.lnbd_course.specs.Carried.{HasCarried}
 use Rattle.lnbd_course.specs.Counts.{Summarizes}
 use Rattle.lnbd_course.specs.Driven.{AreDriven}
 use Rattle.lnbd_course.specs.Flushes.{FlushesLast, IsUnflushed}
@@ -27,6 +28,7 @@ use Rattle.lnbd_copy.specs.Wanted.{WantsSome}
 use Rattle.lnbd_copy.specs.Whole.{WasCopiedWhole}
 
 pub is_made : {F : Type 0} (options : CopyOptions) (from to : Place) (a b : Option (List wire.Call)) (r : Result Summary F)
+    → OnOk r (GrewBy (HasCarried from to options.destination_is_zero) a b)
     → OnOk r (GrewBy (HasAskedOnce options.allocated options.destination_is_zero from to) a b) → OnOk r (GrewBy (WereAllDone from to) a b) → IfOk r (λ summary. GrewBy (Summarizes from to summary) a b)
     → OnOk r (GrewBy (SparesTold options.extents from to) a b) → OnOk r (GrewBy (SparesFound options from to) a b) → GrewBy (ReadsAreAnswered options.extents from) a b
     → IfOk r (λ summary. GrewBy (FlushesLast from to summary) a b) → OnOk r (GrewBy (FlushesWanted options from to) a b) → (options.flush ≡ false → GrewBy (IsUnflushed to) a b)
@@ -36,7 +38,8 @@ pub is_made : {F : Type 0} (options : CopyOptions) (from to : Place) (a b : Opti
     → OnOk r (GrewBy AllConnected a b) → GrewBy (AreDrivenBy options from to) a b → OnOk r (GrewBy (AreLeftBy options from to) a b) → OnOk r (GrewBy (WasCopiedWhole options from to) a b) → GrewBy (FlushesOnFirst to) a b
     → GrewBy (RunsSoFar options from to) a b
     → IfOk r (λ summary. GrewBy (IsMade options from to summary) a b)
-is_made options from to a b (Ok summary) asks done sums spares dense answered flushes flushed unflushed driven pauses shares writes waits links connects reads wanted connected drives left whole first runs = λ all part is grown. record {
+is_made options from to a b (Ok summary) carried asks done sums spares dense answered flushes flushed unflushed driven pauses shares writes waits links connects reads wanted connected drives left whole first runs = λ all part is grown. record {
+  carried = carried all part is grown;
   asks = asks all part is grown;
   done = done all part is grown;
   sums = sums all part is grown;
@@ -62,4 +65,4 @@ is_made options from to a b (Ok summary) asks done sums spares dense answered fl
   first = first all part is grown;
   runs = runs all part is grown;
 }
-is_made options from to a b (Err fault) asks done sums spares dense answered flushes flushed unflushed driven pauses shares writes waits links connects reads wanted connected drives left whole first runs = tt
+is_made options from to a b (Err fault) carried asks done sums spares dense answered flushes flushed unflushed driven pauses shares writes waits links connects reads wanted connected drives left whole first runs = tt

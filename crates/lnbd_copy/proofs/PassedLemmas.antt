@@ -12,7 +12,7 @@ use Rattle.lnbd_plan.specs.Laws.{IsPlannedOnce}
 use Rattle.lnbd_board.specs.declared.ticket.Ticket.{Ticket}
 use Rattle.lnbd_board.specs.Files as board
 use Rattle.lnbd_tracks.specs.Saying.{is_told, said_in}
-use Rattle.lnbd_course.specs.Answered.{IsUnread}
+use Rattle.lnbd_board.specs.Carried.{IsUnread}
 use Rattle.lnbd_course.specs.Between.{Between}
 use Rattle.lnbd_course.specs.Passed.{WasFirst}
 use Rattle.lnbd_course.specs.Reached.{WasTold}

@@ -6,11 +6,10 @@ use Rattle.std.proofs.lemmas.List.{length-append}
 use Rattle.std.proofs.lemmas.List.Elements.{filter-append}
 use Rattle.std.specs.List.{list_any}
 use Rattle.lnbd_link.specs.Call as wire
-use Rattle.lnbd_link.specs.Count.{Rises}
+use Rattle.lnbd_link.specs.Count.{Rises, patience}
 use Rattle.lnbd_link.specs.Part.{Adds}
 use Rattle.lnbd_link.specs.declared.wires.Want.{Want}
 use Rattle.lnbd_plan.specs.declared.fault.CopyFault.{CopyFault}
-use Rattle.lnbd_copy.specs.Causes.{patience}
 use Rattle.lnbd_copy.specs.Copier.{IsOnItsWay}
 use Rattle.lnbd_copy.specs.Copier as copier
 use Rattle.lnbd_copy.specs.Decided.{IsDecided, is_of_memory}

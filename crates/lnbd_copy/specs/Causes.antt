@@ -3,12 +3,8 @@ use Rattle.std.specs.Prelude.{◌≡◌, ℕ, ◌≤◌, Bool, true, false, Opti
 use Rattle.lnbd_plan.specs.declared.fault.CopyFault.{CopyFault}
 use Rattle.lnbd_plan.specs.declared.fault.CopyFault.TheVariants as fault
 use Rattle.lnbd_link.specs.Contents.{Stored, Keeps}
-use Rattle.lnbd_link.specs.Count.{Rises}
+use Rattle.lnbd_link.specs.Count.{Rises, patience}
 use Rattle.lnbd_copy.specs.declared.counts.Counts.{Counts}
-
--- how many pauses are borne in which nothing came
-abbrev pub patience : ℕ
-patience = 1000000000
 
 -- The counts never fall, and what is told of exports is kept.
 pub record GoesOn (failed failed2 waited waited2 : ℕ) (stored stored2 : Option (List Stored)) : Type 0 where

@@ -10,7 +10,7 @@ use Rattle.lnbd_board.specs.declared.ticket.Ticket.{Ticket}
 use Rattle.lnbd_board.specs.Files as board
 use Rattle.lnbd_course.specs.AllDone.{WereAllDone}
 use Rattle.lnbd_course.specs.Asks.{HasAskedOnce}
-use Rattle.lnbd_course.specs.Copied.{Copied}
+use Rattle.lnbd_course.specs.Carried.{HasCarried}
 use Rattle.lnbd_course.specs.Counted.{HasNotCounted}
 use Rattle.lnbd_course.specs.Driven.{AreDriven}
 use Rattle.lnbd_course.specs.Flushes.{IsUnflushed}
@@ -126,14 +126,14 @@ pub record IsParting (copy : Seen) : Type 0 where
   pub there : copy.job ≡ Some job
   pub parts : work.is_parting job.phase ≡ true
 
--- It is finished: each connection has parted, and its calls copied, asked nothing twice, and all of it was done, block statuses and flushes too, if it was from one place to another. Where its options want no flush none was asked for, and where one is wanted that the destination can make, it is done. One handle drove each link, and left it as a copy does.
+-- It is finished: each connection has parted, and its calls carried each byte, asked nothing twice, and all of it was done, block statuses and flushes too, if it was from one place to another. Where its options want no flush none was asked for, and where one is wanted that the destination can make, it is done. One handle drove each link, and left it as a copy does.
 -- Each slice to the source's end is finished.
 pub record IsDone (start told : Option (List wire.Call)) (copy : Seen) : Type 0 where
   pub parted : copy.held ≡ []
   pub asked : copy.from ≢ copy.to → Told start told (HasAskedOnce copy.options.allocated copy.options.destination_is_zero copy.from copy.to)
   pub done : copy.from ≢ copy.to → Told start told (WereAllDone copy.from copy.to)
   pub spares : copy.from ≢ copy.to → Told start told (SparesTold copy.options.extents copy.from copy.to)
-  pub copied : copy.from ≢ copy.to → Told start told (Copied copy.from copy.to copy.options.destination_is_zero)
+  pub carried : copy.from ≢ copy.to → Told start told (HasCarried copy.from copy.to copy.options.destination_is_zero)
   pub unflushed : copy.options.flush ≡ false → copy.from ≢ copy.to → Told start told (IsUnflushed copy.to)
   pub flushed : copy.from ≢ copy.to → Told start told (FlushesWanted copy.options copy.from copy.to)
   pub dense : copy.from ≢ copy.to → Told start told (SparesFound copy.options copy.from copy.to)

@@ -16,7 +16,7 @@ use Rattle.lnbd_poll.specs.Seen.{Seen}
 use Rattle.lnbd_board.specs.declared.ticket.Ticket.{Ticket}
 use Rattle.lnbd_course.specs.AllDone.{WereAllDone}
 use Rattle.lnbd_course.specs.Between.{place_of}
-use Rattle.lnbd_course.specs.Copied.{Copied}
+use Rattle.lnbd_course.specs.Carried.{HasCarried}
 use Rattle.lnbd_course.specs.Flushes.{IsFlushed}
 use Rattle.lnbd_copy.specs.Begun.{opened}
 use Rattle.lnbd_copy.specs.Finished.{AreAllFinished}
@@ -109,10 +109,10 @@ pub record AreUnended (extents : Bool) (from to : Place) (calls : List Call) : T
   pub has : ℕ → Bool
   pub each : (link : ℕ) → is_given link calls ≡ true → WasUnended extents from to (has link) link calls
 
--- By these calls all is copied, zeros too unless the destination is told to be zero, and none of their requests is unanswered or came to an error, no block status and no flush either. Each slice
+-- By these calls all is carried, zeros too unless the destination is told to be zero, and none of their requests is unanswered or came to an error, no block status and no flush either. Each slice
 -- to the source's end is finished, also of a source that contradicts itself.
 pub record IsAllDone (blank : Bool) (from to : Place) (calls : List Call) : Type 0 where
-  pub copied : Copied from to blank calls
+  pub carried : HasCarried from to blank calls
   pub done : WereAllDone from to calls
   pub whole : AreAllFinished blank from to calls
 

@@ -6,6 +6,7 @@ use Rattle.lnbd_plan.specs.declared.options.CopyOptions.{CopyOptions}
 use Rattle.lnbd_plan.specs.declared.summary.Summary.{Summary}
 use Rattle.lnbd_course.specs.AllDone.{WereAllDone}
 use Rattle.lnbd_course.specs.Asks.{HasAskedOnce}
+use Rattle.lnbd_course.specs.Carried.{HasCarried}
 use Rattle.lnbd_course.specs.Counts.{Summarizes}
 use Rattle.lnbd_course.specs.Driven.{AreDriven}
 use Rattle.lnbd_course.specs.Flushes.{FlushesLast, IsUnflushed}
@@ -27,6 +28,8 @@ use Rattle.lnbd_copy.specs.Whole.{WasCopiedWhole}
 
 -- By these calls a copy was made from one place to another, as its options say, of which the summary tells.
 pub record IsMade (options : CopyOptions) (from to : Place) (summary : Summary) (calls : List wire.Call) : Type 0 where
+  -- each byte that was told of the source was asked to be written, unchanged, and that was done
+  pub carried : HasCarried from to options.destination_is_zero calls
   -- nothing was asked twice, and nothing past the source's end; and all of it was done: no request came to an error
   pub asks : HasAskedOnce options.allocated options.destination_is_zero from to calls
   pub done : WereAllDone from to calls

@@ -1,10 +1,9 @@
 -- How often a copy pauses.
 use Rattle.std.specs.Prelude.{◌≡◌, ℕ, ◌<◌, ◌≤◌, Bool, true, false, List, length, filter, Option}
 use Rattle.lnbd_link.specs.Call as wire
-use Rattle.lnbd_link.specs.Count.{Rises}
+use Rattle.lnbd_link.specs.Count.{Rises, patience}
 use Rattle.lnbd_plan.specs.declared.fault.CopyFault.{CopyFault}
 use Rattle.lnbd_plan.specs.declared.fault.CopyFault.TheVariants as fault
-use Rattle.lnbd_copy.specs.Causes.{patience}
 use Rattle.lnbd_copy.specs.Pauses.{is_pause}
 use Rattle.lnbd_copy.specs.Way.{Told}
 

@@ -15,7 +15,8 @@ use Rattle.lnbd_asked.specs.Transcript.{dealt_with}
 use Rattle.lnbd_poll.specs.Seen.{Seen}
 use Rattle.lnbd_board.specs.declared.ticket.Ticket.{Ticket}
 use Rattle.lnbd_board.specs.Requests.{reads}
-use Rattle.lnbd_course.specs.Answered.{IsUnread, WasAnsweredFirst}
+use Rattle.lnbd_board.specs.Carried.{IsUnread}
+use Rattle.lnbd_course.specs.Answered.{WasAnsweredFirst}
 use Rattle.lnbd_course.specs.Asks.{EachAsked}
 use Rattle.lnbd_course.specs.Passed.{WasFirst}
 use Rattle.lnbd_course.specs.Reached.{WasTold}

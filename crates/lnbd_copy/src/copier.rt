@@ -2,7 +2,7 @@
 
 ghost use Rattle.std.specs.Prelude.{◌≡◌, ◌≢◌, ◌<◌, ◌≤◌, ◌+◌, ◌-◌, ◌^◌, [], ◌∷◌, ◌++◌, length, replicate, ℕ, List, Option, None, true, false, IfErr, IfOk, OnErr, OnOk};
 ghost use Rattle.lnbd_link.specs.Call.{Call, Pause};
-ghost use Rattle.lnbd_link.specs.Count.{Rises};
+ghost use Rattle.lnbd_link.specs.Count.{Rises, patience};
 ghost use Rattle.lnbd_link.specs.Part.{Adds};
 ghost use Rattle.lnbd_poll.specs.Held.{wants_now};
 ghost use Rattle.lnbd_poll.specs.declared.noticed.Turn.TheVariants as turned;
@@ -14,7 +14,7 @@ ghost use Rattle.lnbd_course.specs.Driven.{AreDriven};
 ghost use Rattle.lnbd_course.specs.Flushes.{FlushesLast, IsUnflushed};
 ghost use Rattle.lnbd_course.specs.Parts.{AsksAtMostOnce, FlushesAtMostOnce};
 ghost use Rattle.lnbd_copy.specs.Agreed.{AreQuiet};
-ghost use Rattle.lnbd_copy.specs.Causes.{AreWell, GoesOn, HasCause, patience};
+ghost use Rattle.lnbd_copy.specs.Causes.{AreWell, GoesOn, HasCause};
 ghost use Rattle.lnbd_copy.specs.Conduct.{Conducts};
 ghost use Rattle.lnbd_copy.specs.Connected.{AllConnected};
 ghost use Rattle.lnbd_copy.specs.Connects.{ConnectsAsTold, ConnectsWithin, LinksGoAsTold, LinksGoWithin, StaysConnected, one_each};

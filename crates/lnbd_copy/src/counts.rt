@@ -1,18 +1,15 @@
 //! What the wires count, and the faults that it makes. Which calls of theirs were made is no matter here.
 
-ghost use Rattle.std.specs.Prelude.{◌≡◌, ◌≤◌, ◌<◌, true, false, IfErr, OnOk};
-ghost use Rattle.lnbd_link.specs.Count.{Rises};
-ghost use Rattle.lnbd_copy.specs.Causes.{AreWell, HasCause, patience, tells_no_count};
+ghost use Rattle.std.specs.Prelude.{◌≡◌, ◌≤◌, ◌<◌, true, IfErr, OnOk};
+ghost use Rattle.lnbd_link.specs.Count.{Rises, patience};
+ghost use Rattle.lnbd_copy.specs.Causes.{AreWell, HasCause, tells_no_count};
 ghost use Rattle.lnbd_copy.specs.Decided.{is_of_link};
 ghost use Rattle.lnbd_copy.specs.Grounds.{fault_by, fault_of, needs_no_ground};
 ghost use Rattle.lnbd_copy.specs.Patient.{may_end_waiting};
 
-use lnbd_link::Wires;
+use lnbd_link::{Wires, is_long, rose};
 use lnbd_model::{Broken, Cause, ENOTCONN, EPROTO};
 use lnbd_plan::CopyFault;
-
-/// How many pauses are borne in which nothing came.
-const PATIENCE: u64 = 1_000_000_000;
 
 /// What the wires had counted when a copy began.
 #[derive(Clone, Copy, Debug, PartialEq, Eq)]
@@ -34,15 +31,6 @@ impl Counts {
     }
 }
 
-/// Whether a count that stands still at its end rose.
-fn rose(before: u64, after: u64) -> bool
-    requires { before ≤ after }
-    ensures risen { result ≡ true → Rises 1 before after }
-    ensures still { result ≡ false → ¬ Rises 1 before after }
-{
-    before < after || after == u64::MAX
-}
-
 /// A call of the wires failed, if so.
 pub(crate) fn check_faults<W: Wires>(wires: &W, start: Counts) -> Result<(), CopyFault>
     requires counted { start.faults ≤ W.faults wires.now }
@@ -52,23 +40,13 @@ pub(crate) fn check_faults<W: Wires>(wires: &W, start: Counts) -> Result<(), Cop
     ensures link { IfErr result (λ told. is_of_link told ≡ true) }
 {
     let after = wires.faults();
-    if rose(start.faults, after) {
+    if rose(1, start.faults, after) {
         return Err(CopyFault::Link {
             before: start.faults,
             after,
         });
     }
     Ok(())
-}
-
-/// Whether the waiting rose by as much as is borne.
-fn is_long(start: u64, now: u64) -> bool
-    requires { start ≤ now }
-    ensures long { result ≡ true → Rises patience start now }
-    ensures short { result ≡ false → ¬ Rises patience start now }
-    ensures open_ { result ≡ false → now < 18446744073709551615 }
-{
-    now - start >= PATIENCE || now == u64::MAX
 }
 
 /// The wires waited for as long as is borne, if so. Else their count of waiting does not stand at its end.

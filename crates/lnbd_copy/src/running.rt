@@ -2,19 +2,20 @@
 
 ghost use Rattle.std.specs.Prelude.{◌≡◌, ◌≢◌, ◌<◌, ◌≤◌, ◌+◌, ◌-◌, ◌^◌, [], ◌∷◌, ◌++◌, length, replicate, ℕ, List, Option, None, true, false, IfErr, IfOk, OnErr, OnOk};
 ghost use Rattle.lnbd_link.specs.Call.{Call, Pause};
-ghost use Rattle.lnbd_link.specs.Count.{Rises};
+ghost use Rattle.lnbd_link.specs.Count.{Rises, patience};
 ghost use Rattle.lnbd_link.specs.Part.{Adds};
 ghost use Rattle.lnbd_poll.specs.Held.{wants_now};
 ghost use Rattle.lnbd_poll.specs.declared.noticed.Turn.TheVariants as turned;
 ghost use Rattle.lnbd_course.specs.AllDone.{WereAllDone};
 ghost use Rattle.lnbd_course.specs.Asks.{GrewBy, HasAskedOnce};
+ghost use Rattle.lnbd_course.specs.Carried.{HasCarried};
 ghost use Rattle.lnbd_course.specs.Copied.{Copies};
 ghost use Rattle.lnbd_course.specs.Counts.{Summarizes};
 ghost use Rattle.lnbd_course.specs.Driven.{AreDriven};
 ghost use Rattle.lnbd_course.specs.Flushes.{FlushesLast, IsUnflushed};
 ghost use Rattle.lnbd_course.specs.Parts.{AsksAtMostOnce, FlushesAtMostOnce};
 ghost use Rattle.lnbd_copy.specs.Agreed.{AreQuiet};
-ghost use Rattle.lnbd_copy.specs.Causes.{AreWell, GoesOn, HasCause, patience};
+ghost use Rattle.lnbd_copy.specs.Causes.{AreWell, GoesOn, HasCause};
 ghost use Rattle.lnbd_copy.specs.Conduct.{Conducts};
 ghost use Rattle.lnbd_copy.specs.Connected.{AllConnected};
 ghost use Rattle.lnbd_copy.specs.Connects.{ConnectsAsTold, ConnectsWithin, LinksGoAsTold, LinksGoWithin, StaysConnected, one_each};
@@ -71,7 +72,10 @@ impl Copier {
     pub fn run<W: Wires>(self, wires: &mut W) -> Result<Summary, CopyFault>
         requires { HasNotBegun self }
 
-        // Over honest exports the destination then holds the source's bytes.
+        // Whatever the servers keep: at each position below the size that the source told, the byte that a READ told, or zero where it was told so and not read, was asked of the
+        // destination, unchanged, by one WRITE or WRITE_ZEROES and no other, and that was done; or it is zero, and the options say that the destination is.
+        ensures carries { self.from ≢ self.to → OnOk result (GrewBy (HasCarried self.from self.to self.options.destination_is_zero) (W.told wires.old) (W.told wires.new)) }
+        // So over honest exports the destination then holds the source's bytes.
         ensures copies { self.from ≢ self.to → OnOk result (Copies self.from self.to self.options.destination_is_zero (W.told wires.old) (W.told wires.new)) }
         // Nothing was asked twice, and nothing past the source's end; and all of it was done: no request of any kind came to an error.
         ensures asks { self.from ≢ self.to → OnOk result (GrewBy (HasAskedOnce self.options.allocated self.options.destination_is_zero self.from self.to) (W.told wires.old) (W.told wires.new)) }
@@ -89,8 +93,8 @@ impl Copier {
         ensures spared { self.from ≢ self.to → GrewBy (SparesSoFar self.options self.from self.to) (W.told wires.old) (W.told wires.new) }
         // And so it is with each READ, also where the copy ends in the middle of a turn.
         ensures untouched { self.from ≢ self.to → GrewBy (UntouchedSoFar self.options.extents self.from self.to) (W.told wires.old) (W.told wires.new) }
-        // Whatever it comes to, once anything was asked: each WRITE and each WRITE_ZEROES is a longest run of what one READ told that is done, WRITE_ZEROES of blocks of
-        // zeros where they are looked for, and WRITE of all else; or it has only positions that were told as zero, and not read.
+        // Whatever it comes to, once anything was asked: each WRITE and each WRITE_ZEROES is a longest run of what one READ told that is done, with the bytes that it told, WRITE_ZEROES
+        // of blocks of zeros where they are looked for, and WRITE of all else; or it has only positions that were told as zero, and not read, and zeroes them.
         ensures runs { self.from ≢ self.to → GrewBy (RunsSoFar self.options self.from self.to) (W.told wires.old) (W.told wires.new) }
         // Whatever it comes to, each position that was read was read after a block status had been answered for it, or the source's
         // first connection agreed no meta context, though base:allocation had been asked for where extents are wanted.

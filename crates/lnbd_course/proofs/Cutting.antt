@@ -1,19 +1,25 @@
 -- What a piece of a slice is among the longest runs of what was read.
-use Rattle.std.proofs.Common.{◌≡◌, ◌⊎◌, inl, inr, ℕ, ◌+◌, ◌<◌, ◌≤◌, Bool, true, false, not, List, [], ◌∷◌, ◌++◌, cond, length, refl, ap, sym, subst, ◌∙◌, arith}
-use Rattle.std.proofs.Math.ListN.{length-replicate}
+use Rattle.std.proofs.Common.{◌≡◌, ◌⊎◌, inl, inr, ℕ, ◌+◌, ◌-◌, ◌<◌, ◌≤◌, Bool, true, false, not, List, [], ◌∷◌, ◌++◌, cond, length, drop, get_or, take, length-append, append-nil, refl, ap, sym, subst, ◌∙◌, arith}
+use Rattle.std.proofs.Math.ListN.{get_or-append, length-replicate}
+use Rattle.std.proofs.Math.Seq.{get_or-append_right}
 use Rattle.std.proofs.lemmas.Bool.{cases_lt, false≢true}
+use Rattle.std.proofs.lemmas.List.{take-append-drop}
 use Rattle.lnbd_extents.specs.Positions.{within}
+use Rattle.lnbd_history.specs.Commands.{Command}
+use Rattle.lnbd_asked.specs.Honest.{has}
+use Rattle.lnbd_asked.specs.Link.{Nobody}
 use Rattle.lnbd_plan.specs.declared.grid.Slice.{Slice}
 use Rattle.lnbd_plan.specs.Laws.{ArePartedBy, AreWhole, IsWhole, LieBetween}
 use Rattle.lnbd_board.specs.declared.how.How.{How}
 use Rattle.lnbd_board.specs.declared.row.Stage.{Stage}
 use Rattle.lnbd_board.specs.declared.row.Stage.TheVariants.{Reading, Last, Came, Writing, Holding, Finished}
+use Rattle.lnbd_board.specs.Carried.{Puts}
 use Rattle.lnbd_board.specs.Pieces.{AreRuns, Bytes, Piece, Zeros, ask_of, is_passed, is_zeros, spell, spell1, stretch, stretches, wrote}
 use Rattle.lnbd_board.specs.Requests.{IsIn, Request, Said, done, over_said, own, waiting}
 use Rattle.lnbd_board.specs.Requests as asked
 use Rattle.lnbd_board.specs.Rows.{IsOver, Known, StandsAt}
 use Rattle.lnbd_board.proofs.Runs.{stretches_more}
-use Rattle.lnbd_board.proofs.Spelling.{covers_piece, within_above, within_at}
+use Rattle.lnbd_board.proofs.Spelling.{covers_piece, has_piece, puts_piece, within_above, within_at, within_true}
 use Rattle.lnbd_course.specs.Runs.{is_zeroing}
 
 -- A run among the longest.
@@ -144,46 +150,101 @@ passed_told how told cut p at end (piece ∷ pieces) between whole low high none
         let ask = done (ask_of how at piece) in
         subst (λ (b : Bool). cond b (ask ∷ more) more ≡ []) (covers_piece how p at piece ∙ within_above at (length (spell1 piece)) p far) e
 
--- it is asked for, at its place
-record IsAskedFor (how : How) (x : Said) (runs : List Slice) : Type 0 where
+-- Of bytes from a place on, the command puts those that it has.
+abbrev pub PutsFrom : (start : ℕ) → List ℕ → Command Nobody → Type 0
+PutsFrom start all command = (p : ℕ) → has command p ≡ true → (start ≤ p) × (p < start + length all) × Puts command p (get_or all (p - start) 0)
+
+puts_first : (how : How) (at : ℕ) (piece : Piece) (more : List ℕ) → PutsFrom at (spell1 piece ++ more) (ask_of how at piece)
+puts_first how at piece more p here =
+    let inside : within (at, length (spell1 piece)) p ≡ true = sym (has_piece how p at piece) ∙ here in
+    let w = within_true at (length (spell1 piece)) p inside in
+    let l = length-append (spell1 piece) more in
+    (w.0, omega (arith, w.1, l), puts_piece how p at (get_or (spell1 piece ++ more) (p - at) 0) piece inside (sym (get_or-append (spell1 piece) more 0 (p - at) (omega (arith, w.0, w.1)))))
+
+puts_behind : (at : ℕ) (front all : List ℕ) (command : Command Nobody) → PutsFrom (at + length front) all command → PutsFrom at (front ++ all) command
+puts_behind at front all command puts p here =
+    let m = puts p here in
+    let low = m.0 in
+    let high = m.1 in
+    let l = length-append front all in
+    let same : p - at - length front ≡ p - (at + length front) = omega (arith, low) in
+    let byte : get_or (front ++ all) (p - at) 0 ≡ get_or all (p - (at + length front)) 0 = get_or-append_right front all (p - at) 0 (omega (arith, low)) ∙ ap (λ (k : ℕ). get_or all k 0) same in
+    (omega (arith, low), omega (arith, high, l), subst (λ (b : ℕ). Puts command p b) (sym byte) m.2)
+
+puts_before : (at : ℕ) (all back : List ℕ) (command : Command Nobody) → PutsFrom at all command → PutsFrom at (all ++ back) command
+puts_before at all back command puts p here =
+    let m = puts p here in
+    let low = m.0 in
+    let high = m.1 in
+    let l = length-append all back in
+    (low, omega (arith, high, l), subst (λ (b : ℕ). Puts command p b) (sym (get_or-append all back 0 (p - at) (omega (arith, low, high)))) m.2)
+
+-- it is asked for, at its place, with its bytes
+record IsAskedFor (how : How) (x : Said) (start : ℕ) (all : List ℕ) (runs : List Slice) : Type 0 where
   at : ℕ
   piece : Piece
   is : x.command ≡ ask_of how at piece
   there : Among (stretch at piece) runs
+  puts : PutsFrom start all (ask_of how at piece)
 
-asked_more : (how : How) (x : Said) (runs more : List Slice) → IsAskedFor how x runs → IsAskedFor how x (runs ++ more)
-asked_more how x runs more a = record { at = a.at; piece = a.piece; is = a.is; there = among_front (stretch a.at a.piece) runs more a.there }
+asked_more : (how : How) (x : Said) (start : ℕ) (all back : List ℕ) (runs more : List Slice) → IsAskedFor how x start all runs → IsAskedFor how x start (all ++ back) (runs ++ more)
+asked_more how x start all back runs more a = record {
+  at = a.at;
+  piece = a.piece;
+  is = a.is;
+  there = among_front (stretch a.at a.piece) runs more a.there;
+  puts = puts_before start all back (ask_of how a.at a.piece) a.puts;
+}
 
-wrote_for : (how : How) (at : ℕ) (pieces : List Piece) (x : Said) → Among x (wrote how at pieces) → IsAskedFor how x (stretches at pieces)
+wrote_for : (how : How) (at : ℕ) (pieces : List Piece) (x : Said) → Among x (wrote how at pieces) → IsAskedFor how x at (spell pieces) (stretches at pieces)
 wrote_for how at [] x there = absurd there
 wrote_for how at (piece ∷ pieces) x there = go (wrote_for how (at + length (spell1 piece)) pieces x) (is_passed how piece) there
   where
-    later : IsAskedFor how x (stretches (at + length (spell1 piece)) pieces) → IsAskedFor how x (stretches at (piece ∷ pieces))
-    later a = record { at = a.at; piece = a.piece; is = a.is; there = inr a.there }
+    later : IsAskedFor how x (at + length (spell1 piece)) (spell pieces) (stretches (at + length (spell1 piece)) pieces) → IsAskedFor how x at (spell (piece ∷ pieces)) (stretches at (piece ∷ pieces))
+    later a = record { at = a.at; piece = a.piece; is = a.is; there = inr a.there; puts = puts_behind at (spell1 piece) (spell pieces) (ask_of how a.at a.piece) a.puts }
 
-    go : (Among x (wrote how (at + length (spell1 piece)) pieces) → IsAskedFor how x (stretches (at + length (spell1 piece)) pieces)) → (b : Bool) →
-        Among x (cond b (wrote how (at + length (spell1 piece)) pieces) (done (ask_of how at piece) ∷ wrote how (at + length (spell1 piece)) pieces)) → IsAskedFor how x (stretches at (piece ∷ pieces))
+    go : (Among x (wrote how (at + length (spell1 piece)) pieces) → IsAskedFor how x (at + length (spell1 piece)) (spell pieces) (stretches (at + length (spell1 piece)) pieces)) → (b : Bool) →
+        Among x (cond b (wrote how (at + length (spell1 piece)) pieces) (done (ask_of how at piece) ∷ wrote how (at + length (spell1 piece)) pieces)) →
+        IsAskedFor how x at (spell (piece ∷ pieces)) (stretches at (piece ∷ pieces))
     go more true m = later (more m)
-    go more false (inl same) = record { at = at; piece = piece; is = ap (λ (y : Said). y.command) (sym same); there = inl refl }
+    go more false (inl same) = record { at = at; piece = piece; is = ap (λ (y : Said). y.command) (sym same); there = inl refl; puts = puts_first how at piece (spell pieces) }
     go more false (inr m) = later (more m)
 
 -- with the one that is asked for
-now_for : (how : How) (at : ℕ) (did : List Piece) (now : Piece) (x : Said) → Among x (wrote how at did ++ waiting (ask_of how (at + length (spell did)) now) ∷ []) → IsAskedFor how x (stretches at (did ++ now ∷ []))
+now_for : (how : How) (at : ℕ) (did : List Piece) (now : Piece) (x : Said) → Among x (wrote how at did ++ waiting (ask_of how (at + length (spell did)) now) ∷ []) →
+    IsAskedFor how x at (spell did ++ spell1 now) (stretches at (did ++ now ∷ []))
 now_for how at did now x there =
-    subst (IsAskedFor how x) (sym (stretches_more at (at + length (spell did)) did now refl))
+    subst (IsAskedFor how x at (spell did ++ spell1 now)) (sym (stretches_more at (at + length (spell did)) did now refl))
     (elim (among_either x (wrote how at did) (waiting (ask_of how (at + length (spell did)) now) ∷ []) there) [
-      | inl front ↦ asked_more how x (stretches at did) (stretch (at + length (spell did)) now ∷ []) (wrote_for how at did x front)
+      | inl front ↦ asked_more how x at (spell did) (spell1 now) (stretches at did) (stretch (at + length (spell did)) now ∷ []) (wrote_for how at did x front)
       | inr back ↦ last back
     ])
   where
-    last : Among x (waiting (ask_of how (at + length (spell did)) now) ∷ []) → IsAskedFor how x (stretches at did ++ stretch (at + length (spell did)) now ∷ [])
+    last : Among x (waiting (ask_of how (at + length (spell did)) now) ∷ []) → IsAskedFor how x at (spell did ++ spell1 now) (stretches at did ++ stretch (at + length (spell did)) now ∷ [])
     last (inl same) = record {
       at = at + length (spell did);
       piece = now;
       is = ap (λ (y : Said). y.command) (sym same);
       there = among_back (stretch (at + length (spell did)) now) (stretches at did) (stretch (at + length (spell did)) now ∷ []) (inl refl);
+      puts = puts_behind at (spell did) (spell1 now) (ask_of how (at + length (spell did)) now)
+          (subst (λ (l : List ℕ). PutsFrom (at + length (spell did)) l (ask_of how (at + length (spell did)) now)) (append-nil (spell1 now)) (puts_first how (at + length (spell did)) now []));
     }
     last (inr none) = absurd none
+
+with_left : (how : How) (x : Said) (start : ℕ) (all : List ℕ) (runs left : List Slice) → IsAskedFor how x start all runs → IsAskedFor how x start all (runs ++ left)
+with_left how x start all runs left a = record { at = a.at; piece = a.piece; is = a.is; there = among_front (stretch a.at a.piece) runs left a.there; puts = a.puts }
+
+-- The first of some bytes are so many of them.
+taken_for : (how : How) (x : Said) (start n : ℕ) (some bytes : List ℕ) (runs : List Slice) → some ≡ take n bytes → IsAskedFor how x start some runs → IsAskedFor how x start bytes runs
+taken_for how x start n some bytes runs is a =
+    let whole : some ++ drop n bytes ≡ bytes = ap (λ (l : List ℕ). l ++ drop n bytes) is ∙ take-append-drop n bytes in
+    record {
+      at = a.at;
+      piece = a.piece;
+      is = a.is;
+      there = a.there;
+      puts = subst (λ (l : List ℕ). PutsFrom start l (ask_of how a.at a.piece)) whole (puts_before start some (drop n bytes) (ask_of how a.at a.piece) a.puts);
+    }
 
 -- What was said for a slice is a piece of it, one of the longest runs unless the slice was told as zero.
 pub record IsPieceOf (how : How) (s : Slice) (read : List Said) (x : Said) : Type 0 where
@@ -195,26 +256,36 @@ pub record IsPieceOf (how : How) (s : Slice) (read : List Said) (x : Said) : Typ
   pub piece : Piece
   pub is : x.command ≡ ask_of how at piece
   pub there : Among (stretch at piece) runs
+  pub puts : PutsFrom s.start bytes (ask_of how at piece)
 
-piece_so : (how : How) (s : Slice) (bytes : List ℕ) (read : List Said) (x : Said) (runs : List Slice) → Known s bytes read → (s.zero ≡ false → AreRuns how s bytes runs) → IsAskedFor how x runs → IsPieceOf how s read x
-piece_so how s bytes read x runs known cut a = record { bytes = bytes; known = known; runs = runs; cut = cut; at = a.at; piece = a.piece; is = a.is; there = a.there }
+piece_so : (how : How) (s : Slice) (bytes : List ℕ) (read : List Said) (x : Said) (runs : List Slice) → Known s bytes read → (s.zero ≡ false → AreRuns how s bytes runs) →
+    IsAskedFor how x s.start bytes runs → IsPieceOf how s read x
+piece_so how s bytes read x runs known cut a = record { bytes = bytes; known = known; runs = runs; cut = cut; at = a.at; piece = a.piece; is = a.is; there = a.there; puts = a.puts }
 
 none_said : (x : Said) (xs : List Said) → xs ≡ [] → Among x xs → ⊥
 none_said x [] e there = there
 none_said x (y ∷ xs) e there = cc e
 
 pub over_piece : (how : How) (s : Slice) (read changed : List Said) (x : Said) → IsOver how s read changed → Among x changed → IsPieceOf how s read x
-over_piece how s read changed x h there = piece_so how s h.bytes read x (stretches s.start h.did) h.known h.cut (wrote_for how s.start h.did x (subst (Among x) h.asked there))
+over_piece how s read changed x h there =
+    piece_so how s h.bytes read x (stretches s.start h.did) h.known h.cut
+    (subst (λ (l : List ℕ). IsAskedFor how x s.start l (stretches s.start h.did)) h.spelt (wrote_for how s.start h.did x (subst (Among x) h.asked there)))
 
 pub at_piece : (how : How) (s : Slice) (stage : Stage) (read changed : List Said) (x : Said) → StandsAt how s stage read changed → Among x changed → IsPieceOf how s read x
 at_piece how s Reading read changed x h there = absurd (none_said x changed h.unchanged there)
-at_piece how s Last read changed x h there = piece_so how s h.bytes read x (stretches s.start (h.did ++ h.now ∷ [])) h.known h.cut (now_for how s.start h.did h.now x (subst (Among x) h.asked there))
+at_piece how s Last read changed x h there =
+    piece_so how s h.bytes read x (stretches s.start (h.did ++ h.now ∷ [])) h.known h.cut
+    (subst (λ (l : List ℕ). IsAskedFor how x s.start l (stretches s.start (h.did ++ h.now ∷ []))) h.spelt (now_for how s.start h.did h.now x (subst (Among x) h.asked there)))
 at_piece how s (Came bytes) read changed x h there = absurd (none_said x changed h.unchanged there)
 at_piece how s (Writing bytes left) read changed x h there =
+    let now = now_for how s.start h.did h.now x (subst (Among x) h.asked there) in
     piece_so how s bytes read x (stretches s.start (h.did ++ h.now ∷ []) ++ left) h.known (λ untold. h.cut)
-    (asked_more how x (stretches s.start (h.did ++ h.now ∷ [])) left (now_for how s.start h.did h.now x (subst (Among x) h.asked there)))
+    (with_left how x s.start bytes (stretches s.start (h.did ++ h.now ∷ [])) left
+    (taken_for how x s.start h.to (spell h.did ++ spell1 h.now) bytes (stretches s.start (h.did ++ h.now ∷ [])) h.next now))
 at_piece how s (Holding bytes left) read changed x h there =
-    piece_so how s bytes read x (stretches s.start h.did ++ left) h.known (λ untold. h.cut) (asked_more how x (stretches s.start h.did) left (wrote_for how s.start h.did x (subst (Among x) h.asked there)))
+    let did = wrote_for how s.start h.did x (subst (Among x) h.asked there) in
+    piece_so how s bytes read x (stretches s.start h.did ++ left) h.known (λ untold. h.cut)
+    (with_left how x s.start bytes (stretches s.start h.did) left (taken_for how x s.start h.at (spell h.did) bytes (stretches s.start h.did) h.spelt did))
 at_piece how s (Finished bytes) read changed x h there = over_piece how s read changed x h there
 
 -- A request for a slice is among what was said for it.

@@ -1,4 +1,4 @@
--- A copy that is finished has copied.
+-- A copy that is finished has carried each byte, and so it has copied.
 use Rattle.std.proofs.Common.{◌≡◌, inl, inr, ℕ, ◌+◌, ◌≤◌, ◌<◌, Bool, true, false, not, ◌&&◌, List, [], ◌∷◌, ◌++◌, cond, Option, Some, None, refl, ap, sym, subst, ◌∙◌, ◌==◌, arith, nat_le, if◌then◌else◌}
 use Rattle.std.proofs.lemmas.Bool.{false≢true}
 use Rattle.std.specs.Option.{option_map}
@@ -24,15 +24,16 @@ use Rattle.lnbd_board.specs.Files as board
 use Rattle.lnbd_board.specs.Holds.{IsCopied}
 use Rattle.lnbd_board.specs.Requests.{Said, Request, request, Each, IsIn, Under, IsDealt, own, is_of as is_of_slice, is_slice, unanswered}
 use Rattle.lnbd_board.specs.Rows.{Stands, StandsAs, AsksOfSource, AsksOfDestination, IsChange, slice_at}
-use Rattle.lnbd_board.proofs.Copied.{whole}
+use Rattle.lnbd_board.proofs.Copied.{copied_is_carried}
+use Rattle.lnbd_board.proofs.Held.{carried_is_held}
 use Rattle.lnbd_tracks.specs.Tracks.{Histories, AllTrack, under, request_of}
 use Rattle.lnbd_tracks.specs.Laws.{moves_bytes, IsDone}
 use Rattle.lnbd_tracks.proofs.Finished.{finished_are_done}
 use Rattle.lnbd_tracks.proofs.Under.{same_key, found}
 use Rattle.lnbd_tracks.proofs.Written.{done_is_written}
-use Rattle.lnbd_course.specs.Copied.{Copied}
+use Rattle.lnbd_course.specs.Carried.{CarryingCopies, HasCarried}
 use Rattle.lnbd_course.specs.Course.{AreOfSides, Course, IsFinished, on_side, beside}
-use Rattle.lnbd_course.specs.Laws.{FinishedCopies}
+use Rattle.lnbd_course.specs.Laws.{FinishedCarries}
 use Rattle.lnbd_course.proofs.Standing.{on_here}
 
 -- What a request of the list is to its handle.
@@ -301,13 +302,20 @@ module _ (from to : Place) (how : How) (calls : List Call) (f : IsFinished from 
     over = out_stands how f.slices (on_side f.has histories) (on_side (beside f.has) histories) f.course.stood.source f.course.stood.destination stands_over f.course.stood.reads f.course.stood.changes;
   }
 
-  holds : Copied from to how.skip calls
-  holds source before end honest honest' blank =
-      whole how f.cells (told_by 0 f.windows) f.size f.sizes.room f.slices sources destinations (dealt_with from calls) (dealt_with to calls) is_copied
-      (source_dealt from to how f.has f.slices f.now calls f.course f.sides)
-      (destination_dealt from to how f.has f.slices f.now calls f.course f.sides)
-      source before end honest honest' f.sizes.source f.sizes.destination f.sizes.fits f.planned.told
-      (λ skips p l. blank skips p (subst (λ (n : ℕ). p < n) (honest.sizes.told f.sizes.source.link f.size f.sizes.source.told) l))
+  carried : HasCarried from to how.skip calls
+  carried = record {
+    size = f.size;
+    sizes = f.sizes;
+    carries = copied_is_carried how f.cells (told_by 0 f.windows) f.size f.slices sources destinations (dealt_with from calls) (dealt_with to calls) is_copied
+        (source_dealt from to how f.has f.slices f.now calls f.course f.sides)
+        (destination_dealt from to how f.has f.slices f.now calls f.course f.sides)
+        f.planned.told;
+  }
 
-pub finished_copies : FinishedCopies
-finished_copies from to how calls f = holds from to how calls f
+pub finished_carries : FinishedCarries
+finished_carries from to how calls f = carried from to how calls f
+
+pub carrying_copies : CarryingCopies
+carrying_copies from to blank calls c source before end honest honest' bare =
+    carried_is_held blank c.size c.sizes.room (dealt_with from calls) (dealt_with to calls) c.carries source before end honest honest' c.sizes.source c.sizes.destination c.sizes.fits
+    (λ said p l. bare said p (subst (λ (n : ℕ). p < n) (honest.sizes.told c.sizes.source.link c.size c.sizes.source.told) l))

@@ -1,5 +1,5 @@
 -- What was dealt with the source is in the list of what it was asked.
-use Rattle.std.proofs.Common.{◌≡◌, inl, inr, ℕ, Bool, true, false, List, [], ◌∷◌, ◌++◌, cond, Option, Some, None, refl, ap, sym, subst, ◌∙◌, nat_le, if◌then◌else◌}
+use Rattle.std.proofs.Common.{◌≡◌, inl, inr, ℕ, Bool, true, false, List, [], ◌∷◌, ◌++◌, Option, Some, None, refl, ap, sym, subst, ◌∙◌, nat_le, if◌then◌else◌}
 use Rattle.std.specs.Option.{option_map}
 use Rattle.lnbd_model.specs.declared.target.Place.{Place}
 use Rattle.lnbd_link.specs.Call as wire
@@ -16,6 +16,7 @@ use Rattle.lnbd_board.specs.declared.ticket.Ticket.{Ticket}
 use Rattle.lnbd_board.specs.Files as board
 use Rattle.lnbd_board.specs.Requests.{IsIn, Request, reads, reads_over, Said}
 use Rattle.lnbd_board.specs.Requests as asked
+use Rattle.lnbd_board.proofs.Lists.{none_reads}
 use Rattle.lnbd_tracks.specs.Tracks.{Histories}
 use Rattle.lnbd_tracks.specs.Tracks as tracks
 use Rattle.lnbd_tracks.proofs.Under as under
@@ -28,14 +29,6 @@ only_if_some false found x e = absurd (cc e)
 
 pub none_end : {A : Type 0} (x : A) (xs : List A) → x ∷ xs ≡ [] → ⊥
 none_end x xs e = cc
-
-pub none_reads : (p : ℕ) (r : Request) (xs : List Request) → reads_over p xs ≡ [] → IsIn r xs → reads r.said.command p ≡ false
-none_reads p r [] none there = absurd there
-none_reads p r (x ∷ xs) none there =
-    elim (reads x.said.command p) as (λ b. reads x.said.command p ≡ b → cond b (x.said ∷ reads_over p xs) (reads_over p xs) ≡ [] → reads r.said.command p ≡ false) [
-      | true ↦ λ is k. absurd (none_end x.said (reads_over p xs) k)
-      | false ↦ λ is k. elim there [ inl same ↦ ap (λ (y : Request). reads y.said.command p) (sym same) ∙ is | inr more ↦ none_reads p r xs k more ]
-    ] refl none
 
 in_middle : (front back : List Request) (r : Request) → IsIn r (front ++ r ∷ back)
 in_middle [] back r = inl refl

@@ -21,10 +21,10 @@ use Rattle.lnbd_board.specs.Files as board
 use Rattle.lnbd_board.specs.Holds.{WasToldSize}
 use Rattle.lnbd_tracks.specs.Tracks.{Histories}
 use Rattle.lnbd_course.specs.Between.{Between, SideWasTold, place_of}
-use Rattle.lnbd_course.specs.Betweens.{LinksAreOfSides, EndedCopies}
+use Rattle.lnbd_course.specs.Betweens.{LinksAreOfSides, EndedCarries}
 use Rattle.lnbd_course.specs.Course.{AreOfSides, HaveSizes}
 use Rattle.lnbd_course.proofs.Address.{target_is, is_there, name_is, is_called, target_none, both}
-use Rattle.lnbd_course.proofs.Ending.{finished_copies}
+use Rattle.lnbd_course.proofs.Ending.{finished_carries}
 
 none_some : {A : Type 0} (x : A) → None ≡ Some x → ⊥
 none_some x e = cc
@@ -120,8 +120,8 @@ module _ (from to : Place) (size : ℕ) (how : How) (has : ℕ → Bool) (slices
 pub links_are_of_sides : LinksAreOfSides
 links_are_of_sides from to size how has slices now calls b two = (are_of_sides from to size how has slices now calls b two, have_sizes from to size how has slices now calls b)
 
-pub ended_copies : EndedCopies
-ended_copies from to size how has slices now calls cells windows b over well planned two = finished_copies from to how calls (record {
+pub ended_carries : EndedCarries
+ended_carries from to size how has slices now calls cells windows b over well planned two = finished_carries from to how calls (record {
   has = has;
   slices = slices;
   now = now;

@@ -1,6 +1,8 @@
 -- Each change is a longest run of what was read, or of what was told as zero, also where a turn ends short.
-use Rattle.std.proofs.Common.{◌≡◌, ◌≢◌, ◌⊎◌, inl, inr, ℕ, ◌+◌, ◌<◌, ◌≤◌, Bool, true, false, not, ◌&&◌, ◌||◌, List, [], ◌∷◌, ◌++◌, ◌-◌, length, Option, Some, None, refl, ap, sym, subst, ◌∙◌, arith, nat_le, append-nil, if◌then◌else◌}
+use Rattle.std.proofs.Common.{◌≡◌, ◌≢◌, ◌⊎◌, inl, inr, ℕ, ◌+◌, ◌<◌, ◌≤◌, Bool, true, false, not, ◌&&◌, ◌||◌, List, [], ◌∷◌, ◌++◌, ◌-◌, length, get_or, slice_get, Option, Some, None, refl, ap, sym, subst, ◌∙◌, arith, nat_le, append-nil, if◌then◌else◌}
+use Rattle.std.proofs.Math.ListN.{get_or-replicate}
 use Rattle.std.proofs.lemmas.Bool.{cases_lt, eq-eqb, false≢true}
+use Rattle.std.proofs.lemmas.Option.{get_or_from_slice_get}
 use Rattle.std.specs.Option.{option_map}
 use Rattle.lnbd_model.specs.declared.kind.Kind.{Kind}
 use Rattle.lnbd_model.specs.declared.kind.Kind.TheVariants.{Flush}
@@ -39,19 +41,19 @@ use Rattle.lnbd_board.specs.declared.how.How.{How}
 use Rattle.lnbd_board.specs.declared.row.Row.{Row}
 use Rattle.lnbd_board.specs.declared.ticket.Ticket.{Ticket}
 use Rattle.lnbd_board.specs.declared.ticket.Ticket.TheVariants as ticket
+use Rattle.lnbd_board.specs.Carried.{IsUnread, Puts}
 use Rattle.lnbd_board.specs.Files as board
 use Rattle.lnbd_board.specs.Holds.{WasToldZero}
 use Rattle.lnbd_board.specs.Pieces.{AreRuns, detects, is_told, ask_of, spell1, stretch}
 use Rattle.lnbd_board.specs.Requests.{IsIn, Request, Said, own, reads}
 use Rattle.lnbd_board.specs.Requests as asked
 use Rattle.lnbd_board.specs.Rows.{AsksOfDestination, IsInside, IsRead, IsZeroed, KnownBy, StandsAs, lies_in, slice_at}
-use Rattle.lnbd_board.proofs.Lists.{in_each, own_first}
+use Rattle.lnbd_board.proofs.Lists.{in_each, none_reads, own_first}
 use Rattle.lnbd_board.proofs.Spelling.{apart, found, has_piece, some_at, within_at, within_true}
 use Rattle.lnbd_tracks.specs.Mapping.{IsToldZero}
 use Rattle.lnbd_tracks.specs.Tracks.{Histories}
 use Rattle.lnbd_tracks.proofs.Outcomes.{waits}
 use Rattle.lnbd_tracks.proofs.Written.{done_is_written}
-use Rattle.lnbd_course.specs.Answered.{IsUnread}
 use Rattle.lnbd_course.specs.Between.{Between, place_of}
 use Rattle.lnbd_course.specs.Course.{Course, on_side}
 use Rattle.lnbd_course.specs.Failed.{AllStand, HasHandle}
@@ -63,7 +65,7 @@ use Rattle.lnbd_course.proofs.Ending.{of_it}
 use Rattle.lnbd_course.proofs.Failing.{there_or_apart}
 use Rattle.lnbd_course.proofs.Frozen.{FreezeAsOld, Frozen, IsRead as HasAllArrived, all_read, at_once, event_freezes, frozen_here}
 use Rattle.lnbd_course.proofs.Holding.{one_has}
-use Rattle.lnbd_course.proofs.Listing.{asked_by, none_end, none_reads}
+use Rattle.lnbd_course.proofs.Listing.{asked_by, none_end}
 use Rattle.lnbd_course.proofs.Parts.{all_run, destination_listed, none_unread, run_of, source_listed, turn_runs}
 use Rattle.lnbd_course.proofs.Placed.{asked_given, one_written}
 use Rattle.lnbd_course.proofs.Sparing.{unread}
@@ -418,6 +420,12 @@ module _ (from to : Place) (size : Option ℕ) (how : How) (sides : ℕ → Bool
         counts (asks.offset + asks.length) ∙ ap (is_told how s piece.bytes) ends
         ∙ run_behind (is_told how s piece.bytes) run s.start (s.start + s.length) piece.runs cut.between cut.whole cut.parted piece.there (let low = w.1 in omega (arith, low, ends)) ∙ ap not (sym zeros)
 
+    -- each position is put as it was read
+    puts : (p byte : ℕ) → has asks p ≡ true → slice_get piece.bytes (p - read.command.offset) ≡ Some byte → Puts asks p byte
+    puts p byte here is =
+        let told = get_or_from_slice_get piece.bytes (p - s.start) byte 0 (ap (λ (m : ℕ). slice_get piece.bytes (p - m)) (sym read.start) ∙ is) in
+        subst (λ (b : ℕ). Puts asks p b) told (piece.puts p here).2
+
     some : 0 < asks.length
     some =
         let least = (run_some (is_told how s piece.bytes) (λ _. false) run s.start (s.start + s.length) piece.runs cut.between piece.there).0 in
@@ -444,6 +452,7 @@ module _ (from to : Place) (size : Option ℕ) (how : How) (sides : ℕ → Bool
           done = ap (λ (z : Bool). if z then answered (on_link r.link all) r.cookie else Unfinished) here ∙ d.came;
           some = some;
           inside = λ p h. has_read p ∙ inside p (ap (λ (c : Command Nobody). has c p) piece.is ∙ h);
+          puts = puts;
           alike = alike;
           before = before_it;
           behind = behind_it;
@@ -454,6 +463,18 @@ module _ (from to : Place) (size : Option ℕ) (how : How) (sides : ℕ → Bool
   abbrev Fits : Command Nobody → Type 0
   Fits command = IsRun how (dealt_with from all) command ⊎ IsOfTold how (dealt_with from all) command
 
+  -- what was told as zero is put as zeros
+  put_zeros : (s : Slice) (read : List Said) (x : Said) (piece : IsPieceOf how s read x) → s.zero ≡ true → (p : ℕ) → has x.command p ≡ true → Puts x.command p 0
+  put_zeros s read x piece zeroed p here =
+      let known = subst (λ (z : Bool). KnownBy z s piece.bytes read) zeroed piece.known.by in
+      let size = piece.known.size in
+      let asks = ask_of how piece.at piece.piece in
+      let m = piece.puts p (ap (λ (c : Command Nobody). has c p) (sym piece.is) ∙ here) in
+      let low = m.0 in
+      let high = m.1 in
+      let byte : get_or piece.bytes (p - s.start) 0 ≡ 0 = ap (λ (l : List ℕ). get_or l (p - s.start) 0) known.0 ∙ get_or-replicate s.length (p - s.start) 0 0 (omega (arith, size, low, high)) in
+      subst (λ (c : Command Nobody). Puts c p 0) (sym piece.is) (subst (λ (b : ℕ). Puts asks p b) byte m.2)
+
   of_slice : (n : ℕ) (x : Said) → IsPieceOf how (slice_at slices n) (own n source) x → IsInside slices n x.command → IsZeroed how (slice_at slices n) x.command → Fits x.command
   of_slice n x piece inside zeroes = go (slice_at slices n).zero refl
     where
@@ -462,6 +483,7 @@ module _ (from to : Place) (size : Option ℕ) (how : How) (sides : ℕ → Bool
         each = λ p here.
             let is = told_slice cells told end p n slices rest (planned p) inside.begun zeroed (inside.inside p here) in
             record { told = was_told p (t.knows p (knows p is)); unread = was_unread p is };
+        zeros = put_zeros (slice_at slices n) (own n source) x piece zeroed;
         kind = zeroes zeroed;
       })
       go false untold = inl (subst (IsRun how (dealt_with from all)) (sym piece.is) (is_run n x piece untold inside.inside))

@@ -34,7 +34,7 @@ use Rattle.lnbd_board.specs.Requests.{Each, Request, reads, reads_over}
 use Rattle.lnbd_board.specs.Requests as asked
 use Rattle.lnbd_board.specs.Rows.{AsksOfSource}
 use Rattle.lnbd_board.proofs.Inside.{reads_nowhere}
-use Rattle.lnbd_board.proofs.Lists.{Each-back}
+use Rattle.lnbd_board.proofs.Lists.{Each-back, none_reads}
 use Rattle.lnbd_extents.proofs.PositionLaws.{all_elim}
 use Rattle.lnbd_tracks.specs.Heeding.{Heeds, IsHeard, is_whole}
 use Rattle.lnbd_tracks.specs.Mapping.{first_tells, is_extents, tells_extents}
@@ -49,7 +49,7 @@ use Rattle.lnbd_course.specs.Told.{Known, Told}
 use Rattle.lnbd_course.proofs.Failing.{there_or_apart}
 use Rattle.lnbd_course.proofs.Frozen.{AllRead, FreezeAsOld, Frozen, IsRead, all_read, at_once, event_freezes, frozen_at_once, frozen_here}
 use Rattle.lnbd_course.proofs.Holding.{one_has}
-use Rattle.lnbd_course.proofs.Listing.{IsAsked, asked_by, none_end, none_reads}
+use Rattle.lnbd_course.proofs.Listing.{IsAsked, asked_by, none_end}
 use Rattle.lnbd_course.proofs.Parts.{all_run, none_unread, run_of, source_here, source_listed, turn_runs}
 use Rattle.lnbd_course.proofs.Sparing.{either_true, extents_by, unread}
 use Rattle.lnbd_course.proofs.Standing.{on_here}

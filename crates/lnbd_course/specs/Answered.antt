@@ -1,5 +1,5 @@
 -- What is read lies in requests of block statuses that were answered before it was read.
-use Rattle.std.specs.Prelude.{◌≡◌, ℕ, ◌≤◌, Bool, true, false, List, [], ◌++◌, Some, None}
+use Rattle.std.specs.Prelude.{◌≡◌, ℕ, ◌≤◌, Bool, true, List, [], ◌++◌, Some, None}
 use Rattle.lnbd_model.specs.declared.kind.Kind.TheVariants.{BlockStatus}
 use Rattle.lnbd_model.specs.declared.target.Place.{Place}
 use Rattle.lnbd_link.specs.Call.{Call}
@@ -12,9 +12,8 @@ use Rattle.lnbd_plan.specs.declared.cells.Cells.{Cells}
 use Rattle.lnbd_plan.specs.declared.grid.Slice.{Slice}
 use Rattle.lnbd_plan.specs.Laws.{IsPlannedOnce}
 use Rattle.lnbd_board.specs.declared.how.How.{How}
+use Rattle.lnbd_board.specs.Carried.{IsUnread}
 use Rattle.lnbd_board.specs.Files as board
-use Rattle.lnbd_board.specs.Requests.{reads}
-use Rattle.lnbd_course.specs.Asks.{EachAsked}
 use Rattle.lnbd_course.specs.Course.{Course}
 use Rattle.lnbd_course.specs.Told.{AreOfSource, Known, Told}
 
@@ -28,10 +27,6 @@ pub record WasAnswered (dealt : Dealt) (p : ℕ) : Type 0 where
   pub kind : command.kind ≡ BlockStatus
   pub done : Done dealt link cookie bytes
   pub has : has command p ≡ true
-
--- No READ that was asked covers the position.
-abbrev pub IsUnread : Dealt → ℕ → Type 0
-IsUnread dealt p = EachAsked (λ command. reads command p ≡ false) dealt
 
 -- By a front of the calls a block status of the source was answered for the position, which was not read yet.
 pub record WasAnsweredFirst (from : Place) (p : ℕ) (calls : List Call) : Type 0 where

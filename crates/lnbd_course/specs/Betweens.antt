@@ -23,7 +23,7 @@ use Rattle.lnbd_board.specs.Asks.{Keeps}
 use Rattle.lnbd_board.specs.Files as board
 use Rattle.lnbd_board.specs.Requests.{Request}
 use Rattle.lnbd_course.specs.Between.{Between, AreSettings, IsSetting, place_of, with_history_on}
-use Rattle.lnbd_course.specs.Copied.{Copied}
+use Rattle.lnbd_course.specs.Carried.{HasCarried}
 use Rattle.lnbd_course.specs.Counted.{CountsSame, HasNotCounted}
 use Rattle.lnbd_course.specs.Course.{AreOfSides, HaveSizes, IsPlannedWhole, with_link}
 use Rattle.lnbd_course.specs.Laws.{AsksSource, AsksDestination}
@@ -100,7 +100,7 @@ abbrev pub LinksAreOfSides : Type 0
 LinksAreOfSides = (from to : Place) (size : ℕ) (how : How) (has : ℕ → Bool) (slices : List Slice) (now : board.Seen) (calls : List wire.Call) (b : Between from to (Some size) how has slices now calls []) → from ≢ to →
     AreOfSides from to calls has b.course.histories × HaveSizes from to calls size
 
--- So a copy has copied that ends without an error, with all planned and nothing begun and not over, if source and destination are two exports.
-abbrev pub EndedCopies : Type 0
-EndedCopies = (from to : Place) (size : ℕ) (how : How) (has : ℕ → Bool) (slices : List Slice) (now : board.Seen) (calls : List wire.Call) (cells : Cells) (windows : List Window) →
-    Between from to (Some size) how has slices now calls [] → now.rows ≡ [] → now.error ≡ None → IsPlannedWhole how cells windows from calls size slices → from ≢ to → Copied from to how.skip calls
+-- So a copy has carried each byte that ends without an error, with all planned and nothing begun and not over, if source and destination are two exports.
+abbrev pub EndedCarries : Type 0
+EndedCarries = (from to : Place) (size : ℕ) (how : How) (has : ℕ → Bool) (slices : List Slice) (now : board.Seen) (calls : List wire.Call) (cells : Cells) (windows : List Window) →
+    Between from to (Some size) how has slices now calls [] → now.rows ≡ [] → now.error ≡ None → IsPlannedWhole how cells windows from calls size slices → from ≢ to → HasCarried from to how.skip calls

@@ -23,7 +23,7 @@ use Rattle.lnbd_board.specs.Requests.{Request, asking}
 use Rattle.lnbd_board.specs.Rows.{Stands}
 use Rattle.lnbd_tracks.specs.Laws.{asked_by, is_coming}
 use Rattle.lnbd_tracks.specs.Tracks.{OnlyWritesHaveBytes, is_issue}
-use Rattle.lnbd_course.specs.Copied.{Copied}
+use Rattle.lnbd_course.specs.Carried.{HasCarried}
 use Rattle.lnbd_course.specs.Counted.{CountsSame, HasNotCounted, IsCounted}
 use Rattle.lnbd_course.specs.Course.{Course, IsFinished, with_link}
 
@@ -104,6 +104,6 @@ abbrev pub TakingKeeps : Type 0
 TakingKeeps = (how : How) (has : ℕ → Bool) (slices : List Slice) (now : board.Seen) (calls : List wire.Call) (seens : List (Seen Ticket)) (index : ℕ) (seen : Seen Ticket) (limit : ℕ) (handle : Machine Ticket) →
     Course how has slices now calls seens → slice_get seens index ≡ Some seen → StandsFor limit seen.history handle → Course how has slices now calls (take index seens ++ drop (index + 1) seens)
 
--- A copy that is finished has copied.
-abbrev pub FinishedCopies : Type 0
-FinishedCopies = (from to : Place) (how : How) (calls : List wire.Call) → IsFinished from to how calls → Copied from to how.skip calls
+-- A copy that is finished has carried each byte.
+abbrev pub FinishedCarries : Type 0
+FinishedCarries = (from to : Place) (how : How) (calls : List wire.Call) → IsFinished from to how calls → HasCarried from to how.skip calls

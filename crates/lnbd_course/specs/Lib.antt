@@ -1,6 +1,7 @@
 pub mod Copied
 pub mod Counted
 pub mod Course
+pub mod Carried
 pub mod Taken
 pub mod Laws
 pub mod Orders

@@ -1,5 +1,5 @@
--- In which pieces a copy writes what it reads: a change is a longest run, of blocks of zeros that were found or of other bytes, of what one READ told.
-use Rattle.std.specs.Prelude.{◌≡◌, ◌≢◌, ◌⊎◌, ℕ, ◌+◌, ◌<◌, Bool, true, false, not, ◌&&◌, List, ◌++◌, Option, Some, None}
+-- In which pieces a copy writes what it reads: a change is a longest run, of blocks of zeros that were found or of other bytes, of what one READ told, unchanged.
+use Rattle.std.specs.Prelude.{◌≡◌, ◌≢◌, ◌⊎◌, ℕ, ◌+◌, ◌-◌, ◌<◌, Bool, true, false, not, ◌&&◌, List, ◌++◌, Option, Some, None, slice_get}
 use Rattle.lnbd_model.specs.declared.kind.Kind.{Kind}
 use Rattle.lnbd_model.specs.declared.kind.Kind.TheVariants.{Read, Write, Flush, Trim, Cache, Zero, BlockStatus}
 use Rattle.lnbd_model.specs.declared.target.Place.{Place}
@@ -18,9 +18,8 @@ use Rattle.lnbd_plan.specs.Laws.{IsPlannedOnce}
 use Rattle.lnbd_board.specs.declared.how.How.{How}
 use Rattle.lnbd_board.specs.declared.ticket.Ticket.{Ticket}
 use Rattle.lnbd_board.specs.Files as board
-use Rattle.lnbd_board.specs.Holds.{WasToldZero}
+use Rattle.lnbd_board.specs.Carried.{IsToldUnread, Puts}
 use Rattle.lnbd_board.specs.Pieces.{detects, zeroing_kind}
-use Rattle.lnbd_course.specs.Answered.{IsUnread}
 use Rattle.lnbd_course.specs.Asks.{EachAsked}
 use Rattle.lnbd_course.specs.Between.{Between}
 use Rattle.lnbd_course.specs.Failed.{AllStand}
@@ -40,8 +39,8 @@ is_zeroing BlockStatus = false
 abbrev pub counts_zero : How → (start : ℕ) → List ℕ → ℕ → Bool
 counts_zero how start bytes p = detects how && in_zero_block how.block start bytes p
 
--- A change is a longest run of a READ that is done. It lies within the READ, and has a byte. WRITE_ZEROES has only positions that count as zero, and WRITE
--- only others; and the position just before it counts otherwise, if it was read, and so does that just behind it.
+-- A change is a longest run of a READ that is done. It lies within the READ, and has a byte, and at each of its positions it puts the byte that was read there. WRITE_ZEROES has only
+-- positions that count as zero, and WRITE only others; and the position just before it counts otherwise, if it was read, and so does that just behind it.
 pub record IsRun (how : How) (source : Dealt) (change : Command Nobody) : Type 0 where
   pub link : ℕ
   pub cookie : ℕ
@@ -52,18 +51,15 @@ pub record IsRun (how : How) (source : Dealt) (change : Command Nobody) : Type 0
   pub done : Done source link cookie bytes
   pub some : 0 < change.length
   pub inside : (p : ℕ) → has change p ≡ true → has read p ≡ true
+  pub puts : (p byte : ℕ) → has change p ≡ true → slice_get bytes (p - read.offset) ≡ Some byte → Puts change p byte
   pub alike : (p : ℕ) → has change p ≡ true → counts_zero how read.offset bytes p ≡ is_zeroing change.kind
   pub before : (p : ℕ) → has read p ≡ true → p + 1 ≡ change.offset → counts_zero how read.offset bytes p ≡ not (is_zeroing change.kind)
   pub behind : has read (change.offset + change.length) ≡ true → counts_zero how read.offset bytes (change.offset + change.length) ≡ not (is_zeroing change.kind)
 
--- A block status that is done told the position as zero, and it was not read.
-pub record IsToldUnread (source : Dealt) (p : ℕ) : Type 0 where
-  pub told : WasToldZero source p
-  pub unread : IsUnread source p
-
--- Each position that the change has is so; and the change is that by which the destination zeroes: WRITE_ZEROES, or WRITE where it takes none.
+-- Each position that the change has is so, and it puts zero there; and the change is that by which the destination zeroes: WRITE_ZEROES, or WRITE where it takes none.
 pub record IsOfTold (how : How) (source : Dealt) (change : Command Nobody) : Type 0 where
   pub each : (p : ℕ) → has change p ≡ true → IsToldUnread source p
+  pub zeros : (p : ℕ) → has change p ≡ true → Puts change p 0
   pub kind : change.kind ≡ zeroing_kind how
 
 -- Each change of the destination is a longest run of what was read, or it has only positions that were told as zero.

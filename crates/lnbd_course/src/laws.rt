@@ -1,5 +1,6 @@
 //! Laws of the course of a copy. Each is the contract of a function that does nothing.
 
+ghost use Rattle.lnbd_course.specs.Carried.{CarryingCopies};
 ghost use Rattle.lnbd_course.specs.Answered.{AnswersStay, NothingIsReadBehind, RangesWereAnswered};
 ghost use Rattle.lnbd_course.specs.AllDone.{EndedAreAllDone};
 ghost use Rattle.lnbd_course.specs.Asks.{EndedAreDone, EndedAsksOnce};
@@ -8,8 +9,8 @@ ghost use Rattle.lnbd_course.specs.Counts.{EndedSums};
 ghost use Rattle.lnbd_course.specs.Driven.{EndedAreDriven};
 ghost use Rattle.lnbd_course.specs.Failed.{TurnsFail};
 ghost use Rattle.lnbd_course.specs.Flushes.{EndedFlushed, EndedFlushesOnce, EndedUnflushed};
-ghost use Rattle.lnbd_course.specs.Laws.{NothingIsOnCourse, OpensOnCourse, SettlingKeeps, TurnsKeep, CallsKeep, SourceAsksKeep, DestinationAsksKeep, BoardMovesKeep, OthersKeep, TakingKeeps, FinishedCopies};
-ghost use Rattle.lnbd_course.specs.Betweens.{NothingIsBetween, OpensBetween, SettlingKeepsBetween, AgreeingSettles, TurnsKeepBetween, CallsKeepBetween, SourceAsksKeepBetween, DestinationAsksKeepBetween, BoardMovesKeepBetween, OthersKeepBetween, TakingKeepsBetween, LinksAreOfSides, EndedCopies};
+ghost use Rattle.lnbd_course.specs.Laws.{NothingIsOnCourse, OpensOnCourse, SettlingKeeps, TurnsKeep, CallsKeep, SourceAsksKeep, DestinationAsksKeep, BoardMovesKeep, OthersKeep, TakingKeeps, FinishedCarries};
+ghost use Rattle.lnbd_course.specs.Betweens.{NothingIsBetween, OpensBetween, SettlingKeepsBetween, AgreeingSettles, TurnsKeepBetween, CallsKeepBetween, SourceAsksKeepBetween, DestinationAsksKeepBetween, BoardMovesKeepBetween, OthersKeepBetween, TakingKeepsBetween, LinksAreOfSides, EndedCarries};
 ghost use Rattle.lnbd_course.specs.Slices.{EndedAreBegun, QuietAreBegun, QuietAsks};
 ghost use Rattle.lnbd_course.specs.Fronts.{FrontsHaveFew, FrontsHaveNone, NothingWasBefore};
 ghost use Rattle.lnbd_course.specs.Little.{HandlesAreAskedLittle};
@@ -79,9 +80,14 @@ pub fn taking_keeps()
     ensures { TakingKeeps }
 {}
 
-/// A copy that is finished has copied, whatever contents the exports have over which both servers are honest.
-pub fn finished_copies()
-    ensures { FinishedCopies }
+/// A copy that is finished has carried each byte, whatever its servers keep.
+pub fn finished_carries()
+    ensures { FinishedCarries }
+{}
+
+/// What has carried has copied, whatever contents the exports have over which both servers are honest.
+pub fn carrying_copies()
+    ensures { CarryingCopies }
 {}
 
 /// What was told as zero stays known beside the course of a copy: before it has a handle, with each one
@@ -174,10 +180,10 @@ pub fn taking_keeps_between()
     ensures { TakingKeepsBetween }
 {}
 
-/// In the end each link is of its side's export, both sides told their sizes, and so the copy has copied.
-pub fn ended_copies()
+/// In the end each link is of its side's export, both sides told their sizes, and so the copy has carried each byte.
+pub fn ended_carries()
     ensures links { LinksAreOfSides }
-    ensures copies { EndedCopies }
+    ensures carries { EndedCarries }
 {}
 
 /// Of what a copy asks nothing is asked twice, and nothing past the source's end; and where all slices are over, all of it is done.

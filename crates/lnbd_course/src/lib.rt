@@ -8,9 +8,9 @@ mod laws;
 pub use laws::{
     asking_keeps, asking_keeps_between, asking_tells, beginning_keeps, beginning_keeps_between,
     beginning_tells, board_asks, board_moves_keep, board_moves_tell, calls_keep, calls_tell,
-    ended_all_done, ended_answers, ended_asks_once, ended_copies, ended_driven, ended_flushes,
-    ended_spares, ended_sums, finished_copies, fronts_have_few, handles_are_asked_little,
-    handles_have_few, hearing_tells, known_was_told, others_keep, others_tell, parts_ask_once,
-    parts_spare, quiet_counts, taken_are_spelled, taking_keeps, taking_keeps_between, taking_tells,
-    turns_fail, turns_keep, turns_keep_between, turns_tell,
+    carrying_copies, ended_all_done, ended_answers, ended_asks_once, ended_carries, ended_driven,
+    ended_flushes, ended_spares, ended_sums, finished_carries, fronts_have_few,
+    handles_are_asked_little, handles_have_few, hearing_tells, known_was_told, others_keep,
+    others_tell, parts_ask_once, parts_spare, quiet_counts, taken_are_spelled, taking_keeps,
+    taking_keeps_between, taking_tells, turns_fail, turns_keep, turns_keep_between, turns_tell,
 };

@@ -15,7 +15,8 @@ use Rattle.lnbd_dump.specs.declared.reader.Reader.{Reader}
 use Rattle.lnbd_reel.specs.declared.reel.Part.{Part}
 use Rattle.lnbd_reel.specs.declared.reel.Run.{Run}
 use Rattle.lnbd_dump.specs.Asks.{AsksRead, reading_of}
-use Rattle.lnbd_dump.specs.Conduct.{IsFreshRead, WasAnswered, WasKnown, WasToldWhole, block_of, piece_of}
+use Rattle.lnbd_ask.specs.Maps.{block_of}
+use Rattle.lnbd_dump.specs.Conduct.{IsFreshRead, WasAnswered, WasKnown, WasToldWhole, piece_of}
 use Rattle.lnbd_dump.specs.Course.{Course, IsStatus, IsUnderWay}
 use Rattle.lnbd_dump.specs.Filling.{BeginsPart, IsBegunBy}
 use Rattle.lnbd_dump.specs.Leads.{Grown, IsRead, IsTied, Quiet, TellsZero}

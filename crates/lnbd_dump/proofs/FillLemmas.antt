@@ -9,7 +9,8 @@ use Rattle.lnbd_dump.specs.declared.reader.Reader.{Reader}
 use Rattle.lnbd_reel.specs.declared.reel.Part.{Part}
 use Rattle.lnbd_reel.specs.declared.reel.Run.{Run}
 use Rattle.lnbd_dump.specs.declared.stop.Stop.{Stop}
-use Rattle.lnbd_dump.specs.Conduct.{AreWell, WasToldWhole, block_of}
+use Rattle.lnbd_ask.specs.Maps.{block_of}
+use Rattle.lnbd_dump.specs.Conduct.{AreWell, WasToldWhole}
 use Rattle.lnbd_dump.specs.Course.{IsUnderWay}
 use Rattle.lnbd_dump.specs.Filling.{BeginsPart, Continues, FollowEach, IsLeft}
 use Rattle.lnbd_dump.specs.Leads.{TellsZero}

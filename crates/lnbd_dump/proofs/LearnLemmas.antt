@@ -27,7 +27,8 @@ use Rattle.lnbd_reel.specs.declared.reel.Run.{Run}
 use Rattle.lnbd_dump.specs.declared.asking.Plan.{Plan}
 use Rattle.lnbd_reel.specs.declared.reel.Part.{Part}
 use Rattle.lnbd_dump.specs.Asks.{AsksStatus, status_of}
-use Rattle.lnbd_dump.specs.Conduct.{AreWell, IsFreshStatus, WasKnown, WasToldWhole, block_of, max_asked}
+use Rattle.lnbd_ask.specs.Maps.{block_of, max_asked}
+use Rattle.lnbd_dump.specs.Conduct.{AreWell, IsFreshStatus, WasKnown, WasToldWhole}
 use Rattle.lnbd_dump.specs.Course.{Course, IsStatus, IsUnderWay}
 use Rattle.lnbd_dump.specs.Heard.{IsZeroAmong, IsZeroIn, Laid, kept, told_by}
 use Rattle.lnbd_dump.specs.Leads.{GoesQuietly, Grown, IsGoing, IsRead, IsTied, Later, Quiet, TellsZero}

@@ -14,7 +14,7 @@ use Rattle.lnbd_reel.specs.declared.reel.Part.{Part}
 use Rattle.lnbd_reel.specs.declared.reel.Run.{Run}
 use Rattle.lnbd_dump.specs.declared.stop.Stop.{Stop}
 use Rattle.lnbd_dump.specs.Asks.{AsksStatus}
-use Rattle.lnbd_dump.specs.Conduct.{max_asked}
+use Rattle.lnbd_ask.specs.Maps.{max_asked}
 use Rattle.lnbd_dump.specs.Course.{IsUnderWay}
 use Rattle.lnbd_dump.specs.Filling.{Continues, Learns}
 use Rattle.lnbd_dump.specs.Heard.{IsZeroAmong, IsZeroIn, kept}

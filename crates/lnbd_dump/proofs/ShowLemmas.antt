@@ -10,7 +10,7 @@ use Rattle.lnbd_history.specs.Answers.{completed_after}
 use Rattle.lnbd_history.specs.declared.kinds.Completed.TheVariants as completed
 use Rattle.lnbd_history.specs.Events.{History, Retire}
 use Rattle.lnbd_link.specs.Call as wire
-use Rattle.lnbd_link.specs.Part.{Grows, Takes}
+use Rattle.lnbd_link.specs.Part.{Grows, Takes, TakesFront}
 use Rattle.lnbd_link.proofs.Parts.{grows_none, grows_on, takes_none, takes_on}
 use Rattle.lnbd_poll.specs.Held.{Held}
 use Rattle.lnbd_poll.specs.Seen.{Seen, Went}
@@ -25,7 +25,6 @@ use Rattle.lnbd_reel.specs.declared.reel.Run.{Run}
 use Rattle.lnbd_dump.specs.declared.stop.Stop.{Stop}
 use Rattle.lnbd_dump.specs.Course.{IsUnderWay}
 use Rattle.lnbd_dump.specs.Leads.{Acts, By_status, GoesTo, IsRead, Leads, Tells, TellsZero}
-use Rattle.lnbd_reel.specs.Output.{TakesFront}
 use Rattle.lnbd_reel.specs.Reel.{IsBegun}
 use Rattle.lnbd_reel.specs.Said.{IsSaid, shown_to}
 use Rattle.lnbd_dump.specs.Showing.{FinishesWith, Goes, HasNext, IsTaken, Says, SaysFront, SaysPart, Shows, ShowsPart, StaysWell}

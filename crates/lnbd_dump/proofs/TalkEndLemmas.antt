@@ -13,7 +13,7 @@ use Rattle.lnbd_history.specs.Events.{History, Disconnect}
 use Rattle.lnbd_history.specs.Agreement.{phase}
 use Rattle.lnbd_history.specs.History.{reading}
 use Rattle.lnbd_link.specs.Call as wire
-use Rattle.lnbd_link.specs.Count.{Rises}
+use Rattle.lnbd_link.specs.Count.{Rises, patience}
 use Rattle.lnbd_link.specs.Listed.{has_failed}
 use Rattle.lnbd_link.proofs.Parts.{grows_on}
 use Rattle.lnbd_poll.specs.Held.{Held}
@@ -25,7 +25,7 @@ use Rattle.lnbd_waits.specs.Begun.{base_allocation, begins, begun, disconnecting
 use Rattle.lnbd_waits.specs.declared.waiting.Awaited.TheVariants as awaited
 use Rattle.lnbd_waits.specs.declared.waiting.Halt.{Halt}
 use Rattle.lnbd_waits.specs.declared.waiting.Halt.TheVariants as halt
-use Rattle.lnbd_waits.specs.Waits.{Holds, Waited, patience}
+use Rattle.lnbd_waits.specs.Waits.{Holds, Waited}
 use Rattle.lnbd_dump.specs.declared.fault.DumpFault.{DumpFault}
 use Rattle.lnbd_dump.specs.declared.fault.DumpFault.TheVariants as fault
 use Rattle.lnbd_dump.specs.declared.reader.Latest.{Latest}

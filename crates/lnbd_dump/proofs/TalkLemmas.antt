@@ -19,7 +19,8 @@ use Rattle.lnbd_reel.specs.declared.reel.Run.{Run}
 use Rattle.lnbd_dump.specs.declared.stop.Stop.{Stop}
 use Rattle.lnbd_dump.specs.declared.stop.Stop.TheVariants as stop
 use Rattle.lnbd_dump.specs.declared.terms.Terms.{Terms}
-use Rattle.lnbd_dump.specs.Conduct.{AreWell, AsksNothing, WasToldWhole, block_of}
+use Rattle.lnbd_ask.specs.Maps.{block_of}
+use Rattle.lnbd_dump.specs.Conduct.{AreWell, AsksNothing, WasToldWhole}
 use Rattle.lnbd_dump.specs.Course.{IsUnderWay}
 use Rattle.lnbd_dump.specs.Leads.{Leads, TellsZero}
 use Rattle.lnbd_reel.specs.Reel.{AreRuns, AreSpared}

@@ -1,5 +1,5 @@
 -- What a dump asks of an export, in which order, and why it ends.
-use Rattle.std.specs.Prelude.{◌≡◌, ◌≢◌, ◌⊎◌, ◌<◌, ◌≤◌, ◌+◌, ◌-◌, ◌%◌, ◌^◌, ◌&&◌, ◌||◌, ℕ, Bool, true, false, List, [], ◌∷◌, ◌++◌, Option, Some, None, Result, Ok, Err, bytes_eq, min, nat_le, nat_lt, if◌then◌else◌}
+use Rattle.std.specs.Prelude.{◌≡◌, ◌≢◌, ◌⊎◌, ◌<◌, ◌≤◌, ◌+◌, ◌-◌, ◌%◌, ◌^◌, ◌||◌, ℕ, Bool, true, false, List, [], ◌∷◌, ◌++◌, Option, Some, None, Result, Ok, Err, bytes_eq, min, nat_lt, if◌then◌else◌}
 use Rattle.lnbd_model.specs.declared.breach.Breach.{Breach}
 use Rattle.lnbd_model.specs.declared.breach.Breach.TheVariants as breach
 use Rattle.lnbd_model.specs.declared.breach.Broken.{Broken}
@@ -14,13 +14,12 @@ use Rattle.lnbd_model.specs.declared.state.State.TheVariants as state
 use Rattle.lnbd_model.specs.declared.target.Place.{Place}
 use Rattle.lnbd_extents.specs.Positions.{within}
 use Rattle.lnbd_outcome.specs.Outcome.{Done}
-use Rattle.lnbd_records.specs.Limits.{max_minimum_block}
 use Rattle.lnbd_history.specs.declared.kinds.Completed.TheVariants as completed
 use Rattle.lnbd_history.specs.Answers.{completed_after, direction_after, info_after, state_after}
 use Rattle.lnbd_history.specs.Commands.{Command, Request}
 use Rattle.lnbd_history.specs.Events.{Event, History, Issue}
 use Rattle.lnbd_history.specs.History.{request}
-use Rattle.lnbd_history.specs.Refusals.{minimum, payload_limit}
+use Rattle.lnbd_history.specs.Refusals.{payload_limit}
 use Rattle.lnbd_link.specs.Call as wire
 use Rattle.lnbd_link.specs.Call.{Connect, Shut}
 use Rattle.lnbd_link.specs.Part.{Grows}
@@ -30,24 +29,15 @@ use Rattle.lnbd_waits.specs.Begun.{base_allocation, begun}
 use Rattle.lnbd_dump.specs.declared.fault.DumpFault.{DumpFault}
 use Rattle.lnbd_dump.specs.declared.fault.DumpFault.TheVariants as fault
 use Rattle.lnbd_dump.specs.declared.reader.Reader.{Reader}
+use Rattle.lnbd_ask.specs.Maps.{block_of, max_asked}
 use Rattle.lnbd_reel.specs.Ranges.{IsUneven, length_given, length_shown}
 use Rattle.lnbd_reel.specs.Reel.{IsInWhole}
 
 -- ---- What is known of the export.
 
--- the most bytes of one block status, and of one read
-abbrev pub max_asked : ℕ
-max_asked = 134217728
-
+-- the most bytes of one read
 abbrev pub max_piece : ℕ
 max_piece = 262144
-
--- A least block counts where it is none that the protocol excludes; else each byte is a block.
-abbrev pub least_block : (told : ℕ) → ℕ
-least_block told = if nat_lt 0 told && nat_le told max_minimum_block then told else 1
-
-abbrev pub block_of : ExportInfo → ℕ
-block_of info = least_block (minimum info.blocks)
 
 -- whole blocks of so many bytes, but one at least
 abbrev pub whole_blocks : (block size : ℕ) → ℕ

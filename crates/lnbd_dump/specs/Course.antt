@@ -14,7 +14,8 @@ use Rattle.lnbd_dump.specs.declared.reader.Latest.{Latest}
 use Rattle.lnbd_dump.specs.declared.reader.Reader.{Reader}
 use Rattle.lnbd_reel.specs.declared.reel.Part.{Part}
 use Rattle.lnbd_reel.specs.declared.reel.Run.{Run}
-use Rattle.lnbd_dump.specs.Conduct.{AreWell, WasAnswered, WasKnown, WasToldWhole, block_of, is_agreed, piece_of}
+use Rattle.lnbd_ask.specs.Maps.{block_of}
+use Rattle.lnbd_dump.specs.Conduct.{AreWell, WasAnswered, WasKnown, WasToldWhole, is_agreed, piece_of}
 use Rattle.lnbd_dump.specs.Leads.{IsRead, IsTied, TellsZero}
 use Rattle.lnbd_reel.specs.Reel.{AreLaid, AreRuns, AreSpared}
 

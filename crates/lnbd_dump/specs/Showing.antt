@@ -6,7 +6,7 @@ use Rattle.lnbd_history.specs.Events.{History}
 use Rattle.lnbd_history.specs.History.{reading}
 use Rattle.lnbd_hexdump.specs.Said.{Ends, Kept}
 use Rattle.lnbd_kept.specs.Kept.{AllKeep}
-use Rattle.lnbd_link.specs.Part.{Takes}
+use Rattle.lnbd_link.specs.Part.{Takes, TakesFront}
 use Rattle.lnbd_dump.specs.declared.asking.Plan.{Plan}
 use Rattle.lnbd_dump.specs.declared.reader.Latest.{Latest}
 use Rattle.lnbd_dump.specs.declared.reader.Reader.{Reader}
@@ -16,7 +16,6 @@ use Rattle.lnbd_dump.specs.declared.stop.Stop.{Stop}
 use Rattle.lnbd_dump.specs.Conduct.{AreWell}
 use Rattle.lnbd_dump.specs.Course.{IsUnderWay}
 use Rattle.lnbd_dump.specs.Leads.{IsRead, IsTied, Quiet, Tells, TellsZero}
-use Rattle.lnbd_reel.specs.Output.{TakesFront}
 use Rattle.lnbd_reel.specs.Reel.{IsBegun}
 use Rattle.lnbd_dump.specs.Stops.{HasStop}
 use Rattle.lnbd_reel.specs.Said.{IsSaid, SaysMore, Shown, ShownPart}

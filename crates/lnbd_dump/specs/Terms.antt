@@ -13,7 +13,8 @@ use Rattle.lnbd_reel.specs.declared.reel.Run.{Run}
 use Rattle.lnbd_dump.specs.declared.stop.Stop.{Stop}
 use Rattle.lnbd_dump.specs.declared.stop.Stop.TheVariants as stop
 use Rattle.lnbd_dump.specs.declared.terms.Terms.{Terms}
-use Rattle.lnbd_dump.specs.Conduct.{block_of, is_agreed, piece_of}
+use Rattle.lnbd_ask.specs.Maps.{block_of}
+use Rattle.lnbd_dump.specs.Conduct.{is_agreed, piece_of}
 use Rattle.lnbd_reel.specs.Ranges.{Covers, IsUneven, length_given, length_shown}
 
 pub record AreTerms (info : ExportInfo) (terms : Terms) : Type 0 where

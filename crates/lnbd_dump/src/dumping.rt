@@ -4,11 +4,11 @@ ghost use Rattle.std.specs.Prelude.{◌≡◌, ◌≤◌, ℕ, None, IfErr, IfOk
 ghost use Rattle.lnbd_handle.specs.Histories.{max_unretired};
 ghost use Rattle.lnbd_link.specs.Contents.{Keeps};
 ghost use Rattle.lnbd_link.specs.Call.{Shut};
-ghost use Rattle.lnbd_link.specs.Count.{Rises};
+ghost use Rattle.lnbd_link.specs.Count.{Rises, patience};
 ghost use Rattle.lnbd_link.specs.Part.{Adds};
 ghost use Rattle.lnbd_standing.specs.Standing.{StandsFor};
 ghost use Rattle.lnbd_waits.specs.Begun.{base_allocation, begins, begun};
-ghost use Rattle.lnbd_waits.specs.Waits.{Holds, patience};
+ghost use Rattle.lnbd_waits.specs.Waits.{Holds};
 ghost use Rattle.lnbd_dump.specs.Conduct.{Dumped, IfLink, IfSilent};
 ghost use Rattle.lnbd_dump.specs.Ends.{Conversed, DumpedAll, DumpedOn, IsShort};
 ghost use Rattle.lnbd_dump.specs.Heard.{kept};
@@ -50,6 +50,7 @@ fn converse<W: Wires, O: Sink>(
     ensures faults { W.faults wires.old ≤ W.faults wires.new }
     ensures idles { W.idles wires.old ≤ W.idles wires.new }
     ensures later { O.faults out.old ≤ O.faults out.new }
+    ensures well { OnOk result (O.faults out.new ≡ O.faults out.old) }
 {
     let talked = talk(
         alloc,
@@ -106,6 +107,7 @@ fn dump_on<W: Wires, O: Sink>(
     ensures faults { W.faults wires.old ≤ W.faults wires.new }
     ensures idles { W.idles wires.old ≤ W.idles wires.new }
     ensures later { O.faults out.old ≤ O.faults out.new }
+    ensures well { OnOk result (O.faults out.new ≡ O.faults out.old) }
 {
     let mut world = Latest::new(alloc);
     let mut handles = Handles::new(alloc);
@@ -153,6 +155,7 @@ fn dial<W: Wires, O: Sink>(
     ensures faults { W.faults wires.old ≤ W.faults wires.new }
     ensures idles { W.idles wires.old ≤ W.idles wires.new }
     ensures later { O.faults out.old ≤ O.faults out.new }
+    ensures well { OnOk result (O.faults out.new ≡ O.faults out.old) }
 {
     let start = Counts {
         faults: wires.faults(),
@@ -232,6 +235,7 @@ pub fn dump<W: Wires, O: Sink>(
     ensures faults { W.faults wires.old ≤ W.faults wires.new }
     ensures idles { W.idles wires.old ≤ W.idles wires.new }
     ensures later { O.faults out.old ≤ O.faults out.new }
+    ensures well { OnOk result (O.faults out.new ≡ O.faults out.old) }
 {
     match open_for(alloc, place) {
         Ok(handle) => dial(alloc, handle, wires, place, offset, length, out),

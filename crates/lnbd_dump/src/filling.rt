@@ -1,6 +1,6 @@
 //! Parts of a range are begun, sixteen at a time. What they tell is no matter here.
 
-ghost use Rattle.std.specs.Prelude.{◌≡◌, ◌≤◌, ◌<◌, ◌+◌, ◌^◌, ℕ, IfOk, OnErr, OnOk, Some, length, min, slice_get};
+ghost use Rattle.std.specs.Prelude.{◌≡◌, ◌≤◌, ◌<◌, ◌+◌, ◌^◌, ℕ, IfOk, OnErr, OnOk, Some, length, slice_get};
 ghost use Rattle.lnbd_poll.specs.Seen.{Seen};
 ghost use Rattle.lnbd_waits.specs.Waits.{Holds};
 ghost use Rattle.lnbd_dump.specs.Filling.{AreInOrder, BeginsPart, Continues, FollowEach, IsLeft};
@@ -19,12 +19,6 @@ use std::alloc::Global;
 
 /// How many parts are under way at once.
 const AHEAD: usize = 16;
-
-fn smaller(a: u64, b: u64) -> u64
-    ensures { result ≡ min a b }
-{
-    if a <= b { a } else { b }
-}
 
 /// The next part of a run: all of it where it was told as zero, else a piece that is asked for.
 fn part_of(
@@ -49,7 +43,7 @@ fn part_of(
             cookie: None,
         });
     }
-    let length = smaller(plan.piece, run.end - plan.at);
+    let length = plan.piece.min(run.end - plan.at);
     match ask_read(alloc, handles, world, plan.at, length) {
         Ok(cookie) => Ok(Part {
             start: plan.at,

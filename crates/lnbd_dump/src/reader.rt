@@ -23,7 +23,8 @@ pub(crate) struct Latest {
     pub(crate) short: bool,
 }
 
-fn is_allocation(name: &[u8]) -> bool
+/// Whether this is the name of base:allocation.
+pub(crate) fn is_allocation(name: &[u8]) -> bool
     ensures { result ≡ bytes_eq name.now base_allocation }
 {
     name == b"base:allocation".as_slice()

@@ -2,10 +2,10 @@
 
 ghost use Rattle.std.specs.Prelude.{◌≡◌, ◌<◌, ◌≤◌, ◌+◌, ◌-◌, ◌^◌, ◌++◌, [], ℕ, IfNone, IfOk, OnOk, Err, length, take, drop, replicate, option_to_list};
 ghost use Rattle.lnbd_link.specs.Contents.{Keeps};
-ghost use Rattle.lnbd_link.specs.Count.{Rises};
+ghost use Rattle.lnbd_link.specs.Count.{Rises, patience};
 ghost use Rattle.lnbd_hexdump.specs.Said.{Fed, reach};
 ghost use Rattle.lnbd_poll.specs.Seen.{Seen};
-ghost use Rattle.lnbd_waits.specs.Waits.{Holds, patience};
+ghost use Rattle.lnbd_waits.specs.Waits.{Holds};
 ghost use Rattle.lnbd_dump.specs.Filling.{AreInOrder, FollowEach};
 ghost use Rattle.lnbd_dump.specs.Leads.{Acts, Comes, GoesTo};
 ghost use Rattle.lnbd_reel.specs.Said.{shown_to};
@@ -19,9 +19,9 @@ use crate::stop::Stop;
 use crate::taking::take_result;
 use crate::turning::next_batch;
 use lnbd_hexdump::Dumper;
-use lnbd_link::{Sink, Wires};
+use lnbd_link::{Sink, Wires, put};
 use lnbd_poll::Handles;
-use lnbd_reel::{Part, Reel, Runs, cut, middle, put};
+use lnbd_reel::{Part, Reel, Runs, cut, middle};
 use lnbd_waits::Halt;
 use std::alloc::Global;
 
@@ -98,6 +98,7 @@ fn show_part<O: Sink>(
     ensures empty { OnOk result (text.new.items ≡ []) }
     ensures output { result ≡ Err Stop.Output → Rises 1 (O.faults out.old) (O.faults out.new) }
     ensures later { O.faults out.old ≤ O.faults out.new }
+    ensures well { OnOk result (O.faults out.new ≡ O.faults out.old) }
     ensures loud { IsLoud result }
 {
     match say(handles, dumper, part, offset, offset + count, text) {
@@ -120,6 +121,7 @@ fn finish<O: Sink>(dumper: &Dumper, text: &mut Vec<u8>, out: &mut O) -> Result<(
     ensures stops { HasNoCause result }
     ensures output { result ≡ Err Stop.Output → Rises 1 (O.faults out.old) (O.faults out.new) }
     ensures later { O.faults out.old ≤ O.faults out.new }
+    ensures well { OnOk result (O.faults out.new ≡ O.faults out.old) }
     ensures loud { IsLoud result }
 {
     match dumper.end(text) {
@@ -199,6 +201,7 @@ pub(crate) fn show<W: Wires, O: Sink>(
     ensures faults { W.faults wires.old ≤ W.faults wires.new }
     ensures idles { W.idles wires.old ≤ W.idles wires.new }
     ensures later { O.faults out.old ≤ O.faults out.new }
+    ensures well { OnOk result (O.faults out.new ≡ O.faults out.old) }
 {
     let mut text = Vec::new(alloc);
     let mut reel = Reel::new(alloc);

@@ -1,10 +1,10 @@
 //! The conversation on a link: negotiation, the range, and the end.
 
-ghost use Rattle.std.specs.Prelude.{◌≡◌, ◌≤◌, ◌<◌, ◌^◌, IfOk, Err, not, true};
+ghost use Rattle.std.specs.Prelude.{◌≡◌, ◌≤◌, ◌<◌, ◌^◌, IfOk, IsOk, OnOk, Err, not, true};
 ghost use Rattle.lnbd_link.specs.Contents.{Keeps};
-ghost use Rattle.lnbd_link.specs.Count.{Rises};
+ghost use Rattle.lnbd_link.specs.Count.{Rises, patience};
 ghost use Rattle.lnbd_poll.specs.Seen.{Seen};
-ghost use Rattle.lnbd_waits.specs.Waits.{Holds, patience};
+ghost use Rattle.lnbd_waits.specs.Waits.{Holds};
 ghost use Rattle.lnbd_dump.specs.Leads.{Comes};
 ghost use Rattle.lnbd_reel.specs.Ranges.{Covers};
 ghost use Rattle.lnbd_dump.specs.Talks.{EndsAs, Reads, ShowsSpan, is_parting};
@@ -60,6 +60,7 @@ fn show_span<W: Wires, O: Sink>(
     ensures faults { W.faults wires.old ≤ W.faults wires.new }
     ensures idles { W.idles wires.old ≤ W.idles wires.new }
     ensures later { O.faults out.old ≤ O.faults out.new }
+    ensures well { OnOk result (O.faults out.new ≡ O.faults out.old) }
 {
     if span.count == 0 {
         return Ok(0);
@@ -97,6 +98,7 @@ fn read<W: Wires, O: Sink>(
     ensures faults { W.faults wires.old ≤ W.faults wires.new }
     ensures idles { W.idles wires.old ≤ W.idles wires.new }
     ensures later { O.faults out.old ≤ O.faults out.new }
+    ensures well { OnOk result (O.faults out.new ≡ O.faults out.old) }
 {
     if let Err(stop) = await_all(handles, wires, world, start) {
         return Err(stop);
@@ -118,7 +120,8 @@ fn read<W: Wires, O: Sink>(
 
 /// What comes of it where the end was waited for so, and the handle then is in this state.
 fn end_of(read: Result<u64, Stop>, written: Result<(), Halt>, at: State) -> Result<u64, Stop>
-    ensures { EndsAs read written at result }
+    ensures ends { EndsAs read written at result }
+    ensures read { OnOk result (IsOk read) }
 {
     match read {
         Err(stop) => Err(stop),
@@ -152,6 +155,7 @@ pub(crate) fn talk<W: Wires, O: Sink>(
     ensures faults { W.faults wires.old ≤ W.faults wires.new }
     ensures idles { W.idles wires.old ≤ W.idles wires.new }
     ensures later { O.faults out.old ≤ O.faults out.new }
+    ensures well { OnOk result (O.faults out.new ≡ O.faults out.old) }
 {
     let end = read(alloc, handles, wires, world, offset, length, out, start);
     if is_parting(end) {

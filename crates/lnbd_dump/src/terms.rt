@@ -1,54 +1,32 @@
 //! What is known of the export once negotiation came to a stand, and what is asked of it then.
 
-ghost use Rattle.std.specs.Prelude.{◌≡◌, ◌≤◌, ◌<◌, ◌+◌, ◌^◌, [], IfOk, bytes_eq, length, if◌then◌else◌};
+ghost use Rattle.std.specs.Prelude.{◌≡◌, ◌≤◌, ◌<◌, ◌+◌, ◌^◌, [], IfOk, length, if◌then◌else◌};
 ghost use Rattle.std.specs.Option.{option_copied};
-ghost use Rattle.lnbd_history.specs.Refusals.{minimum, payload_limit};
+ghost use Rattle.lnbd_history.specs.Refusals.{payload_limit};
 ghost use Rattle.lnbd_poll.specs.Seen.{Seen};
-ghost use Rattle.lnbd_waits.specs.Begun.{base_allocation};
 ghost use Rattle.lnbd_waits.specs.Waits.{Holds};
-ghost use Rattle.lnbd_dump.specs.Conduct.{is_agreed, least_block, whole_blocks};
+ghost use Rattle.lnbd_ask.specs.Maps.{least_block};
+ghost use Rattle.lnbd_dump.specs.Conduct.{is_agreed, whole_blocks};
 ghost use Rattle.lnbd_dump.specs.Terms.{AreTerms, BeginsWith, IsKnown, IsKnownAt, IsSpan};
 ghost use Rattle.lnbd_dump.specs.Showing.{HasNoCause};
 ghost use Rattle.lnbd_dump.specs.Stops.{IsPlain};
 ghost use Rattle.lnbd_dump.specs.declared.reader.Reader.{Reader as Calls};
 
 use crate::asking::Plan;
-use crate::reader::Reader;
+use crate::reader::{Reader, is_allocation};
 use crate::stop::Stop;
+use lnbd_ask::{SIZE_END, least_block};
 use lnbd_model::{Blocks, Breach, Context, ExportInfo, State};
 use lnbd_poll::Handles;
 use lnbd_reel::{Misfit, Run, Runs, Span, span_of};
 use lnbd_waits::Halt;
 use std::alloc::Global;
 
-/// The largest least block (NBD protocol, "Block size constraints").
-const MAX_MINIMUM_BLOCK: u32 = 65_536;
-
 /// The most bytes of one read.
 const MAX_PIECE: u64 = 262_144;
 
 /// The most bytes of a read of an export that tells no largest block.
 const MAX_DATA: u32 = 33_554_432;
-
-/// The first size that no export has (libnbd: sizes are below 2^63).
-const SIZE_END: u64 = 1 << 63;
-
-/// The least block of an export of which this was told.
-fn least_block(told: Option<Blocks>) -> u64
-    ensures value { result ≡ least_block (minimum told) }
-    ensures some { (0 < result) × (result ≤ 65536) }
-{
-    match told {
-        Some(blocks) => {
-            if 0 < blocks.minimum && blocks.minimum <= MAX_MINIMUM_BLOCK {
-                blocks.minimum as u64
-            } else {
-                1
-            }
-        }
-        None => 1,
-    }
-}
 
 /// The most bytes of a read of an export of which this was told.
 fn limit_of(told: Option<Blocks>) -> u64
@@ -77,12 +55,6 @@ fn whole_blocks(block: u64, size: u64) -> u64
         return block;
     }
     size - size % block
-}
-
-fn is_allocation(name: &[u8]) -> bool
-    ensures { result ≡ bytes_eq name.now base_allocation }
-{
-    name == b"base:allocation".as_slice()
 }
 
 /// Whether base:allocation is agreed.

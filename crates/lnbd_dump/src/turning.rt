@@ -1,10 +1,10 @@
 //! What is awaited of the handle, and what is asked of blocks before they are read.
 
-ghost use Rattle.std.specs.Prelude.{◌≡◌, ◌≤◌, ◌<◌, ◌+◌, ◌^◌, [], ℕ, IfOk, OnOk, Err, length, min};
+ghost use Rattle.std.specs.Prelude.{◌≡◌, ◌≤◌, ◌<◌, ◌+◌, ◌^◌, [], ℕ, IfOk, OnOk, Err, length};
 ghost use Rattle.lnbd_link.specs.Contents.{Keeps};
-ghost use Rattle.lnbd_link.specs.Count.{Rises};
+ghost use Rattle.lnbd_link.specs.Count.{Rises, patience};
 ghost use Rattle.lnbd_poll.specs.Seen.{Seen};
-ghost use Rattle.lnbd_waits.specs.Waits.{Holds, patience};
+ghost use Rattle.lnbd_waits.specs.Waits.{Holds};
 ghost use Rattle.lnbd_dump.specs.Filling.{AreInOrder, Continues, FollowEach, Learns};
 ghost use Rattle.lnbd_dump.specs.Leads.{GoesTo, GoesQuietly};
 ghost use Rattle.lnbd_dump.specs.Stops.{HasEnd, HasStop, IsDry, IsPlain, is_failed};
@@ -25,12 +25,6 @@ use std::alloc::Global;
 
 /// The most bytes of which the status is asked at once.
 const MAX_ASKED: u64 = 134_217_728;
-
-fn smaller(a: u64, b: u64) -> u64
-    ensures { result ≡ min a b }
-{
-    if a <= b { a } else { b }
-}
 
 /// What the wires answer is awaited until negotiation came to a stand and nothing is in flight.
 pub(crate) fn await_all<W: Wires>(
@@ -121,7 +115,7 @@ fn ask_more<W: Wires>(
     ensures idles { W.idles wires.old ≤ W.idles wires.new }
     ensures dry { IsDry result }
 {
-    let size = smaller(MAX_ASKED, plan.end - plan.at);
+    let size = MAX_ASKED.min(plan.end - plan.at);
     let cookie = match ask_status(handles, world, plan.at, size) {
         Ok(cookie) => cookie,
         Err(stop) => return Err(stop),

@@ -4,6 +4,7 @@ use Rattle.lnbd_model.specs.declared.note.Note.{Note}
 use Rattle.lnbd_model.specs.declared.export.ExportInfo.{ExportInfo}
 use Rattle.lnbd_model.specs.declared.failure.Failure.{Failure}
 use Rattle.lnbd_model.specs.declared.state.State.{State}
+use Rattle.lnbd_model.specs.declared.kind.Kind.TheVariants.{Read}
 use Rattle.lnbd_callbacks.specs.Calls.{Call}
 use Rattle.lnbd_history.specs.declared.kinds.Completed.{Completed}
 use Rattle.lnbd_history.specs.declared.kinds.Peeked.{Peeked}
@@ -22,7 +23,7 @@ use Rattle.lnbd_handle.specs.declared.issue.IssueFault.{IssueFault}
 use Rattle.lnbd_handle.specs.declared.issue.IssueFault.TheVariants.{NoMemory, Refused}
 use Rattle.lnbd_handle.specs.declared.kinds.Short.{Short}
 use Rattle.lnbd_handle.specs.Completing.{completing}
-use Rattle.lnbd_handle.specs.Issues.{Faults}
+use Rattle.lnbd_handle.specs.Issues.{AddsUnread, Faults, FaultsUnread, with_bytes}
 use Rattle.lnbd_handle.specs.Runs.{Answered}
 use Rattle.lnbd_handle.specs.Histories.{ForEach, Adds, AddsCalls, AddsAnswered, Stays, AddsResult, AddsFault, Closes}
 
@@ -50,6 +51,13 @@ module _ {K : Type 0} where
     pub adds_fault : (command : Command K) (fault : IssueFault K) → Faults steps command fault old new before after → ForEach old (AddsFault steps command fault new before after)
     adds_fault command (NoMemory buf first done) f history stands = stays old new f.3 history stands
     adds_fault command (Refused why buf) f history stands = adds_calls (Refuse command why) (λ before. refl) f.0 f.2 history stands
+
+    pub adds_unread : (count offset : ℕ) (first : Option K) (done : K) (flags : ℕ) (fault : IssueFault K) →
+        FaultsUnread steps count offset first done flags fault old new before after → ForEach old (AddsUnread steps count offset first done flags fault new before after)
+    adds_unread count offset first done flags (NoMemory buf first_back done_back) f history stands bytes size = stays old new f.3 history stands
+    adds_unread count offset first done flags (Refused why buf) f history stands bytes size =
+        let refused = f.1 bytes size in
+        adds_calls (Refuse (with_bytes Read bytes offset first done flags) why) (λ before. refl) refused.0 refused.1 history stands
 
   pub issue_adds : (command : Command K) (old new : Machine K) (result : Result ℕ (IssueFault K)) → HasItsBytes command → OnOk result (refusal_now 1024 old.known command ≡ None) → OnOk result (new ≡ step old (Issue command)) → OnOk result (ForEach old (Adds (Issue command) new))
   issue_adds command old new (Ok cookie) bytes may is = adds (Issue command) old new (λ before. refl) (may, bytes) is

@@ -30,7 +30,7 @@ use Rattle.lnbd_history.specs.Strict.{strict_flags, strict_bounds, strict_zero_s
 use Rattle.lnbd_history.specs.Refusals.{Terms, allowed, allowed_now, bad_flags, by_range, by_state, flag_if, is_aligned, lack_now, minimum, length_limit, payload_limit, range_limit, refuse, refusal, sendable_flags, unsupported}
 use Rattle.lnbd_machine.specs.Machine.{Row, State, Machine, Doing, first_bytes, issued, new_row, refused}
 use Rattle.lnbd_machine.specs.Laws.{IsPartial}
-use Rattle.lnbd_machine.specs.Now.{refusal_now}
+use Rattle.lnbd_machine.specs.Now.{refusal_now, terms_now}
 use Rattle.lnbd_machine.proofs.Partial.{step_partial}
 use Rattle.lnbd_outgoing.specs.declared.piece.Piece.{Piece}
 use Rattle.lnbd_outgoing.specs.declared.piece.Piece.TheVariants.{Whole, Head, Own}
@@ -44,7 +44,7 @@ use Rattle.lnbd_commands.specs.Takes.{Takes}
 use Rattle.lnbd_handle.specs.declared.connection.Connection.{Connection}
 use Rattle.lnbd_handle.specs.declared.issue.IssueFault.{IssueFault}
 use Rattle.lnbd_handle.specs.declared.issue.IssueFault.TheVariants.{NoMemory, Refused}
-use Rattle.lnbd_handle.specs.Issues.{Faults}
+use Rattle.lnbd_handle.specs.Issues.{Faults, FaultsUnread, range_of}
 use Rattle.lnbd_handle.specs.Queued.{pieces_of, parts_of}
 use Rattle.lnbd_handle.specs.Seen.{Stands, AreAhead, IsSound, writes_in, flies_in, waits_in, state_of, machine_of}
 use Rattle.lnbd_handle.proofs.QueuedLemmas.{KeepsUnwritten, ends_among, ends_waits, ends_both, ahead_push, same_pieces, kept_waits, kept_state, kept_sound, rows_keep}
@@ -369,3 +369,15 @@ module _ {K : Type 0} where
     pub faults_partial : (command : Command K) (fault : IssueFault K) (old new : Machine K) (before after : World) → Faults steps command fault old new before after → IsPartial old → IsPartial new
     faults_partial command (NoMemory buf first done) old new before after f p = subst (λ (m : Machine K). IsPartial m) (sym f.3) p
     faults_partial command (Refused reason buf) old new before after f p = subst (λ (m : Machine K). IsPartial m) (sym f.2.machine) (step_partial (Refuse command reason) old tt p)
+
+    -- of a read without a buffer
+    pub faults_unread : (count offset : ℕ) (first : Option K) (done : K) (flags : ℕ) (fault : IssueFault K) (old new : Machine K) (before after : World) →
+        Faults steps (range_of Read count offset first done flags) fault old new before after → FaultsUnread steps count offset first done flags fault old new before after
+    faults_unread count offset first done flags (NoMemory buf first_back done_back) old new before after f = f
+    faults_unread count offset first done flags (Refused reason buf) old new before after f = (
+      f.1,
+      λ bytes size. (
+        subst (λ (n : ℕ). refusal 1024 (terms_now old.known) Read flags offset n ≡ Some reason) (sym size) f.0,
+        record { machine = f.2.machine; world = f.2.world },
+      ),
+    )

@@ -7,7 +7,7 @@ use Rattle.lnbd_model.specs.declared.refusal.Why.TheVariants as why
 use Rattle.lnbd_model.specs.Kind.{has_range}
 use Rattle.lnbd_callbacks.specs.Calls.{Call}
 use Rattle.lnbd_history.specs.Commands.{Command}
-use Rattle.lnbd_history.specs.Events.{Refuse}
+use Rattle.lnbd_history.specs.Events.{History, Refuse}
 use Rattle.lnbd_history.specs.Refusals.{Terms, refuse, bad_flags, by_range, lack_now, unsupported}
 use Rattle.lnbd_machine.specs.Machine.{Machine}
 use Rattle.lnbd_machine.specs.Does.{Does}
@@ -15,7 +15,7 @@ use Rattle.lnbd_machine.specs.Now.{refusal_now}
 use Rattle.lnbd_handle.specs.declared.issue.IssueFault.{IssueFault}
 use Rattle.lnbd_handle.specs.declared.issue.IssueFault.TheVariants.{NoMemory, Refused}
 use Rattle.lnbd_handle.specs.declared.refusals.Terms.{Terms as Judged}
-use Rattle.lnbd_handle.specs.Histories.{max_unretired}
+use Rattle.lnbd_handle.specs.Histories.{AddsFault, max_unretired}
 
 -- the terms by which a command is judged
 abbrev pub seen_terms : Judged → Terms
@@ -87,3 +87,24 @@ module _ {K : Type 0} where
   abbrev pub Faults : {World : Type 0} → (World → List (Call K) → World → Type 0) → Command K → IssueFault K → (old new : Machine K) → (before after : World) → Type 0
   Faults steps command (NoMemory buf first done) old new before after = (buf ≡ command.payload) × (first ≡ command.first) × (done ≡ command.done) × (new ≡ old) × (after ≡ before)
   Faults steps command (Refused why buf) old new before after = (refusal_now max_unretired old.known command ≡ Some why) × (buf ≡ command.payload) × Does steps (Refuse command why) old new before after
+
+  -- A read of so many bytes that has no buffer yet.
+  module _ {World : Type 0} (steps : World → List (Call K) → World → Type 0) where
+    -- whatever the bytes would have been, it is refused for this reason
+    abbrev pub RefusesUnread : (count offset : ℕ) → Option K → K → (flags : ℕ) → Why → (old new : Machine K) → (before after : World) → Type 0
+    RefusesUnread count offset first done flags why old new before after =
+        (bytes : List ℕ) → length bytes ≡ count →
+        (refusal_now max_unretired old.known (with_bytes Read bytes offset first done flags) ≡ Some why) ×
+        Does steps (Refuse (with_bytes Read bytes offset first done flags) why) old new before after
+
+    -- What stands after its fault: the same as after that of a read with a buffer, but that none comes back.
+    abbrev pub FaultsUnread : (count offset : ℕ) → Option K → K → (flags : ℕ) → IssueFault K → (old new : Machine K) → (before after : World) → Type 0
+    FaultsUnread count offset first done flags (NoMemory buf first_back done_back) old new before after =
+        (buf ≡ []) × (first_back ≡ first) × (done_back ≡ done) × (new ≡ old) × (after ≡ before)
+    FaultsUnread count offset first done flags (Refused why buf) old new before after =
+        (buf ≡ []) × RefusesUnread count offset first done flags why old new before after
+
+    -- So a history has a read more that was refused, or nothing has happened.
+    abbrev pub AddsUnread : (count offset : ℕ) → Option K → K → (flags : ℕ) → IssueFault K → (new : Machine K) → (before after : World) → History K → Type 0
+    AddsUnread count offset first done flags fault new before after history =
+        (bytes : List ℕ) → length bytes ≡ count → AddsFault steps (with_bytes Read bytes offset first done flags) fault new before after history

@@ -1,8 +1,9 @@
 //! The calls that issue a command. Each tells the command's cookie: 1, 2, 3 and so on. What issuing and refusing do is not
 //! said here.
 
-ghost use Rattle.std.specs.Prelude.{◌≡◌, ◌≤◌, true, None, Some, IfErr, IfOk, OnOk, vec_len, length};
+ghost use Rattle.std.specs.Prelude.{◌≡◌, ◌≤◌, true, None, Some, IfErr, IfOk, List, OnOk, ℕ, vec_len, length};
 ghost use Rattle.lnbd_model.specs.Kind.{is_read};
+ghost use Rattle.lnbd_model.specs.declared.kind.Kind.TheVariants.{Read};
 ghost use Rattle.lnbd_history.specs.Events.{Issue};
 ghost use Rattle.lnbd_history.specs.Laws.{HasItsBytes};
 ghost use Rattle.lnbd_machine.specs.Machine.{step};
@@ -10,8 +11,8 @@ ghost use Rattle.lnbd_machine.specs.Now.{refusal_now};
 ghost use Rattle.lnbd_commands.specs.Asks.{command_of};
 ghost use Rattle.lnbd_handle.specs.Held.{held_in};
 ghost use Rattle.lnbd_handle.specs.Room.{IsKept};
-ghost use Rattle.lnbd_handle.specs.Histories.{Adds, AddsFault, ForEach, max_unretired};
-ghost use Rattle.lnbd_handle.specs.Issues.{Faults, block_status_of, cache_of, flush_of, range_of, read_of, structured_read_of, trim_of, with_bytes, write_of, zero_of};
+ghost use Rattle.lnbd_handle.specs.Histories.{Adds, AddsFault, ForEach, Stays, max_unretired};
+ghost use Rattle.lnbd_handle.specs.Issues.{AddsUnread, Faults, FaultsUnread, block_status_of, cache_of, flush_of, range_of, read_of, structured_read_of, trim_of, with_bytes, write_of, zero_of};
 
 use crate::handle::Handle;
 use crate::issue::{IssueFault, handed_back, issue, refuse};
@@ -151,6 +152,36 @@ impl<K: Caller> Handle<K> {
     {
         let asked = with_bytes(Kind::Read, buf, offset, Some(chunk), done, flags);
         self.issue(asked, world)
+    }
+
+    /// Refuses a read of so many bytes as its issue would, before there is a buffer for it: who fills a buffer for each read
+    /// asks this first. `Ok`: no rule refuses it now, its callbacks come back, and nothing has changed. `Err`: as of its issue,
+    /// with no bytes in the buffer.
+    pub fn refuse_read(
+        &mut self,
+        count: u64,
+        offset: u64,
+        first: Option<K>,
+        done: K,
+        flags: u32,
+        world: &mut K::World,
+    ) -> Result<(Option<K>, K), IssueFault<K>>
+        ensures back { IfOk result (λ back. back ≡ (first, done)) }
+        ensures accepted { OnOk result ((bytes : List ℕ) → length bytes ≡ count → refusal_now max_unretired self.old.machine.known (with_bytes Read bytes offset first done flags) ≡ None) }
+        ensures ok { OnOk result (self.new ≡ self.old) }
+        ensures ok_world { OnOk result (world.new ≡ world.old) }
+        ensures faults { IfErr result (λ fault. FaultsUnread K.steps count offset first done flags fault self.old.machine self.new.machine world.old world.new) }
+        ensures stands { OnOk result (ForEach self.old.machine (Stays self.new.machine)) }
+        ensures fault_stands { IfErr result (λ fault. ForEach self.old.machine (AddsUnread K.steps count offset first done flags fault self.new.machine world.old world.new)) }
+    {
+        let terms = self.connection.terms();
+        match terms.refusal(Kind::Read, flags, offset, count) {
+            Some(why) => {
+                let asked = self.with_range(Kind::Read, count, offset, first, done, flags);
+                Err(refuse(&mut self.connection, world, asked, why))
+            }
+            None => Ok((first, done)),
+        }
     }
 
     /// Writes the bytes of the buffer from this offset on (libnbd, nbd_aio_pwrite). They go out from the buffer, which

@@ -9,6 +9,7 @@ use Rattle.std.proofs.lemmas.List.Elements.{All-set}
 use Rattle.lnbd_link.specs.declared.left.ReadAnswer.{ReadAnswer}
 use Rattle.lnbd_link.specs.Call.{Call, Ended}
 use Rattle.lnbd_link.specs.Connects.{is_connect, connects}
+use Rattle.lnbd_link.specs.Failed.{failed}
 use Rattle.lnbd_link.specs.Left.{LinkLeft, reads_left}
 use Rattle.lnbd_link.specs.Listed.{Listed, told_by, has_failed, has_room, kept, lost, after, no_link, with_read, with_write, answer_read, answer_write, next_link}
 use Rattle.lnbd_link.specs.Numbers.{gives, is_given, open_by, is_open}
@@ -20,7 +21,7 @@ use Rattle.lnbd_link.specs.declared.wires.Accepted.TheVariants as accepted
 use Rattle.lnbd_inbound.specs.Inbound.{lets_in, let_in, next_accept, next_listener}
 use Rattle.lnbd_inbound.specs.Retold.{told_as, retold, seen, added}
 use Rattle.lnbd_inbound.specs.Standing.{Standing, Ready, Willing, listened}
-use Rattle.lnbd_inbound.proofs.RetoldLemmas.{retold_open, retold_given, retold_call, retold_mark}
+use Rattle.lnbd_inbound.proofs.RetoldLemmas.{retold_open, retold_given, retold_failed, retold_call, retold_mark}
 
 -- Marks.
 
@@ -280,6 +281,10 @@ module _ (ms : List Mark) (w : Listed) (calls : List Call) (told : told_by (seen
   -- what was not given beneath is not given
   pub fresh_told : (n : ℕ) → ((cs : List Call) → told_by w ≡ Some cs → is_given n cs ≡ false) → is_given n calls ≡ false
   fresh_told n fresh = ap (λ cs. is_given n cs) (sym calls_are) ∙ retold_given n ms w.calls ∙ fresh w.calls beneath
+
+  -- a fact of how many failed beneath is one of how many failed
+  pub failed_told : (P : ℕ → Type 0) → ((cs : List Call) → told_by w ≡ Some cs → P (failed cs)) → P (failed calls)
+  failed_told P fact = subst P (sym (retold_failed ms w.calls) ∙ ap failed calls_are) (fact w.calls beneath)
 
   -- what is not hears is not hears beneath
   pub open_told : (n : ℕ) (P : Type 0) → ((cs : List Call) → told_by w ≡ Some cs → is_open n cs ≡ false → P) → is_open n calls ≡ false → P

@@ -67,6 +67,12 @@ SourceFailed source.Failed = Unit {0}
 SourceFailed source.End = ⊥
 SourceFailed (source.Bytes n) = ⊥
 
+-- a fact unless the source failed
+abbrev pub UnlessFailed : SourceGot → Type 0 → Type 0
+UnlessFailed (source.Bytes n) P = P
+UnlessFailed source.End P = P
+UnlessFailed source.Failed P = Unit {0}
+
 -- the bytes that a source gave, at the front of the slice
 abbrev pub sourced_of : SourceGot → List ℕ → List ℕ
 sourced_of (source.Bytes n) into = take n into

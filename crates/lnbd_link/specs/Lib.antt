@@ -4,8 +4,10 @@ pub mod Book
 pub mod Booked
 pub mod Connects
 pub mod Tied
+pub mod Tallied
 pub mod Contents
 pub mod FailAt
+pub mod Failed
 pub mod Kept
 pub mod Left
 pub mod Listed

@@ -40,7 +40,8 @@ impl Book {
     /// A book for so many numbers.
     pub fn new(alloc: Global, numbers: usize, room: usize) -> Result<Book, NoMemory>
         requires { numbers < 2 ^ 32 }
-        ensures { IfOk result (λ book. book ≡ record { calls = []; room = room; numbers = numbers }) }
+        ensures state { IfOk result (λ book. book ≡ record { calls = []; room = room; numbers = numbers }) }
+        ensures small { IfOk result (λ book. room < 2 ^ 63) }
     {
         let opened = vec![in alloc; false; numbers]?;
         Ok(Book {

@@ -12,13 +12,15 @@ mod list_wires;
 mod log;
 mod sink;
 mod source;
+mod whole;
 mod wires;
 
-pub use count::raised;
+pub use count::{PATIENCE, is_long, raised, rose};
 pub use left::{ListLink, ReadAnswer, WriteAnswer};
 pub use list_sink::ListSink;
 pub use list_source::ListSource;
 pub use list_wires::ListWires;
 pub use sink::{Sink, SinkTook};
 pub use source::{Source, SourceGot};
+pub use whole::{SinkFailed, put};
 pub use wires::{Accepted, Got, Took, Want, WireFailed, Wires};

@@ -67,6 +67,7 @@ impl Sink for ListSink {
         ensures count { IfSunk result (λ n. (0 < n) × (n ≤ length from.now)) }
         ensures faults { self.old.faults ≤ self.new.faults }
         ensures cause { SinkFailed result → Rises 1 self.old.faults self.new.faults }
+        ensures still { IfSunk result (λ n. self.new.faults ≡ self.old.faults) }
         ensures answer { result ≡ sink_answer self.old (length from.now) }
         ensures state { self.new ≡ sink_after self.old from.now }
     {

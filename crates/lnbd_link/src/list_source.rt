@@ -3,7 +3,7 @@
 ghost use Rattle.std.specs.Prelude.{◌≡◌, ◌<◌, ◌≤◌, ℕ, List, Some, [], length};
 ghost use Rattle.lnbd_link.specs.Count.{Rises};
 ghost use Rattle.lnbd_link.specs.Part.{Gives};
-ghost use Rattle.lnbd_link.specs.Answers.{IfSourced, SourceFailed, SourceEnded, sourced_of};
+ghost use Rattle.lnbd_link.specs.Answers.{IfSourced, SourceFailed, SourceEnded, UnlessFailed, sourced_of};
 ghost use Rattle.lnbd_link.specs.Streams.{source_answer, source_after};
 
 use crate::count::{is_call, raised};
@@ -60,6 +60,7 @@ impl Source for ListSource {
         ensures end { SourceEnded result → (bytes : List ℕ) → Some self.old.left ≡ Some bytes → bytes ≡ [] }
         ensures faults { self.old.faults ≤ self.new.faults }
         ensures cause { SourceFailed result → Rises 1 self.old.faults self.new.faults }
+        ensures still { UnlessFailed result (self.new.faults ≡ self.old.faults) }
         ensures answer { result ≡ source_answer self.old (length into.old) }
         ensures state { self.new ≡ source_after self.old (length into.old) }
     {

@@ -36,12 +36,13 @@ pub struct ListWires {
 impl Model for ListWires {
     ghost use Rattle.std.specs.Prelude.{◌≡◌, ◌≤◌, vec_len};
     ghost use Rattle.lnbd_link.specs.Listed.{Listed};
+    ghost use Rattle.lnbd_link.specs.Tallied.{Tallied};
 
     ghost Value = { Listed };
 
     ghost view = { λ a. record { links = a.links.items; calls = a.book.calls; room = a.book.room; telling = a.telling; faults = a.faults; idles = a.idles; step = a.step } };
 
-    ghost invariant = { λ a. (a.book.numbers ≡ vec_len a.links) × (1 ≤ a.step) };
+    ghost invariant = { λ a. (a.book.numbers ≡ vec_len a.links) × (1 ≤ a.step) × Tallied a.book a.telling a.faults };
 }
 
 impl ListWires {

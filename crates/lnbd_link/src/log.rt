@@ -1,7 +1,7 @@
 //! The calls so far, in memory that was taken at the start: no call takes any. Which calls may be made
 //! is no matter here.
 
-ghost use Rattle.std.specs.Prelude.{◌≡◌, ◌<◌, ◌≤◌, ◌+◌, ◌-◌, [], ◌∷◌, ◌++◌, length, sum_by, IfOk, vec_len, vec_capacity};
+ghost use Rattle.std.specs.Prelude.{◌≡◌, ◌<◌, ◌≤◌, ◌+◌, ◌-◌, ◌^◌, [], ◌∷◌, ◌++◌, length, sum_by, IfOk, vec_len, vec_capacity};
 ghost use Rattle.lnbd_link.specs.Call.{read_told, write_told};
 ghost use Rattle.lnbd_link.specs.Call.{Connect, Listen, Accept, Read, Write, Pause, Shut};
 ghost use Rattle.lnbd_link.specs.Room.{text_of, target_len, got_len, took_len};
@@ -39,7 +39,8 @@ impl Model for Log {
 impl Log {
     /// No call, and room for so much.
     pub fn new(alloc: Global, room: usize) -> Result<Log, NoMemory>
-        ensures { IfOk result (λ log. log ≡ ([], room)) }
+        ensures state { IfOk result (λ log. log ≡ ([], room)) }
+        ensures small { IfOk result (λ log. room < 2 ^ 63) }
     {
         Ok(Log {
             kept: Vec::with_capacity(alloc, room)?,

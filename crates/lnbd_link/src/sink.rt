@@ -28,5 +28,6 @@ pub trait Sink {
         ensures taken { Takes (taken self.old) (taken self.new) (sunk_of result from.now) }
         ensures count { IfSunk result (λ n. (0 < n) × (n ≤ length from.now)) }
         ensures faults { faults self.old ≤ faults self.new }
-        ensures cause { SinkFailed result → Rises 1 (faults self.old) (faults self.new) };
+        ensures cause { SinkFailed result → Rises 1 (faults self.old) (faults self.new) }
+        ensures still { IfSunk result (λ n. faults self.new ≡ faults self.old) };
 }

@@ -3,7 +3,7 @@
 ghost use Rattle.std.specs.Prelude.{◌≡◌, ◌<◌, ◌≤◌, ℕ, List, Option, Some, [], length};
 ghost use Rattle.lnbd_link.specs.Count.{Rises};
 ghost use Rattle.lnbd_link.specs.Part.{Gives};
-ghost use Rattle.lnbd_link.specs.Answers.{IfSourced, SourceFailed, SourceEnded, sourced_of};
+ghost use Rattle.lnbd_link.specs.Answers.{IfSourced, SourceFailed, SourceEnded, UnlessFailed, sourced_of};
 
 /// What a source answers.
 #[derive(Clone, Copy, Debug, PartialEq, Eq)]
@@ -31,5 +31,6 @@ pub trait Source {
         ensures count { IfSourced result (λ n. (0 < n) × (n ≤ length into.old)) }
         ensures end { SourceEnded result → (bytes : List ℕ) → left self.old ≡ Some bytes → bytes ≡ [] }
         ensures faults { faults self.old ≤ faults self.new }
-        ensures cause { SourceFailed result → Rises 1 (faults self.old) (faults self.new) };
+        ensures cause { SourceFailed result → Rises 1 (faults self.old) (faults self.new) }
+        ensures still { UnlessFailed result (faults self.new ≡ faults self.old) };
 }

@@ -1,11 +1,12 @@
 //! Links over which bytes move: the trait, its answers and what a pause wants. Which bytes they are
 //! is no matter here.
 
-ghost use Rattle.std.specs.Prelude.{◌≡◌, ◌<◌, ◌≤◌, ℕ, List, Option, Some, true, false, length, IfOk, OnErr};
+ghost use Rattle.std.specs.Prelude.{◌≡◌, ◌<◌, ◌≤◌, ◌^◌, ℕ, List, Option, Some, true, false, length, IfOk, OnErr};
 ghost use Rattle.lnbd_link.specs.Count.{Rises};
 ghost use Rattle.lnbd_link.specs.Part.{Adds};
 ghost use Rattle.lnbd_link.specs.Call.{Call, link_told, read_told, write_told};
 ghost use Rattle.lnbd_link.specs.Call.{Connect, Listen, Accept, Read, Write, Pause, Shut};
+ghost use Rattle.lnbd_link.specs.Failed.{failed};
 ghost use Rattle.lnbd_link.specs.Numbers.{is_given, is_open};
 ghost use Rattle.lnbd_link.specs.Listed.{is_read_fault, is_write_fault};
 ghost use Rattle.lnbd_link.specs.Contents.{Stored, Keeps};
@@ -186,9 +187,11 @@ pub trait Wires {
         ensures faults { faults self.old ≤ faults self.new }
         ensures idles { idles self.old ≤ idles self.new };
 
-    /// The count of failed calls.
+    /// The count of failed calls. Where the calls are told, so many of them failed: fewer than 2 ^ 63, since they stand in memory.
     fn faults(&self) -> u64
-        ensures { result ≡ faults self.now };
+        ensures count { result ≡ faults self.now }
+        ensures tallied { (calls : List Call) → told self.now ≡ Some calls → result ≡ failed calls }
+        ensures few { (calls : List Call) → told self.now ≡ Some calls → failed calls < 2 ^ 63 };
 
     /// The count of waiting.
     fn idles(&self) -> u64

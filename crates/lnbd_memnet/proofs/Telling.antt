@@ -1,8 +1,12 @@
 -- What a call that was played leaves told.
-use Rattle.std.proofs.Common.{◌≡◌, ℕ, ◌≤◌, Bool, true, false, List, [], ◌∷◌, ◌++◌, map, Some, None, refl, ap, sym, subst, ◌∙◌, arith, ◌==◌, if◌then◌else◌}
+use Rattle.std.proofs.Common.{◌≡◌, ℕ, ◌+◌, ◌<◌, ◌≤◌, ◌^◌, Bool, true, false, cond, List, [], ◌∷◌, ◌++◌, length, map, Some, None, refl, ap, sym, subst, ◌∙◌, arith, ◌==◌, if◌then◌else◌}
 use Rattle.std.proofs.lemmas.Bool.Decides.{nat_tests}
+use Rattle.std.proofs.lemmas.List.Sums.{sum_by-append, count_by-le-length}
 use Rattle.lnbd_link.specs.Call.{Call, Connect, Listen, Accept, Read, Write, Pause, Shut, WriteTold, Sent, Full, WriteFault}
 use Rattle.lnbd_link.specs.Contents.{Origin, Keeps, origin_of}
+use Rattle.lnbd_link.specs.Count.{raised_by}
+use Rattle.lnbd_link.specs.Failed.{failed}
+use Rattle.lnbd_link.specs.Listed.{has_failed}
 use Rattle.lnbd_link.specs.Part.{Adds}
 use Rattle.lnbd_export.specs.Export.{TellsTruly}
 use Rattle.lnbd_memnet.specs.declared.hosted.Hosted.{Hosted}
@@ -12,7 +16,7 @@ use Rattle.lnbd_memnet.specs.declared.schedule.Schedule.{Schedule}
 use Rattle.lnbd_memnet.specs.declared.schedule.Step.{Step}
 use Rattle.lnbd_memnet.specs.Network.{Network, AreApart, export_in, hosted_of, stored_of}
 use Rattle.lnbd_memnet.specs.Plays.{Plays, WritesIf, DeliversIf}
-use Rattle.lnbd_memnet.specs.Wires.{Served, None_yet, Then, Came, Steps, told_by, contents_of}
+use Rattle.lnbd_memnet.specs.Wires.{Served, None_yet, Then, Came, Lasts, Steps, told_by, contents_of}
 use Rattle.lnbd_memnet.proofs.Hosting.{hosted_start}
 use Rattle.lnbd_memnet.proofs.Names.{takes_name, origins, origins_set}
 
@@ -94,9 +98,39 @@ came_first served schedule calls network none is apart truly = record {
   played = None_yet calls network none refl;
 }
 
--- What holds of wires holds after a call that was played and told.
-pub held_then : (shorts faults after_faults : ℕ) (calls all : List Call) (before after : Network) (call : Call) → (shorts ≤ faults) × (shorts ≡ 0 → Came calls before) → faults ≤ after_faults →
-    all ≡ calls ++ call ∷ [] → Plays before call after → (shorts ≤ after_faults) × (shorts ≡ 0 → Came all after)
-held_then shorts faults after_faults calls all before after call held more is plays =
-    let few : shorts ≤ faults = held.0 in
-    (omega arith, λ none. came_then calls all before after call (held.1 none) plays is)
+counts_then : (calls : List Call) (call : Call) (faults after : ℕ) → after ≡ (if has_failed call then raised_by 1 faults else faults) → faults ≡ raised_by (failed calls) 0 → after ≡ raised_by (failed (calls ++ call ∷ [])) 0
+counts_then calls call faults after rises was = by (has_failed call) refl
+  where
+    more : failed (calls ++ call ∷ []) ≡ failed calls + (0 + cond (has_failed call) 1 0)
+    more = sum_by-append (λ (c : Call). cond (has_failed c) 1 0) calls (call ∷ [])
+
+    by : (b : Bool) → has_failed call ≡ b → after ≡ raised_by (failed (calls ++ call ∷ [])) 0
+    by true e =
+        let one : failed (calls ++ call ∷ []) ≡ failed calls + (0 + 1) = more ∙ ap (λ b. failed calls + (0 + cond b 1 0)) e in
+        let rose : after ≡ raised_by 1 faults = rises ∙ ap (λ b. if b then raised_by 1 faults else faults) e in
+        omega (arith, one, rose, was)
+    by false e =
+        let none : failed (calls ++ call ∷ []) ≡ failed calls + (0 + 0) = more ∙ ap (λ b. failed calls + (0 + cond b 1 0)) e in
+        let same : after ≡ faults = rises ∙ ap (λ b. if b then raised_by 1 faults else faults) e in
+        omega (arith, none, same, was)
+
+-- What holds of wires holds after a call that was played and told, and counted if it failed.
+pub held_then : (shorts faults after_faults : ℕ) (calls all : List Call) (before after : Network) (call : Call) → (shorts ≤ faults) × (shorts ≡ 0 → Lasts calls before faults) → faults ≤ after_faults →
+    after_faults ≡ (if has_failed call then raised_by 1 faults else faults) → all ≡ calls ++ call ∷ [] → Plays before call after → (shorts ≤ after_faults) × (shorts ≡ 0 → Lasts all after after_faults)
+held_then shorts faults after_faults calls all before after call held more rises is plays =
+    let few : shorts ≤ faults = held.0 in (
+      omega arith,
+      λ none. record {
+        came = came_then calls all before after call (held.1 none).came plays is;
+        counted = counts_then calls call faults after_faults rises (held.1 none).counted ∙ ap (λ (cs : List Call). raised_by (failed cs) 0) (sym is);
+      },
+    )
+
+-- The count is that of the calls that are told.
+pub counted_told : (network : Network) (wires self : Served) (calls : List Call) → wires ≡ self → (wires.shorts ≡ 0 → Lasts wires.calls network wires.faults) → length wires.calls < 2 ^ 63 → told_by self ≡ Some calls →
+    (wires.faults ≡ failed calls) × (failed calls < 2 ^ 63)
+counted_told network wires self calls view lasts short told =
+    let t = telling wires.shorts wires.calls calls (ap told_by view ∙ told) in
+    let counted = (lasts t.0).counted in
+    let most = count_by-le-length has_failed wires.calls in
+    subst (λ (cs : List Call). (wires.faults ≡ failed cs) × (failed cs < 2 ^ 63)) t.1 (omega (arith, counted, most, short), omega (arith, most, short))

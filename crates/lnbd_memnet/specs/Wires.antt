@@ -2,7 +2,8 @@
 use Rattle.std.specs.Prelude.{◌≡◌, ℕ, ◌<◌, ◌≤◌, List, [], ◌∷◌, ◌++◌, map, Option, Some, None, if◌then◌else◌, ◌==◌}
 use Rattle.lnbd_link.specs.Call.{Call}
 use Rattle.lnbd_link.specs.Contents.{Stored}
-use Rattle.lnbd_link.specs.Count.{Rises}
+use Rattle.lnbd_link.specs.Count.{Rises, raised_by}
+use Rattle.lnbd_link.specs.Failed.{failed}
 use Rattle.lnbd_export.specs.Export.{TellsTruly}
 use Rattle.lnbd_memnet.specs.Network.{Network, export_in, AreApart, stored_of}
 use Rattle.lnbd_memnet.specs.Plays.{Plays}
@@ -41,6 +42,11 @@ pub record Came (calls : List Call) (network : Network) : Type 0 where
   pub first : Network
   pub begins : Begins first
   pub played : Played first calls network
+
+-- While memory lasts, the calls were played one after another from the start, and the count of faults has risen by those that failed.
+pub record Lasts (calls : List Call) (network : Network) (faults : ℕ) : Type 0 where
+  pub came : Came calls network
+  pub counted : faults ≡ raised_by (failed calls) 0
 
 -- The call was played, and stands at the end of the transcript, unless memory ran out.
 abbrev pub Steps : Served → Call → Served → Type 0

@@ -1,6 +1,6 @@
 //! The calls so far, each with its bytes. Which calls may be made is not known here.
 
-ghost use Rattle.std.specs.Prelude.{◌≡◌, ◌≤◌, ◌∷◌, ◌++◌, [], None, length, OnOk, OnErr};
+ghost use Rattle.std.specs.Prelude.{◌≡◌, ◌<◌, ◌≤◌, ◌^◌, ◌∷◌, ◌++◌, [], None, length, OnOk, OnErr};
 ghost use Rattle.lnbd_link.specs.Call.{read_told, write_told};
 ghost use Rattle.lnbd_link.specs.Call.{Connect, Listen, Accept, Read, Write, Pause, Shut};
 ghost use Rattle.lnbd_link.specs.declared.wires.Accepted.TheVariants.{Failed};
@@ -71,6 +71,13 @@ impl Log {
             alloc,
             kept: Vec::new(alloc),
         }
+    }
+
+    /// The calls stand in memory.
+    pub fn few(&self)
+        ensures { length self.now < 2 ^ 63 }
+    {
+        let _ = &self.kept;
     }
 
     pub fn connect(&mut self, to: &Target, link: Option<u32>) -> Result<(), NoMemory>

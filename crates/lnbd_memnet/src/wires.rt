@@ -39,13 +39,13 @@ pub struct ServedWires {
 
 impl Model for ServedWires {
     ghost use Rattle.std.specs.Prelude.{◌≡◌, ◌≤◌};
-    ghost use Rattle.lnbd_memnet.specs.Wires.{Served as Kept, Came};
+    ghost use Rattle.lnbd_memnet.specs.Wires.{Served as Kept, Lasts};
 
     ghost Value = { Kept };
 
     ghost view = { λ a. record { network = a.network; calls = a.log; shorts = a.shorts; faults = a.faults; idles = a.idles } };
 
-    ghost invariant = { λ a. (a.shorts ≤ a.faults) × (a.shorts ≡ 0 → Came a.log a.network) };
+    ghost invariant = { λ a. (a.shorts ≤ a.faults) × (a.shorts ≡ 0 → Lasts a.log a.network a.faults) };
 }
 
 impl ServedWires {
@@ -404,6 +404,7 @@ impl Wires for ServedWires {
     }
 
     fn faults(&self) -> u64 {
+        self.log.few();
         self.faults
     }
 

@@ -3,6 +3,7 @@ pub mod Held
 pub mod Lends
 pub mod Notices
 pub mod Seen
+pub mod States
 pub mod Steps
 pub mod Still
 pub mod Turned

@@ -5,8 +5,7 @@ use Rattle.lnbd_hexdump.specs.Dump.{dump}
 use Rattle.lnbd_hexdump.specs.Said.{Ends, Fed, IsFront, Kept, Stands, said}
 use Rattle.lnbd_hexdump.proofs.EndLemmas.{said_front}
 use Rattle.std.specs.Prelude.{Option, Result, Ok, Err, OnOk, replicate}
-use Rattle.lnbd_link.specs.Part.{Takes}
-use Rattle.lnbd_reel.specs.Output.{TakesFront}
+use Rattle.lnbd_link.specs.Part.{Takes, TakesFront}
 use Rattle.lnbd_reel.specs.Said.{AreTold, IsSaid, SaysMore, Shown, ShownPart, shown_to}
 use Rattle.lnbd_link.proofs.Parts.{takes_on}
 
@@ -78,7 +77,7 @@ part_cut told offset count at kept front text taken taken' taken'' is takes cut 
   text = front ++ cut.front;
   takes = takes_on taken taken' taken'' front cut.front takes cut.takes;
   front = λ more fits. cut_front front cut.front cut.rest (dump offset (is.bytes ++ more))
-      (subst (λ (t : List ℕ). IsFront (front ++ t) (dump offset (is.bytes ++ more))) cut.whole (front_is offset is.bytes (front ++ text) more is.said_is));
+      (subst (λ (t : List ℕ). IsFront (front ++ t) (dump offset (is.bytes ++ more))) cut.split (front_is offset is.bytes (front ++ text) more is.said_is));
 }
 
 -- the end
@@ -114,7 +113,7 @@ part_all_cut told offset count at kept front text taken taken' taken'' is far en
       let whole : front ++ text ≡ dump offset is.bytes = whole_is offset is.bytes front text kept is.said_is is.stands ends in
       subst (λ (m : List ℕ). IsFront (front ++ cut.front) (dump offset (is.bytes ++ m))) (sym none)
       (subst (λ (b : List ℕ). IsFront (front ++ cut.front) (dump offset b)) (sym (append-nil is.bytes))
-      (record { rest = cut.rest; is = sym whole ∙ ap (λ (t : List ℕ). front ++ t) cut.whole ∙ sym (append_assoc front cut.front cut.rest) })));
+      (record { rest = cut.rest; is = sym whole ∙ ap (λ (t : List ℕ). front ++ t) cut.split ∙ sym (append_assoc front cut.front cut.rest) })));
 }
 
 -- ---- one part

@@ -17,8 +17,10 @@ ZerosAreSpared block zero start runs to = AreSpared (IsInWhole block (λ p. zero
 
 -- Whatever was laid up to here, what was laid then goes up to there; and blocks that are spared are so still.
 pub record PushesRun (runs : List Run) (from end : ℕ) (is_zero : Bool) (runs' : List Run) : Type 0 where
-  pub lays : (zero : ℕ → Bool) (start : ℕ) → AreRuns (λ p. zero p ≡ true) start runs from → (is_zero ≡ true → (p : ℕ) → from ≤ p → p < end → zero p ≡ true) → AreRuns (λ p. zero p ≡ true) start runs' end
-  pub spares : (block : ℕ) (zero : ℕ → Bool) (start : ℕ) → ZerosAreSpared block zero start runs from → (is_zero ≡ false → (p : ℕ) → from ≤ p → p < end → IsInWhole block (λ q. zero q ≡ true) p → ⊥) → ZerosAreSpared block zero start runs' end
+  pub lays : (zero : ℕ → Bool) (start : ℕ) → AreRuns (λ p. zero p ≡ true) start runs from
+      → (is_zero ≡ true → (p : ℕ) → from ≤ p → p < end → zero p ≡ true) → AreRuns (λ p. zero p ≡ true) start runs' end
+  pub spares : (block : ℕ) (zero : ℕ → Bool) (start : ℕ) → ZerosAreSpared block zero start runs from
+      → (is_zero ≡ false → (p : ℕ) → from ≤ p → p < end → IsInWhole block (λ q. zero q ≡ true) p → ⊥) → ZerosAreSpared block zero start runs' end
 
 -- No position of a block that is zero wholly is to be read so far, nor lies between there and the zeros at the end, before which there is none.
 pub record Spares (block : ℕ) (zero : ℕ → Bool) (start : ℕ) (laying : Laying) (runs : List Run) : Type 0 where
@@ -30,7 +32,8 @@ pub record Spares (block : ℕ) (zero : ℕ → Bool) (start : ℕ) (laying : La
 pub record LaysOn (laying : Laying) (block : ℕ) (runs : List Run) (laid : ℕ) (runs' : List Run) : Type 0 where
   pub up : laying.laid ≤ laid
   pub within : laid ≤ laying.at
-  pub lays : (zero : ℕ → Bool) (start : ℕ) → AreRuns (λ p. zero p ≡ true) start runs laying.laid → ((p : ℕ) → laying.zeros ≤ p → p < laying.at → zero p ≡ true) → AreRuns (λ p. zero p ≡ true) start runs' laid
+  pub lays : (zero : ℕ → Bool) (start : ℕ) → AreRuns (λ p. zero p ≡ true) start runs laying.laid
+      → ((p : ℕ) → laying.zeros ≤ p → p < laying.at → zero p ≡ true) → AreRuns (λ p. zero p ≡ true) start runs' laid
   pub spares : (zero : ℕ → Bool) (start : ℕ) → Spares block zero start laying runs → zero laying.at ≡ false
       → ZerosAreSpared block zero start runs' laid × ((p : ℕ) → laid ≤ p → p < laying.at → IsInWhole block (λ q. zero q ≡ true) p → ⊥)
 
@@ -42,4 +45,5 @@ pub record LaysOne (laying : Laying) (extent : Extent) (end block : ℕ) (runs :
   pub lays : (zero : ℕ → Bool) (start : ℕ) → AreRuns (λ p. zero p ≡ true) start runs laying.laid → ((p : ℕ) → laying.zeros ≤ p → p < laying.at → zero p ≡ true)
       → (has_bit state_zero extent.flags ≡ true → (p : ℕ) → laying.at ≤ p → p < next.at → zero p ≡ true)
       → AreRuns (λ p. zero p ≡ true) start runs' next.laid × ((p : ℕ) → next.zeros ≤ p → p < next.at → zero p ≡ true)
-  pub spares : (zero : ℕ → Bool) (start : ℕ) → Spares block zero start laying runs → (has_bit state_zero extent.flags ≡ false → (p : ℕ) → laying.at ≤ p → p < next.at → zero p ≡ false) → Spares block zero start next runs'
+  pub spares : (zero : ℕ → Bool) (start : ℕ) → Spares block zero start laying runs
+      → (has_bit state_zero extent.flags ≡ false → (p : ℕ) → laying.at ≤ p → p < next.at → zero p ≡ false) → Spares block zero start next runs'

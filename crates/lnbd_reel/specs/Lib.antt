@@ -1,5 +1,4 @@
 pub mod Ranges
 pub mod Reel
 pub mod Laying
-pub mod Output
 pub mod Said

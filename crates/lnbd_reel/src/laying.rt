@@ -1,6 +1,6 @@
 //! What was told of blocks is laid out as runs: whole blocks that were told as zero, and what is to be read between them.
 
-ghost use Rattle.std.specs.Prelude.{◌≡◌, ◌≤◌, ◌<◌, ◌+◌, ◌-◌, ◌/◌, ◌^◌, [], ℕ, IfOk, OnOk, min, true};
+ghost use Rattle.std.specs.Prelude.{◌≡◌, ◌≤◌, ◌<◌, ◌+◌, ◌-◌, ◌/◌, ◌^◌, [], ℕ, IfOk, OnOk, true};
 ghost use Rattle.lnbd_asked.specs.Transcript.{state_zero, zero_in};
 ghost use Rattle.lnbd_records.specs.Numbers.{has_bit};
 ghost use Rattle.lnbd_reel.specs.Laying.{LaysOn, LaysOne, PushesRun, ZerosAreSpared, zero_among};
@@ -79,12 +79,6 @@ fn close(runs: &mut Runs, laying: Laying, block: u64) -> Result<u64, AllocError>
     Ok(last)
 }
 
-fn smaller(a: u64, b: u64) -> u64
-    ensures { result ≡ min a b }
-{
-    if a <= b { a } else { b }
-}
-
 /// Goes on by one extent.
 fn lay_one(
     runs: &mut Runs,
@@ -97,7 +91,7 @@ fn lay_one(
     requires order { (laying.laid ≤ laying.zeros) × (laying.zeros ≤ laying.at) × (laying.at ≤ end) × (end ≤ 2 ^ 63) }
     ensures lays { IfOk result (λ next. LaysOne laying extent end block runs.old next runs.new) }
 {
-    let at = laying.at + smaller(extent.length, end - laying.at);
+    let at = laying.at + extent.length.min(end - laying.at);
     if at == laying.at || is_zero(extent.flags) {
         return Ok(Laying {
             at,
@@ -122,7 +116,7 @@ fn told_to(at: u64, laid: u64, from: u64, size: u64, block: u64) -> u64
 {
     let to = down(at, block).max(laid);
     if to == from {
-        return from + smaller(block, size);
+        return from + block.min(size);
     }
     to
 }

@@ -4,12 +4,10 @@
 
 mod cutting;
 mod laying;
-mod output;
 mod ranges;
 mod reel;
 
 pub use cutting::{cut, middle};
 pub use laying::lay;
-pub use output::{SinkFailed, put};
 pub use ranges::{Misfit, Span, span_of};
 pub use reel::{Part, Reel, Run, Runs};

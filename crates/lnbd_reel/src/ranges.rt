@@ -23,7 +23,7 @@ pub struct Span {
     pub last: u64,
 }
 
-/// Where the block ends that has the byte before this place, or `None` where that is past every place.
+/// Where the block ends that has the byte before this place.
 fn block_end(end: u64, block: u64) -> u64
     requires room { (end ≤ 2 ^ 63) × (0 < block) × (block ≤ 65536) }
     ensures { result ≡ block_end block end }

@@ -1,5 +1,6 @@
 -- What the issue of a command leaves, from what the handle answered.
-use Rattle.std.proofs.Common.{arith, ◌≡◌, ◌∙◌, inl, inr, ℕ, List, [], length, vec_len, Option, Some, None, Result, Ok, Err, IfOk, OnErr, refl, sym, ap, subst}
+use Rattle.std.proofs.Common.{arith, ◌≡◌, ◌∙◌, inl, inr, ℕ, List, [], length, replicate, vec_len, Option, Some, None, Result, Ok, Err, IfOk, OnErr, refl, sym, ap, subst}
+use Rattle.std.proofs.Math.ListN.{length-replicate}
 use Rattle.lnbd_model.specs.declared.fault.NoMemory.{NoMemory}
 use Rattle.lnbd_model.specs.declared.refusal.Why.{Why}
 use Rattle.lnbd_history.specs.Commands.{Command}
@@ -23,10 +24,11 @@ use Rattle.lnbd_script.specs.declared.told.Told.TheVariants as told
 use Rattle.std.proofs.lemmas.Bool.{false≢true}
 use Rattle.lnbd_lines.specs.declared.command.Command.TheVariants as command
 use Rattle.lnbd_lines.specs.declared.command.Manner.{Manner}
+use Rattle.lnbd_lines.specs.declared.command.Range.{Range}
 use Rattle.lnbd_script.specs.Kept.{Heeds, Tally, joined, keeper_of}
 use Rattle.lnbd_script.specs.Seen.{Seen, IsAt, adding, issued_in}
 use Rattle.lnbd_script.specs.Lines.{Does as Line_does, HasBytes, Issues, command_of, issue_of}
-use Rattle.lnbd_script.specs.Steps.{Answered, Becomes, Issued, IsWorld, Joins, halted, issue_told}
+use Rattle.lnbd_script.specs.Steps.{Answered, Becomes, Issued, IsWorld, Joins, Judged, Unread, halted, issue_told}
 use Rattle.lnbd_script.proofs.LineLemmas.{quiet, same_at}
 use Rattle.lnbd_script.proofs.SeenLemmas.{add, add_with}
 use Rattle.lnbd_script.proofs.TurnLemmas.{answers_at}
@@ -137,6 +139,55 @@ issue_lacks command old room new heeded (Err (fault.NoMemory buf first done)) sa
   subst (λ (s : Session). IsAt seen s) (after_is (with_room old room) new heeded h.same)
       (subst (λ (w : Heeded). IsAt seen (after_issue (with_room old room) new.handle w)) (sym (joins ∙ h.faults.4)) (same_at seen (with_room old room) new.handle (same_world seen old room at same) h.faults.3)),
 )
+
+-- A read that was judged before there was a buffer: it is refused as one of so many zeros is.
+
+judged : (manner : Manner) (asking : Asked) (bytes : List ℕ) → HasBytes asking bytes → (keeper : Keeper) (number : ℕ) (old new : Session) (why : Why) → keeper ≡ keeper_of number manner → number ≡ vec_len old.heeded.failed
+    → refusal_now 1024 old.handle.machine.known (command_of keeper bytes asking) ≡ Some why → Does Heeds (Refuse (command_of keeper bytes asking) why) old.handle.machine new.handle.machine old.heeded new.heeded
+    → new ≡ record old { handle = new.handle; heeded = new.heeded } → Issued manner asking old new (told.Refused why)
+judged manner asking bytes has keeper number old new why is count may does same =
+    let as_it_was : IsWorld (λ t. t) old.heeded old.heeded = record { tally = refl; hears = refl; heard = refl; freed = refl } in
+    told_as manner asking bytes has keeper number old old.heeded new (Ok (told.Refused why)) is count as_it_was
+    (subst (λ (s : Session). Issued_as (command_of keeper bytes asking) old s (told.Refused why)) (after_is old new new.heeded same)
+    (λ seen at. refused_at seen old new.handle new.heeded (command_of keeper bytes asking) why at may does))
+
+module _ (manner : Manner) (range : Range) (keeper : Keeper) (number : ℕ) (old new : Session) where
+  abbrev zeros : List ℕ
+  zeros = replicate range.length 0
+
+  many : length zeros ≡ range.length
+  many = length-replicate {A = ℕ} range.length 0
+
+  pub judged_read : (result : Result (Option Why) NoMemory) → keeper ≡ keeper_of number manner → number ≡ vec_len old.heeded.failed → Unread None keeper range old new result → IfOk result (λ judged. Judged manner (command.Pread range) old new judged)
+  judged_read (Ok (Some why)) is count unread = let r = unread.0 zeros many in judged manner (command.Pread range) zeros many keeper number old new why is count r.0 r.1 unread.1
+  judged_read (Ok None) is count unread = unread
+  judged_read (Err lacks) is count unread = tt
+
+  pub judged_structured_read : (result : Result (Option Why) NoMemory) → keeper ≡ keeper_of number manner → number ≡ vec_len old.heeded.failed → Unread (Some keeper) keeper range old new result
+      → IfOk result (λ judged. Judged manner (command.PreadStructured range) old new judged)
+  judged_structured_read (Ok (Some why)) is count unread = let r = unread.0 zeros many in judged manner (command.PreadStructured range) zeros many keeper number old new why is count r.0 r.1 unread.1
+  judged_structured_read (Ok None) is count unread = unread
+  judged_structured_read (Err lacks) is count unread = tt
+
+pub unread_lacks : (first : Option Keeper) (done : Keeper) (range : Range) (old new : Session) (result : Result (Option Why) NoMemory) → Unread first done range old new result → OnErr result (Becomes old new (λ before after. after ≡ before))
+unread_lacks first done range old new (Ok judged) unread = tt
+unread_lacks first done range old new (Err lacks) unread = λ seen at. (seen, refl, subst (λ (s : Session). IsAt seen s) (sym unread.1) (same_at seen old new.handle at unread.0))
+
+-- A command that was refused, and one that was not, which is issued from there.
+module _ (manner : Manner) (asking : Asked) (old middle : Session) where
+  pub refused_now : (judged : Option Why) (why : Why) → judged ≡ Some why → Judged manner asking old middle judged → Issued manner asking old middle (told.Refused why)
+  refused_now judged why is = subst (λ (j : Option Why). Judged manner asking old middle j) is
+
+  middle_is : (judged : Option Why) → judged ≡ None → Judged manner asking old middle judged → middle ≡ old
+  middle_is judged is = subst (λ (j : Option Why). Judged manner asking old middle j) is
+
+  pub issued_then : (new : Session) (judged : Option Why) (answer : Result Told NoMemory) → judged ≡ None → Judged manner asking old middle judged
+      → IfOk answer (λ tells. Issued manner asking middle new tells) → IfOk answer (λ tells. Issued manner asking old new tells)
+  issued_then new judged answer is same = subst (λ (s : Session). IfOk answer (λ tells. Issued manner asking s new tells)) (middle_is judged is same)
+
+  pub lacks_then : (new : Session) (judged : Option Why) (answer : Result Told NoMemory) → judged ≡ None → Judged manner asking old middle judged
+      → OnErr answer (Becomes middle new (λ before after. after ≡ before)) → OnErr answer (Becomes old new (λ before after. after ≡ before))
+  lacks_then new judged answer is same = subst (λ (s : Session). OnErr answer (Becomes s new (λ before after. after ≡ before))) (middle_is judged is same)
 
 -- memory ran out before anything was issued
 pub lacks_room : (old new : Session) (room : Heeded) → IsWorld (λ t. t) old.heeded room → new ≡ with_room old room → Becomes old new (λ before after. after ≡ before)

@@ -56,7 +56,8 @@ use Rattle.lnbd_script.specs.Kept.{Heeds, lines_of, or_first, tally_of}
 use Rattle.lnbd_script.specs.KeptLaws.{heeds_none}
 use Rattle.lnbd_script.specs.Seen.{Seen, IsAt, Went, Goes, Follows, adding, callbacks_of}
 use Rattle.lnbd_script.specs.Turns.{is_reading, is_waiting}
-use Rattle.lnbd_script.specs.Lines.{Adds, AddsContext, AsksFor, Hears, TellsHeard, hearing, Connects, ConnectsTo, Disconnects, Does as Line_does, LineEnd, ReadsOn, Sets, SetsStrict, WritesOn, asking, connected, has_all_contexts, is_created, is_opt_mode, is_structured, lacks_structured, named_if, setting_of, taking, told_link}
+use Rattle.lnbd_poll.specs.States.{is_opt_mode}
+use Rattle.lnbd_script.specs.Lines.{Adds, AddsContext, AsksFor, Hears, TellsHeard, hearing, Connects, ConnectsTo, Disconnects, Does as Line_does, LineEnd, ReadsOn, Sets, SetsStrict, WritesOn, asking, connected, has_all_contexts, is_created, is_structured, lacks_structured, named_if, setting_of, taking, told_link}
 use Rattle.lnbd_script.specs.Steps.{Becomes, ReadsOnce, ReadsOnceShort, Takes_option, WritesOnce, halted, option_told}
 use Rattle.lnbd_script.proofs.SeenLemmas.{add, follow, is_plain, met_by}
 use Rattle.lnbd_script.proofs.TurnLemmas.{answers_at, found_at, waits_false, waits_true}

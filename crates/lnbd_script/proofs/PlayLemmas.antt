@@ -8,7 +8,7 @@ use Rattle.lnbd_history.specs.History.{reading}
 use Rattle.lnbd_history.specs.Laws.{AllFreed, is_closed}
 use Rattle.lnbd_history.proofs.Freed.{close_frees_all}
 use Rattle.lnbd_link.specs.Call.{Call}
-use Rattle.lnbd_link.specs.Part.{Grows, Takes}
+use Rattle.lnbd_link.specs.Part.{Grows, Takes, TakesFront}
 use Rattle.lnbd_link.proofs.Parts.{grows_none, grows_on, takes_none, takes_on}
 use Rattle.lnbd_lines.specs.declared.line.Line.{Line}
 use Rattle.lnbd_script.specs.declared.event.Event.{Event}
@@ -29,7 +29,6 @@ use Rattle.lnbd_script.specs.Lines.{LineEnd, shut_calls}
 use Rattle.lnbd_script.specs.Plays.{Plays, Stops, StopsIn, How, Finished, Silent, Untold, Short, HasPlayed, IsTaken, last_line, line_text}
 use Rattle.lnbd_script.specs.Scenes.{AllClosed, Held, IsClosedWell, Scene, admitted_on, beginning, ended_held, ended_if, ending, held_at, shut_all, unused}
 use Rattle.lnbd_script.specs.Steps.{AllPlayed, AreHeld, Begun, Finishes, GoesOver, IsHeld, IsOver, IsSum, LinesPlayed, Shows, Stands, Stopped, current_place, stop_of, stop_unshown}
-use Rattle.lnbd_script.specs.Streams.{TakesFront}
 use Rattle.lnbd_script.specs.Texts.{ended, last_text, text_of}
 use Rattle.lnbd_script.proofs.FreedLemmas.{calls_same}
 use Rattle.lnbd_script.proofs.SceneLemmas.{at_current}
@@ -148,7 +147,7 @@ module _ (lines all rest : List Line) (scene : Scene) (old mid new : Option (Lis
           text = b.text;
           middle = went.after;
           grown = grows_on old mid new b.calls went.calls b.grown went.grown;
-          taken = record { front = front.front; rest = front.rest; split = front.split; taken = takes_on before between after b.text front.front b.taken front.taken };
+          taken = record { front = front.front; rest = front.rest; split = front.split; taken = takes_on before between after b.text front.front b.taken front.takes };
           at = went.at;
           plays = subst (λ (l : List Call). Plays lines scene l b.text (Untold last) e) (sym (append_assoc b.calls went.calls shuts))
               (subst (λ (t : List ℕ). Plays lines scene (b.calls ++ own) t (Untold last) e) (append-nil b.text) (b.goes_on own [] (Untold last) e here));
@@ -290,7 +289,7 @@ module _ (lines : List Line) (old mid new : Option (List Call)) (before between 
       text = b.text ++ [];
       end = e;
       grown = grown_on;
-      taken = record { front = f.front; rest = f.rest; split = f.split; taken = subst (λ (t : List ℕ). Takes before after (t ++ f.front)) (sym (append-nil b.text)) (takes_on before between after b.text f.front b.taken f.taken) };
+      taken = record { front = f.front; rest = f.rest; split = f.split; taken = subst (λ (t : List ℕ). Takes before after (t ++ f.front)) (sym (append-nil b.text)) (takes_on before between after b.text f.front b.taken f.takes) };
       plays = b.goes_on shuts [] (Untold (last_line e)) e ((refl, refl), refl, refl);
       first = tt;
       closed = all_closed b.middle;

@@ -28,7 +28,8 @@ use Rattle.lnbd_script.specs.declared.told.Moved.{Moved as Transfer}
 use Rattle.lnbd_script.specs.declared.told.Moved.TheVariants as moved
 use Rattle.lnbd_script.specs.declared.told.Told.TheVariants as told
 use Rattle.lnbd_script.specs.Seen.{Blames, Counts, Seen, IsAt, Went, Goes, is_link}
-use Rattle.lnbd_script.specs.Turns.{Reads, ReadsShort, Writes, WritesAll, Nothing_waits, Takes_nothing, Fails, Takes_some, ReadsIf, TurnsShort, is_busy, is_negotiating, is_reading, is_waiting, read_call, write_call, stirs}
+use Rattle.lnbd_poll.specs.States.{is_negotiating}
+use Rattle.lnbd_script.specs.Turns.{Reads, ReadsShort, Writes, WritesAll, Nothing_waits, Takes_nothing, Fails, Takes_some, ReadsIf, TurnsShort, is_busy, is_reading, is_waiting, read_call, write_call, stirs}
 use Rattle.lnbd_script.specs.Lines.{told_read, told_write}
 use Rattle.lnbd_script.specs.Steps.{Becomes, ReadsOnce, ReadsOnceShort, WritesOnce, TurnsOnce, got_moved, took_moved, is_busy_now, is_bytes, is_stirring}
 

@@ -17,6 +17,7 @@ use Rattle.lnbd_history.specs.Answers.{state_after, completed_after}
 use Rattle.lnbd_history.specs.Laws.{is_closed, may_name}
 use Rattle.lnbd_history.specs.Refusals.{refusal_after, by_state}
 use Rattle.lnbd_history.specs.Strict.{unknown_bits}
+use Rattle.lnbd_poll.specs.States.{is_opt_mode}
 use Rattle.lnbd_link.specs.Call.{Call, Connect, Shut, ReadTold, WriteTold, Moved, Unready, Ended, ReadFault, Sent, Full, WriteFault}
 use Rattle.lnbd_lines.specs.declared.command.Command.{Command as Asked}
 use Rattle.lnbd_lines.specs.declared.command.Command.TheVariants as command
@@ -162,15 +163,6 @@ WritesOn false link before calls after end = Stays before calls after end (told.
 abbrev pub Sets : Bool → Setting → Seen → List Call → Seen → LineEnd → Type 0
 Sets true setting before calls after end = Adds (adding (Set setting) before) calls after end told.Done
 Sets false setting before calls after end = Stays before calls after end (told.RefusedState (state_after before.history))
-
-abbrev pub is_opt_mode : State → Bool
-is_opt_mode state.Created = false
-is_opt_mode state.Negotiating = false
-is_opt_mode state.OptMode = true
-is_opt_mode state.Ready = false
-is_opt_mode state.Closing = false
-is_opt_mode state.Closed = false
-is_opt_mode (state.Dead cause) = false
 
 -- what a line turns on or off
 abbrev pub setting_of : Switch → Bool → Setting

@@ -11,7 +11,8 @@ use Rattle.lnbd_script.specs.declared.keeper.Keeper.{Keeper}
 use Rattle.lnbd_script.specs.declared.told.Halt.{Halt}
 use Rattle.lnbd_script.specs.declared.told.Halt.TheVariants as halt
 use Rattle.lnbd_script.specs.Scenes.{Held, Scene, held_of, seen_of}
-use Rattle.lnbd_script.specs.Seen.{Seen, patience}
+use Rattle.lnbd_link.specs.Count.{patience}
+use Rattle.lnbd_script.specs.Seen.{Seen}
 use Rattle.lnbd_script.specs.Turns.{Turns, TurnsShort, is_busy, stirs}
 
 -- A handle with a link takes a turn on it. One without has nothing to do.

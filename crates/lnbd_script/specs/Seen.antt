@@ -24,10 +24,6 @@ use Rattle.lnbd_script.specs.declared.session.Session.{Session}
 use Rattle.lnbd_script.specs.Kept.{IsAnswered, Tally, freed_by, joined, lines_of, no_tally, or_first, tallied, tally_of}
 use Rattle.lnbd_handle.specs.Histories.{max_unretired}
 
--- how many waits in vain are borne
-abbrev pub patience : ℕ
-patience = 1000000000
-
 pub record Seen : Type 0 where
   -- the latest happening first
   pub history : History Keeper

@@ -15,10 +15,11 @@ use Rattle.lnbd_script.specs.declared.told.Linked.TheVariants as linked
 use Rattle.lnbd_script.specs.declared.told.Moved.{Moved}
 use Rattle.lnbd_script.specs.declared.told.Moved.TheVariants as moved
 use Rattle.lnbd_model.specs.declared.fault.NoMemory.{NoMemory}
+use Rattle.lnbd_model.specs.declared.refusal.Why.{Why}
 use Rattle.lnbd_history.specs.Events.{Close}
 use Rattle.lnbd_history.specs.History.{asked}
 use Rattle.lnbd_history.specs.Laws.{is_closed}
-use Rattle.lnbd_link.specs.Count.{Rises}
+use Rattle.lnbd_link.specs.Count.{Rises, patience}
 use Rattle.lnbd_link.specs.declared.wires.Want.{Want}
 use Rattle.lnbd_lines.specs.Grammar.{max_handles}
 use Rattle.lnbd_poll.specs.Held.{want_of, with_want}
@@ -29,22 +30,21 @@ use Rattle.lnbd_script.specs.declared.playing.Sum.{Sum}
 use Rattle.lnbd_script.specs.declared.sessions.Sessions.{Sessions}
 use Rattle.lnbd_script.specs.Plays.{How, Finished, Silent, Untold, Short, Plays, HasBeenCut, HasPlayed, IsTaken}
 use Rattle.lnbd_script.specs.Scenes.{Held, Scene, admitted_on, ending, held_of, seen_of, shut_all, unused}
-use Rattle.lnbd_link.specs.Part.{Grows}
+use Rattle.lnbd_link.specs.Part.{Grows, Takes, TakesFront}
 use Rattle.lnbd_lines.specs.declared.line.Line.{Line}
 use Rattle.lnbd_lines.specs.declared.line.Line.TheVariants as line
 use Rattle.lnbd_script.specs.declared.event.Event.{Event}
-use Rattle.lnbd_link.specs.Part.{Takes}
 use Rattle.lnbd_script.specs.declared.playing.Stop.{Stop}
 use Rattle.lnbd_script.specs.declared.playing.Stop.TheVariants as stop
 use Rattle.lnbd_script.specs.declared.playing.Unshown.{Unshown}
 use Rattle.lnbd_script.specs.declared.playing.Unshown.TheVariants as unshown
 use Rattle.lnbd_script.specs.declared.told.Halt.{Halt}
 use Rattle.lnbd_script.specs.declared.told.Halt.TheVariants as halt
-use Rattle.lnbd_script.specs.Streams.{TakesFront}
 use Rattle.lnbd_script.specs.declared.told.Told.{Told}
 use Rattle.lnbd_script.specs.declared.told.Told.TheVariants as told
-use Rattle.lnbd_script.specs.Seen.{Seen, IsAt, patience}
-use Rattle.lnbd_script.specs.Turns.{Reads, ReadsShort, Writes, Turns, is_negotiating, read_call, write_call, stirs}
+use Rattle.lnbd_script.specs.Seen.{Seen, IsAt}
+use Rattle.lnbd_poll.specs.States.{is_negotiating}
+use Rattle.lnbd_script.specs.Turns.{Reads, ReadsShort, Writes, Turns, read_call, write_call, stirs}
 use Rattle.lnbd_model.specs.declared.state.State.TheVariants as state
 use Rattle.lnbd_machine.specs.Machine.{step}
 use Rattle.lnbd_handle.specs.declared.kinds.OptFault.{OptFault}
@@ -54,9 +54,10 @@ use Rattle.lnbd_script.specs.Lines.{IssuesAs, asking, lacks_structured, LineEnd,
 use Rattle.lnbd_history.specs.Commands.{Command}
 use Rattle.lnbd_history.specs.Events.{Issue}
 use Rattle.lnbd_machine.specs.Now.{refusal_now}
-use Rattle.lnbd_handle.specs.Issues.{Faults}
+use Rattle.lnbd_handle.specs.Issues.{Faults, RefusesUnread}
 use Rattle.lnbd_lines.specs.declared.command.Command.{Command as Asked}
 use Rattle.lnbd_lines.specs.declared.command.Manner.{Manner}
+use Rattle.lnbd_lines.specs.declared.command.Range.{Range}
 use Rattle.lnbd_script.specs.declared.keeper.Heeded.{Heeded}
 use Rattle.lnbd_script.specs.Kept.{Heeds, Tally, joined, tally_of}
 use Rattle.lnbd_handle.specs.Histories.{max_unretired}
@@ -91,6 +92,19 @@ pub record Answered (command : Command Keeper) (old new : Session) (answer : Res
 -- a command was issued with callbacks that answer so, or refused, and so much is told of it
 abbrev pub Issued : Manner → Asked → Session → Session → Told → Type 0
 Issued manner asking old new tells = Becomes old new (λ before after. IssuesAs manner asking before [] after (Ok tells))
+
+-- What the handle says of a read that it judged before there was a buffer: it was refused, or not refused, or memory ran out; and then nothing has changed.
+abbrev pub Unread : (first : Option Keeper) → (done : Keeper) → Range → (old new : Session) → Result (Option Why) NoMemory → Type 0
+Unread first done range old new (Ok (Some why)) =
+    RefusesUnread Heeds range.length range.offset first done range.flags why old.handle.machine new.handle.machine old.heeded new.heeded ×
+    (new ≡ record old { handle = new.handle; heeded = new.heeded })
+Unread first done range old new (Ok None) = new ≡ old
+Unread first done range old new (Err lacks) = (new.handle.machine ≡ old.handle.machine) × (new ≡ record old { handle = new.handle })
+
+-- a command was refused with callbacks that answer so, and this is told of it; or it is not refused, and nothing has changed
+abbrev pub Judged : Manner → Asked → (old new : Session) → Option Why → Type 0
+Judged manner asking old new (Some why) = Issued manner asking old new (told.Refused why)
+Judged manner asking old new None = new ≡ old
 
 -- what the handle's answer to an issue comes to
 abbrev pub issue_told : Result ℕ (IssueFault Keeper) → Result Told NoMemory

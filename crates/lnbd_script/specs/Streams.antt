@@ -2,13 +2,6 @@
 use Rattle.std.specs.Prelude.{◌≡◌, ℕ, List, ◌++◌, Option}
 use Rattle.lnbd_link.specs.Part.{Takes}
 
--- some front of the bytes was taken
-pub record TakesFront (old new : Option (List ℕ)) (bytes : List ℕ) : Type 0 where
-  pub front : List ℕ
-  pub rest : List ℕ
-  pub split : bytes ≡ front ++ rest
-  pub taken : Takes old new front
-
 -- all of some bytes was taken, and behind them a front of others
 pub record TakesAllAndFront (old new : Option (List ℕ)) (bytes others : List ℕ) : Type 0 where
   pub front : List ℕ

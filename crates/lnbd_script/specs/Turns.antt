@@ -1,10 +1,9 @@
 -- What one read, one write and the turn of a handle on its link do, call by call.
 use Rattle.std.specs.Prelude.{◌≡◌, ◌≤◌, ◌<◌, ℕ, Bool, true, false, not, ◌||◌, ◌==◌, List, [], ◌∷◌, ◌++◌, length, take, Some, None}
-use Rattle.lnbd_model.specs.declared.state.State.{State}
-use Rattle.lnbd_model.specs.declared.state.State.TheVariants as state
 use Rattle.lnbd_history.specs.Events.{Answer, History, Arrived, End, LinkFailed, Wrote}
 use Rattle.lnbd_history.specs.Answers.{state_after, in_flight_after, out_after, direction_after}
 use Rattle.lnbd_link.specs.Call.{Call, Connect, Listen, Accept, Read, Write, Pause, Shut, ReadTold, WriteTold, Moved, Unready, Ended, ReadFault, Sent, Full, WriteFault}
+use Rattle.lnbd_poll.specs.States.{is_negotiating}
 use Rattle.lnbd_poll.specs.Notices.{room_after}
 use Rattle.lnbd_script.specs.declared.event.Event.TheVariants.{Link}
 use Rattle.lnbd_script.specs.declared.keeper.Keeper.{Keeper}
@@ -19,15 +18,6 @@ is_reading history = not (direction_after history == 0)
 -- It writes: bytes wait to go out.
 abbrev pub is_waiting : History Keeper → Bool
 is_waiting history = direction_after history == 3
-
-abbrev pub is_negotiating : State → Bool
-is_negotiating state.Created = false
-is_negotiating state.Negotiating = true
-is_negotiating state.OptMode = false
-is_negotiating state.Ready = false
-is_negotiating state.Closing = false
-is_negotiating state.Closed = false
-is_negotiating (state.Dead cause) = false
 
 -- It negotiates, has a command in flight, or bytes that wait to go out.
 abbrev pub is_busy : History Keeper → Bool

@@ -4,7 +4,7 @@ ghost use Rattle.std.specs.Prelude.{◌≡◌, ◌<◌, [], IfOk, IsOk, OnErr, r
 ghost use Rattle.lnbd_lines.specs.declared.command.Command.TheVariants as command;
 ghost use Rattle.lnbd_handle.specs.Issues.{write_of};
 ghost use Rattle.lnbd_script.specs.Lines.{HasBytes, command_of, payload_of};
-ghost use Rattle.lnbd_script.specs.Steps.{Answered, Becomes, Issued, Joins, issue_told};
+ghost use Rattle.lnbd_script.specs.Steps.{Answered, Becomes, Issued, Joins, Judged, Unread, issue_told};
 
 use crate::keeper::{Heeded, Keeper};
 use crate::session::Session;
@@ -12,7 +12,7 @@ use crate::spare::read_buffer;
 use crate::told::Told;
 use lnbd_handle::IssueFault;
 use lnbd_lines::{Command, Manner, Payload, Range};
-use lnbd_model::{Bytes, NoMemory};
+use lnbd_model::{Bytes, NoMemory, Why};
 use std::alloc::Global;
 
 /// What the handle's answer to an issue comes to.
@@ -238,8 +238,53 @@ impl Session {
         }
     }
 
-    /// Issues a command with callbacks that answer so.
-    pub(crate) fn issue(
+    /// Refuses a read that its issue would refuse, before there is a buffer for it.
+    fn refuse_read(
+        &mut self,
+        first: Option<Keeper>,
+        done: Keeper,
+        range: Range,
+    ) -> Result<Option<Why>, NoMemory>
+        ensures judged { Unread first done range self.old self.new result }
+        ensures first { self.new.first ≡ self.old.first }
+    {
+        let Range {
+            length,
+            offset,
+            flags,
+        } = range;
+        match self
+            .handle
+            .refuse_read(length, offset, first, done, flags, &mut self.heeded)
+        {
+            Ok(_) => Ok(None),
+            Err(IssueFault::Refused { why, buf: _ }) => Ok(Some(why)),
+            Err(
+                IssueFault::NoMemory {
+                    buf: _,
+                    first: _,
+                    done: _,
+                },
+            ) => Err(NoMemory),
+        }
+    }
+
+    /// Refuses a command that can be judged before its bytes are there, which take memory and time: a read. None: it is not refused.
+    fn refuse_unread(&mut self, manner: Manner, command: &Command) -> Result<Option<Why>, NoMemory>
+        ensures judged { IfOk result (λ judged. Judged manner command.now self.old self.new judged) }
+        ensures lacks { OnErr result (Becomes self.old self.new (λ before after. after ≡ before)) }
+        ensures first { self.new.first ≡ self.old.first }
+    {
+        let keeper = Keeper::new(self.heeded.count(), manner);
+        match command {
+            Command::Pread(range) => self.refuse_read(None, keeper, *range),
+            Command::PreadStructured(range) => self.refuse_read(Some(keeper), keeper, *range),
+            _ => Ok(None),
+        }
+    }
+
+    /// Issues a command with its bytes, and callbacks that answer so.
+    fn issue_filled(
         &mut self,
         alloc: Global,
         manner: Manner,
@@ -254,5 +299,23 @@ impl Session {
         let answer = self.hand_over(keeper, command, bytes);
         count_in(&mut self.heeded, &answer);
         told_of(answer)
+    }
+
+    /// Issues a command with callbacks that answer so.
+    pub(crate) fn issue(
+        &mut self,
+        alloc: Global,
+        manner: Manner,
+        command: &Command,
+    ) -> Result<Told, NoMemory>
+        ensures ok { IfOk result (λ tells. Issued manner command.now self.old self.new tells) }
+        ensures lacks { OnErr result (Becomes self.old self.new (λ before after. after ≡ before)) }
+        ensures first { self.new.first ≡ self.old.first }
+    {
+        let judged = self.refuse_unread(manner, command)?;
+        match judged {
+            Some(why) => Ok(Told::Refused(why)),
+            None => self.issue_filled(alloc, manner, command),
+        }
     }
 }

@@ -1,12 +1,12 @@
 //! A script from its first line to its last.
 
-ghost use Rattle.std.specs.Prelude.{◌≡◌, ◌≤◌, ◌+◌, List, IfOk, Err, map, string_bytes, true, vec_len};
+ghost use Rattle.std.specs.Prelude.{◌≡◌, ◌≤◌, ◌+◌, List, IfOk, OnOk, Err, map, string_bytes, true, vec_len};
 ghost use Rattle.lnbd_lines.specs.Grammar.{max_handles};
-ghost use Rattle.lnbd_link.specs.Count.{Rises};
+ghost use Rattle.lnbd_link.specs.Count.{Rises, patience};
 ghost use Rattle.lnbd_link.specs.Part.{Grows};
 ghost use Rattle.lnbd_script.specs.Plays.{Finished, HasBeenCut, HasPlayed, Short, Silent, first_fault, is_played};
 ghost use Rattle.lnbd_script.specs.Scenes.{Held, Scene, admitted_on, ended_held, shut_all};
-ghost use Rattle.lnbd_script.specs.Seen.{Blames, is_link, patience};
+ghost use Rattle.lnbd_script.specs.Seen.{Blames, is_link};
 ghost use Rattle.lnbd_script.specs.Steps.{AllPlayed, AreHeld, Finishes, IsHeld, IsSum, LinesPlayed, Shows, Stands, first_in, is_open, is_question, stop_of, stop_unshown};
 ghost use Rattle.lnbd_script.specs.Texts.{ended, last_text, text_of};
 ghost use Rattle.lnbd_script.specs.declared.playing.Unshown.TheVariants.{NoMemory as OutOfMemory};
@@ -14,11 +14,10 @@ ghost use Rattle.lnbd_script.specs.declared.playing.Unshown.TheVariants.{NoMemor
 use crate::event::{Event, PlayFault};
 use crate::place::Place;
 use crate::sessions::Sessions;
-use crate::streams::put;
 use crate::texts::push_told;
 use crate::told::{Halt, Told};
 use lnbd_lines::{Line, Script};
-use lnbd_link::{Sink, Wires};
+use lnbd_link::{Sink, Wires, put};
 use lnbd_model::NoMemory;
 use std::alloc::{AllocError, Global};
 
@@ -81,6 +80,7 @@ impl From<AllocError> for Unshown {
 fn show<O: Sink>(text: &mut String, out: &mut O) -> Result<(), Unshown>
     ensures shown { Shows result (O.taken out.old) (O.taken out.new) (ended (string_bytes text.old)) }
     ensures later { O.faults out.old ≤ O.faults out.new }
+    ensures well { OnOk result (O.faults out.new ≡ O.faults out.old) }
     ensures output { result ≡ Err Unshown.Output → Rises 1 (O.faults out.old) (O.faults out.new) }
 {
     text.push_str("\n")?;
@@ -95,6 +95,7 @@ fn tell<O: Sink>(alloc: Global, told: &Told, place: &Place, out: &mut O) -> Resu
     requires open { is_question told.now ≡ true → is_open place.now ≡ true }
     ensures shown { (held : Held) → IsHeld held place.now → Shows result (O.taken out.old) (O.taken out.new) (ended (text_of held.history told.now)) }
     ensures later { O.faults out.old ≤ O.faults out.new }
+    ensures well { OnOk result (O.faults out.new ≡ O.faults out.old) }
     ensures output { result ≡ Err Unshown.Output → Rises 1 (O.faults out.old) (O.faults out.new) }
 {
     let mut text = String::new(alloc);
@@ -106,6 +107,7 @@ fn tell<O: Sink>(alloc: Global, told: &Told, place: &Place, out: &mut O) -> Resu
 fn tell_last<O: Sink>(alloc: Global, sum: Sum, out: &mut O) -> Result<(), Unshown>
     ensures shown { (handles : List Held) → IsSum handles sum → Shows result (O.taken out.old) (O.taken out.new) (ended (last_text (admitted_on handles))) }
     ensures later { O.faults out.old ≤ O.faults out.new }
+    ensures well { OnOk result (O.faults out.new ≡ O.faults out.old) }
     ensures output { result ≡ Err Unshown.Output → Rises 1 (O.faults out.old) (O.faults out.new) }
 {
     let Sum { opened, freed } = sum;
@@ -158,6 +160,7 @@ fn play_lines<W: Wires, O: Sink>(
     requires reached { (scene : Scene) × Stands scene sessions.old (W.idles wires.old) }
     ensures played { (scene : Scene) → Stands scene sessions.old (W.idles wires.old) → LinesPlayed lines.now scene (W.told wires.old) (W.told wires.new) (O.taken out.old) (O.taken out.new) sessions.new (W.idles wires.new) result }
     ensures silent { result ≡ Err Stop.Silent → Rises patience sessions.old.start (W.idles wires.new) }
+    ensures well { OnOk result (O.faults out.new ≡ O.faults out.old) }
     ensures output { result ≡ Err Stop.Output → Rises 1 (O.faults out.old) (O.faults out.new) }
     ensures later { O.faults out.old ≤ O.faults out.new }
     ensures counts { Blames sessions.old.first sessions.new.first (W.faults wires.old) (W.faults wires.new) }
@@ -186,6 +189,7 @@ fn finish<O: Sink>(
 ) -> Result<Option<Event>, Stop>
     ensures finishes { (handles : List Held) → IsSum handles sum → Finishes result (O.taken out.old) (O.taken out.new) (ended (last_text (admitted_on handles))) first }
     ensures heard { ¬ (result ≡ Err Stop.Silent) }
+    ensures well { OnOk result (O.faults out.new ≡ O.faults out.old) }
     ensures output { result ≡ Err Stop.Output → Rises 1 (O.faults out.old) (O.faults out.new) }
     ensures first { IfOk result (λ told. told ≡ first) }
 {
@@ -210,6 +214,7 @@ fn play_all<W: Wires, O: Sink>(
 ) -> Result<Option<Event>, Stop>
     ensures played { AllPlayed lines.now (W.told wires.old) (W.told wires.new) (O.taken out.old) (O.taken out.new) result }
     ensures silent { result ≡ Err Stop.Silent → Rises patience (W.idles wires.old) (W.idles wires.new) }
+    ensures well { OnOk result (O.faults out.new ≡ O.faults out.old) }
     ensures output { result ≡ Err Stop.Output → Rises 1 (O.faults out.old) (O.faults out.new) }
     ensures blames { is_link (first_in result) ≡ true → Rises 1 (W.faults wires.old) (W.faults wires.new) }
 {
@@ -251,6 +256,7 @@ pub fn play<W: Wires, O: Sink>(
     ensures link { result ≡ Err PlayFault.Link → Rises 1 (W.faults wires.old) (W.faults wires.new) }
     ensures silent { result ≡ Err PlayFault.Silent → Rises patience (W.idles wires.old) (W.idles wires.new) }
     ensures output { result ≡ Err PlayFault.Output → Rises 1 (O.faults out.old) (O.faults out.new) }
+    ensures well { OnOk result (O.faults out.new ≡ O.faults out.old) }
 {
     match play_all(alloc, script.lines(), wires, out) {
         Ok(None) => Ok(()),

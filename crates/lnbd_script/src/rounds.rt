@@ -4,12 +4,12 @@ ghost use Rattle.std.specs.Prelude.{◌≡◌, ◌≤◌, ◌<◌, ◌+◌, ◌+
 ghost use Rattle.std.specs.List.{list_any};
 ghost use Rattle.lnbd_machine.specs.Now.{direction_now, in_flight_now, state_now};
 ghost use Rattle.lnbd_link.specs.Call.{Pause};
-ghost use Rattle.lnbd_link.specs.Count.{Rises};
+ghost use Rattle.lnbd_link.specs.Count.{Rises, patience};
 ghost use Rattle.lnbd_link.specs.Part.{Adds};
 ghost use Rattle.lnbd_poll.specs.Held.{is_on_its_way, want_of, with_want};
 ghost use Rattle.lnbd_script.specs.Rounds.{PartShort, Round, Settles, TakesPart};
 ghost use Rattle.lnbd_script.specs.Scenes.{Scene};
-ghost use Rattle.lnbd_script.specs.Seen.{Blames, Counts, patience};
+ghost use Rattle.lnbd_script.specs.Seen.{Blames, Counts};
 ghost use Rattle.lnbd_script.specs.Steps.{GoesAll, GoesAt, GoesOver, Stands, is_busy_place, want_now, wants_now};
 ghost use Rattle.lnbd_script.specs.Turns.{stirs};
 ghost use Rattle.lnbd_script.specs.declared.place.Place.TheVariants as place;
@@ -21,21 +21,8 @@ use crate::session::Session;
 use crate::sessions::Sessions;
 use crate::told::Halt;
 use crate::turns::{either, turn};
-use lnbd_link::{Want, Wires};
+use lnbd_link::{Want, Wires, is_long};
 use lnbd_model::{NoMemory, State};
-
-/// How many pauses of a run are borne.
-const PATIENCE: u64 = 1_000_000_000;
-
-/// Whether the waiting rose by as much as is borne.
-fn is_long(start: u64, now: u64) -> bool
-    requires { start ≤ now }
-    ensures long { result ≡ true → Rises patience start now }
-    ensures short { result ≡ false → now < start + patience }
-    ensures open { result ≡ false → now < 18446744073709551615 }
-{
-    now - start >= PATIENCE || now == u64::MAX
-}
 
 /// Whether a handle negotiates, or asked for the end of its connection.
 fn is_on_its_way(state: State) -> bool

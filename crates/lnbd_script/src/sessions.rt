@@ -3,10 +3,10 @@
 ghost use Rattle.std.specs.Prelude.{◌≡◌, ◌<◌, ◌≤◌, ℕ, IfOk, OnOk, Err, None, replicate, true, false, nat_lt, if◌then◌else◌, vec_len};
 ghost use Rattle.lnbd_history.specs.Laws.{is_closed};
 ghost use Rattle.lnbd_lines.specs.Grammar.{max_handles};
-ghost use Rattle.lnbd_link.specs.Count.{Rises};
+ghost use Rattle.lnbd_link.specs.Count.{Rises, patience};
 ghost use Rattle.lnbd_script.specs.Acts.{Acts, ActsAlone, SettlesIf, reach_of};
 ghost use Rattle.lnbd_script.specs.Scenes.{Scene, beginning, current_of};
-ghost use Rattle.lnbd_script.specs.Seen.{Blames, patience};
+ghost use Rattle.lnbd_script.specs.Seen.{Blames};
 ghost use Rattle.lnbd_script.specs.Steps.{GoesOver, Stands, current_place, is_open, is_question, is_used};
 ghost use Rattle.lnbd_script.specs.declared.place.Place.TheVariants as place;
 ghost use Rattle.lnbd_script.specs.declared.reach.Reach.TheVariants as reach;

@@ -4,14 +4,14 @@ use Rattle.std.proofs.lemmas.Bool.{false≢true}
 use Rattle.std.specs.Prelude.{◌≢◌, IfOk}
 use Rattle.lnbd_export.specs.Export.{Export, size}
 use Rattle.lnbd_link.specs.Call.{Call, Listen, Shut}
-use Rattle.lnbd_link.specs.Part.{Adds, Takes}
+use Rattle.lnbd_link.specs.Part.{Adds, Takes, TakesFront}
 use Rattle.lnbd_link.proofs.Parts.{grows_none, grows_on, takes_none, takes_on}
 use Rattle.lnbd_model.specs.declared.target.Target.{Target}
 use Rattle.lnbd_serve.specs.declared.fault.ServeFault.{ServeFault}
 use Rattle.lnbd_serve.specs.declared.fault.ServeFault.TheVariants as fault
 use Rattle.lnbd_serve.specs.declared.printed.Unprinted.{Unprinted}
 use Rattle.lnbd_serve.specs.declared.printed.Unprinted.TheVariants as unprinted
-use Rattle.lnbd_serve.specs.Printed.{Concludes, Cut_off, IsPrinted, Last_line, Listens, No_listener, Not_told, Prints, Ran, Runs, TakesFront, Tells, Told, concluded, fault_of, is_served, serving_line, sessions_line}
+use Rattle.lnbd_serve.specs.Printed.{Concludes, Cut_off, IsPrinted, Last_line, Listens, No_listener, Not_told, Prints, Ran, Runs, Tells, Told, concluded, fault_of, is_served, serving_line, sessions_line}
 use Rattle.lnbd_serve.specs.Served.{ServedAs}
 use Rattle.lnbd_serve.specs.Steps.{Went}
 

@@ -2,7 +2,7 @@
 use Rattle.std.specs.Prelude.{◌≡◌, ℕ, Bool, true, false, List, [], ◌∷◌, ◌++◌, Option, Some, None, Result, Ok, Err, codes, decimal}
 use Rattle.lnbd_export.specs.Export.{Export, size}
 use Rattle.lnbd_link.specs.Call.{Call, Listen, Shut}
-use Rattle.lnbd_link.specs.Part.{Grows, Takes}
+use Rattle.lnbd_link.specs.Part.{Grows, Takes, TakesFront}
 use Rattle.lnbd_model.specs.declared.target.Target.{Target}
 use Rattle.lnbd_serve.specs.declared.fault.ServeFault.{ServeFault}
 use Rattle.lnbd_serve.specs.declared.fault.ServeFault.TheVariants as fault
@@ -75,13 +75,6 @@ pub record Ran (told told' : Option (List Call)) (taken taken' : Option (List �
   pub grown : Grows told told' calls
   pub takes : Takes taken taken' printed
   pub leads : Leads calls printed
-
--- a front of these bytes was printed
-pub record TakesFront (taken taken' : Option (List ℕ)) (bytes : List ℕ) : Type 0 where
-  pub front : List ℕ
-  pub rest : List ℕ
-  pub split : bytes ≡ front ++ rest
-  pub takes : Takes taken taken' front
 
 -- how the printing of a line ended, and what the output took
 abbrev pub Prints : Result (Unit {0}) Unprinted → (taken taken' : Option (List ℕ)) (line : List ℕ) → Type 0

@@ -9,10 +9,6 @@ use Rattle.lnbd_serve.specs.declared.fault.ServeFault.{ServeFault}
 use Rattle.lnbd_serve.specs.declared.fault.ServeFault.TheVariants as fault
 use Rattle.lnbd_serve.specs.Halls.{Hall, Serves, ServesUntil}
 
--- how many waits in vain are borne
-abbrev pub patience : ℕ
-patience = 1000000000
-
 -- nobody was let in yet
 abbrev pub opened : Export → Hall
 opened export = record { guests = []; accepted = 0; broken = false; export = export }

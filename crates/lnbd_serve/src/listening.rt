@@ -1,11 +1,10 @@
 //! Serving with a listener of its own, and with what is printed of it.
 
-ghost use Rattle.std.specs.Prelude.{◌≡◌, ◌≢◌, ◌≤◌, ◌++◌, ℕ, Err, Result, IfOk, true, false};
+ghost use Rattle.std.specs.Prelude.{◌≡◌, ◌≢◌, ◌≤◌, ◌++◌, ℕ, Err, Result, IfOk, IsOk, OnOk, true, false};
 ghost use Rattle.lnbd_export.specs.Export.{size};
-ghost use Rattle.lnbd_link.specs.Count.{Rises};
-ghost use Rattle.lnbd_link.specs.Part.{Takes};
-ghost use Rattle.lnbd_serve.specs.Printed.{Prints, Ran, Runs, TakesFront, Tells, concluded, is_served, serving_line, sessions_line};
-ghost use Rattle.lnbd_serve.specs.Served.{patience};
+ghost use Rattle.lnbd_link.specs.Count.{Rises, patience};
+ghost use Rattle.lnbd_link.specs.Part.{Takes, TakesFront};
+ghost use Rattle.lnbd_serve.specs.Printed.{Prints, Ran, Runs, Tells, concluded, is_served, serving_line, sessions_line};
 ghost use Rattle.lnbd_serve.specs.declared.printed.Unprinted.{Unprinted as Untold};
 
 use crate::fault::ServeFault;
@@ -35,7 +34,8 @@ fn concluded(
     told: Result<(), Unprinted>,
     served: Result<u32, ServeFault>,
 ) -> Result<u32, ServeFault>
-    ensures { result ≡ concluded told served }
+    ensures value { result ≡ concluded told served }
+    ensures told { OnOk result (IsOk told) }
 {
     match told {
         Ok(()) => served,
@@ -52,6 +52,7 @@ fn conclude<O: Sink>(
 ) -> Result<u32, ServeFault>
     ensures cut { is_served served ≡ false → (result ≡ served) × (out.new ≡ out.old) }
     ensures whole { is_served served ≡ true → (told : Result (Unit {0}) Untold) × (result ≡ concluded told served) × Prints told (O.taken out.old) (O.taken out.new) (sessions_line sessions) }
+    ensures well { OnOk result (O.faults out.new ≡ O.faults out.old) }
     ensures output { served ≢ Err ServeFault.Output → result ≡ Err ServeFault.Output → Rises 1 (O.faults out.old) (O.faults out.new) }
     ensures later { O.faults out.old ≤ O.faults out.new }
 {
@@ -76,6 +77,7 @@ fn serve_there<W: Wires, O: Sink>(
     ensures tells { Ran (W.told wires.old) (W.told wires.new) (O.taken out.old) (O.taken out.new) (λ calls printed. Tells listener sessions result export.old calls printed export.new) }
     ensures link { (before after : ℕ) → result ≡ Err (ServeFault.Link before after) → (before ≡ W.faults wires.old) × (after ≡ W.faults wires.new) × Rises 1 before after }
     ensures silent { (idles : ℕ) → result ≡ Err (ServeFault.Silent idles) → (idles ≡ W.idles wires.new) × Rises patience (W.idles wires.old) idles }
+    ensures well { OnOk result (O.faults out.new ≡ O.faults out.old) }
     ensures output { result ≡ Err ServeFault.Output → Rises 1 (O.faults out.old) (O.faults out.new) }
     ensures faults { W.faults wires.old ≤ W.faults wires.new }
     ensures idles { W.idles wires.old ≤ W.idles wires.new }
@@ -117,6 +119,7 @@ pub fn serve<W: Wires, O: Sink>(
     // The counts, and what a fault comes from.
     ensures link { (before after : ℕ) → result ≡ Err (ServeFault.Link before after) → (W.faults wires.old ≤ before) × (after ≤ W.faults wires.new) × Rises 1 before after }
     ensures silent { (idles : ℕ) → result ≡ Err (ServeFault.Silent idles) → (idles ≤ W.idles wires.new) × Rises patience (W.idles wires.old) idles }
+    ensures well { OnOk result (O.faults out.new ≡ O.faults out.old) }
     ensures output { result ≡ Err ServeFault.Output → Rises 1 (O.faults out.old) (O.faults out.new) }
     ensures faults { W.faults wires.old ≤ W.faults wires.new }
     ensures idles { W.idles wires.old ≤ W.idles wires.new }

@@ -1,13 +1,12 @@
 //! What is printed of serving: a line before the first client, and one after the last.
 
-ghost use Rattle.std.specs.Prelude.{◌≡◌, ◌≤◌, Err, OnOk, OnErr, drop, length, string_bytes};
+ghost use Rattle.std.specs.Prelude.{◌≡◌, ◌≤◌, Err, OnOk, string_bytes};
 ghost use Rattle.lnbd_link.specs.Count.{Rises};
-ghost use Rattle.lnbd_link.specs.Part.{Takes};
-ghost use Rattle.lnbd_serve.specs.Printed.{Prints, TakesFront, ended, fault_of, serving_line, sessions_line};
+ghost use Rattle.lnbd_serve.specs.Printed.{Prints, ended, fault_of, serving_line, sessions_line};
 ghost use Rattle.lnbd_serve.specs.declared.printed.Unprinted.TheVariants.{NoMemory as OutOfMemory};
 
 use crate::fault::ServeFault;
-use lnbd_link::{Sink, SinkTook};
+use lnbd_link::{Sink, put};
 use std::alloc::{AllocError, Global};
 
 /// Why a line was not printed whole.
@@ -39,38 +38,11 @@ impl Unprinted {
     }
 }
 
-/// The output failed.
-#[derive(Clone, Copy, Debug, PartialEq, Eq)]
-pub struct SinkFailed;
-
-/// Writes all, unless the output fails: then it took a front.
-fn put<O: Sink>(out: &mut O, bytes: &[u8]) -> Result<(), SinkFailed>
-    ensures all { OnOk result (Takes (O.taken out.old) (O.taken out.new) bytes.now) }
-    ensures front { OnErr result (TakesFront (O.taken out.old) (O.taken out.new) bytes.now) }
-    ensures later { O.faults out.old ≤ O.faults out.new }
-    ensures failed { OnErr result (Rises 1 (O.faults out.old) (O.faults out.new)) }
-{
-    let mut at = 0;
-    'writing: while at < bytes.len() {
-        match out.write(after(bytes, at)) {
-            SinkTook::Bytes(n) => at += n,
-            SinkTook::Failed => return Err(SinkFailed),
-        }
-    }
-    Ok(())
-}
-
-fn after(bytes: &[u8], at: usize) -> &[u8]
-    requires { at ≤ length bytes.now }
-    ensures { result.now ≡ drop at bytes.now }
-{
-    &bytes[at..]
-}
-
 /// Prints a text and the end of its line.
 fn print<O: Sink>(text: &mut String, out: &mut O) -> Result<(), Unprinted>
     ensures prints { Prints result (O.taken out.old) (O.taken out.new) (ended (string_bytes text.old)) }
     ensures later { O.faults out.old ≤ O.faults out.new }
+    ensures well { OnOk result (O.faults out.new ≡ O.faults out.old) }
     ensures output { result ≡ Err Unprinted.Output → Rises 1 (O.faults out.old) (O.faults out.new) }
 {
     text.push_str("\n")?;
@@ -84,6 +56,7 @@ fn print<O: Sink>(text: &mut String, out: &mut O) -> Result<(), Unprinted>
 pub fn print_serving<O: Sink>(alloc: Global, size: u64, out: &mut O) -> Result<(), Unprinted>
     ensures prints { Prints result (O.taken out.old) (O.taken out.new) (serving_line size) }
     ensures later { O.faults out.old ≤ O.faults out.new }
+    ensures well { OnOk result (O.faults out.new ≡ O.faults out.old) }
     ensures output { result ≡ Err Unprinted.Output → Rises 1 (O.faults out.old) (O.faults out.new) }
 {
     let mut text = String::new(alloc);
@@ -95,6 +68,7 @@ pub fn print_serving<O: Sink>(alloc: Global, size: u64, out: &mut O) -> Result<(
 pub fn print_sessions<O: Sink>(alloc: Global, sessions: u32, out: &mut O) -> Result<(), Unprinted>
     ensures prints { Prints result (O.taken out.old) (O.taken out.new) (sessions_line sessions) }
     ensures later { O.faults out.old ≤ O.faults out.new }
+    ensures well { OnOk result (O.faults out.new ≡ O.faults out.old) }
     ensures output { result ≡ Err Unprinted.Output → Rises 1 (O.faults out.old) (O.faults out.new) }
 {
     let mut text = String::new(alloc);

@@ -1,38 +1,25 @@
 //! Serving as a whole: rounds, and a pause after each in which nothing happened, until all clients were served.
 
-ghost use Rattle.std.specs.Prelude.{◌≡◌, ◌≤◌, ◌<◌, ◌+◌, ◌-◌, ◌++◌, ℕ, All, Err, map, true, false, length, IfOk, IfErr, OnOk, OnErr};
+ghost use Rattle.std.specs.Prelude.{◌≡◌, ◌≤◌, ◌<◌, ◌+◌, ◌-◌, ◌++◌, ℕ, All, Err, map, false, length, IfOk, IfErr, OnOk, OnErr};
 ghost use Rattle.lnbd_export.specs.Export.{Export as Kept};
 ghost use Rattle.lnbd_link.specs.Call.{Pause};
-ghost use Rattle.lnbd_link.specs.Count.{Rises};
+ghost use Rattle.lnbd_link.specs.Count.{Rises, patience};
 ghost use Rattle.lnbd_link.specs.Part.{Adds};
 ghost use Rattle.lnbd_serve.specs.Halls.{Rests, ServesUntil, want_of, wants_of};
 ghost use Rattle.lnbd_serve.specs.Rounds.{ServedSome, ServedWhole, hall_of};
-ghost use Rattle.lnbd_serve.specs.Served.{ServedAs, answer_of, patience, shut_of};
+ghost use Rattle.lnbd_serve.specs.Served.{ServedAs, answer_of, shut_of};
 ghost use Rattle.lnbd_serve.specs.Steps.{Counts, Went, blames};
 
 use crate::fault::ServeFault;
 use crate::guest::{Doing, Guest, Halt};
 use crate::guests::{Door, Guests};
 use lnbd_export::Export;
-use lnbd_link::{Want, Wires};
+use lnbd_link::{Want, Wires, is_long};
 use lnbd_model::{NoMemory, Text};
 use std::alloc::Global;
 
-/// How many pauses in which nothing came are borne.
-const PATIENCE: u64 = 1_000_000_000;
-
 /// How many bytes one read may give.
 const ROOM: usize = 65_536;
-
-/// Whether the waiting rose by as much as is borne.
-fn is_long(start: u64, now: u64) -> bool
-    requires { start ≤ now }
-    ensures long { result ≡ true → Rises patience start now }
-    ensures short { result ≡ false → now < start + patience }
-    ensures open_ { result ≡ false → now < 18446744073709551615 }
-{
-    now - start >= PATIENCE || now == u64::MAX
-}
 
 /// Adds every open link.
 fn push_wants(wants: &mut Vec<Want>, all: &Vec<Guest>) -> Result<(), NoMemory>

@@ -7,6 +7,7 @@ use Rattle.lnbd_history.specs.Events.{History}
 use Rattle.lnbd_history.specs.Answers.{state_after, in_flight_after, direction_after}
 use Rattle.lnbd_link.specs.Call as wire
 use Rattle.lnbd_link.specs.Call.{Pause}
+use Rattle.lnbd_poll.specs.States.{is_negotiating}
 use Rattle.lnbd_poll.specs.declared.noticed.Noticed.{Noticed}
 use Rattle.lnbd_poll.specs.declared.noticed.Noticed.TheVariants as noticed
 use Rattle.lnbd_poll.specs.Seen.{Seen}
@@ -18,22 +19,9 @@ use Rattle.lnbd_waits.specs.declared.waiting.Awaited.TheVariants as awaited
 use Rattle.lnbd_waits.specs.declared.waiting.Halt.{Halt}
 use Rattle.lnbd_waits.specs.declared.waiting.Halt.TheVariants as halt
 
--- how many waits in vain are borne
-abbrev pub patience : ℕ
-patience = 1000000000
-
 -- the one handle that is held stands there
 abbrev pub Holds : {K : Type 0} → List (Held K) → Seen K → Type 0
 Holds all seen = AreAt all (seen ∷ [])
-
-abbrev pub is_negotiating : State → Bool
-is_negotiating state.Created = false
-is_negotiating state.Negotiating = true
-is_negotiating state.OptMode = false
-is_negotiating state.Ready = false
-is_negotiating state.Closing = false
-is_negotiating state.Closed = false
-is_negotiating (state.Dead cause) = false
 
 abbrev pub is_closing : State → Bool
 is_closing state.Created = false

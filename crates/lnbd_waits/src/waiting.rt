@@ -1,22 +1,20 @@
 //! Turns over one handle and its link until what is awaited is there. What was asked, and what is made of the answers, is no
 //! matter here.
 
-ghost use Rattle.std.specs.Prelude.{◌≡◌, ◌≤◌, ◌<◌, ◌+◌, IfOk, OnErr, Err, length, true, false};
+ghost use Rattle.std.specs.Prelude.{◌≡◌, ◌≤◌, ◌<◌, IfOk, OnErr, Err, length};
 ghost use Rattle.lnbd_handle.specs.Histories.{ForEach};
 ghost use Rattle.lnbd_link.specs.Contents.{Keeps};
-ghost use Rattle.lnbd_link.specs.Count.{Rises};
+ghost use Rattle.lnbd_link.specs.Count.{Rises, patience};
 ghost use Rattle.lnbd_poll.specs.Seen.{Goes, Seen};
 ghost use Rattle.lnbd_poll.specs.Steps.{TookEnough, TookShort};
-ghost use Rattle.lnbd_waits.specs.Waits.{Holds, Waited, is_awaited, is_closing, is_negotiating, patience};
+ghost use Rattle.lnbd_poll.specs.States.{is_negotiating};
+ghost use Rattle.lnbd_waits.specs.Waits.{Holds, Waited, is_awaited, is_closing};
 
 use lnbd_callbacks::Caller;
 use lnbd_handle::Handle;
-use lnbd_link::Wires;
+use lnbd_link::{Wires, is_long};
 use lnbd_model::{NoMemory, State};
 use lnbd_poll::{Handles, Turn};
-
-/// How many pauses in which nothing came are borne.
-const PATIENCE: u64 = 1_000_000_000;
 
 /// What is awaited.
 #[derive(Clone, Copy, Debug, PartialEq, Eq)]
@@ -67,16 +65,6 @@ fn is_awaited<K>(handles: &Handles<K>, awaited: Awaited) -> bool
     ensures { (seen : Seen K) → Holds handles.now seen → result ≡ is_awaited awaited seen.history }
 {
     is_to_come(handles.get(0), awaited)
-}
-
-/// Whether the waiting rose by as much as is borne.
-fn is_long(start: u64, now: u64) -> bool
-    requires { start ≤ now }
-    ensures long { result ≡ true → Rises patience start now }
-    ensures short { result ≡ false → now < start + patience }
-    ensures open { result ≡ false → now < 18446744073709551615 }
-{
-    now - start >= PATIENCE || now == u64::MAX
 }
 
 /// One turn of the one handle that is held.

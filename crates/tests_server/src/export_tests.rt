@@ -2,11 +2,11 @@
 
 ghost use Rattle.std.specs.Prelude.{◌≡◌, Some};
 
+use crate::told::{Told, same, text};
 use lnbd_export::{Agreed, Export, Replies, Request, generate};
 use lnbd_extents::Ranges;
-use lnbd_model::{EINVAL, ENOSPC, EPERM, Kind, NoMemory, Text};
-use std::alloc::{AllocError, Global};
-use std::test::Fail;
+use lnbd_model::{EINVAL, ENOSPC, EPERM, Extent, Kind, NoMemory, Text};
+use std::alloc::Global;
 
 const SIMPLE: Agreed = Agreed {
     replies: Replies::Simple,
@@ -29,32 +29,32 @@ type Case = (Agreed, Kind, u16, u64, u64, &'static str);
 
 static CASES: [Case; 24] = [
     // Ranges up to the end, and one byte past it.
-    (SIMPLE, Kind::Read, 0, 0, 4096, "none none, "),
-    (SIMPLE, Kind::Read, 0, 4096, 0, "none none, "),
-    (SIMPLE, Kind::Read, 0, 1, 4096, "EINVAL EINVAL, "),
-    (SIMPLE, Kind::Read, 0, u64::MAX, 2, "EINVAL EINVAL, "),
-    (SIMPLE, Kind::Trim, 0, 4096, 1, "EINVAL EPERM, "),
-    (SIMPLE, Kind::Cache, 0, 0, 4097, "EINVAL EINVAL, "),
-    (SIMPLE, Kind::Write, 0, 4096, 1, "ENOSPC EPERM, "),
-    (SIMPLE, Kind::Zero, 0, 4095, 2, "ENOSPC EPERM, "),
-    (SIMPLE, Kind::Write, 1, 4095, 1, "none EPERM, "),
-    (SIMPLE, Kind::Flush, 0, u64::MAX, 9, "none none, "),
+    (SIMPLE, Kind::Read, 0, 0, 4096, "none none"),
+    (SIMPLE, Kind::Read, 0, 4096, 0, "none none"),
+    (SIMPLE, Kind::Read, 0, 1, 4096, "EINVAL EINVAL"),
+    (SIMPLE, Kind::Read, 0, u64::MAX, 2, "EINVAL EINVAL"),
+    (SIMPLE, Kind::Trim, 0, 4096, 1, "EINVAL EPERM"),
+    (SIMPLE, Kind::Cache, 0, 0, 4097, "EINVAL EINVAL"),
+    (SIMPLE, Kind::Write, 0, 4096, 1, "ENOSPC EPERM"),
+    (SIMPLE, Kind::Zero, 0, 4095, 2, "ENOSPC EPERM"),
+    (SIMPLE, Kind::Write, 1, 4095, 1, "none EPERM"),
+    (SIMPLE, Kind::Flush, 0, u64::MAX, 9, "none none"),
     // Flags that the command may not have come first.
-    (SIMPLE, Kind::Read, 4, 0, 1, "EINVAL EINVAL, "),
-    (STRUCTURED, Kind::Read, 4, 0, 1, "none none, "),
-    (STRUCTURED, Kind::Read, 32, 0, 1, "EINVAL EINVAL, "),
-    (STRUCTURED, Kind::Write, 32, 4096, 1, "EINVAL EINVAL, "),
-    (EXTENDED, Kind::Write, 33, 0, 1, "none EPERM, "),
-    (EXTENDED, Kind::Zero, 3, 0, 1, "none EPERM, "),
-    (EXTENDED, Kind::Zero, 16, 0, 1, "EINVAL EINVAL, "),
-    (EXTENDED, Kind::Trim, 2, 0, 1, "EINVAL EINVAL, "),
-    (SIMPLE, Kind::Flush, 1, 0, 0, "EINVAL EINVAL, "),
+    (SIMPLE, Kind::Read, 4, 0, 1, "EINVAL EINVAL"),
+    (STRUCTURED, Kind::Read, 4, 0, 1, "none none"),
+    (STRUCTURED, Kind::Read, 32, 0, 1, "EINVAL EINVAL"),
+    (STRUCTURED, Kind::Write, 32, 4096, 1, "EINVAL EINVAL"),
+    (EXTENDED, Kind::Write, 33, 0, 1, "none EPERM"),
+    (EXTENDED, Kind::Zero, 3, 0, 1, "none EPERM"),
+    (EXTENDED, Kind::Zero, 16, 0, 1, "EINVAL EINVAL"),
+    (EXTENDED, Kind::Trim, 2, 0, 1, "EINVAL EINVAL"),
+    (SIMPLE, Kind::Flush, 1, 0, 0, "EINVAL EINVAL"),
     // A read of more than 32 MiB, and a block status of nothing or without its context.
-    (EXTENDED, Kind::Read, 0, 0, 33_554_433, "EINVAL EINVAL, "),
-    (STRUCTURED, Kind::BlockStatus, 8, 0, 4096, "none none, "),
-    (STRUCTURED, Kind::BlockStatus, 0, 0, 0, "EINVAL EINVAL, "),
-    (SIMPLE, Kind::BlockStatus, 0, 0, 1, "EINVAL EINVAL, "),
-    (STRUCTURED, Kind::BlockStatus, 0, 4095, 2, "EINVAL EINVAL, "),
+    (EXTENDED, Kind::Read, 0, 0, 33_554_433, "EINVAL EINVAL"),
+    (STRUCTURED, Kind::BlockStatus, 8, 0, 4096, "none none"),
+    (STRUCTURED, Kind::BlockStatus, 0, 0, 0, "EINVAL EINVAL"),
+    (SIMPLE, Kind::BlockStatus, 0, 0, 1, "EINVAL EINVAL"),
+    (STRUCTURED, Kind::BlockStatus, 0, 4095, 2, "EINVAL EINVAL"),
 ];
 
 /// The name of an error.
@@ -68,21 +68,6 @@ fn name_of(error: Option<u32>) -> &'static str {
     }
 }
 
-/// How both exports refuse a request.
-fn push_refusals(
-    found: &mut String,
-    writable: &Export,
-    locked: &Export,
-    terms: Agreed,
-    request: Request,
-) -> Result<(), NoMemory> {
-    found.push_str(name_of(writable.refusal(terms, request)))?;
-    found.push_str(" ")?;
-    found.push_str(name_of(locked.refusal(terms, request)))?;
-    found.push_str(", ")?;
-    Ok(())
-}
-
 fn request_of(case: &Case) -> Request {
     Request {
         kind: Some(case.1),
@@ -93,21 +78,30 @@ fn request_of(case: &Case) -> Request {
     }
 }
 
-/// What the cases come to, and what they have to.
-fn push_cases(
-    found: &mut String,
-    wanted: &mut String,
+/// How both exports refuse a request.
+fn push_refusals(
+    told: &mut Told,
     writable: &Export,
     locked: &Export,
-) -> Result<(), NoMemory> {
-    for case in CASES.iter() {
-        push_refusals(found, writable, locked, case.0, request_of(case))?;
-        wanted.push_str(case.5)?;
-    }
-    Ok(())
+    terms: Agreed,
+    request: Request,
+) {
+    told.push(name_of(writable.refusal(terms, request)));
+    told.push(" ");
+    told.push(name_of(locked.refusal(terms, request)));
 }
 
-fn push_unknown(found: &mut String, writable: &Export) -> Result<(), NoMemory> {
+/// Each case that comes to something else, by its number.
+fn push_cases(told: &mut Told, alloc: Global, writable: &Export, locked: &Export) {
+    for (row, case) in CASES.iter().enumerate() {
+        let mut refusals = Told::new(alloc);
+        push_refusals(&mut refusals, writable, locked, case.0, request_of(case));
+        told.compare(row as u64, &refusals, case.5);
+    }
+}
+
+/// A command that has no number.
+fn push_unknown(told: &mut Told, writable: &Export) {
     let unknown = Request {
         kind: None,
         flags: 0,
@@ -115,24 +109,18 @@ fn push_unknown(found: &mut String, writable: &Export) -> Result<(), NoMemory> {
         offset: 0,
         length: 0,
     };
-    found.push_str(name_of(writable.refusal(SIMPLE, unknown)))?;
-    Ok(())
-}
-
-fn push_errors(alloc: Global, found: &mut String, wanted: &mut String) -> Result<(), NoMemory> {
-    let writable = generate(alloc, Text::empty(alloc), 7, 4096, false)?;
-    let locked = generate(alloc, Text::empty(alloc), 7, 4096, true)?;
-    push_cases(found, wanted, &writable, &locked)?;
-    push_unknown(found, &writable)
+    told.push(name_of(writable.refusal(SIMPLE, unknown)));
 }
 
 #[test]
-fn errors_in_their_order(rt: HostRuntime) -> Result<(), Fail> {
-    let mut found = String::new(rt.alloc());
-    let mut wanted = String::new(rt.alloc());
-    push_errors(rt.alloc(), &mut found, &mut wanted)?;
-    wanted.push_str("EINVAL")?;
-    assert_eq!(rt; found.as_str(), wanted.as_str());
+fn errors_in_their_order(rt: HostRuntime) -> Result<(), NoMemory> {
+    let alloc = rt.alloc();
+    let writable = generate(alloc, Text::empty(alloc), 7, 4096, false)?;
+    let locked = generate(alloc, Text::empty(alloc), 7, 4096, true)?;
+    let mut told = Told::new(alloc);
+    push_cases(&mut told, alloc, &writable, &locked);
+    push_unknown(&mut told, &writable);
+    same(&rt, &told, "EINVAL");
     Ok(())
 }
 
@@ -184,81 +172,76 @@ fn perform(export: &mut Export, change: Change) -> Result<(), NoMemory> {
     }
 }
 
-/// Makes these changes, and appends the bytes that the export then holds, as numbers.
-fn push_changed(
-    text: &mut String,
-    export: &mut Export,
-    changes: &[Change],
-) -> Result<(), NoMemory> {
+/// Makes these changes.
+fn make(told: &mut Told, export: &mut Export, changes: &[Change]) {
     for change in changes {
-        perform(export, *change)?;
+        if perform(export, *change).is_err() {
+            told.lack();
+        }
     }
+}
+
+/// Appends the bytes that an export holds, as numbers.
+fn push_held(told: &mut Told, export: &Export) {
     for byte in export.bytes() {
-        write!(text, "{byte} ")?;
+        told.numbers(&[u64::from(*byte)]);
     }
-    Ok(())
+}
+
+fn push_extents(told: &mut Told, extents: &[Extent]) {
+    for extent in extents {
+        told.numbers(&[extent.length, extent.flags]);
+    }
 }
 
 /// Length and flags of what is told of this range, of so many extents at most.
 fn push_statuses(
-    text: &mut String,
+    told: &mut Told,
     alloc: Global,
     export: &Export,
     offset: u64,
     length: u64,
     most: usize,
-) -> Result<(), NoMemory> {
+) {
     let size = export.size();
     if offset > size || length > size - offset {
-        return Ok(());
+        return;
     }
-    text.push_str(": ")?;
-    for extent in export.statuses(alloc, offset, length, most)? {
-        write!(text, "{} {} ", extent.length, extent.flags)?;
+    told.push(": ");
+    match export.statuses(alloc, offset, length, most) {
+        Ok(extents) => push_extents(told, extents.as_slice()),
+        Err(_) => told.lack(),
     }
-    Ok(())
 }
 
 /// Sixteen fives, of which none is told as zero.
-fn fives(alloc: Global) -> Result<Export, Fail> {
-    let name = Text::from_bytes(alloc, b"disk")?;
-    let description = Text::from_bytes(alloc, b"sixteen bytes")?;
-    Ok(Export::new(
-        name,
-        description,
-        vec![in alloc; 5; 16]?,
-        Ranges::new(alloc),
-        false,
-    ))
+fn fives(alloc: Global) -> Result<Export, NoMemory> {
+    let name = text(alloc, "disk")?;
+    let description = text(alloc, "sixteen bytes")?;
+    let content = vec![in alloc; 5; 16]?;
+    Ok(Export::new(name, description, content, Ranges::new(alloc), false))
 }
 
 /// Sixteen zeros, of which two ranges are told.
-fn zeros(alloc: Global) -> Result<Export, Fail> {
+fn zeros(alloc: Global) -> Result<Export, NoMemory> {
     let mut ranges = Ranges::new(alloc);
-    ranges.add(2, 3)?;
-    ranges.add(8, 4)?;
+    ranges.hold(2, 3)?;
+    ranges.hold(8, 4)?;
+    let content = vec![in alloc; 0; 16]?;
     Ok(Export::new(
         Text::empty(alloc),
         Text::empty(alloc),
-        vec![in alloc; 0; 16]?,
+        content,
         ranges,
         false,
     ))
 }
 
-/// Makes changes, and appends the bytes that then stand, and what each of these block statuses tells: offset, length, descriptors at most.
-fn push_play(
-    text: &mut String,
-    alloc: Global,
-    export: &mut Export,
-    changes: &[Change],
-    asked: &[(u64, u64, usize)],
-) -> Result<(), NoMemory> {
-    push_changed(text, export, changes)?;
-    for (offset, length, most) in asked {
-        push_statuses(text, alloc, export, *offset, *length, *most)?;
-    }
-    Ok(())
+/// Makes changes, and appends the bytes that then stand, and what a block status of all sixteen tells.
+fn push_play(told: &mut Told, alloc: Global, export: &mut Export, changes: &[Change]) {
+    make(told, export, changes);
+    push_held(told, export);
+    push_statuses(told, alloc, export, 0, 16, 9);
 }
 
 static TO_FIVES: [Change<'static>; 6] = [
@@ -271,27 +254,20 @@ static TO_FIVES: [Change<'static>; 6] = [
 ];
 
 /// An export's name, the length of its description, and whether it is read only.
-fn push_name(text: &mut String, export: &Export) -> Result<(), NoMemory> {
-    text.push_str(export.name().as_str())?;
-    write!(text, " {} ", export.description().len())?;
-    text.push_str(if export.is_read_only() {
-        "true\n"
-    } else {
-        "false\n"
-    })?;
-    Ok(())
+fn push_name(told: &mut Told, export: &Export) {
+    told.push(export.name().as_str());
+    told.push(" ");
+    told.number(export.description().len() as u64);
+    told.push(" ");
+    told.holds(export.is_read_only());
+    told.push("\n");
 }
 
-fn push_fives(text: &mut String, alloc: Global) -> Result<(), Fail> {
+fn push_fives(told: &mut Told, alloc: Global) -> Result<(), NoMemory> {
     let mut export = fives(alloc)?;
-    push_play(
-        text,
-        alloc,
-        &mut export,
-        &TO_FIVES,
-        &[(0, 16, 9), (3, 8, 1)],
-    )?;
-    push_name(text, &export)?;
+    push_play(told, alloc, &mut export, &TO_FIVES);
+    push_statuses(told, alloc, &export, 3, 8, 1);
+    push_name(told, &export);
     Ok(())
 }
 
@@ -303,43 +279,48 @@ static TO_ZEROS: [Change<'static>; 3] = [
 
 static TO_ALL: [Change<'static>; 1] = [Change::Zero(0, 16)];
 
-fn push_zeros(text: &mut String, alloc: Global) -> Result<(), Fail> {
+fn push_zeros(told: &mut Told, alloc: Global) -> Result<(), NoMemory> {
     let mut export = zeros(alloc)?;
-    push_statuses(text, alloc, &export, 0, 16, 9)?;
-    push_play(text, alloc, &mut export, &TO_ZEROS, &[(0, 16, 9)])?;
-    push_play(text, alloc, &mut export, &TO_ALL, &[(0, 16, 9)])?;
+    push_statuses(told, alloc, &export, 0, 16, 9);
+    push_play(told, alloc, &mut export, &TO_ZEROS);
+    push_play(told, alloc, &mut export, &TO_ALL);
     Ok(())
 }
 
 // Zeros are told where they were put or handed in, and no longer where bytes were written since. A write past the end does nothing.
 #[test]
-fn what_is_told_as_zero(rt: HostRuntime) -> Result<(), Fail> {
-    let mut found = String::new(rt.alloc());
-    push_fives(&mut found, rt.alloc())?;
-    push_zeros(&mut found, rt.alloc())?;
-    assert_eq!(rt;
-        found.as_str(),
+fn what_is_told_as_zero(rt: HostRuntime) -> Result<(), NoMemory> {
+    let mut told = Told::new(rt.alloc());
+    push_fives(&mut told, rt.alloc())?;
+    push_zeros(&mut told, rt.alloc())?;
+    same(
+        &rt,
+        &told,
         "5 5 0 0 0 0 9 0 0 0 0 0 5 5 5 5 : 2 0 3 3 2 0 5 3 4 0 : 2 3 disk 13 false\n\
-: 2 0 3 3 3 0 4 3 4 0 0 0 0 0 0 0 0 0 0 7 0 0 1 2 3 0 : 2 0 7 3 1 0 2 3 4 0 0 0 0 0 0 0 0 0 0 0 0 0 0 0 0 0 : 16 3 "
+: 2 0 3 3 3 0 4 3 4 0 0 0 0 0 0 0 0 0 0 7 0 0 1 2 3 0 : 2 0 7 3 1 0 2 3 4 0 0 0 0 0 0 0 0 0 0 0 0 0 0 0 0 0 : 16 3 ",
     );
     Ok(())
 }
 
-// Of the first sixteen blocks of seed 0 the second, the fifth, the tenth and the thirteenth are zeros.
-#[test]
-fn contents_of_a_seed(rt: HostRuntime) -> Result<(), Fail> {
-    let alloc = rt.alloc();
-    let export = generate(alloc, Text::empty(alloc), 0, 65536, false)?;
-    let mut found = String::new(alloc);
-    write!(found, "{}", export.size())?;
+/// The size, bytes at some places, and how many bytes a read of three gives.
+fn push_content(told: &mut Told, export: &Export) {
+    told.numbers(&[export.size()]);
     for at in [0, 1, 2, 3, 134, 135, 4096, 4097, 4098, 4099] {
         if let Some(byte) = export.bytes().get(at) {
-            write!(found, " {byte}")?;
+            told.numbers(&[u64::from(*byte)]);
         }
     }
     if export.size() >= 137 {
-        write!(found, " {}", export.read(134, 3).len())?;
+        told.number(export.read(134, 3).len() as u64);
     }
-    assert_eq!(rt; found.as_str(), "65536 121 122 123 124 255 0 0 0 0 0 3");
+}
+
+// Of the first sixteen blocks of seed 0 the second, the fifth, the tenth and the thirteenth are zeros.
+#[test]
+fn contents_of_a_seed(rt: HostRuntime) -> Result<(), NoMemory> {
+    let export = generate(rt.alloc(), Text::empty(rt.alloc()), 0, 65536, false)?;
+    let mut told = Told::new(rt.alloc());
+    push_content(&mut told, &export);
+    same(&rt, &told, "65536 121 122 123 124 255 0 0 0 0 0 3");
     Ok(())
 }

@@ -19,3 +19,5 @@ mod session_tests;
 mod spawn_tests;
 #[cfg(test)]
 mod store_tests;
+#[cfg(test)]
+mod told;

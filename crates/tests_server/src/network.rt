@@ -4,16 +4,14 @@ ghost use Rattle.std.specs.Prelude.{◌≤◌, IfOk, map};
 ghost use Rattle.lnbd_memnet.specs.Network.{AreApart, hosted_of};
 ghost use Rattle.lnbd_memnet.specs.Schedule.{Moves};
 
+use crate::client::{BEGIN, DISC};
+use crate::told::{Told, text};
 use lnbd_export::Export;
 use lnbd_extents::Ranges;
-use lnbd_link::{Accepted, Got, Took, Want, Wires};
+use lnbd_link::{Accepted, Got, Took, Want, WireFailed, Wires};
 use lnbd_memnet::{Schedule, Served, ServedWires, Step};
-use lnbd_model::{NoMemory, Target, Text, TextFault};
-use std::alloc::{AllocError, Global};
-use std::test::Fail;
-
-/// The client's flags, and GO for the export without a name.
-pub const GO: &[u8] = b"\0\0\0\x03IHAVEOPT\0\0\0\x07\0\0\0\x06\0\0\0\0\0\0";
+use lnbd_model::{NoMemory, Target, Text};
+use std::alloc::Global;
 
 /// What goes out until GO is answered: the hello, size and flags, the sizes of blocks, and ACK.
 const GREETING: &[u8] = b"NBDMAGICIHAVEOPT\0\x03\
@@ -21,14 +19,11 @@ const GREETING: &[u8] = b"NBDMAGICIHAVEOPT\0\x03\
 \0\x03\xe8\x89\x04\x55\x65\xa9\0\0\0\x07\0\0\0\x03\0\0\0\x0e\0\x03\0\0\0\x01\0\0\x10\0\x02\0\0\0\
 \0\x03\xe8\x89\x04\x55\x65\xa9\0\0\0\x07\0\0\0\x01\0\0\0\0";
 
-/// The end of a session.
-const DISC: &[u8] = b"\x25\x60\x95\x13\0\0\0\x02\0\0\0\0\0\0\0\0\0\0\0\0\0\0\0\0\0\0\0\0";
-
 /// A call of the wires.
 #[derive(Clone, Copy)]
 pub enum Ask {
     /// To the Unix address of this one letter.
-    Connect(&'static [u8]),
+    Connect(&'static str),
     /// To a host and a port.
     Call,
     Listen,
@@ -37,8 +32,8 @@ pub enum Ask {
     Greet(u32, usize),
     /// Up to four bytes.
     Read(u32),
-    /// GO.
-    Ask(u32),
+    /// The flags and GO.
+    Begin(u32),
     /// DISC.
     End(u32),
     Pause(u32),
@@ -47,31 +42,40 @@ pub enum Ask {
     Counts,
 }
 
-pub fn unix(alloc: Global, path: &[u8]) -> Result<Target, TextFault> {
-    Ok(Target::Unix {
-        path: Text::from_bytes(alloc, path)?,
-    })
+pub fn unix(alloc: Global, path: &str) -> Result<Target, NoMemory> {
+    let path = text(alloc, path)?;
+    Ok(Target::Unix { path })
+}
+
+/// The sixteen bytes, without a name.
+fn export(alloc: Global) -> Result<Export, NoMemory> {
+    let content = b"abcdefghijklmnop".to_vec(alloc)?;
+    let zeros = Ranges::new(alloc);
+    Ok(Export::new(
+        Text::empty(alloc),
+        Text::empty(alloc),
+        content,
+        zeros,
+        false,
+    ))
 }
 
 #[tactic(auto, using(lnbd_memnet::proofs::Apart::one_apart))]
-fn served(alloc: Global) -> Result<Vec<Served>, Fail>
+fn served(alloc: Global) -> Result<Vec<Served>, NoMemory>
     ensures { IfOk result (λ exports. AreApart (map hosted_of exports.items)) }
 {
-    let at = unix(alloc, b"a")?;
-    let content = b"abcdefghijklmnop".to_vec(alloc)?;
-    let name = Text::empty(alloc);
-    let description = Text::empty(alloc);
-    let export = Export::new(name, description, content, Ranges::new(alloc), false);
+    let at = unix(alloc, "a")?;
+    let export = export(alloc)?;
     let mut exports = Vec::new(alloc);
     exports.push(Served { at, export })?;
     Ok(exports)
 }
 
 /// Wires to it, by this schedule.
-pub fn wires(alloc: Global, schedule: Schedule) -> Result<ServedWires, Fail>
+pub fn wires(alloc: Global, schedule: Schedule) -> Result<ServedWires, NoMemory>
     requires { Moves schedule }
 {
-    Ok(ServedWires::new(alloc, served(alloc)?, schedule)?)
+    ServedWires::new(alloc, served(alloc)?, schedule)
 }
 
 /// The same step so many times.
@@ -122,95 +126,88 @@ pub fn held(wires: &ServedWires) -> &[u8] {
 /// Negotiates on a link: whether all went and came as it is to.
 pub fn greet(wires: &mut ServedWires, link: u32, calls: usize) -> bool {
     let mut came = [0; 104];
-    send(wires, link, GO, calls) == GO.len()
+    send(wires, link, BEGIN, calls) == BEGIN.len()
         && hear(wires, link, &mut came, calls) == came.len()
         && came.as_slice() == GREETING
 }
 
-fn push_number(text: &mut String, number: u64) -> Result<(), AllocError> {
-    write!(text, "{number}")
-}
-
-fn push_connected(
-    text: &mut String,
-    wires: &mut ServedWires,
-    to: &Target,
-) -> Result<(), AllocError> {
-    match wires.connect(to) {
-        Ok(link) => push_number(text, u64::from(link)),
-        Err(_) => text.push_str("failed"),
+fn push_link(told: &mut Told, link: Result<u32, WireFailed>) {
+    match link {
+        Ok(link) => told.number(u64::from(link)),
+        Err(_) => told.push("failed"),
     }
 }
 
-fn push_got(text: &mut String, got: Got, first: u8) -> Result<(), AllocError> {
-    match got {
-        Got::Bytes(n) => write!(text, "{n} {first}"),
-        Got::NotReady => text.push_str("not ready"),
-        Got::End => text.push_str("end"),
-        Got::Failed => text.push_str("failed"),
+fn push_connected(told: &mut Told, wires: &mut ServedWires, to: Result<Target, NoMemory>) {
+    match to {
+        Ok(to) => push_link(told, wires.connect(&to)),
+        Err(_) => told.lack(),
     }
 }
 
-fn push_took(text: &mut String, took: Took) -> Result<(), AllocError> {
+fn push_listening(told: &mut Told, wires: &mut ServedWires, at: Result<Target, NoMemory>) {
+    match at {
+        Ok(at) => push_link(told, wires.listen(&at)),
+        Err(_) => told.lack(),
+    }
+}
+
+/// A host and a port at which nobody serves.
+fn host(alloc: Global) -> Result<Target, NoMemory> {
+    let host = text(alloc, "a")?;
+    Ok(Target::Tcp { host, port: 10809 })
+}
+
+fn push_read(told: &mut Told, wires: &mut ServedWires, link: u32) {
+    let mut came = [0; 4];
+    match wires.read(link, &mut came) {
+        Got::Bytes(n) => {
+            told.numbers(&[n as u64]);
+            told.number(u64::from(came[0]));
+        }
+        Got::NotReady => told.push("not ready"),
+        Got::End => told.push("end"),
+        Got::Failed => told.push("failed"),
+    }
+}
+
+fn push_took(told: &mut Told, took: Took) {
     match took {
-        Took::Bytes(n) => push_number(text, n as u64),
-        Took::NotReady => text.push_str("not ready"),
-        Took::Failed => text.push_str("failed"),
+        Took::Bytes(n) => told.number(n as u64),
+        Took::NotReady => told.push("not ready"),
+        Took::Failed => told.push("failed"),
     }
+}
+
+fn push_counts(told: &mut Told, wires: &ServedWires) {
+    told.numbers(&[wires.faults(), wires.idles()]);
+    told.number(wires.shorts());
 }
 
 /// Makes a call, and appends its answer.
-fn push_answer(
-    text: &mut String,
-    alloc: Global,
-    wires: &mut ServedWires,
-    ask: Ask,
-) -> Result<(), Fail> {
+fn push_answer(told: &mut Told, alloc: Global, wires: &mut ServedWires, ask: Ask) {
     match ask {
-        Ask::Connect(path) => push_connected(text, wires, &unix(alloc, path)?)?,
-        Ask::Call => {
-            let host = Text::from_bytes(alloc, b"a")?;
-            push_connected(text, wires, &Target::Tcp { host, port: 10809 })?;
-        }
-        Ask::Listen => match wires.listen(&unix(alloc, b"a")?) {
-            Ok(link) => push_number(text, u64::from(link))?,
-            Err(_) => text.push_str("failed")?,
-        },
+        Ask::Connect(path) => push_connected(told, wires, unix(alloc, path)),
+        Ask::Call => push_connected(told, wires, host(alloc)),
+        Ask::Listen => push_listening(told, wires, unix(alloc, "a")),
         Ask::Accept => match wires.accept(0) {
-            Accepted::Failed => text.push_str("failed")?,
-            _ => text.push_str("link")?,
+            Accepted::Failed => told.push("failed"),
+            _ => told.push("link"),
         },
-        Ask::Greet(link, calls) => write!(text, "{}", greet(wires, link, calls))?,
-        Ask::Read(link) => {
-            let mut came = [0; 4];
-            let got = wires.read(link, &mut came);
-            push_got(text, got, came[0])?;
-        }
-        Ask::Ask(link) => push_took(text, wires.write(link, GO))?,
-        Ask::End(link) => push_took(text, wires.write(link, DISC))?,
+        Ask::Greet(link, calls) => told.holds(greet(wires, link, calls)),
+        Ask::Read(link) => push_read(told, wires, link),
+        Ask::Begin(link) => push_took(told, wires.write(link, BEGIN)),
+        Ask::End(link) => push_took(told, wires.write(link, DISC)),
         Ask::Pause(link) => wires.pause(&[Want { link, direction: 1 }]),
         Ask::Shut(link) => wires.shut(link),
-        Ask::Counts => write!(
-            text,
-            "{} {} {}",
-            wires.faults(),
-            wires.idles(),
-            wires.shorts()
-        )?,
+        Ask::Counts => push_counts(told, wires),
     }
-    Ok(())
+    told.push(", ");
 }
 
 /// Makes these calls, and appends their answers.
-pub fn push_answers(
-    text: &mut String,
-    alloc: Global,
-    wires: &mut ServedWires,
-    asks: &[Ask],
-) -> Result<(), Fail> {
+pub fn push_answers(told: &mut Told, alloc: Global, wires: &mut ServedWires, asks: &[Ask]) {
     for ask in asks {
-        push_answer(text, alloc, wires, *ask)?;
-        text.push_str(", ")?;
+        push_answer(told, alloc, wires, *ask);
     }
-    Ok(())
 }

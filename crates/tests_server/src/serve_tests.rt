@@ -2,47 +2,36 @@
 
 ghost use Rattle.std.specs.Prelude.{◌≡◌, [], IfOk};
 
-use crate::client::{Client, Told, link_of};
+use crate::client::{BEGIN, Client, Comes, DISC, link_of};
+use crate::told::{Told, same, text};
 use lnbd_export::{Export, generate};
 use lnbd_inbound::InboundWires;
-use lnbd_link::{Wires, WriteAnswer};
+use lnbd_link::{ListLink, Wires, WriteAnswer};
 use lnbd_model::{NoMemory, Target, Text};
 use lnbd_serve::{ServeFault, serve_on};
-use std::alloc::{AllocError, Global};
-use std::test::Fail;
-
-/// A client's flags, and GO for the empty name.
-const BEGIN: Told<'static> = Told::Bytes(b"\0\0\0\x03IHAVEOPT\0\0\0\x07\0\0\0\x06\0\0\0\0\0\0");
+use std::alloc::Global;
 
 /// A write of four bytes at the offset 4, with the cookie 7; the first twenty bytes of it, the others, and all but the last one.
-const WRITE: Told<'static> = Told::Bytes(
-    b"\x25\x60\x95\x13\0\0\0\x01\0\0\0\0\0\0\0\x07\0\0\0\0\0\0\0\x04\0\0\0\x04abcd",
-);
+const WRITE: &[u8] =
+    b"\x25\x60\x95\x13\0\0\0\x01\0\0\0\0\0\0\0\x07\0\0\0\0\0\0\0\x04\0\0\0\x04abcd";
 
-const FRONT: Told<'static> = Told::Bytes(b"\x25\x60\x95\x13\0\0\0\x01\0\0\0\0\0\0\0\x07\0\0\0\0");
+const FRONT: &[u8] = b"\x25\x60\x95\x13\0\0\0\x01\0\0\0\0\0\0\0\x07\0\0\0\0";
 
-const REST: Told<'static> = Told::Bytes(b"\0\0\0\x04\0\0\0\x04abcd");
+const REST: &[u8] = b"\0\0\0\x04\0\0\0\x04abcd";
 
-const TOO_SHORT: Told<'static> = Told::Bytes(
-    b"\x25\x60\x95\x13\0\0\0\x01\0\0\0\0\0\0\0\x07\0\0\0\0\0\0\0\x04\0\0\0\x04abc",
-);
-
-/// The end of a session.
-const DISC: Told<'static> = Told::Bytes(
-    b"\x25\x60\x95\x13\0\0\0\x02\0\0\0\0\0\0\0\0\0\0\0\0\0\0\0\0\0\0\0\0",
-);
+const TOO_SHORT: &[u8] =
+    b"\x25\x60\x95\x13\0\0\0\x01\0\0\0\0\0\0\0\x07\0\0\0\0\0\0\0\x04\0\0\0\x04abc";
 
 /// The contents of seed 0 begin so, and a write changes them so.
 const BEFORE: &[u8] = b"yz{|}~\x7f\x80";
 
 const AFTER: &[u8] = b"yz{|abcd";
 
-/// Who comes, for how many is served, how long a pause waits, and what comes of it.
+/// Who comes, for how many is served, and how long a pause waits.
 struct Case {
     clients: &'static [Client<'static>],
     sessions: u32,
     step: u64,
-    comes: &'static str,
 }
 
 const CASES: [Case; 5] = [
@@ -50,7 +39,12 @@ const CASES: [Case; 5] = [
     Case {
         clients: &[
             Client {
-                reads: &[BEGIN, FRONT, Told::Nothing, REST],
+                reads: &[
+                    Comes::Bytes(BEGIN),
+                    Comes::Bytes(FRONT),
+                    Comes::Nothing,
+                    Comes::Bytes(REST),
+                ],
                 writes: &[
                     WriteAnswer::AtMost(1),
                     WriteAnswer::NotReady,
@@ -58,46 +52,42 @@ const CASES: [Case; 5] = [
                 ],
             },
             Client {
-                reads: &[BEGIN, DISC],
+                reads: &[Comes::Bytes(BEGIN), Comes::Bytes(DISC)],
                 writes: &[],
             },
         ],
         sessions: 2,
         step: 1,
-        comes: "2 after, ",
     },
     // Half a write changes nothing.
     Case {
         clients: &[Client {
-            reads: &[BEGIN, TOO_SHORT],
+            reads: &[Comes::Bytes(BEGIN), Comes::Bytes(TOO_SHORT)],
             writes: &[],
         }],
         sessions: 1,
         step: 1,
-        comes: "1 before, ",
     },
     // A client that is none is told in the end, and the next one is served.
     Case {
         clients: &[
             Client {
-                reads: &[BEGIN, Told::Bytes(b"hello")],
+                reads: &[Comes::Bytes(BEGIN), Comes::Bytes(b"hello")],
                 writes: &[],
             },
             Client {
-                reads: &[BEGIN, WRITE],
+                reads: &[Comes::Bytes(BEGIN), Comes::Bytes(WRITE)],
                 writes: &[],
             },
         ],
         sessions: 2,
         step: 1,
-        comes: "client after, ",
     },
     // Nobody comes.
     Case {
         clients: &[],
         sessions: 1,
         step: 1_000_000_000,
-        comes: "silent 1000000000 before, ",
     },
     // A link fails.
     Case {
@@ -107,7 +97,6 @@ const CASES: [Case; 5] = [
         }],
         sessions: 1,
         step: 1,
-        comes: "link 0 1 before, ",
     },
 ];
 
@@ -118,72 +107,101 @@ fn export(alloc: Global) -> Result<Export, NoMemory>
     generate(alloc, Text::empty(alloc), 0, 8, false)
 }
 
-/// The wires over which these come.
-fn wires(alloc: Global, clients: &[Client], step: u64) -> Result<InboundWires, NoMemory> {
+/// The links over which these come.
+fn links(alloc: Global, clients: &[Client]) -> Result<Vec<ListLink>, NoMemory> {
     let mut links = Vec::new(alloc);
     for client in clients {
         links.push(link_of(alloc, client)?)?;
     }
+    Ok(links)
+}
+
+fn wires(alloc: Global, case: &Case) -> Result<InboundWires, NoMemory> {
+    let links = links(alloc, case.clients)?;
     if links.len() > 100 {
         return Err(NoMemory);
     }
-    InboundWires::new(alloc, links, 65_536, step.max(1))
+    InboundWires::new(alloc, links, 65_536, case.step.max(1))
 }
 
 /// What serving came to.
-fn push_answer(text: &mut String, answer: Result<u32, ServeFault>) -> Result<(), AllocError> {
+fn push_answer(told: &mut Told, answer: Result<u32, ServeFault>) {
     match answer {
-        Ok(sessions) => write!(text, "{sessions}"),
-        Err(ServeFault::NoMemory) => text.push_str("no memory"),
-        Err(ServeFault::Link { before, after }) => write!(text, "link {before} {after}"),
-        Err(ServeFault::Output) => text.push_str("output"),
-        Err(ServeFault::Silent { idles }) => write!(text, "silent {idles}"),
-        Err(ServeFault::Client) => text.push_str("client"),
+        Ok(sessions) => told.numbers(&[u64::from(sessions)]),
+        Err(ServeFault::NoMemory) => told.lack(),
+        Err(ServeFault::Link { before, after }) => {
+            told.push("link ");
+            told.numbers(&[before, after]);
+        }
+        Err(ServeFault::Output) => told.push("output "),
+        Err(ServeFault::Silent { idles }) => {
+            told.push("silent ");
+            told.numbers(&[idles]);
+        }
+        Err(ServeFault::Client) => told.push("client "),
     }
 }
 
 /// The word for what an export holds.
 fn word_of(bytes: &[u8]) -> &'static str {
     if bytes == AFTER {
-        return " after, ";
+        return "after, ";
     }
     if bytes == BEFORE {
-        " before, "
+        "before, "
     } else {
-        " something else, "
+        "something else, "
     }
 }
 
+/// Serves so many over these wires, and tells what that answers.
+fn push_served(
+    told: &mut Told,
+    alloc: Global,
+    wires: &mut InboundWires,
+    export: &mut Export,
+    sessions: u32,
+) -> Result<(), NoMemory>
+    requires { export.old.name ≡ [] }
+{
+    let path = text(alloc, "a")?;
+    match wires.listen(&Target::Unix { path }) {
+        Ok(listener) => {
+            let name = Text::empty(alloc);
+            push_answer(
+                told,
+                serve_on(alloc, listener, &name, export, sessions, wires),
+            );
+        }
+        Err(_) => told.push("no listener "),
+    }
+    Ok(())
+}
+
 /// What serving this case's clients answers, and what the export then holds.
-fn push_case(found: &mut String, alloc: Global, case: &Case) -> Result<(), Fail> {
-    let at = Target::Unix {
-        path: Text::from_bytes(alloc, b"a")?,
-    };
-    let mut wires = wires(alloc, case.clients, case.step)?;
-    let listener = wires.listen(&at)?;
+fn push_case(told: &mut Told, alloc: Global, case: &Case) -> Result<(), NoMemory> {
+    let mut wires = wires(alloc, case)?;
     let mut export = export(alloc)?;
-    let name = Text::empty(alloc);
-    let answer = serve_on(
-        alloc,
-        listener,
-        &name,
-        &mut export,
-        case.sessions,
-        &mut wires,
-    );
-    push_answer(found, answer)?;
-    found.push_str(word_of(export.bytes()))?;
+    push_served(told, alloc, &mut wires, &mut export, case.sessions)?;
+    told.push(word_of(export.bytes()));
+    Ok(())
+}
+
+fn push_cases(told: &mut Told, alloc: Global) -> Result<(), NoMemory> {
+    for case in CASES.iter() {
+        push_case(told, alloc, case)?;
+    }
     Ok(())
 }
 
 #[test]
-fn clients_are_served(rt: HostRuntime) -> Result<(), Fail> {
-    let mut found = String::new(rt.alloc());
-    let mut wanted = String::new(rt.alloc());
-    for case in CASES.iter() {
-        push_case(&mut found, rt.alloc(), case)?;
-        wanted.push_str(case.comes)?;
-    }
-    assert_eq!(rt; found.as_str(), wanted.as_str());
+fn clients_are_served(rt: HostRuntime) -> Result<(), NoMemory> {
+    let mut told = Told::new(rt.alloc());
+    push_cases(&mut told, rt.alloc())?;
+    same(
+        &rt,
+        &told,
+        "2 after, 1 before, client after, silent 1000000000 before, link 0 1 before, ",
+    );
     Ok(())
 }

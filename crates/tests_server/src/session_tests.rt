@@ -1,20 +1,17 @@
 //! Sessions as the bytes of a client and the bytes that go out, cut anywhere, with enough memory.
 
+use crate::client::{BEGIN, DISC};
+use crate::told::{Told, same};
 use lnbd_model::{NoMemory, Text};
 use lnbd_server::{Export, Session, TakeFault, generate};
 use std::alloc::Global;
-use std::test::Fail;
 
 /// The client's flags.
 const FLAGS: &[u8] = b"\0\0\0\x03";
 
-/// GO for the export without a name, asking for nothing.
-const GO: &[u8] = b"IHAVEOPT\0\0\0\x07\0\0\0\x06\0\0\0\0\0\0";
-
 /// A read of 4 bytes with cookie 7, and the end.
-const READ: &[u8] = b"\x25\x60\x95\x13\0\0\0\0\0\0\0\0\0\0\0\x07\0\0\0\0\0\0\0\0\0\0\0\x04";
-
-const DISC: &[u8] = b"\x25\x60\x95\x13\0\0\0\x02\0\0\0\0\0\0\0\0\0\0\0\0\0\0\0\0\0\0\0\0";
+const REQUESTS: &[u8] = b"\x25\x60\x95\x13\0\0\0\0\0\0\0\0\0\0\0\x07\0\0\0\0\0\0\0\0\0\0\0\x04\
+\x25\x60\x95\x13\0\0\0\x02\0\0\0\0\0\0\0\0\0\0\0\0\0\0\0\0\0\0\0\0";
 
 /// What the server sends: its hello; what answers GO, which is size and flags of an export of 64 KiB, the sizes of blocks, and
 /// ACK; and the reply to the read.
@@ -24,80 +21,52 @@ const SENT: &[u8] = b"NBDMAGICIHAVEOPT\0\x03\
 \0\x03\xe8\x89\x04\x55\x65\xa9\0\0\0\x07\0\0\0\x01\0\0\0\0\
 \x67\x44\x66\x98\0\0\0\0\0\0\0\0\0\0\0\x07\x79\x7a\x7b\x7c";
 
-/// A client's bytes, and whether they are no client's.
-struct Case {
-    bytes: [&'static [u8]; 3],
-    is_broken: &'static str,
-}
+/// What a client sends first and then, and whether that is no client's.
+type Case = (&'static [u8], &'static [u8], bool);
 
-const CASES: [Case; 11] = [
+static CASES: [Case; 11] = [
     // Other flags.
-    Case {
-        bytes: [b"\0\0\0\x04", b"", b""],
-        is_broken: "true ",
-    },
-    Case {
-        bytes: [b"\0\0\0\0", b"", b""],
-        is_broken: "true ",
-    },
-    Case {
-        bytes: [b"\0\0\0\x07", b"", b""],
-        is_broken: "true ",
-    },
-    Case {
-        bytes: [b"\0\0\0\x01", b"", b""],
-        is_broken: "false ",
-    },
+    (b"", b"\0\0\0\x04", true),
+    (b"", b"\0\0\0\0", true),
+    (b"", b"\0\0\0\x07", true),
+    (b"", b"\0\0\0\x01", false),
     // Another magic number, too much data, and EXPORT_NAME with another name.
-    Case {
-        bytes: [FLAGS, b"IHAVEOPX", b""],
-        is_broken: "true ",
-    },
-    Case {
-        bytes: [FLAGS, b"IHAVEOPT\0\0\0\x03\0\x02\0\x01", b""],
-        is_broken: "true ",
-    },
-    Case {
-        bytes: [FLAGS, b"IHAVEOPT\0\0\0\x01\0\0\0\x01x", b""],
-        is_broken: "true ",
-    },
+    (FLAGS, b"IHAVEOPX", true),
+    (FLAGS, b"IHAVEOPT\0\0\0\x03\0\x02\0\x01", true),
+    (FLAGS, b"IHAVEOPT\0\0\0\x01\0\0\0\x01x", true),
     // A reply in place of a request, an extended one, and a write of more than 32 MiB.
-    Case {
-        bytes: [FLAGS, GO, b"\x67\x44\x66\x98"],
-        is_broken: "true ",
-    },
-    Case {
-        bytes: [
-            FLAGS,
-            GO,
-            b"\x21\xe4\x1c\x71\0\0\0\0\0\0\0\0\0\0\0\x07\0\0\0\0\0\0\0\0\0\0\0\0\0\0\0\x04",
-        ],
-        is_broken: "true ",
-    },
-    Case {
-        bytes: [
-            FLAGS,
-            GO,
-            b"\x25\x60\x95\x13\0\0\0\x01\0\0\0\0\0\0\0\x07\0\0\0\0\0\0\0\0\x02\0\0\x01",
-        ],
-        is_broken: "true ",
-    },
-    Case {
-        bytes: [FLAGS, GO, DISC],
-        is_broken: "false ",
-    },
+    (BEGIN, b"\x67\x44\x66\x98", true),
+    (
+        BEGIN,
+        b"\x21\xe4\x1c\x71\0\0\0\0\0\0\0\0\0\0\0\x07\0\0\0\0\0\0\0\0\0\0\0\0\0\0\0\x04",
+        true,
+    ),
+    (
+        BEGIN,
+        b"\x25\x60\x95\x13\0\0\0\x01\0\0\0\0\0\0\0\x07\0\0\0\0\0\0\0\0\x02\0\0\x01",
+        true,
+    ),
+    (BEGIN, DISC, false),
 ];
 
-/// Appends pieces.
-fn joined(alloc: Global, pieces: &[&[u8]]) -> Result<Vec<u8>, NoMemory> {
-    let mut all = Vec::new(alloc);
-    for piece in pieces {
-        all.extend_from_slice(piece)?;
-    }
+/// Bytes behind others.
+fn joined(alloc: Global, first: &[u8], then: &[u8]) -> Result<Vec<u8>, NoMemory> {
+    let mut all = Vec::from_slice(alloc, first)?;
+    all.extend_from_slice(then)?;
     Ok(all)
 }
 
-/// Hands in bytes, makes all pending replies in order, and takes what waits to go out.
+/// Makes all pending replies in order.
+fn answer_all(session: &mut Session, export: &mut Export) -> Result<(), NoMemory> {
+    for _ in 0..session.pending() {
+        if session.pending() > 0 {
+            session.answer(0, export)?;
+        }
+    }
+    Ok(())
+}
+
+/// Hands in bytes, makes all pending replies, and takes what waits to go out.
 fn hand_in(
     session: &mut Session,
     bytes: &[u8],
@@ -107,56 +76,82 @@ fn hand_in(
     if let Err(TakeFault::NoMemory { .. }) = session.take(bytes, export) {
         return Err(NoMemory);
     }
-    for _ in 0..session.pending() {
-        if session.pending() > 0 {
-            session.answer(0, export)?;
-        }
-    }
+    answer_all(session, export)?;
     sent.extend_from_slice(session.out())?;
     let n = session.out().len();
     session.gave(n);
     Ok(())
 }
 
-/// What went out, and whether the bytes that came were no client's.
-#[derive(Drop)]
-struct Played {
-    sent: Vec<u8>,
-    is_broken: bool,
+/// Hands in bytes in two parts.
+fn hand_in_cut(
+    session: &mut Session,
+    bytes: &[u8],
+    cut: usize,
+    export: &mut Export,
+    sent: &mut Vec<u8>,
+) -> Result<(), NoMemory> {
+    let (first, second) = bytes.split_at(cut.min(bytes.len()));
+    hand_in(session, first, export, sent)?;
+    hand_in(session, second, export, sent)
 }
 
-/// What comes of these bytes where they come in two parts.
-fn play(alloc: Global, bytes: &[u8], cut: usize) -> Result<Played, NoMemory> {
+/// Whether bytes that come in two parts are no client's; and what goes out then.
+fn is_broken(
+    alloc: Global,
+    bytes: &[u8],
+    cut: usize,
+    sent: &mut Vec<u8>,
+) -> Result<bool, NoMemory> {
     let mut export = generate(alloc, Text::empty(alloc), 0, 65536, false)?;
     let mut session = Session::new(alloc, true, true)?;
+    hand_in_cut(&mut session, bytes, cut, &mut export, sent)?;
+    Ok(session.broken())
+}
+
+/// This cut of a client's bytes, where what goes out is something else.
+fn push_cut(told: &mut Told, alloc: Global, client: &[u8], cut: usize) -> Result<(), NoMemory> {
     let mut sent = Vec::new(alloc);
-    let (first, second) = bytes.split_at(cut.min(bytes.len()));
-    hand_in(&mut session, first, &mut export, &mut sent)?;
-    hand_in(&mut session, second, &mut export, &mut sent)?;
-    Ok(Played {
-        sent,
-        is_broken: session.broken(),
-    })
+    let is_broken = is_broken(alloc, client, cut, &mut sent)?;
+    if is_broken || sent.as_slice() != SENT {
+        told.push("cut ");
+        told.numbers(&[cut as u64]);
+    }
+    Ok(())
+}
+
+fn push_cuts(told: &mut Told, alloc: Global) -> Result<(), NoMemory> {
+    let client = joined(alloc, BEGIN, REQUESTS)?;
+    for cut in 0..=client.len() {
+        push_cut(told, alloc, &client, cut)?;
+    }
+    Ok(())
+}
+
+/// This case, where it comes to something else.
+fn push_case(told: &mut Told, alloc: Global, row: u64, case: &Case) -> Result<(), NoMemory> {
+    let bytes = joined(alloc, case.0, case.1)?;
+    let mut sent = Vec::new(alloc);
+    if is_broken(alloc, &bytes, 0, &mut sent)? != case.2 {
+        told.push("case ");
+        told.numbers(&[row]);
+    }
+    Ok(())
+}
+
+fn push_cases(told: &mut Told, alloc: Global) -> Result<(), NoMemory> {
+    for (row, case) in CASES.iter().enumerate() {
+        push_case(told, alloc, row as u64, case)?;
+    }
+    Ok(())
 }
 
 // A read by simple replies, all in one piece and cut at each byte; and bytes that are no client's.
 #[test]
-fn sessions_are_answered_however_they_are_cut(rt: HostRuntime) -> Result<(), Fail> {
-    let alloc = rt.alloc();
-    let mut found = String::new(alloc);
-    let mut wanted = String::new(alloc);
-    let client = joined(alloc, &[FLAGS, GO, READ, DISC])?;
-    for cut in 0..=client.len() {
-        let played = play(alloc, &client, cut)?;
-        if played.sent.as_slice() != SENT || played.is_broken {
-            write!(found, "cut {cut}, ")?;
-        }
-    }
-    for case in &CASES {
-        let bytes = joined(alloc, &case.bytes)?;
-        write!(found, "{} ", play(alloc, &bytes, 0)?.is_broken)?;
-        wanted.push_str(case.is_broken)?;
-    }
-    assert_eq!(rt; found, wanted);
+fn sessions_are_answered_however_they_are_cut(rt: HostRuntime) -> Result<(), NoMemory> {
+    let mut told = Told::new(rt.alloc());
+    push_cuts(&mut told, rt.alloc())?;
+    push_cases(&mut told, rt.alloc())?;
+    same(&rt, &told, "");
     Ok(())
 }

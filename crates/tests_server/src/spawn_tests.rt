@@ -1,9 +1,9 @@
 //! A spawner in memory: what each call answers, the faults that are counted then, and the calls that it keeps.
 
-use lnbd_model::{Text, Texts};
+use crate::told::{Told, same, text};
+use lnbd_model::{NoMemory, Text, Texts};
 use lnbd_spawn::{Deed, ListSpawner, Ran, Spawner, Waited};
-use std::alloc::{AllocError, Global};
-use std::test::Fail;
+use std::alloc::Global;
 
 /// How the programs behave, in order.
 const PROGRAMS: [Ran; 3] = [
@@ -24,146 +24,135 @@ const PROGRAMS: [Ran; 3] = [
 /// A call.
 #[derive(Clone, Copy)]
 enum Step {
+    /// Of this program with these words.
     Start(&'static str, &'static [&'static str]),
     Wait(u32),
 }
 
-/// A call, what it answers, and the count of faults behind it.
-struct Row {
-    step: Step,
-    comes: &'static str,
-}
-
-const ROWS: [Row; 9] = [
-    Row {
-        step: Step::Start("prog", &["x", "nbd://localhost"]),
-        comes: "0 0, ",
-    },
-    Row {
-        step: Step::Start("absent", &[]),
-        comes: "failed 1, ",
-    },
-    Row {
-        step: Step::Start("other", &["y"]),
-        comes: "2 1, ",
-    },
-    Row {
-        step: Step::Wait(2),
-        comes: "signal 1, ",
-    },
-    Row {
-        step: Step::Wait(0),
-        comes: "status 3 1, ",
-    },
-    Row {
-        step: Step::Wait(0),
-        comes: "status 3 1, ",
-    },
-    Row {
-        step: Step::Wait(1),
-        comes: "failed 2, ",
-    },
-    Row {
-        step: Step::Wait(3),
-        comes: "failed 3, ",
-    },
-    Row {
-        step: Step::Start("past", &[]),
-        comes: "failed 4, ",
-    },
+const STEPS: [Step; 9] = [
+    Step::Start("prog", &["x", "nbd://localhost"]),
+    Step::Start("absent", &[]),
+    Step::Start("other", &["y"]),
+    Step::Wait(2),
+    Step::Wait(0),
+    Step::Wait(0),
+    Step::Wait(1),
+    Step::Wait(3),
+    Step::Start("past", &[]),
 ];
 
-/// The calls that are kept then.
-const KEPT: &str = "prog x nbd://localhost: 0; absent: failed; other y: 2; wait 2: signal; \
-    wait 0: status 3; wait 0: status 3; wait 1: failed; wait 3: failed; past: failed; ";
+/// What each call answers, with the count of faults behind it; and the calls that are kept then.
+const TOLD: &str =
+    "0 0, failed 1, 2 1, signal 1, status 3 1, status 3 1, failed 2, failed 3, failed 4, \
+prog x nbd://localhost: 0; absent: failed; other y: 2; wait 2: signal; \
+wait 0: status 3; wait 0: status 3; wait 1: failed; wait 3: failed; past: failed; ";
 
 /// These words.
-fn texts(alloc: Global, words: &[&str]) -> Result<Texts, Fail> {
+fn texts(alloc: Global, words: &[&str]) -> Result<Texts, NoMemory> {
     let mut texts = Texts::new(alloc);
     for word in words {
-        texts.push(Text::from_bytes(alloc, word.as_bytes())?)?;
+        texts.push(text(alloc, word)?)?;
     }
     Ok(texts)
 }
 
-fn push_child(text: &mut String, child: Option<u32>) -> Result<(), AllocError> {
+fn push_child(told: &mut Told, child: Option<u32>) {
     match child {
-        Some(child) => write!(text, "{child}"),
-        None => text.push_str("failed"),
+        Some(child) => told.number(u64::from(child)),
+        None => told.push("failed"),
     }
 }
 
-fn push_waited(text: &mut String, waited: Waited) -> Result<(), AllocError> {
+fn push_waited(told: &mut Told, waited: Waited) {
     match waited {
-        Waited::Status(status) => write!(text, "status {status}"),
-        Waited::Signal => text.push_str("signal"),
-        Waited::Failed => text.push_str("failed"),
+        Waited::Status(status) => {
+            told.push("status ");
+            told.number(u64::from(status));
+        }
+        Waited::Signal => told.push("signal"),
+        Waited::Failed => told.push("failed"),
     }
+}
+
+fn push_started(
+    told: &mut Told,
+    alloc: Global,
+    spawn: &mut ListSpawner,
+    program: &str,
+    words: &[&str],
+) -> Result<(), NoMemory> {
+    let program = text(alloc, program)?;
+    let words = texts(alloc, words)?;
+    push_child(told, spawn.start(&program, &words).ok());
+    Ok(())
 }
 
 /// Makes a call, and tells what it answers.
-fn push_step<P: Spawner>(
+fn push_step(
+    told: &mut Told,
     alloc: Global,
-    text: &mut String,
-    spawn: &mut P,
+    spawn: &mut ListSpawner,
     step: Step,
-) -> Result<(), Fail> {
+) -> Result<(), NoMemory> {
     match step {
-        Step::Start(program, words) => {
-            let program = Text::from_bytes(alloc, program.as_bytes())?;
-            let child = spawn.start(&program, &texts(alloc, words)?).ok();
-            push_child(text, child)?;
-        }
-        Step::Wait(child) => push_waited(text, spawn.wait(child))?,
+        Step::Start(program, words) => push_started(told, alloc, spawn, program, words)?,
+        Step::Wait(child) => push_waited(told, spawn.wait(child)),
     }
-    let faults = spawn.faults();
-    write!(text, " {faults}, ")?;
+    told.push(" ");
+    told.number(spawn.faults());
+    told.push(", ");
     Ok(())
 }
 
-fn push_words(text: &mut String, words: &[Text]) -> Result<(), AllocError> {
+fn push_words(told: &mut Told, words: &[Text]) {
     for word in words {
-        text.push_str(" ")?;
-        text.push_str(word.as_str())?;
+        told.push(" ");
+        told.push(word.as_str());
     }
-    Ok(())
 }
 
 /// Tells a call that is kept.
-fn push_deed(text: &mut String, deed: &Deed) -> Result<(), AllocError> {
+fn push_deed(told: &mut Told, deed: &Deed) {
     match deed {
         Deed::Start {
             program,
             words,
             child,
         } => {
-            text.push_str(program.as_str())?;
-            push_words(text, words.as_slice())?;
-            text.push_str(": ")?;
-            push_child(text, *child)?;
+            told.push(program.as_str());
+            push_words(told, words.as_slice());
+            told.push(": ");
+            push_child(told, *child);
         }
         Deed::Wait { child, answer } => {
-            write!(text, "wait {child}: ")?;
-            push_waited(text, *answer)?;
+            told.push("wait ");
+            told.number(u64::from(*child));
+            told.push(": ");
+            push_waited(told, *answer);
         }
     }
-    text.push_str("; ")
+    told.push("; ");
+}
+
+fn push_deeds(told: &mut Told, deeds: &[Deed]) {
+    for deed in deeds {
+        push_deed(told, deed);
+    }
+}
+
+fn push_steps(told: &mut Told, alloc: Global) -> Result<(), NoMemory> {
+    let mut spawn = ListSpawner::new(alloc, Vec::from_slice(alloc, &PROGRAMS)?);
+    for step in &STEPS {
+        push_step(told, alloc, &mut spawn, *step)?;
+    }
+    push_deeds(told, spawn.calls());
+    Ok(())
 }
 
 #[test]
-fn programs_are_started_and_waited_for(rt: HostRuntime) -> Result<(), Fail> {
-    let alloc = rt.alloc();
-    let mut spawn = ListSpawner::new(alloc, Vec::from_slice(alloc, &PROGRAMS)?);
-    let mut found = String::new(alloc);
-    let mut wanted = String::new(alloc);
-    for row in &ROWS {
-        push_step(alloc, &mut found, &mut spawn, row.step)?;
-        wanted.push_str(row.comes)?;
-    }
-    for deed in spawn.calls() {
-        push_deed(&mut found, deed)?;
-    }
-    wanted.push_str(KEPT)?;
-    assert_eq!(rt; found, wanted);
+fn programs_are_started_and_waited_for(rt: HostRuntime) -> Result<(), NoMemory> {
+    let mut told = Told::new(rt.alloc());
+    push_steps(&mut told, rt.alloc())?;
+    same(&rt, &told, TOLD);
     Ok(())
 }

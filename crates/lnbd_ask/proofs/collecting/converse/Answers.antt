@@ -16,5 +16,5 @@ returns-clause-converses g c link at =
 pub returns-clause-link : goal.returns-clause-link
 returns-clause-link g c =
     let went = c.talk-talked.ensures.talks (begins c.requires.begins.0 c.args.place.now.name base_allocation) c.requires.begins.1 in
-    link_rose c.tell.result c.args.start.faults _ _ _ _ went.calls (lost_from_start Passes c.requires.begins.0 c.args.place.now.name base_allocation _ went.calls went.after _ c.talk-talked.result went.leads.talks) went.leads.blames c.requires.counted c.faults.ensures
+    link_rose c.tell.result c.args.start.faults _ _ _ _ went.calls (lost_from_start Passes c.requires.begins.0 c.args.place.now.name base_allocation _ went.calls went.after _ c.talk-talked.result went.leads.talks) went.leads.blames c.requires.counted c.faults.ensures.count
     (c.tell.ensures.link went.after went.at)

@@ -15,5 +15,5 @@ returns-clause-converses g c link at =
 pub returns-clause-link : goal.returns-clause-link
 returns-clause-link g c =
     let went = c.inquire-inquired.ensures.inquires (begins_listing c.requires.begins.0) c.requires.begins.1 in
-    failure_rose c.tell_entries.result c.args.start.faults _ _ _ _ went.calls (inquiry_lost Passes c.requires.begins.0 _ went.calls went.after _ c.inquire-inquired.result went.leads.does) went.leads.blames c.requires.counted c.faults.ensures
+    failure_rose c.tell_entries.result c.args.start.faults _ _ _ _ went.calls (inquiry_lost Passes c.requires.begins.0 _ went.calls went.after _ c.inquire-inquired.result went.leads.does) went.leads.blames c.requires.counted c.faults.ensures.count
     (c.tell_entries.ensures.link went.after went.at)

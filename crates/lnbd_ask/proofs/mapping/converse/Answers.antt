@@ -31,4 +31,4 @@ returns-in-Err-clause-link g c =
     let went = c.in-Err.ensures.discusses (begins c.requires.begins.0 c.args.place.now.name c.args.world.now.context) c.requires.begins.1 in
     stop_rose c.of_stop.result c.in-Err.stop c.args.start.faults _ _ _ went.calls
     (λ lost. lost_by_call c.args.world.now.context c.requires.begins.0 c.args.place.now.name went.calls went.after went.leads.lesson went.leads.discusses (lesson_stopped went.leads.lesson _ c.in-Err.stop went.leads.is ∙ ap (λ (s : Stop). Stopped s) lost))
-    went.leads.blames c.requires.counted c.faults.ensures c.of_stop.ensures.link
+    went.leads.blames c.requires.counted c.faults.ensures.count c.of_stop.ensures.link

@@ -10,17 +10,17 @@ use Rattle.lnbd_child.proofs.closing.close.Goals as goal
 
 pub returns-in-Ok-clause-closes : goal.returns-in-Ok-clause-closes
 returns-in-Ok-clause-closes g c =
-    closes_written c.args.asked.now c.args.attended c.args.bytes.now _ _ _ _ c.print_sessions-told.result c.answered.result c.in-Ok.ensures.back c.print_sessions-told.ensures.prints c.answered.ensures
+    closes_written c.args.asked.now c.args.attended c.args.bytes.now _ _ _ _ c.print_sessions-told.result c.answered.result c.in-Ok.ensures.back c.print_sessions-told.ensures.prints c.answered.ensures.value
 
 pub returns-in-Ok-clause-answer : goal.returns-in-Ok-clause-answer
 returns-in-Ok-clause-answer g c done =
-    c.answered.ensures ∙ answered_done c.print_sessions-told.result c.args.attended (subst (λ (r : Result ℕ RunFault). is_done r ≡ true) c.answered.ensures done)
+    c.answered.ensures.value ∙ answered_done c.print_sessions-told.result c.args.attended (subst (λ (r : Result ℕ RunFault). is_done r ≡ true) c.answered.ensures.value done)
 
 pub returns-in-Ok-clause-cause : goal.returns-in-Ok-clause-cause
 returns-in-Ok-clause-cause g c =
     let lines = Rises 1 (g.O.Sink.faults c.args.out.now) (g.O.Sink.faults c.print_sessions-told.new.out) in
     let files = Rose g.S.Store.faults c.args.store.now c.write_back.new.store in
-    subst (λ (r : Result ℕ RunFault). IfErr r (Because ⊥ (Unit {0}) (Ends lines) files Never)) (sym c.answered.ensures)
+    subst (λ (r : Result ℕ RunFault). IfErr r (Because ⊥ (Unit {0}) (Ends lines) files Never)) (sym c.answered.ensures.value)
     (answered_because lines files Never c.print_sessions-told.result c.args.attended c.requires c.print_sessions-told.ensures.output)
 
 pub returns-in-Err-clause-closes : goal.returns-in-Err-clause-closes

@@ -17,8 +17,8 @@ returns-in-Err-clause-attends g c = attends_unheard c.args.asked.now _ _ _ _ c.f
 pub returns-in-Err-clause-cause : goal.returns-in-Err-clause-cause
 returns-in-Err-clause-cause g c =
     let r : Rises 1 (g.W.Wires.faults c.args.wires.now) (g.W.Wires.faults c.listen.new.self) = c.in-Err.ensures.cause in
-    let x = c.faults-before.ensures in
-    let y = c.faults.ensures in
+    let x = c.faults-before.ensures.count in
+    let y = c.faults.ensures.count in
     (omega (arith, x), omega (arith, y), omega (arith, r, x, y))
 
 pub returns-in-Ok-hosted-clause-attends : goal.returns-in-Ok-hosted-clause-attends

@@ -5,7 +5,7 @@ use Rattle.lnbd_cli.proofs.input.read_all.Given as goal
 abbrev pub invariant-reading : goal.invariant-reading
 invariant-reading g l = record {
   given : Gives (g.I.Source.left l.fn.input) (g.I.Source.left l.input) l.bytes.items;
-  later : g.I.Source.faults l.fn.input ≤ g.I.Source.faults l.input;
+  still : g.I.Source.faults l.input ≡ g.I.Source.faults l.fn.input;
   fits : vec_len l.bytes ≤ 16777217;
   room : length l.buffer ≡ 65536;
 }

@@ -5,7 +5,7 @@ use Rattle.lnbd_cli.specs.Beside.{FileServed, ProgramRan, is_all_done}
 use Rattle.lnbd_cli.specs.Ends.{Prints}
 use Rattle.lnbd_cli.specs.Runs.{Refused}
 use Rattle.lnbd_cli.proofs.DumpLemmas.{shown_front, shown_whole}
-use Rattle.lnbd_cli.proofs.EndLemmas.{beside_done, by_status, came_known, calls_done, copy_done, dump_done, ends_well, info_done, known, of_done, of_end, refused_known, serve_done, test_done}
+use Rattle.lnbd_cli.proofs.EndLemmas.{beside_done, by_status, came_known, calls_done, copy_done, dump_done, ends_well, info_done, known, of_done, of_end, refused_known, rose_by_fault, serve_done, test_done}
 use Rattle.lnbd_cli.proofs.ServingLemmas.{beside_known, beside_run}
 use Rattle.lnbd_cli.proofs.top.run.Goals as goal
 
@@ -57,11 +57,21 @@ pub returns-clause-refused_known : goal.returns-clause-refused_known
 returns-clause-refused_known g c none = refused_known c.args.words.now
     (λ (t : List ℕ). Prints g.E.Sink.taken g.E.Sink.faults c.args.err.now c.print_end.new.err t) c.tool-end.result c.print_end.result (c.tool-end.ensures.refused none) c.print_end.ensures.tells
 
+pub returns-clause-link_shown : goal.returns-clause-link_shown
+returns-clause-link_shown g c is before after old new = rose_by_fault before after _ _ (c.tally.ensures.counted before old) (c.tally.ensures.few before old) (c.tally-2.ensures.counted after new)
+    (c.tool-end.ensures.link (c.print_end.ensures.link is))
+
 pub returns-clause-well : goal.returns-clause-well
 returns-clause-well g c other is = ends_well c.tool-end.result c.print_end.result _ (c.tool-end.ensures.well other) c.print_end.ensures.done c.print_end.ensures.untrue is
 
 pub returns-clause-patient : goal.returns-clause-patient
 returns-clause-patient g c other is = ends_well c.tool-end.result c.print_end.result _ (c.tool-end.ensures.patient other) c.print_end.ensures.done c.print_end.ensures.untrue is
+
+pub returns-clause-output_well : goal.returns-clause-output_well
+returns-clause-output_well g c is = ends_well c.tool-end.result c.print_end.result _ c.tool-end.ensures.output_well c.print_end.ensures.done c.print_end.ensures.untrue is
+
+pub returns-clause-input_well : goal.returns-clause-input_well
+returns-clause-input_well g c is = ends_well c.tool-end.result c.print_end.result _ c.tool-end.ensures.input_well c.print_end.ensures.done c.print_end.ensures.untrue is
 
 pub returns-clause-complete : goal.returns-clause-complete
 returns-clause-complete g c lawful quiet sound =

@@ -1,7 +1,6 @@
 use Rattle.std.proofs.Common.{List, ℕ, inl, inr, refl, subst}
 use Rattle.lnbd_hexdump.specs.Said.{Ends}
-use Rattle.lnbd_link.specs.Part.{Takes}
-use Rattle.lnbd_reel.specs.Output.{TakesFront}
+use Rattle.lnbd_link.specs.Part.{Takes, TakesFront}
 use Rattle.lnbd_dump.proofs.showing.finish.Goals as goal
 
 pub returns-in-Err-clause-ends : goal.returns-in-Err-clause-ends

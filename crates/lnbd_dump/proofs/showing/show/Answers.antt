@@ -27,7 +27,7 @@ parts-init g c = record {
   contents = keeps_none _;
   faults_later = omega arith;
   idles_later = omega arith;
-  out_later = omega arith;
+  still = refl;
 }
 
 pub next_part-requires-clause-reached : goal.next_part-requires-clause-reached
@@ -99,7 +99,7 @@ parts-preserved g c =
       contents = keeps_on _ _ _ c.parts.invariant.contents c.next_part.ensures.contents;
       faults_later = omega (arith, c.parts.invariant.faults_later, c.next_part.ensures.faults);
       idles_later = omega (arith, c.parts.invariant.idles_later, c.next_part.ensures.idles);
-      out_later = omega (arith, c.parts.invariant.out_later, c.show_part.ensures.later);
+      still = c.in-Ok-show_part.ensures.well ∙ c.parts.invariant.still;
     }
 
 pub returns-in-Err-show_part-clause-shows : goal.returns-in-Err-show_part-clause-shows

@@ -23,7 +23,7 @@ invariant-parts g l = record {
   contents : Keeps (g.W.Wires.contents l.fn.wires) (g.W.Wires.contents l.wires);
   faults_later : g.W.Wires.faults l.fn.wires ≤ g.W.Wires.faults l.wires;
   idles_later : g.W.Wires.idles l.fn.wires ≤ g.W.Wires.idles l.wires;
-  out_later : g.O.Sink.faults l.fn.out ≤ g.O.Sink.faults l.out;
+  still : g.O.Sink.faults l.out ≡ g.O.Sink.faults l.fn.out;
 }
 
 abbrev pub decreases-parts : goal.decreases-parts

@@ -1,6 +1,5 @@
 use Rattle.std.proofs.Common.{ℕ, List, Ok, refl, subst}
-use Rattle.lnbd_link.specs.Part.{Takes}
-use Rattle.lnbd_reel.specs.Output.{TakesFront}
+use Rattle.lnbd_link.specs.Part.{Takes, TakesFront}
 use Rattle.lnbd_dump.proofs.LaterLemmas.{tells_later}
 use Rattle.lnbd_dump.proofs.ShowLemmas.{part_broken, part_shown, part_unsaid}
 use Rattle.lnbd_dump.proofs.showing.show_part.Goals as goal

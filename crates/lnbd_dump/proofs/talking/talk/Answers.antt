@@ -27,14 +27,14 @@ pub returns-then-is_parting-clause-talks : goal.returns-then-is_parting-clause-t
 returns-then-is_parting-clause-talks g c =
     talk_ends c.args.offset c.args.length c.args.world.now (g.O.Sink.taken c.args.out.now) (g.O.Sink.taken c.read-end.new.out) c.read-end.result c.end_of.result c.settle-written.result c.state.result c.read-end.new.world c.settle-written.new.world (sym c.is_parting.ensures ∙ c.if-is_parting.true)
     _ _ _ _ _ _ c.args.handles.now c.read-end.new.handles c.part.new.handles c.settle-written.new.handles c.read-end.ensures.faults c.settle-written.ensures.faults c.read-end.ensures.reads c.part.ensures c.settle-written.ensures.waits
-    (λ seen at. c.state.ensures.told seen.history (at_handle c.settle-written.new.handles c.get.result.now.machine seen c.get.ensures at)) c.end_of.ensures
+    (λ seen at. c.state.ensures.told seen.history (at_handle c.settle-written.new.handles c.get.result.now.machine seen c.get.ensures at)) c.end_of.ensures.ends
 
 pub returns-then-is_parting-clause-silent : goal.returns-then-is_parting-clause-silent
 returns-then-is_parting-clause-silent g c =
-    end_silent c.read-end.result c.settle-written.result c.state.result c.end_of.result _ c.end_of.ensures (λ e. rises_more _ _ _ _ (c.read-end.ensures.silent e) c.settle-written.ensures.idles) (λ e. c.settle-written.ensures.silent e)
+    end_silent c.read-end.result c.settle-written.result c.state.result c.end_of.result _ c.end_of.ensures.ends (λ e. rises_more _ _ _ _ (c.read-end.ensures.silent e) c.settle-written.ensures.idles) (λ e. c.settle-written.ensures.silent e)
 
 pub returns-then-is_parting-clause-output : goal.returns-then-is_parting-clause-output
-returns-then-is_parting-clause-output g c = end_output c.read-end.result c.settle-written.result c.state.result c.end_of.result _ c.end_of.ensures c.read-end.ensures.output
+returns-then-is_parting-clause-output g c = end_output c.read-end.result c.settle-written.result c.state.result c.end_of.result _ c.end_of.ensures.ends c.read-end.ensures.output
 
 pub returns-then-is_parting-clause-contents : goal.returns-then-is_parting-clause-contents
 returns-then-is_parting-clause-contents g c = keeps_on _ _ _ c.read-end.ensures.contents c.settle-written.ensures.contents

@@ -36,14 +36,14 @@ returns-in-Err-clause-contents g c = keeps_none _
 
 pub returns-in-Err-await_all-clause-goes : goal.returns-in-Err-await_all-clause-goes
 returns-in-Err-await_all-clause-goes g c =
-    more_unawaited c.args.plan.now c.args.plan.now c.args.runs.now c.args.runs.now c.args.world.now c.await_all.new.world _ _ _ _ c.args.handles.now c.ask_status.new.handles c.await_all.new.handles c.await_all.new.handles c.in-Ok.cookie c.smaller-size.result
-    (omega (arith, c.smaller-size.ensures)) c.in-Ok.ensures.asks c.in-Err-await_all.stop
+    more_unawaited c.args.plan.now c.args.plan.now c.args.runs.now c.args.runs.now c.args.world.now c.await_all.new.world _ _ _ _ c.args.handles.now c.ask_status.new.handles c.await_all.new.handles c.await_all.new.handles c.in-Ok.cookie c.min-size.result
+    (omega (arith, c.min-size.ensures)) c.in-Ok.ensures.asks c.in-Err-await_all.stop
     (waits_from true _ _ _ _ c.ask_status.new.handles c.await_all.new.handles (λ t. IsStop t.history c.in-Err-await_all.stop) c.ask_status.new.world c.args.world.now c.await_all.new.world c.in-Ok.ensures.world c.in-Err-await_all.ensures.goes)
 
 pub returns-in-Err-take_result-clause-goes : goal.returns-in-Err-take_result-clause-goes
 returns-in-Err-take_result-clause-goes g c =
-    more_failed c.args.plan.now c.args.plan.now c.args.runs.now c.args.runs.now c.args.world.now c.await_all.new.world _ _ _ _ c.args.handles.now c.ask_status.new.handles c.await_all.new.handles c.take_result.new.handles c.in-Ok.cookie c.smaller-size.result
-    (omega (arith, c.smaller-size.ensures)) c.in-Ok.ensures.asks
+    more_failed c.args.plan.now c.args.plan.now c.args.runs.now c.args.runs.now c.args.world.now c.await_all.new.world _ _ _ _ c.args.handles.now c.ask_status.new.handles c.await_all.new.handles c.take_result.new.handles c.in-Ok.cookie c.min-size.result
+    (omega (arith, c.min-size.ensures)) c.in-Ok.ensures.asks
     (waits_from false _ _ _ _ c.ask_status.new.handles c.await_all.new.handles (λ t. Unit {0}) c.ask_status.new.world c.args.world.now c.await_all.new.world c.in-Ok.ensures.world c.in_default.ensures.goes)
     c.in-Err-take_result.stop c.in-Err-take_result.ensures.takes
 
@@ -55,22 +55,22 @@ returns-in-Err-take_result-clause-dry g c = plain_dry c.in-Err-take_result.stop 
 
 pub returns-then-world-clause-goes : goal.returns-then-world-clause-goes
 returns-then-world-clause-goes g c =
-    more_lost c.args.plan.now c.args.plan.now c.args.runs.now c.args.runs.now c.args.world.now c.await_all.new.world _ _ _ _ c.args.handles.now c.ask_status.new.handles c.await_all.new.handles c.take_result.new.handles c.in-Ok.cookie c.smaller-size.result
-    (omega (arith, c.smaller-size.ensures)) c.in-Ok.ensures.asks
+    more_lost c.args.plan.now c.args.plan.now c.args.runs.now c.args.runs.now c.args.world.now c.await_all.new.world _ _ _ _ c.args.handles.now c.ask_status.new.handles c.await_all.new.handles c.take_result.new.handles c.in-Ok.cookie c.min-size.result
+    (omega (arith, c.min-size.ensures)) c.in-Ok.ensures.asks
     (waits_from false _ _ _ _ c.ask_status.new.handles c.await_all.new.handles (λ t. Unit {0}) c.ask_status.new.world c.args.world.now c.await_all.new.world c.in-Ok.ensures.world c.in_default.ensures.goes)
     c.in-Ok-take_result.bytes c.in-Ok-take_result.ensures.takes (stop.Halted halt.NoMemory) (λ h. tt)
 
 pub returns-clause-goes : goal.returns-clause-goes
 returns-clause-goes g c =
-    more_lost c.args.plan.now c.args.plan.now c.args.runs.now c.hear.new.runs c.args.world.now c.await_all.new.world _ _ _ _ c.args.handles.now c.ask_status.new.handles c.await_all.new.handles c.take_result.new.handles c.in-Ok.cookie c.smaller-size.result
-    (omega (arith, c.smaller-size.ensures)) c.in-Ok.ensures.asks
+    more_lost c.args.plan.now c.args.plan.now c.args.runs.now c.hear.new.runs c.args.world.now c.await_all.new.world _ _ _ _ c.args.handles.now c.ask_status.new.handles c.await_all.new.handles c.take_result.new.handles c.in-Ok.cookie c.min-size.result
+    (omega (arith, c.min-size.ensures)) c.in-Ok.ensures.asks
     (waits_from false _ _ _ _ c.ask_status.new.handles c.await_all.new.handles (λ t. Unit {0}) c.ask_status.new.world c.args.world.now c.await_all.new.world c.in-Ok.ensures.world c.in_default.ensures.goes)
     c.in-Ok-take_result.bytes c.in-Ok-take_result.ensures.takes (stop.Halted halt.NoMemory) (λ h. tt)
 
 pub returns-in-Ok-hear-clause-goes : goal.returns-in-Ok-hear-clause-goes
 returns-in-Ok-hear-clause-goes g c =
-    more_told c.args.plan.now _ c.args.runs.now c.hear.new.runs c.args.world.now c.await_all.new.world _ _ _ _ c.args.handles.now c.ask_status.new.handles c.await_all.new.handles c.take_result.new.handles c.in-Ok.cookie c.smaller-size.result
-    (omega (arith, c.smaller-size.ensures)) c.in-Ok.ensures.asks
+    more_told c.args.plan.now _ c.args.runs.now c.hear.new.runs c.args.world.now c.await_all.new.world _ _ _ _ c.args.handles.now c.ask_status.new.handles c.await_all.new.handles c.take_result.new.handles c.in-Ok.cookie c.min-size.result
+    (omega (arith, c.min-size.ensures)) c.in-Ok.ensures.asks
     (waits_from false _ _ _ _ c.ask_status.new.handles c.await_all.new.handles (λ t. Unit {0}) c.ask_status.new.world c.args.world.now c.await_all.new.world c.in-Ok.ensures.world c.in_default.ensures.goes)
     c.in-Ok-take_result.bytes c.in-Ok-take_result.ensures.takes c.in-Ok-hear.known c.requires.none c.requires.some.0 c.if-world.false refl
     c.in-Ok-hear.ensures.within.0 c.in-Ok-hear.ensures.within.1 c.in-Ok-hear.ensures.runs c.in-Ok-hear.ensures.spared c.in-Ok-hear.ensures.beyond

@@ -7,7 +7,7 @@ use Rattle.lnbd_script.proofs.TurnLemmas.{blames_on, blames_same}
 use Rattle.lnbd_script.proofs.playing.play_lines.Goals as goal
 
 pub lines-init : goal.lines-init
-lines-init g c = record { begun = λ scene s. begun_none _ scene _ _ _ _ s; later = omega arith; start = refl; counts = blames_same _ _ }
+lines-init g c = record { begun = λ scene s. begun_none _ scene _ _ _ _ s; still = refl; start = refl; counts = blames_same _ _ }
 
 pub make_current-requires : goal.make_current-requires
 make_current-requires g c =
@@ -45,7 +45,7 @@ lines-preserved g c = record {
       let b = begun_made c.args.lines.now scene _ _ _ _ _ _ c.make_current.new.self _ (c.lines.invariant.begun scene s) c.make_current.ensures.stands in
       begun_on c.args.lines.now _ _ scene _ _ _ _ _ _ c.make_current.new.self c.step.new.self _ _ c.line-item.result c.step.result (next_item _ _ _ c.lines-test.true c.line-item.is) b c.step.ensures.acts c.in-Ok.told c.in-Ok.is
       (shown_at (Ok tt) (g.O.Sink.taken c.lines.out) (g.O.Sink.taken c.tell.new.out) c.in-Ok.told c.current.result.now c.step.new.self _ c.current.ensures c.in_default.ensures.shown);
-  later = omega (arith, c.lines.invariant.later, c.tell.ensures.later);
+  still = c.in_default.ensures.well ∙ c.lines.invariant.still;
   start = c.step.ensures.start ∙ c.make_current.ensures.start ∙ c.lines.invariant.start;
   counts = blames_on _ _ _ _ _ _ c.lines.invariant.counts
       (subst (λ (e : Option Event). Blames e c.step.new.self.first (g.W.Wires.faults c.lines.wires) (g.W.Wires.faults c.step.new.wires)) c.make_current.ensures.first c.step.ensures.counts);

@@ -51,8 +51,8 @@ rounds-preserved g c = record {
 
 pub rounds-smaller : goal.rounds-smaller
 rounds-smaller g c =
-    let short = c.is_long.ensures.short c.if-is_long.false in
-    let open_ = c.is_long.ensures.open_ c.if-is_long.false in
+    let short = c.is_long.ensures.within c.if-is_long.false in
+    let open_ = c.is_long.ensures.open c.if-is_long.false in
     smaller_still _ _ _ _ _ _ (c.in-Ok-Still.ensures.ok.leads.still c.in-Ok-Still.field-0-is).1 c.in-Ok-Still.ensures.counts.idles_later c.in-Ok.ensures.waited (omega (arith, c.idles.ensures, short)) (omega (arith, c.idles.ensures, open_))
 
 pub returns-in-Err-clause-err : goal.returns-in-Err-clause-err

@@ -30,8 +30,8 @@ pub returns-clause-link : goal.returns-clause-link
 returns-clause-link g c x y e =
     let l = link_of c.serve_all-served.result _ _ _ _ _ x y (sym c.answer_of.ensures ∙ e) in
     let rises : min (g.W.Wires.faults c.args.wires.now + 1) 18446744073709551615 ≤ g.W.Wires.faults c.serve_all-served.new.wires = c.serve_all-served.ensures.counts.cause l.0 in
-    let first : x ≡ g.W.Wires.faults c.args.wires.now = l.1 ∙ c.faults-before.ensures in
-    let last : y ≡ g.W.Wires.faults c.shut_all.new.wires = l.2 ∙ c.faults.ensures in
+    let first : x ≡ g.W.Wires.faults c.args.wires.now = l.1 ∙ c.faults-before.ensures.count in
+    let last : y ≡ g.W.Wires.faults c.shut_all.new.wires = l.2 ∙ c.faults.ensures.count in
     (first, last, omega (arith, rises, first, last, c.shut_all.ensures.counts.faults_later))
 
 pub returns-clause-silent : goal.returns-clause-silent

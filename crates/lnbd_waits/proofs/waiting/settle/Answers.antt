@@ -50,7 +50,7 @@ turns-smaller g c =
     let part = went.leads.2 in
     let spent = handle_spends g.K.Caller.steps went.leads.0 _ _ w.now went.after went.calls _ _ part.moved went.leads.1 w.at went.at part.turns in
     let same = ap budget_of c.pause.ensures.unchanged in
-    omega (arith, spent.0, same, c.pause.ensures.idles, c.turn.ensures.idles, c.turns.invariant.idles_later, c.requires.started, c.idles.ensures, c.is_long.ensures.short c.if-is_long.false, c.is_long.ensures.open c.if-is_long.false)
+    omega (arith, spent.0, same, c.pause.ensures.idles, c.turn.ensures.idles, c.turns.invariant.idles_later, c.requires.started, c.idles.ensures, c.is_long.ensures.within c.if-is_long.false, c.is_long.ensures.open c.if-is_long.false)
 
 pub returns-in-Err-clause-waits : goal.returns-in-Err-clause-waits
 returns-in-Err-clause-waits g c seen at =

@@ -24,7 +24,7 @@ use Rattle.lnbd_copy.proofs.DrivingLemmas.{drives_none}
 use Rattle.lnbd_copy.proofs.DecidingLemmas.{decided_all, rests_decided}
 use Rattle.lnbd_copy.proofs.DrivenAsLemmas.{driven_as, driven_idly, way_driven}
 use Rattle.std.proofs.lemmas.Bool.{false≢true}
-use Rattle.lnbd_copy.specs.Causes.{patience}
+use Rattle.lnbd_link.specs.Count.{patience}
 use Rattle.lnbd_copy.specs.declared.counts.Counts.{Counts}
 use Rattle.lnbd_copy.proofs.PatientLemmas.{always_if_err, few_stay, looked_decided, patient_at, unrisen_at, waited_any, waited_as, waited_less, waited_looked, waited_on, waited_within}
 use Rattle.lnbd_copy.proofs.copier.Copier.copy.Goals as goal

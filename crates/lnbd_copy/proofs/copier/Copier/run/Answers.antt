@@ -1,7 +1,7 @@
 use Rattle.std.proofs.Common.{◌<◌, ◌≤◌, ap}
 use Rattle.std.proofs.lemmas.Result.{on_ok_weaker}
-use Rattle.lnbd_copy.proofs.EndLemmas.{done_asks, done_copies, done_dense, done_driven, done_flushed, done_left, done_spares, done_whole, done_wholly, told_part}
-use Rattle.lnbd_copy.specs.Causes.{patience}
+use Rattle.lnbd_copy.proofs.EndLemmas.{done_asks, done_carries, done_dense, done_driven, done_flushed, done_left, done_spares, done_whole, done_wholly, grown_copies, told_part}
+use Rattle.lnbd_link.specs.Count.{patience}
 use Rattle.lnbd_copy.proofs.CauseLemmas.{goes_then}
 use Rattle.lnbd_copy.proofs.EndedLemmas.{on_ok_two, still_unrisen}
 use Rattle.lnbd_copy.proofs.CopierLemmas.{told_as}
@@ -19,11 +19,17 @@ use Rattle.lnbd_copy.proofs.DrivenAsLemmas.{driven_idly}
 use Rattle.lnbd_copy.proofs.PatientLemmas.{few_stay}
 use Rattle.lnbd_copy.proofs.copier.Copier.run.Goals as goal
 
+pub returns-clause-carries : goal.returns-clause-carries
+returns-clause-carries g c two =
+    on_ok_weaker c.copy-told.result
+    (λ done. done_carries c.args.self c.copy-told.new.self _ _ _ c.copy-told.ensures.kept (ap g.W.Wires.told (c.end.ensures.parted done.parted)) two done)
+    c.copy-told.ensures.done
+
 pub returns-clause-copies : goal.returns-clause-copies
 returns-clause-copies g c two =
     on_ok_weaker c.copy-told.result
-    (λ done. done_copies c.args.self c.copy-told.new.self _ _ _ c.copy-told.ensures.kept (ap g.W.Wires.told (c.end.ensures.parted done.parted)) two done)
-    c.copy-told.ensures.done
+    (λ carried. grown_copies c.args.self.from c.args.self.to c.args.self.options.destination_is_zero _ _ carried)
+    (returns-clause-carries g c two)
 
 pub returns-clause-asks : goal.returns-clause-asks
 returns-clause-asks g c two =
@@ -172,7 +178,7 @@ returns-clause-whole g c two =
 
 pub returns-clause-made : goal.returns-clause-made
 returns-clause-made g c two =
-    is_made c.args.self.options c.args.self.from c.args.self.to _ _ c.copy-told.result (returns-clause-asks g c two) (returns-clause-done g c two) (returns-clause-summary g c two) (returns-clause-spares g c two) (returns-clause-dense g c two) (returns-clause-answered g c two)
+    is_made c.args.self.options c.args.self.from c.args.self.to _ _ c.copy-told.result (returns-clause-carries g c two) (returns-clause-asks g c two) (returns-clause-done g c two) (returns-clause-summary g c two) (returns-clause-spares g c two) (returns-clause-dense g c two) (returns-clause-answered g c two)
     (returns-clause-flushes g c two) (returns-clause-flushed g c two) (λ unwanted. returns-clause-unflushed g c unwanted two) (returns-clause-driven g c) (returns-clause-pauses g c two) (returns-clause-shares g c two) (returns-clause-writes g c) (returns-clause-waits g c) (returns-clause-links g c) (returns-clause-connects g c) (returns-clause-reads g c)
     (returns-clause-wanted g c) (returns-clause-connected g c) (returns-clause-drives g c) (returns-clause-left g c) (returns-clause-whole g c two) (returns-clause-on_first g c two)
     (returns-clause-runs g c two)

@@ -6,4 +6,4 @@ use Rattle.lnbd_memnet.proofs.wires.ServedWires.accept_on.Goals as goal
 
 pub invariant_of-self : goal.invariant_of-self
 invariant_of-self c = held_then c.self.inside.shorts c.self.inside.faults c.raised-self-inside.result c.self.inside.log c.accept.new.self c.self.inside.network c.self.inside.network
-    (Accept c.args.listener accepted.Failed) c.self.invariant c.raised-self-inside.ensures.never_falls c.in-Ok.ensures.ok (refl, refl)
+    (Accept c.args.listener accepted.Failed) c.self.invariant c.raised-self-inside.ensures.never_falls c.raised-self-inside.ensures.value c.in-Ok.ensures.ok (refl, refl)

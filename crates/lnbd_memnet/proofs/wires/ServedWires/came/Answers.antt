@@ -3,4 +3,4 @@ use Rattle.lnbd_memnet.specs.Wires.{Served, Came}
 use Rattle.lnbd_memnet.proofs.wires.ServedWires.came.Goals as goal
 
 pub returns : goal.returns
-returns c = subst (λ (w : Served). w.shorts ≡ 0 → Came w.calls w.network) c.self.view_is c.self.invariant.1
+returns c = subst (λ (w : Served). w.shorts ≡ 0 → Came w.calls w.network) c.self.view_is (λ none. (c.self.invariant.1 none).came)

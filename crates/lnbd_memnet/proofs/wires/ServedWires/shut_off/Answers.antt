@@ -1,8 +1,8 @@
-use Rattle.std.proofs.Common.{arith}
+use Rattle.std.proofs.Common.{refl, arith}
 use Rattle.lnbd_link.specs.Call.{Shut}
 use Rattle.lnbd_memnet.proofs.Telling.{held_then}
 use Rattle.lnbd_memnet.proofs.wires.ServedWires.shut_off.Goals as goal
 
 pub invariant_of-self : goal.invariant_of-self
 invariant_of-self c = held_then c.self.inside.shorts c.self.inside.faults c.self.inside.faults c.self.inside.log c.shut-2.new.self c.self.inside.network c.shut.new.self
-    (Shut c.args.link) c.self.invariant (omega arith) c.in-Ok.ensures.ok c.shut.ensures
+    (Shut c.args.link) c.self.invariant (omega arith) refl c.in-Ok.ensures.ok c.shut.ensures

@@ -1,8 +1,13 @@
-use Rattle.lnbd_script.proofs.IssuingLemmas.{issue_ok}
+use Rattle.lnbd_script.proofs.IssuingLemmas.{issued_then, lacks_then, refused_now}
 use Rattle.lnbd_script.proofs.session.Session.issue.Goals as goal
 
-pub returns-clause-ok : goal.returns-clause-ok
-returns-clause-ok c =
-    rw c.told_of.ensures
-    (issue_ok c.args.manner c.args.command.now c.in_ok-bytes.bytes c.in_ok-bytes.ensures.bytes c.new-keeper.result c.count.result c.args.self.now c.prepare.new.self c.hand_over-answer.new.self c.count_in.new.heeded c.hand_over-answer.result
-    c.new-keeper.ensures c.count.ensures c.prepare.ensures.same c.hand_over-answer.ensures c.count_in.ensures)
+pub returns-in-Some-clause-ok : goal.returns-in-Some-clause-ok
+returns-in-Some-clause-ok c = refused_now c.args.manner c.args.command.now c.args.self.now c.refuse_unread.new.self c.in_ok-judged.judged c.in-Some.why c.in-Some.is c.in_ok-judged.ensures.judged
+
+pub returns-in-None-clause-ok : goal.returns-in-None-clause-ok
+returns-in-None-clause-ok c =
+    issued_then c.args.manner c.args.command.now c.args.self.now c.refuse_unread.new.self c.issue_filled.new.self c.in_ok-judged.judged c.issue_filled.result c.in-None.is c.in_ok-judged.ensures.judged c.issue_filled.ensures.ok
+
+pub returns-in-None-clause-lacks : goal.returns-in-None-clause-lacks
+returns-in-None-clause-lacks c =
+    lacks_then c.args.manner c.args.command.now c.args.self.now c.refuse_unread.new.self c.issue_filled.new.self c.in_ok-judged.judged c.issue_filled.result c.in-None.is c.in_ok-judged.ensures.judged c.issue_filled.ensures.lacks

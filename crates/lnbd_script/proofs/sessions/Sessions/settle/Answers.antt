@@ -65,7 +65,7 @@ rounds-preserved g c =
     } in
     record {
       settling = λ scene s. settling_still _ _ _ c.rounds.self mid _ _ scene (c.rounds.invariant.settling scene s) busy rounded c.in-Ok-false.field-0 c.in-Ok-false.ensures.ok _ _ c.pause.new.self c.in-Ok-false.field-0-test c.pause.ensures.told paused c.pause.ensures.idles
-          (omega (arith, c.idles.ensures, c.is_long.ensures.short c.if-is_long.false)) (omega (arith, c.idles.ensures, c.is_long.ensures.open c.if-is_long.false));
+          (omega (arith, c.idles.ensures, c.is_long.ensures.within c.if-is_long.false)) (omega (arith, c.idles.ensures, c.is_long.ensures.open c.if-is_long.false));
       counts = blames_on _ _ _ _ _ _ c.rounds.invariant.counts (blames_on _ _ _ _ _ _ (blames_of _ _ _ _ _ _ c.round.ensures.counts)
           (subst (λ (f : Option Event). Blames c.round.new.first f (g.W.Wires.faults c.round.new.wires) (g.W.Wires.faults c.pause.new.wires)) (sym paused.first) (blames_none c.round.new.first _ _ c.pause.ensures.faults)));
       start = paused.start ∙ c.rounds.invariant.start;
@@ -89,12 +89,6 @@ pause-requires g c =
     let s = c.rounds.invariant.settling c.requires.reached.0 c.requires.reached.1 in
     omega (arith, s.at.count, s.at.room, c.round.ensures.count)
 
-pub is_long-requires : goal.is_long-requires
-is_long-requires g c =
-    let s = c.rounds.invariant.settling c.requires.reached.0 c.requires.reached.1 in
-    let start = ap (λ (s : Sessions). s.start) c.pause.ensures.same in
-    omega (arith, start, s.at.started, s.at.small, c.round.ensures.counts.idles_later, c.pause.ensures.idles, c.idles.ensures)
-
 pub rounds-smaller : goal.rounds-smaller
 rounds-smaller g c =
     let s = c.rounds.invariant.settling c.requires.reached.0 c.requires.reached.1 in
@@ -102,7 +96,7 @@ rounds-smaller g c =
     let spent = places_spend s.now.handles w.after _ _ _ _ w.calls c.in-Ok-false.field-0 s.at.held w.at w.leads.0 w.leads.1 in
     let start = ap (λ (s : Sessions). s.start) c.pause.ensures.same in
     let same = ap (λ (s : Sessions). budget_of s.places.items) c.pause.ensures.same in
-    omega (arith, spent.0, start, same, s.at.started, c.pause.ensures.idles, c.round.ensures.counts.idles_later, c.idles.ensures, c.is_long.ensures.short c.if-is_long.false, c.is_long.ensures.open c.if-is_long.false)
+    omega (arith, spent.0, start, same, s.at.started, c.pause.ensures.idles, c.round.ensures.counts.idles_later, c.idles.ensures, c.is_long.ensures.within c.if-is_long.false, c.is_long.ensures.open c.if-is_long.false)
 
 pub rounds-smaller-in-Ok-true : goal.rounds-smaller-in-Ok-true
 rounds-smaller-in-Ok-true g c =

@@ -1,0 +1,19 @@
+-- How many bytes were read, written and passed over.
+use Rattle.std.proofs.Common.{◌≡◌, ◌-◌, ◌<◌, ◌≤◌, ◌^◌, ℕ, refl, ap, sym, subst, ◌∙◌, arith}
+use Rattle.lnbd_plan.specs.declared.summary.Summary.{Summary}
+use Rattle.lnbd_touched.specs.Grown.{RoseBy}
+use Rattle.lnbd_copyfile.specs.Between.{IsSummed}
+
+pub summed_is : (size written : ℕ) (summary : Summary) (g0 g1 g2 t0 t1 t2 : ℕ)
+    → summary ≡ record { read = size; written = written; zeroed = 0; skipped = size - written } → size < 2 ^ 63 → written ≤ size
+    → g1 ≡ g0 → RoseBy size g1 g2 → t1 ≡ t0 → RoseBy written t1 t2 → IsSummed summary g0 g2 t0 t2
+summed_is size written summary g0 g1 g2 t0 t1 t2 is bound few e f k h =
+    subst (λ (s : Summary). IsSummed s g0 g2 t0 t2) (sym is) (record {
+      read = λ low. let rose = f.on (omega (arith, low, e, bound)) in omega (arith, rose, e);
+      written = λ low. let rose = h.on (omega (arith, low, k, bound, few)) in omega (arith, rose, k);
+      whole = omega (arith, few);
+      zeroed = refl;
+    })
+
+pub none_skipped : (size written : ℕ) (summary : Summary) → summary ≡ record { read = size; written = written; zeroed = 0; skipped = size - written } → written ≡ size → summary.skipped ≡ 0
+none_skipped size written summary is all = ap (λ (s : Summary). s.skipped) is ∙ omega (arith, all)

@@ -1,0 +1,20 @@
+use Rattle.std.proofs.Common.{◌++◌, [], ◌∷◌, List, length, false, ap, sym, subst, ◌∙◌}
+use Rattle.lnbd_plan.specs.declared.grid.Slice.{Slice}
+use Rattle.lnbd_plan.specs.Blocks.{in_zero_block}
+use Rattle.lnbd_plan.specs.Slices.{slices_of}
+use Rattle.lnbd_touched.proofs.GrownLemmas.{done_as}
+use Rattle.lnbd_copyfile.specs.Steps.{ArePieces}
+use Rattle.lnbd_copyfile.proofs.PieceLemmas.{one_piece, pieces_are}
+use Rattle.lnbd_copyfile.proofs.writing.cut_pieces.Goals as goal
+
+pub returns-then-block-eq0-clause-pieces : goal.returns-then-block-eq0-clause-pieces
+returns-then-block-eq0-clause-pieces c =
+    let one : Slice = record { start = c.args.offset; length = length c.args.bytes.now; zero = false } in
+    subst (λ (ss : List Slice). ArePieces c.args.offset c.args.bytes.now ss) (sym (c.in_ok-push.ensures.items ∙ ap (λ (ss : List Slice). ss ++ one ∷ []) c.clear.ensures.items))
+    (one_piece c.args.offset c.args.bytes.now)
+
+pub returns-clause-pieces : goal.returns-clause-pieces
+returns-clause-pieces c =
+    let all = slices_of (in_zero_block c.args.block c.args.offset c.args.bytes.now) (λ _. false) c.args.offset (length c.args.bytes.now) in
+    done_as c.pieces.result _ _ (λ is. subst (λ (ss : List Slice). ArePieces c.args.offset c.args.bytes.now ss) (sym (is ∙ ap (λ (ss : List Slice). ss ++ all) c.clear.ensures.items))
+    (pieces_are c.args.block c.args.offset c.args.bytes.now)) c.pieces.ensures.ok

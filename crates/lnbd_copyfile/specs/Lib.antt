@@ -1,0 +1,4 @@
+pub mod Causes
+pub mod Between
+pub mod Calls
+pub mod Steps

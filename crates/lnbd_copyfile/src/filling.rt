@@ -1,0 +1,217 @@
+//! A file is made at a path and filled with the bytes of another one, slice by slice. How that one was opened is not known here.
+
+ghost use Rattle.std.specs.Prelude.{◌≡◌, ◌+◌, ◌<◌, ◌≤◌, ◌^◌, ℕ, Err, IfErr, IfOk, OnErr, OnOk, length, true};
+ghost use Rattle.lnbd_link.specs.Count.{Rises};
+ghost use Rattle.lnbd_store.specs.Shelf.{Goes};
+ghost use Rattle.lnbd_touched.specs.Both.{Both};
+ghost use Rattle.lnbd_touched.specs.Grown.{Grew, RoseBy};
+ghost use Rattle.lnbd_touched.specs.Touches.{Touches};
+ghost use Rattle.lnbd_copyfile.specs.Calls.{Breaks, HasFilled, HasMoved, IsClosing, IsMaking, Moves, NotClosed, NotFilled, NotMade, NotMoved};
+ghost use Rattle.lnbd_copyfile.specs.Causes.{IsChanged};
+ghost use Rattle.lnbd_copyfile.specs.Steps.{IsBlank, IsFilled, Kept, Lacking, Moved, WasShort};
+
+use crate::fault::Stop;
+use crate::reading::read_slice;
+use crate::writing::settle;
+use lnbd_model::Text;
+use lnbd_plan::Slice;
+use lnbd_store::{Store, StoreFailed};
+use std::alloc::Global;
+
+/// Where the bytes come from, and how they are written.
+#[derive(Clone, Copy)]
+pub(crate) struct Way {
+    /// The source's number and length.
+    pub(crate) from: u32,
+    pub(crate) size: u64,
+    /// The most bytes of a slice.
+    pub(crate) cell: u32,
+    /// Zero blocks of so many bytes are passed over; 0 where none are.
+    pub(crate) block: u32,
+    /// Whether the destination is synced in the end.
+    pub(crate) flush: bool,
+}
+
+/// Reads a slice and writes it. How many of its bytes were written.
+fn move_slice<S: Store>(
+    store: &mut S,
+    way: Way,
+    to: u32,
+    offset: u64,
+    count: usize,
+    buffer: &mut [u8],
+    pieces: &mut Vec<Slice>,
+) -> Result<u64, Stop>
+    requires room { count ≤ length buffer.old }
+    requires fits { offset + count ≤ way.size }
+    requires size { way.size < 2 ^ 63 }
+    ensures same { length buffer.new ≡ length buffer.old }
+    ensures moved { OnOk result (Both way.from to (Moved way.size offset (offset + count)) (S.shelf store.old) (S.shelf store.new)) }
+    ensures moves { OnOk result (Grew (S.told store.old) (S.told store.new) (Moves way.from to)) }
+    ensures breaks { IfErr result (λ why. Grew (S.told store.old) (S.told store.new) (Breaks way.from to way.size why)) }
+    ensures short { IfErr result (λ why. IsChanged why → Both way.from to (Lacking way.size) (S.shelf store.old) (S.shelf store.new)) }
+    ensures failed { result ≡ Err Stop.Failed → Rises 1 (S.faults store.old) (S.faults store.new) }
+    ensures later { S.faults store.old ≤ S.faults store.new }
+    ensures given { OnOk result (RoseBy count (S.given store.old) (S.given store.new)) }
+    ensures taken { IfOk result (λ n. RoseBy n (S.taken store.old) (S.taken store.new)) }
+    ensures few { IfOk result (λ n. n ≤ count) }
+    ensures all { way.block ≡ 0 → IfOk result (λ n. n ≡ count) }
+{
+    match read_slice(store, way.from, way.size, offset, buffer, count) {
+        Ok(()) => settle(store, to, offset, &buffer[..count], way.block, pieces),
+        Err(why) => Err(why),
+    }
+}
+
+/// Moves all slices, the first one first. How many bytes were written.
+fn move_slices<S: Store>(
+    store: &mut S,
+    way: Way,
+    to: u32,
+    buffer: &mut [u8],
+    pieces: &mut Vec<Slice>,
+) -> Result<u64, Stop>
+    requires room { 0 < way.size → 0 < length buffer.old }
+    requires size { way.size < 2 ^ 63 }
+    ensures moved { OnOk result (Both way.from to (Moved way.size 0 way.size) (S.shelf store.old) (S.shelf store.new)) }
+    ensures moves { OnOk result (Grew (S.told store.old) (S.told store.new) (Moves way.from to)) }
+    ensures breaks { IfErr result (λ why. Grew (S.told store.old) (S.told store.new) (Breaks way.from to way.size why)) }
+    ensures short { IfErr result (λ why. IsChanged why → Both way.from to (Lacking way.size) (S.shelf store.old) (S.shelf store.new)) }
+    ensures failed { result ≡ Err Stop.Failed → Rises 1 (S.faults store.old) (S.faults store.new) }
+    ensures later { S.faults store.old ≤ S.faults store.new }
+    ensures given { OnOk result (RoseBy way.size (S.given store.old) (S.given store.new)) }
+    ensures taken { IfOk result (λ n. RoseBy n (S.taken store.old) (S.taken store.new)) }
+    ensures few { IfOk result (λ n. n ≤ way.size) }
+    ensures all { way.block ≡ 0 → IfOk result (λ n. n ≡ way.size) }
+{
+    let mut at: u64 = 0;
+    let mut written: u64 = 0;
+    'slices: while at < way.size {
+        let count = (way.size - at).min(buffer.len() as u64) as usize;
+        match move_slice(store, way, to, at, count, buffer, pieces) {
+            Ok(n) => written += n,
+            Err(why) => return Err(why),
+        }
+        at += count as u64;
+    }
+    Ok(written)
+}
+
+/// The file at a path is opened, cut to nothing, and cut to a size: it is so many zeros then, whatever was there.
+fn make<S: Store>(store: &mut S, path: &Text, size: u64) -> Result<u32, StoreFailed>
+    ensures blank { IfOk result (λ n. Goes (S.shelf store.old) (S.shelf store.new) (IsBlank path.now n size)) }
+    ensures made { IfOk result (λ n. Grew (S.told store.old) (S.told store.new) (IsMaking path.now n size)) }
+    ensures unmade { OnErr result (Grew (S.told store.old) (S.told store.new) (NotMade path.now size)) }
+    ensures failed { OnErr result (Rises 1 (S.faults store.old) (S.faults store.new)) }
+    ensures later { S.faults store.old ≤ S.faults store.new }
+    ensures given { S.given store.new ≡ S.given store.old }
+    ensures taken { S.taken store.new ≡ S.taken store.old }
+{
+    let to = store.open(path, true)?;
+    store.cut(to, 0)?;
+    store.cut(to, size)?;
+    Ok(to)
+}
+
+/// Syncs the file, where that is wished.
+fn finish<S: Store>(store: &mut S, to: u32, flush: bool) -> Result<(), StoreFailed>
+    ensures kept { OnOk result (Touches to Kept (S.shelf store.old) (S.shelf store.new)) }
+    ensures closed { OnOk result (Grew (S.told store.old) (S.told store.new) (IsClosing to flush)) }
+    ensures unclosed { OnErr result (Grew (S.told store.old) (S.told store.new) (NotClosed to flush)) }
+    ensures failed { OnErr result (Rises 1 (S.faults store.old) (S.faults store.new)) }
+    ensures later { S.faults store.old ≤ S.faults store.new }
+    ensures given { S.given store.new ≡ S.given store.old }
+    ensures taken { S.taken store.new ≡ S.taken store.old }
+{
+    if flush {
+        return store.sync(to);
+    }
+    Ok(())
+}
+
+/// Moves all slices into a file of zeros, and syncs it where that is wished. How many bytes were written.
+fn transfer<S: Store>(
+    store: &mut S,
+    way: Way,
+    to: u32,
+    buffer: &mut [u8],
+    pieces: &mut Vec<Slice>,
+) -> Result<u64, Stop>
+    requires room { 0 < way.size → 0 < length buffer.old }
+    requires size { way.size < 2 ^ 63 }
+    ensures moved { OnOk result (Both way.from to (Moved way.size 0 way.size) (S.shelf store.old) (S.shelf store.new)) }
+    ensures moves { OnOk result (Grew (S.told store.old) (S.told store.new) (HasMoved way.from to way.flush)) }
+    ensures breaks { IfErr result (λ why. Grew (S.told store.old) (S.told store.new) (NotMoved way.from to way.size way.flush why)) }
+    ensures short { IfErr result (λ why. IsChanged why → Both way.from to (Lacking way.size) (S.shelf store.old) (S.shelf store.new)) }
+    ensures failed { result ≡ Err Stop.Failed → Rises 1 (S.faults store.old) (S.faults store.new) }
+    ensures later { S.faults store.old ≤ S.faults store.new }
+    ensures given { OnOk result (RoseBy way.size (S.given store.old) (S.given store.new)) }
+    ensures taken { IfOk result (λ n. RoseBy n (S.taken store.old) (S.taken store.new)) }
+    ensures few { IfOk result (λ n. n ≤ way.size) }
+    ensures all { way.block ≡ 0 → IfOk result (λ n. n ≡ way.size) }
+{
+    let written = match move_slices(store, way, to, buffer, pieces) {
+        Ok(written) => written,
+        Err(why) => return Err(why),
+    };
+    match finish(store, to, way.flush) {
+        Ok(()) => Ok(written),
+        Err(_) => Err(Stop::Failed),
+    }
+}
+
+/// Makes the file and fills it, by a buffer for a slice. How many bytes were written.
+fn fill_by<S: Store>(
+    store: &mut S,
+    way: Way,
+    path: &Text,
+    buffer: &mut [u8],
+    pieces: &mut Vec<Slice>,
+) -> Result<u64, Stop>
+    requires room { 0 < way.size → 0 < length buffer.old }
+    requires size { way.size < 2 ^ 63 }
+    ensures filled { OnOk result (Goes (S.shelf store.old) (S.shelf store.new) (IsFilled way.from way.size path.now)) }
+    ensures calls { OnOk result (Grew (S.told store.old) (S.told store.new) (HasFilled way.from way.size path.now way.flush)) }
+    ensures breaks { IfErr result (λ why. Grew (S.told store.old) (S.told store.new) (NotFilled way.from way.size path.now way.flush why)) }
+    ensures short { IfErr result (λ why. IsChanged why → Goes (S.shelf store.old) (S.shelf store.new) (WasShort way.from way.size path.now)) }
+    ensures failed { result ≡ Err Stop.Failed → Rises 1 (S.faults store.old) (S.faults store.new) }
+    ensures later { S.faults store.old ≤ S.faults store.new }
+    ensures given { OnOk result (RoseBy way.size (S.given store.old) (S.given store.new)) }
+    ensures taken { IfOk result (λ n. RoseBy n (S.taken store.old) (S.taken store.new)) }
+    ensures few { IfOk result (λ n. n ≤ way.size) }
+    ensures all { way.block ≡ 0 → IfOk result (λ n. n ≡ way.size) }
+{
+    match make(store, path, way.size) {
+        Ok(to) => transfer(store, way, to, buffer, pieces),
+        Err(_) => Err(Stop::Failed),
+    }
+}
+
+/// Makes the file at a path and fills it. Memory for a slice is had before the file is opened. How many bytes were written.
+pub(crate) fn fill<S: Store>(
+    alloc: Global,
+    store: &mut S,
+    way: Way,
+    path: &Text,
+) -> Result<u64, Stop>
+    requires cell { 0 < way.cell }
+    requires size { way.size < 2 ^ 63 }
+    ensures filled { OnOk result (Goes (S.shelf store.old) (S.shelf store.new) (IsFilled way.from way.size path.now)) }
+    ensures calls { OnOk result (Grew (S.told store.old) (S.told store.new) (HasFilled way.from way.size path.now way.flush)) }
+    ensures breaks { IfErr result (λ why. Grew (S.told store.old) (S.told store.new) (NotFilled way.from way.size path.now way.flush why)) }
+    ensures short { IfErr result (λ why. IsChanged why → Goes (S.shelf store.old) (S.shelf store.new) (WasShort way.from way.size path.now)) }
+    ensures failed { result ≡ Err Stop.Failed → Rises 1 (S.faults store.old) (S.faults store.new) }
+    ensures later { S.faults store.old ≤ S.faults store.new }
+    ensures given { OnOk result (RoseBy way.size (S.given store.old) (S.given store.new)) }
+    ensures taken { IfOk result (λ n. RoseBy n (S.taken store.old) (S.taken store.new)) }
+    ensures few { IfOk result (λ n. n ≤ way.size) }
+    ensures all { way.block ≡ 0 → IfOk result (λ n. n ≡ way.size) }
+{
+    let room = way.size.min(way.cell as u64) as usize;
+    let mut buffer = match vec![in alloc; 0u8; room] {
+        Ok(buffer) => buffer,
+        Err(_) => return Err(Stop::NoMemory),
+    };
+    let mut pieces = Vec::new(alloc);
+    fill_by(store, way, path, &mut buffer, &mut pieces)
+}

@@ -1,0 +1,4 @@
+pub mod TouchLemmas
+pub mod PartLemmas
+pub mod BothLemmas
+pub mod GrownLemmas

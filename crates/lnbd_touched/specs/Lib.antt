@@ -1,0 +1,5 @@
+pub mod Touches
+pub mod Both
+pub mod Parts
+pub mod Grown
+pub mod Laws
