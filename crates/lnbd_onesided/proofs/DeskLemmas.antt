@@ -11,10 +11,10 @@ use Rattle.lnbd_board.specs.Asks.{Keeps, change_of, read_at}
 use Rattle.lnbd_board.specs.Requests.{Request, Answers, Suits, request, waiting}
 use Rattle.lnbd_board.specs.Rows.{Stands}
 use Rattle.lnbd_board.proofs.Turning.{calls_kept}
-use Rattle.lnbd_onesided.specs.Desk.{done_more, ChangesAreMade, ReadsAreMade}
+use Rattle.lnbd_onesided.specs.Desk.{done_more, no_link, ChangesAreMade, ReadsAreMade}
 
 answered : (cookie n : ℕ) (command : Command Nobody) (bytes : List ℕ) (asked : List Request) → Suits command bytes
-    → Answers (ticket.Slice n) bytes (asked ++ request 0 cookie (ticket.Slice n) (waiting command) ∷ []) (done_more cookie n command bytes asked)
+    → Answers (ticket.Slice n) bytes (asked ++ request no_link cookie (ticket.Slice n) (waiting command) ∷ []) (done_more cookie n command bytes asked)
 answered cookie n command bytes asked suits = record { link = 0; cookie = cookie; command = command; front = asked; back = []; waited = refl; now = refl; suits = suits }
 
 change_suits : (one : Change) → Suits (change_of one) (change_of one).payload
@@ -23,7 +23,7 @@ change_suits (change.Zero offset size flags) = record { read = λ e. absurd (cc)
 
 pub changes_are_made : ChangesAreMade
 changes_are_made how n cookie one rows next after source destination goes completes none =
-    let asked = destination ++ request 0 cookie (ticket.Slice n) (waiting (change_of one)) ∷ [] in
+    let asked = destination ++ request no_link cookie (ticket.Slice n) (waiting (change_of one)) ∷ [] in
     let done = done_more cookie n (change_of one) (change_of one).payload destination in
     let first : Keeps how rows source destination next.rows source asked = goes.on source destination 0 cookie in
     let then : Keeps how next.rows source asked after.rows source done =
@@ -43,7 +43,7 @@ changes_are_made how n cookie one rows next after source destination goes comple
 pub reads_are_made : ReadsAreMade
 reads_are_made how slice offset buf bytes n cookie rows next after slices source destination begins count stands size completes none =
     let command = read_at offset (length buf) in
-    let asked = source ++ request 0 cookie (ticket.Slice n) (waiting command) ∷ [] in
+    let asked = source ++ request no_link cookie (ticket.Slice n) (waiting command) ∷ [] in
     let done = done_more cookie n command bytes source in
     let first : Stands how (slices ++ slice ∷ []) next.rows asked destination = begins.on slices source destination 0 cookie count stands in
     let then : Keeps how next.rows asked destination after.rows done destination =

@@ -16,9 +16,13 @@ use Rattle.lnbd_board.specs.Files as board
 use Rattle.lnbd_board.specs.Requests.{Request, request, done_with}
 use Rattle.lnbd_board.specs.Rows.{Stands}
 
+-- the side has no links: its requests stand under this number
+abbrev pub no_link : ℕ
+no_link = 0
+
 -- a request that was asked and is done
 abbrev pub done_more : (cookie n : ℕ) → Command Nobody → (bytes : List ℕ) → List Request → List Request
-done_more cookie n command bytes asked = asked ++ request 0 cookie (ticket.Slice n) (done_with command bytes) ∷ []
+done_more cookie n command bytes asked = asked ++ request no_link cookie (ticket.Slice n) (done_with command bytes) ∷ []
 
 -- The board files a completion of a slice.
 abbrev pub Completes : (n : ℕ) → List ℕ → board.Seen → board.Seen → Type 0
