@@ -6,7 +6,7 @@ use Rattle.lnbd_touched.specs.Both.{Both}
 use Rattle.lnbd_touched.specs.Parts.{IsShort, Tells}
 use Rattle.lnbd_touched.specs.Touches.{Touches}
 use Rattle.lnbd_touched.proofs.BothLemmas.{both_first, both_none, both_second, both_then}
-use Rattle.lnbd_copyfile.specs.Between.{IsCopied}
+use Rattle.lnbd_copyfile.specs.Between.{IsDuplicated}
 use Rattle.lnbd_copyfile.specs.Steps.{Fills, IsBlank, IsFilled, IsSource, Kept, Lacking, Moved, WasShort}
 use Rattle.lnbd_copyfile.proofs.FillLemmas.{cut_twice, lacking_then, moved_all, moved_once, moved_same, moved_then}
 
@@ -115,7 +115,7 @@ module _ (n m size : ℕ) (path : List ℕ) where
         );
   }
 
-pub copied_is : (from to : List ℕ) (n size : ℕ) (x y z : Shelf) → from ≢ to → IsSource from n size x y → IsFilled n size to y z → IsCopied from to size x z
+pub copied_is : (from to : List ℕ) (n size : ℕ) (x y z : Shelf) → from ≢ to → IsSource from n size x y → IsFilled n size to y z → IsDuplicated from to size x z
 copied_is from to n size x y z d source filled = record {
   bytes = source.bytes;
   size_ = source.size_;
@@ -128,8 +128,8 @@ copied_is from to n size x y z d source filled = record {
 pub never_is : (from to : List ℕ) (n size : ℕ) (x y z : Shelf) → from ≢ to → IsSource from n size x y → WasShort n size to y z → ⊥
 never_is from to n size x y z d source short = let l = short.short from source.bytes source.opened d in let e = source.size_ in absurd (omega (arith, l, e))
 
-pub copied_goes : (from to : List ℕ) (n size : ℕ) (a b c : Option Shelf) → from ≢ to → Goes a b (IsSource from n size) → Goes b c (IsFilled n size to) → Goes a c (IsCopied from to size)
-copied_goes from to n size a b c d source filled = goes_then (IsSource from n size) (IsFilled n size to) (IsCopied from to size) a b c (λ x y z f g. copied_is from to n size x y z d f g) source filled
+pub copied_goes : (from to : List ℕ) (n size : ℕ) (a b c : Option Shelf) → from ≢ to → Goes a b (IsSource from n size) → Goes b c (IsFilled n size to) → Goes a c (IsDuplicated from to size)
+copied_goes from to n size a b c d source filled = goes_then (IsSource from n size) (IsFilled n size to) (IsDuplicated from to size) a b c (λ x y z f g. copied_is from to n size x y z d f g) source filled
 
 pub never_goes : (from to : List ℕ) (n size : ℕ) (a b c : Option Shelf) → from ≢ to → Goes a b (IsSource from n size) → Goes b c (WasShort n size to) → (now : Shelf) → c ≡ Some now → ⊥
 never_goes from to n size a b c d source short now e =

@@ -4,7 +4,7 @@ use Rattle.lnbd_plan.specs.declared.summary.Summary.{Summary}
 use Rattle.lnbd_store.specs.Shelf.{Shelf, Goes}
 
 -- The file at the second path is now exactly the one at the first, which has so many bytes and is as it was. No other file changed.
-pub record IsCopied (from to : List ℕ) (size : ℕ) (was now : Shelf) : Type 0 where
+pub record IsDuplicated (from to : List ℕ) (size : ℕ) (was now : Shelf) : Type 0 where
   pub bytes : List ℕ
   pub size_ : length bytes ≡ size
   pub source : was.files from ≡ Some bytes
@@ -14,7 +14,7 @@ pub record IsCopied (from to : List ℕ) (size : ℕ) (was now : Shelf) : Type 0
 
 -- So it is where the store tells its files.
 abbrev pub HasCopied : (from to : List ℕ) → (size : ℕ) → (old new : Option Shelf) → Type 0
-HasCopied from to size old new = Goes old new (IsCopied from to size)
+HasCopied from to size old new = Goes old new (IsDuplicated from to size)
 
 -- All that was read the store gave, and it took all that was written; the rest was passed over, and nothing was zeroed.
 pub record IsSummed (summary : Summary) (given given' taken taken' : ℕ) : Type 0 where
