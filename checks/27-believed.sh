@@ -4,7 +4,7 @@
 need python3 python3
 
 listed=$(sed -n '/^## What has to be believed/,/^## Values/p' docs/DEFINITIONS.md | grep '^|' | cut -d '|' -f 3 | grep -o '`lnbd_[a-z]*`' | tr -d '`' | sort -u)
-reached=$(python3 checks/reached.py)
+reached=$(tools/reached)
 if [ "$listed" = "$reached" ] && [ "$(wc -l <<<"$reached")" -ge 30 ]; then
   echo 'ok: docs/DEFINITIONS.md lists the crates that the clauses of run rest on'
 else

@@ -1,5 +1,5 @@
 # docs/PROVED.md names, for each claim of the README, a clause, definitions and laws with their files: each stands there. And a copy's facts are
-# clauses of Copier::run by definitions of these files.
+# fields of the records that Copier::run promises, or clauses of it, by definitions of these files.
 . checks/need.sh
 need python3 python3
 
@@ -41,12 +41,16 @@ told('each name of a chain stands in its file', wrong, count)
 run = open('crates/lnbd_copy/src/running.rt', encoding='utf-8').read()
 run = run[run.index('pub fn run<'):]
 run = run[:run.index('\n    {')]
+records = ''
+for file, record in (('Made', 'IsMade'), ('Conduct', 'Conducts'), ('Changes', 'Behaves')):
+    text = open(f'crates/lnbd_conduct/specs/{file}.antt', encoding='utf-8').read()
+    records += text[text.index(f'pub record {record} '):].partition('\n\n')[0]
 wrong, count = [], 0
 for cells in rows(part[part.index('### What `nbdcopy` promises'):]):
     if len(cells) == 4 and names(cells[1]):
         for clause, definition in zip(names(cells[1]), names(cells[2])):
             count += 1
-            if not re.search(r'ensures ' + clause + r' \{[^\n]*\b' + definition + r'\b', run):
-                wrong.append(f'no clause {clause} by {definition}')
-told('each fact of a copy is a clause of its run by its definition', wrong, count)
+            if not re.search(r'ensures ' + clause + r' \{[^\n]*\b' + definition + r'\b', run) and not re.search(r'pub ' + clause + r' : [^\n]*\b' + definition + r'\b', records):
+                wrong.append(f'no field and no clause {clause} by {definition}')
+told('each fact of a copy is a field of what its run promises, or a clause, by its definition', wrong, count)
 PY

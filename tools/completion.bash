@@ -1,7 +1,7 @@
 # Completion of bash's for lnbd and ./lnbd: the tools, their options, and the names that --is and --can take. A check compares it with
 # docs/help.txt, which has the same words.
 _lnbd() {
-  local word=${COMP_WORDS[COMP_CWORD]} before=${COMP_WORDS[COMP_CWORD - 1]} tool=${COMP_WORDS[1]} words=
+  local word=${COMP_WORDS[COMP_CWORD]} before=${COMP_WORDS[COMP_CWORD - 1]} tool=${COMP_WORDS[1]} words= files=
   # (bash takes '=' for a word of its own)
   [ "$before" = = ] && before=${COMP_WORDS[COMP_CWORD - 2]}
   [ "$word" = = ] && word=
@@ -29,6 +29,7 @@ _lnbd() {
       nbdinfo:*) words='--json --list --size --is --can --map --context --totals --help nbd:// nbd+unix:///?socket=' ;;
       nbdcopy:*)
         words='--allocated --connections --destination-is-zero --flush --no-extents --request-size --requests --sparse --help nbd:// nbd+unix:///?socket='
+        files=yes
         ;;
       nbddump:*) words='--length --offset --help nbd:// nbd+unix:///?socket=' ;;
       serve:*) words='--size --seed --file --sessions --read-only --run --help nbd:// nbd+unix:///?socket=' ;;
@@ -36,6 +37,7 @@ _lnbd() {
     esac
   fi
   COMPREPLY=($(compgen -W "$words" -- "$word"))
+  [ -n "$files" ] && mapfile -t -O "${#COMPREPLY[@]}" COMPREPLY < <(compgen -f -- "$word")
   case ${COMPREPLY[0]} in
     nbd*://*) compopt -o nospace 2>/dev/null ;;
   esac

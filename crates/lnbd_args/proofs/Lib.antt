@@ -14,3 +14,4 @@ pub mod InfoLemmas
 pub mod RunLemmas
 pub mod OneReading
 pub mod ServeLemmas
+pub mod SideLemmas

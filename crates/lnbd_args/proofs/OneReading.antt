@@ -1,5 +1,5 @@
 -- Words ask for one thing at most, and each answer comes exactly where the grammar says.
-use Rattle.std.proofs.Common.{◌≡◌, ◌∙◌, ◌⊎◌, inl, inr, ⊎_elim, ℕ, Bool, true, false, List, [], ◌∷◌, Option, Some, None, Result, Ok, Err, codes, refl, sym, ap, subst}
+use Rattle.std.proofs.Common.{◌≡◌, ◌∙◌, ◌⊎◌, inl, inr, ⊎_elim, ℕ, Bool, true, false, List, [], ◌∷◌, Option, Some, None, Result, Ok, Err, codes, refl, sym, ap, subst, true≢false}
 use Rattle.std.specs.Prelude.{⊤, if◌then◌else◌, IfOk, IsErrOf, unwrap_or}
 use Rattle.std.specs.Str.{bytes_eq}
 use Rattle.lnbd_model.specs.declared.target.Place.{Place}
@@ -11,6 +11,8 @@ use Rattle.lnbd_args.specs.declared.asked.Asked.{Asked}
 use Rattle.lnbd_args.specs.declared.asked.Asked.TheVariants as asked
 use Rattle.lnbd_store.specs.declared.serving.Content.{Content}
 use Rattle.lnbd_store.specs.declared.serving.Content.TheVariants.{Made, File}
+use Rattle.lnbd_store.specs.declared.side.Side.{Side}
+use Rattle.lnbd_store.specs.declared.side.Side.TheVariants as side
 use Rattle.lnbd_plan.specs.declared.options.CopyOptions.{CopyOptions}
 use Rattle.lnbd_args.specs.declared.asked.Predicate.{Predicate}
 use Rattle.lnbd_args.specs.declared.asked.Predicate.TheVariants.{IsReadOnly, IsRotational, IsTls, CanCache, CanDf, CanFastZero, CanFlush, CanFua, CanMultiConn, CanTrim, CanZero, CanWrite, CanRead, CanConnect, CanStructuredReply}
@@ -19,13 +21,14 @@ use Rattle.lnbd_args.specs.declared.asked.What.TheVariants as what
 use Rattle.lnbd_args.specs.declared.fault.ArgsFault.{ArgsFault}
 use Rattle.lnbd_args.specs.declared.fault.ArgsFault.TheVariants.{NoMemory, Usage, Uri}
 use Rattle.lnbd_args.specs.Clap.{is_table}
-use Rattle.lnbd_args.specs.Tools.{Asks, FirstFault, IsContext, IsCopyOptions, IsInfo, IsLength, IsMisplaced, IsNameOf, IsNumber, IsNumberOr, IsRange, IsServe, IsSize, IsWhat, Hosts, IsContent, Reads, Serves, Wanted, given_address, addresses, calls, chosen, copy, copy_rules, dump, dump_rules, info, info_rules, selftest, serve, serve_rules, with_map}
+use Rattle.lnbd_args.specs.Tools.{Asks, FirstFault, IsContext, IsCopyOptions, IsInfo, IsLength, IsMisplaced, IsNameOf, IsNumber, IsNumberOr, IsRange, IsServe, IsSideOf, IsSize, IsWhat, HasFile, Hosts, IsContent, Reads, Serves, Wanted, given_address, addresses, calls, chosen, copy, copy_rules, dump, dump_rules, info, info_rules, is_path, selftest, serve, serve_rules, with_map}
 use Rattle.lnbd_args.specs.Words.{AreParts, Part, Rule, Word, is_given, places, value_of}
 use Rattle.lnbd_args.proofs.InfoLemmas.{option_of}
 use Rattle.lnbd_args.proofs.NumberLemmas.{number_once}
 use Rattle.lnbd_args.proofs.ReadLemmas.{parts_once}
 use Rattle.lnbd_args.proofs.ToolLemmas.{name_is, none_some, other_tool, rest_is, same_pair, some_is}
 use Rattle.lnbd_args.proofs.RunLemmas.{split_once}
+use Rattle.lnbd_args.proofs.SideLemmas.{kept, kept_word, left_word}
 
 -- ---- numbers and options
 
@@ -263,9 +266,22 @@ reads_once words (selftest seed size) (selftest seed' size') h k =
 same_place : (a b : Word) (one two : Place) → a ≡ b → IsAddress a one → IsAddress b two → one ≡ two
 same_place a b one two e h k = place_once a one two h (subst (λ (x : Word). IsAddress x two) (sym e) k)
 
+same_side : (a b : Word) (one two : Side) → a ≡ b → IsSideOf a one → IsSideOf b two → one ≡ two
+same_side a b (side.Nbd one) (side.Nbd two) e h k = ap side.Nbd (same_place a b one two e h.1 k.1)
+same_side a b (side.Nbd one) (side.File two) e h k = absurd (true≢false (sym k.0 ∙ ap is_path (sym e) ∙ h.0))
+same_side a b (side.File one) (side.Nbd two) e h k = absurd (true≢false (sym h.0 ∙ ap is_path e ∙ k.0))
+same_side a b (side.File one) (side.File two) e h k = ap side.File (h.1 ∙ e ∙ sym k.1)
+
+-- two addresses are no file
+no_file : (a b c d : Word) (one two : Place) (from to : Side) → a ≡ c → b ≡ d → IsSideOf a (side.Nbd one) → IsSideOf b (side.Nbd two) → IsSideOf c from → IsSideOf d to → HasFile from to → ⊥
+no_file a b c d one two (side.Nbd from) (side.Nbd to) e f g h i j has = has
+no_file a b c d one two (side.Nbd from) (side.File to) e f g h i j has = true≢false (sym j.0 ∙ ap is_path (sym f) ∙ h.0)
+no_file a b c d one two (side.File from) to e f g h i j has = true≢false (sym i.0 ∙ ap is_path (sym e) ∙ g.0)
+
 pub asks_once : (words : List Word) (one two : Asked) → Asks words one → Asks words two → one ≡ two
 asks_once words asked.Calls asked.Calls h k = refl
 asks_once words asked.Calls (asked.Copy options from to) h k = two_tools words _ _ _ _ refl h k.2.1
+asks_once words asked.Calls (asked.FileCopy options from to) h k = two_tools words _ _ _ _ refl h k.2.1
 asks_once words asked.Calls (asked.Dump place' offset length) h k = two_tools words _ _ _ _ refl h k.1.1
 asks_once words asked.Calls (asked.Info what json place) h k = two_tools words _ _ _ _ refl h k.1.1
 asks_once words asked.Calls (asked.Serve s) h k = two_tools words _ _ _ _ refl h k.1.1
@@ -273,15 +289,32 @@ asks_once words asked.Calls (asked.Selftest seed size) h k = two_tools words _ _
 asks_once words (asked.Copy options from to) asked.Calls h k = two_tools words _ _ _ _ refl h.2.1 k
 asks_once words (asked.Copy options from to) (asked.Copy options' from' to') h k =
     let same = copy_once words options options' h.0 h.1 k.0 k.1 h.2 k.2 in
-    let first = same_place h.0 k.0 from from' same.1 h.3 k.3 in
-    let second = same_place h.1 k.1 to to' same.2 h.4 k.4 in
+    let first = same_place h.0 k.0 from from' same.1 h.3.1 k.3.1 in
+    let second = same_place h.1 k.1 to to' same.2 h.4.1 k.4.1 in
     λ i. asked.Copy (same.0 i) (first i) (second i)
+asks_once words (asked.Copy options from to) (asked.FileCopy options' from' to') h k =
+    let same = copy_once words options options' h.0 h.1 k.0 k.1 h.2 k.2 in
+    absurd (no_file h.0 h.1 k.0 k.1 from to from' to' same.1 same.2 h.3 h.4 k.3 k.4 k.5)
 asks_once words (asked.Copy options from to) (asked.Dump place' offset length) h k = two_tools words _ _ _ _ refl h.2.1 k.1.1
 asks_once words (asked.Copy options from to) (asked.Info what json place) h k = two_tools words _ _ _ _ refl h.2.1 k.1.1
 asks_once words (asked.Copy options from to) (asked.Serve s) h k = two_tools words _ _ _ _ refl h.2.1 k.1.1
 asks_once words (asked.Copy options from to) (asked.Selftest seed size) h k = two_tools words _ _ _ _ refl h.2.1 k.1
+asks_once words (asked.FileCopy options from to) asked.Calls h k = two_tools words _ _ _ _ refl h.2.1 k
+asks_once words (asked.FileCopy options from to) (asked.Copy options' from' to') h k =
+    let same = copy_once words options' options k.0 k.1 h.0 h.1 k.2 h.2 in
+    absurd (no_file k.0 k.1 h.0 h.1 from' to' from to same.1 same.2 k.3 k.4 h.3 h.4 h.5)
+asks_once words (asked.FileCopy options from to) (asked.FileCopy options' from' to') h k =
+    let same = copy_once words options options' h.0 h.1 k.0 k.1 h.2 k.2 in
+    let first = same_side h.0 k.0 from from' same.1 h.3 k.3 in
+    let second = same_side h.1 k.1 to to' same.2 h.4 k.4 in
+    λ i. asked.FileCopy (same.0 i) (first i) (second i)
+asks_once words (asked.FileCopy options from to) (asked.Dump place' offset length) h k = two_tools words _ _ _ _ refl h.2.1 k.1.1
+asks_once words (asked.FileCopy options from to) (asked.Info what json place) h k = two_tools words _ _ _ _ refl h.2.1 k.1.1
+asks_once words (asked.FileCopy options from to) (asked.Serve s) h k = two_tools words _ _ _ _ refl h.2.1 k.1.1
+asks_once words (asked.FileCopy options from to) (asked.Selftest seed size) h k = two_tools words _ _ _ _ refl h.2.1 k.1
 asks_once words (asked.Dump place offset length) asked.Calls h k = two_tools words _ _ _ _ refl h.1.1 k
 asks_once words (asked.Dump place offset length) (asked.Copy options from to) h k = two_tools words _ _ _ _ refl h.1.1 k.2.1
+asks_once words (asked.Dump place offset length) (asked.FileCopy options from to) h k = two_tools words _ _ _ _ refl h.1.1 k.2.1
 asks_once words (asked.Dump place offset length) (asked.Dump place' offset' length') h k =
     let same = dump_once words offset offset' length length' h.0 k.0 h.1 k.1 in
     let there = same_place h.0 k.0 place place' same.2 h.2 k.2 in
@@ -291,6 +324,7 @@ asks_once words (asked.Dump place offset length) (asked.Serve s) h k = two_tools
 asks_once words (asked.Dump place offset length) (asked.Selftest seed size) h k = two_tools words _ _ _ _ refl h.1.1 k.1
 asks_once words (asked.Info what json place) asked.Calls h k = two_tools words _ _ _ _ refl h.1.1 k
 asks_once words (asked.Info what json place) (asked.Copy options from to) h k = two_tools words _ _ _ _ refl h.1.1 k.2.1
+asks_once words (asked.Info what json place) (asked.FileCopy options from to) h k = two_tools words _ _ _ _ refl h.1.1 k.2.1
 asks_once words (asked.Info what json place) (asked.Dump place' offset length) h k = two_tools words _ _ _ _ refl h.1.1 k.1.1
 asks_once words (asked.Info what json place) (asked.Info what' json' place') h k =
     let same = info_once words what what' json json' h.0 k.0 h.1 k.1 in
@@ -300,6 +334,7 @@ asks_once words (asked.Info what json place) (asked.Serve s) h k = two_tools wor
 asks_once words (asked.Info what json place) (asked.Selftest seed size) h k = two_tools words _ _ _ _ refl h.1.1 k.1
 asks_once words (asked.Serve s) asked.Calls h k = two_tools words _ _ _ _ refl h.1.1 k
 asks_once words (asked.Serve s) (asked.Copy options from to) h k = two_tools words _ _ _ _ refl h.1.1 k.2.1
+asks_once words (asked.Serve s) (asked.FileCopy options from to) h k = two_tools words _ _ _ _ refl h.1.1 k.2.1
 asks_once words (asked.Serve s) (asked.Dump place' offset length) h k = two_tools words _ _ _ _ refl h.1.1 k.1.1
 asks_once words (asked.Serve s) (asked.Info what json place') h k = two_tools words _ _ _ _ refl h.1.1 k.1.1
 asks_once words (asked.Serve s) (asked.Serve t) h k =
@@ -310,6 +345,7 @@ asks_once words (asked.Serve s) (asked.Serve t) h k =
 asks_once words (asked.Serve s) (asked.Selftest seed' size') h k = two_tools words _ _ _ _ refl h.1.1 k.1
 asks_once words (asked.Selftest seed size) asked.Calls h k = two_tools words _ _ _ _ refl h.1 k
 asks_once words (asked.Selftest seed size) (asked.Copy options from to) h k = two_tools words _ _ _ _ refl h.1 k.2.1
+asks_once words (asked.Selftest seed size) (asked.FileCopy options from to) h k = two_tools words _ _ _ _ refl h.1 k.2.1
 asks_once words (asked.Selftest seed size) (asked.Dump place' offset length) h k = two_tools words _ _ _ _ refl h.1 k.1.1
 asks_once words (asked.Selftest seed size) (asked.Info what json place) h k = two_tools words _ _ _ _ refl h.1 k.1.1
 asks_once words (asked.Selftest seed size) (asked.Serve s) h k = two_tools words _ _ _ _ refl h.1 k.1.1
@@ -335,6 +371,14 @@ first_fault_once (a ∷ rest) e f h k =
     (λ after. ⊎_elim (λ there. absurd (address_has_no_fault a after.0 f after.1 there)) (λ later. first_fault_once rest e f after.2 later.2) k)
     h
 
+-- of two sides the words that are no paths are addresses
+placed_word : (word : Word) (of : Side) (rest : List Word) → IsSideOf word of → AreAddresses (kept rest) → AreAddresses (kept (word ∷ rest))
+placed_word word (side.Nbd place) rest h placed = subst AreAddresses (sym (kept_word word rest h.0)) ((place, h.1), placed)
+placed_word word (side.File path) rest h placed = subst AreAddresses (sym (left_word word rest h.0)) placed
+
+placed_sides : (a b : Word) (from to : Side) → IsSideOf a from → IsSideOf b to → AreAddresses (kept (a ∷ b ∷ []))
+placed_sides a b from to h k = placed_word a from (b ∷ []) h (placed_word b to [] k tt)
+
 -- what is asked is read from the words, with addresses alone
 record Read (words : List Word) : Type 0 where
   wanted : Wanted
@@ -343,7 +387,8 @@ record Read (words : List Word) : Type 0 where
 
 read_of : (words : List Word) (a : Asked) → Asks words a → Read words
 read_of words asked.Calls h = record { wanted = calls; reads = h; placed = tt }
-read_of words (asked.Copy options from to) h = record { wanted = copy options h.0 h.1; reads = h.2; placed = ((from, h.3), ((to, h.4), tt)) }
+read_of words (asked.Copy options from to) h = record { wanted = copy options h.0 h.1; reads = h.2; placed = placed_sides h.0 h.1 (side.Nbd from) (side.Nbd to) h.3 h.4 }
+read_of words (asked.FileCopy options from to) h = record { wanted = copy options h.0 h.1; reads = h.2; placed = placed_sides h.0 h.1 from to h.3 h.4 }
 read_of words (asked.Dump place offset length) h = record { wanted = dump offset length h.0; reads = h.1; placed = ((place, h.2), tt) }
 read_of words (asked.Info what json place) h = record { wanted = info what json h.0; reads = h.1; placed = ((place, h.2), tt) }
 read_of words (asked.Serve s) h = record { wanted = serve s.content s.read_only s.sessions h.0 s.run; reads = h.1; placed = ((s.place, h.2), tt) }

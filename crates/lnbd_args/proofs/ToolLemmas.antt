@@ -13,7 +13,7 @@ use Rattle.lnbd_args.specs.declared.asked.What.{What}
 use Rattle.lnbd_args.specs.declared.fault.ArgsFault.{ArgsFault}
 use Rattle.lnbd_args.specs.declared.fault.ArgsFault.TheVariants.{Uri}
 use Rattle.lnbd_args.specs.Clap.{Tells, first_id, is_table, room, second_id}
-use Rattle.lnbd_args.specs.Tools.{FirstFault, IsInfo, info_rules, with_map, IsCopyOptions, IsFaultOf, IsMisplaced, IsNumber, IsRange, Reads, Serves, Wanted, addresses, calls, copy, copy_rules, dump, dump_rules, info, selftest, serve}
+use Rattle.lnbd_args.specs.Tools.{AreSides, FirstFault, IsInfo, info_rules, with_map, IsCopyOptions, IsFaultOf, IsMisplaced, IsNumber, IsRange, Reads, Serves, Wanted, addresses, calls, copy, copy_rules, dump, dump_rules, info, selftest, serve}
 use Rattle.lnbd_args.specs.Words.{AreParts, Part, Rule, Word, places}
 use Rattle.lnbd_args.proofs.ReadLemmas.{parts_once}
 
@@ -56,10 +56,10 @@ rest_is x y xs ys is = ap (λ l. drop 1 l) is
 
 -- the words of a tool are read by that tool's rules alone
 pub only_copy : (ws : List Word) (wanted : Wanted) → Reads (codes "nbdcopy" ∷ ws) wanted
-    → ((options : CopyOptions) (from to : Word) (parts : List Part) → AreParts copy_rules ws parts → places parts ≡ from ∷ to ∷ [] → IsCopyOptions parts options → ⊥) → ⊥
+    → ((options : CopyOptions) (from to : Word) (parts : List Part) → AreParts copy_rules ws parts → places parts ≡ from ∷ to ∷ [] → IsCopyOptions parts options → AreSides from to → ⊥) → ⊥
 only_copy ws calls h nay = other_tool _ _ _ _ refl h
 only_copy ws (copy options from to) h nay =
-    nay options from to h.2 (subst (λ x. AreParts copy_rules x h.2) (sym (rest_is _ _ ws h.0 h.1)) h.3) h.4.0 h.4.1
+    nay options from to h.2 (subst (λ x. AreParts copy_rules x h.2) (sym (rest_is _ _ ws h.0 h.1)) h.3) h.4.0 h.4.1 h.4.2
 only_copy ws (dump offset length address) h nay = other_tool _ _ _ _ refl h.1
 only_copy ws (info asked json address) h nay = other_tool _ _ _ _ refl h.1
 only_copy ws (serve content read_only sessions address run) h nay = other_tool _ _ _ _ refl h.1

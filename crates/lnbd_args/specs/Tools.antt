@@ -1,5 +1,5 @@
 -- What the words of each tool ask for.
-use Rattle.std.specs.Prelude.{ℕ, ◌^◌, ◌<◌, ◌≤◌, ◌≡◌, ◌≢◌, ◌⊎◌, ◌&&◌, ◌||◌, ⊤, Bool, true, false, not, List, [], ◌∷◌, ◌++◌, Option, Some, None, codes, drop, length, if◌then◌else◌, nat_eq}
+use Rattle.std.specs.Prelude.{ℕ, ◌^◌, ◌<◌, ◌≤◌, ◌≡◌, ◌≢◌, ◌⊎◌, ◌&&◌, ◌||◌, ⊤, Bool, true, false, not, List, [], ◌∷◌, ◌++◌, Option, Some, None, codes, drop, filter, length, if◌then◌else◌, nat_eq}
 use Rattle.std.specs.Int.{is_power_of_two}
 use Rattle.std.specs.List.{All, starts_with}
 use Rattle.std.specs.Str.{all_ascii_digits, bytes_eq}
@@ -11,9 +11,11 @@ use Rattle.lnbd_uri.specs.declared.fault.UriFault.{UriFault}
 use Rattle.lnbd_args.specs.declared.fault.ArgsFault.{ArgsFault}
 use Rattle.lnbd_args.specs.declared.fault.ArgsFault.TheVariants.{NoMemory, Usage, Uri}
 use Rattle.lnbd_args.specs.declared.asked.Asked.{Asked}
-use Rattle.lnbd_args.specs.declared.asked.Asked.TheVariants.{Calls, Copy, Dump, Info, Serve, Selftest}
+use Rattle.lnbd_args.specs.declared.asked.Asked.TheVariants.{Calls, Copy, FileCopy, Dump, Info, Serve, Selftest}
 use Rattle.lnbd_store.specs.declared.serving.Content.{Content}
 use Rattle.lnbd_store.specs.declared.serving.Content.TheVariants.{Made, File}
+use Rattle.lnbd_store.specs.declared.side.Side.{Side}
+use Rattle.lnbd_store.specs.declared.side.Side.TheVariants as side
 use Rattle.lnbd_plan.specs.declared.options.CopyOptions.{CopyOptions}
 use Rattle.lnbd_args.specs.declared.asked.Predicate.{Predicate}
 use Rattle.lnbd_args.specs.declared.asked.Predicate.TheVariants.{IsReadOnly, IsRotational, IsTls, CanCache, CanDf, CanFastZero, CanFlush, CanFua, CanMultiConn, CanTrim, CanZero, CanWrite, CanRead, CanConnect, CanStructuredReply}
@@ -88,6 +90,35 @@ pub record IsCopyOptions (parts : List Part) (options : CopyOptions) : Type 0 wh
   pub allocated : options.allocated ≡ is_given (codes "allocated") parts
   pub destination_is_zero : options.destination_is_zero ≡ is_given (codes "destination-is-zero") parts
   pub flush : options.flush ≡ is_given (codes "flush") parts
+
+-- A word of nbdcopy is an address where `://` stands in it, and else a file's path.
+abbrev pub is_path : Word → Bool
+is_path [] = true
+is_path (b ∷ word) = not (starts_with nat_eq (b ∷ word) (codes "://")) && is_path word
+
+-- a path has a byte, and 4,096 at most
+abbrev pub IsPath : Word → Type 0
+IsPath word = (0 < length word) × (length word ≤ 4096)
+
+-- the two sides of a copy
+pub record AreSides (from to : Word) : Type 0 where
+  pub source : is_path from ≡ true → IsPath from
+  pub destination : is_path to ≡ true → IsPath to
+  -- a file isn't copied to itself
+  pub apart : is_path from ≡ true → from ≢ to
+  -- both are files, or none is
+  pub alike : is_path from ≡ is_path to
+
+-- the word stands for this side
+abbrev pub IsSideOf : Word → Side → Type 0
+IsSideOf word (side.Nbd place) = (is_path word ≡ false) × IsAddress word place
+IsSideOf word (side.File path) = (is_path word ≡ true) × (path ≡ word)
+
+-- one of them is a file
+abbrev pub HasFile : (from to : Side) → Type 0
+HasFile (side.Nbd from) (side.Nbd to) = ⊥
+HasFile (side.Nbd from) (side.File to) = ⊤
+HasFile (side.File from) to = ⊤
 
 -- ---- nbddump
 
@@ -231,7 +262,7 @@ Tool name rules P words = (rest : List Word) × (words ≡ name ∷ rest) × (pa
 -- the words ask for this
 abbrev pub Reads : List Word → Wanted → Type 0
 Reads words calls = words ≡ codes "nbdcalls" ∷ []
-Reads words (copy options from to) = Tool (codes "nbdcopy") copy_rules (λ parts. (places parts ≡ from ∷ to ∷ []) × IsCopyOptions parts options) words
+Reads words (copy options from to) = Tool (codes "nbdcopy") copy_rules (λ parts. (places parts ≡ from ∷ to ∷ []) × IsCopyOptions parts options × AreSides from to) words
 Reads words (dump offset length address) = Tool (codes "nbddump") dump_rules (λ parts. (places parts ≡ address ∷ []) × IsRange parts offset length) words
 Reads words (info asked json address) =
     (rest : List Word) × (words ≡ codes "nbdinfo" ∷ rest) × (parts : List Part) × AreParts info_rules (with_map rest) parts × (places parts ≡ address ∷ []) × IsInfo parts asked json
@@ -242,7 +273,8 @@ Reads words (selftest seed size) =
 -- the same, with the places that the addresses mean
 abbrev pub Asks : List Word → Asked → Type 0
 Asks words Calls = Reads words calls
-Asks words (Copy options from to) = (first : Word) × (second : Word) × Reads words (copy options first second) × IsAddress first from × IsAddress second to
+Asks words (Copy options from to) = (first : Word) × (second : Word) × Reads words (copy options first second) × IsSideOf first (side.Nbd from) × IsSideOf second (side.Nbd to)
+Asks words (FileCopy options from to) = (first : Word) × (second : Word) × Reads words (copy options first second) × IsSideOf first from × IsSideOf second to × HasFile from to
 Asks words (Dump place offset length) = (address : Word) × Reads words (dump offset length address) × IsAddress address place
 Asks words (Info asked json place) = (address : Word) × Reads words (info asked json address) × IsAddress address place
 Asks words (Serve s) =
@@ -251,7 +283,7 @@ Asks words (Selftest seed size) = Reads words (selftest seed size)
 
 -- the addresses, in their order
 abbrev pub addresses : Wanted → List Word
-addresses (copy options from to) = from ∷ to ∷ []
+addresses (copy options from to) = filter (λ word. not (is_path word)) (from ∷ to ∷ [])
 addresses (dump offset length address) = address ∷ []
 addresses (info asked json address) = address ∷ []
 addresses (serve content read_only sessions address run) = address ∷ []

@@ -3,7 +3,7 @@
 
 use lnbd_model::{Place, Text};
 use lnbd_plan::CopyOptions;
-use lnbd_store::Serving;
+use lnbd_store::{Serving, Side};
 
 /// A yes or no question about an export (nbdinfo(1), `--is` and `--can`).
 #[derive(Clone, Copy, Debug, PartialEq, Eq)]
@@ -62,11 +62,17 @@ pub enum What {
 pub enum Asked {
     /// nbdcalls
     Calls,
-    /// nbdcopy
+    /// nbdcopy from an export to an export.
     Copy {
         options: CopyOptions,
         from: Place,
         to: Place,
+    },
+    /// nbdcopy where a side is a file.
+    FileCopy {
+        options: CopyOptions,
+        from: Side,
+        to: Side,
     },
     /// nbddump: the bytes from an offset on, as many as are given or all that follow.
     Dump {

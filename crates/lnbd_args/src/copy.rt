@@ -1,22 +1,24 @@
 //! The words of nbdcopy.
 
-ghost use Rattle.std.specs.Prelude.{◌∷◌, ℕ, IfOk, IsErrOf, List, MatchOption, codes, map, string_bytes, true};
+ghost use Rattle.std.specs.Prelude.{◌≡◌, ◌∷◌, ℕ, IfOk, IsErrOf, List, MatchOption, codes, map, string_bytes, true};
 ghost use Rattle.clap.specs.Matches.{found_of};
 ghost use Rattle.clap.specs.Walk.{first_of, rows_of};
 ghost use Rattle.lnbd_args.specs.Clap.{Tells};
 ghost use Rattle.lnbd_args.specs.Tools.{Asks, IsCopyOptions, IsMisplaced, IsRequestSize, IsSparse, Reads, Wanted, copy, copy_rules};
 ghost use Rattle.lnbd_args.specs.Words.{Part};
+ghost use Rattle.lnbd_args.specs.Written.{asked_of};
 ghost use Rattle.lnbd_plan.specs.declared.options.CopyOptions.{CopyOptions};
 ghost use Rattle.lnbd_uri.specs.declared.fault.UriFault.{UriFault};
 
-use crate::address::place;
 use crate::asked::Asked;
 use crate::command::read_parts;
 use crate::fault::ArgsFault;
 use crate::look::{is_given, value, within};
 use crate::rule::copy_rules;
+use crate::side::{are_sides, side};
 use clap::ArgMatches;
 use lnbd_plan::CopyOptions;
+use lnbd_store::Side;
 use std::alloc::Global;
 
 /// `--request-size`
@@ -70,7 +72,7 @@ fn copy_options(found: &ArgMatches) -> Option<CopyOptions>
     })
 }
 
-/// The options and the addresses in the words behind `nbdcopy`.
+/// The options and the sides in the words behind `nbdcopy`.
 fn copy_words<'a>(
     alloc: Global,
     words: &'a [String],
@@ -90,7 +92,20 @@ fn copy_words<'a>(
     let Some(second) = value(&found, "SECOND") else {
         return Err(ArgsFault::Usage);
     };
+    if !are_sides(first, second) {
+        return Err(ArgsFault::Usage);
+    }
     Ok((options, first, second))
+}
+
+/// What a copy with these sides is asked as.
+fn asked_of(options: CopyOptions, from: Side, to: Side) -> Asked
+    ensures { result ≡ asked_of options from to }
+{
+    match (from, to) {
+        (Side::Nbd(from), Side::Nbd(to)) => Asked::Copy { options, from, to },
+        (from, to) => Asked::FileCopy { options, from, to },
+    }
 }
 
 /// What the words behind `nbdcopy` ask for.
@@ -100,7 +115,7 @@ pub(crate) fn copy(alloc: Global, words: &[String]) -> Result<Asked, ArgsFault>
     ensures address { (fault : UriFault) → IsErrOf result (ArgsFault.Uri fault) → IsMisplaced (codes "nbdcopy" ∷ map string_bytes words.now) fault }
 {
     let (options, first, second) = copy_words(alloc, words)?;
-    let from = place(alloc, first)?;
-    let to = place(alloc, second)?;
-    Ok(Asked::Copy { options, from, to })
+    let from = side(alloc, first)?;
+    let to = side(alloc, second)?;
+    Ok(asked_of(options, from, to))
 }

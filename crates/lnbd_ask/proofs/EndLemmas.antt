@@ -19,13 +19,17 @@ use Rattle.lnbd_link.specs.Listed.{has_failed}
 use Rattle.lnbd_link.specs.Part.{Adds}
 use Rattle.lnbd_link.proofs.Parts.{grows_none, grows_on}
 use Rattle.lnbd_poll.specs.Held.{Held}
+use Rattle.lnbd_poll.specs.Seen.{Seen}
 use Rattle.lnbd_poll.specs.Turns.{Blames}
 use Rattle.lnbd_waits.specs.declared.waiting.Halt.{Halt}
 use Rattle.lnbd_waits.specs.declared.waiting.Halt.TheVariants as halt
 use Rattle.lnbd_ask.specs.declared.fault.InfoFault.{InfoFault}
 use Rattle.lnbd_ask.specs.declared.fault.InfoFault.TheVariants as fault
 use Rattle.lnbd_ask.specs.declared.quiet.Quiet.{Quiet}
-use Rattle.lnbd_ask.specs.Asks.{Collected, CollectedOn, Collects, Conversed, Has_talked, IfLink, IsOfDeath, IsOfHalt, Not_begun, Not_connected, Not_held, Tells, TellsExport, begins, begun}
+use Rattle.lnbd_ask.specs.Asks.{Collected, CollectedOn, Collects, Conversed, Has_talked, IfLink, IsGoing, IsOfDeath, IsOfHalt, Not_begun, Not_connected, Not_held, Tells, TellsExport, begins, begun}
+use Rattle.lnbd_ask.specs.Conduct.{Export}
+use Rattle.lnbd_ask.proofs.AskedLemmas.{has_done_nothing, has_not_connected}
+use Rattle.lnbd_ask.proofs.ConductLemmas.{collects_conduct}
 use Rattle.lnbd_waits.specs.Waits.{Holds}
 
 -- A link that failed raised the count of faults.
@@ -42,6 +46,11 @@ link_rose (Err (fault.Peer option code)) start now f g at calls lost blames late
 link_rose (Err (fault.Silent idles)) start now f g at calls lost blames later same tells = tt
 link_rose (Err fault.NoContext) start now f g at calls lost blames later same tells = tt
 
+-- The one handle that is held has a history that it may have.
+pub held_going : {K : Type 0} (all : List (Held K)) (seen : Seen K) → Holds all seen → IsGoing seen.history
+held_going [] seen at = absurd at
+held_going (held ∷ others) seen at = (at.0.stands.lawful, at.0.stands.going)
+
 -- The one handle that is held is about to ask.
 pub held_begins : {K : Type 0} (all all' : List (Held K)) (link : ℕ) (handle : Machine K) (name context : List ℕ) → all ≡ [] → all' ≡ all ++ record { link = link; handle = handle; inbox = [] } ∷ [] → StandsFor 1024 (begun name context) handle → Holds all' (begins link name context)
 held_begins {K} all all' link handle name context none added stands =
@@ -53,7 +62,7 @@ module _ {World : Type 0} (steps : World → List (Call Quiet) → World → Typ
   collected_on a b c link answer conversed shut = record {
     calls = conversed.calls ++ Shut link ∷ [];
     grown = grows_on a b c conversed.calls (Shut link ∷ []) conversed.grown shut;
-    collects = Has_talked (Connect place.to (Some link) ∷ (conversed.calls ++ Shut link ∷ [])) answer link conversed.world conversed.calls conversed.after conversed.world' conversed.end conversed.talks conversed.tells refl;
+    collects = Has_talked (Connect place.to (Some link) ∷ (conversed.calls ++ Shut link ∷ [])) answer link conversed.world conversed.calls conversed.after conversed.world' conversed.end conversed.talks conversed.going conversed.tells refl;
   }
 
   pub collected_none : (a c : Option (List wire.Call)) (link : ℕ) (answer : Result Found InfoFault) → answer ≡ Err fault.NoMemory → Adds a c (Shut link) → CollectedOn steps link place a c answer
@@ -63,14 +72,15 @@ module _ {World : Type 0} (steps : World → List (Call Quiet) → World → Typ
   connected a b c link answer told on = record {
     calls = Connect place.to (Some link) ∷ on.calls;
     grown = grows_on a b c (Connect place.to (Some link) ∷ []) on.calls told on.grown;
+    conducts = collects_conduct steps place (Connect place.to (Some link) ∷ on.calls) answer on.collects;
     collects = on.collects;
   }
 
   pub not_connected : (a b : Option (List wire.Call)) (answer : Result Found InfoFault) (before after : ℕ) → answer ≡ Err (fault.Link before after) → Adds a b (Connect place.to None) → Collected steps place a b answer
-  not_connected a b answer before after is told = record { calls = Connect place.to None ∷ []; grown = told; collects = Not_connected (Connect place.to None ∷ []) answer refl (fault.Link before after, is, (before, after, refl)) }
+  not_connected a b answer before after is told = record { calls = Connect place.to None ∷ []; grown = told; conducts = has_not_connected Export place; collects = Not_connected (Connect place.to None ∷ []) answer refl (fault.Link before after, is, (before, after, refl)) }
 
   pub not_begun : (a : Option (List wire.Call)) (answer : Result Found InfoFault) → answer ≡ Err fault.NoMemory → Collected steps place a a answer
-  not_begun a answer is = record { calls = []; grown = grows_none a; collects = Not_begun [] answer refl is }
+  not_begun a answer is = record { calls = []; grown = grows_none a; conducts = has_done_nothing Export place; collects = Not_begun [] answer refl is }
 
 -- A context that is not agreed is no fault here.
 
@@ -111,4 +121,4 @@ pub collects_context : {World : Type 0} (steps : World → List (Call Quiet) →
 collects_context steps place calls answer (Not_begun _ _ none short) = no_context answer fault.NoMemory short (λ e. absurd (cc e))
 collects_context steps place calls answer (Not_connected _ _ made lost) = no_context answer lost.0 lost.1 (death_context cause.LinkFailed lost.0 lost.2)
 collects_context steps place calls answer (Not_held _ _ link made short) = no_context answer fault.NoMemory short (λ e. absurd (cc e))
-collects_context steps place calls answer (Has_talked _ _ link world talk after world' end talks tells made) = tells_context end _ _ place answer tells
+collects_context steps place calls answer (Has_talked _ _ link world talk after world' end talks going tells made) = tells_context end _ _ place answer tells

@@ -12,3 +12,10 @@ pub mod PartLemmas
 pub mod ActLemmas
 pub mod EachLemmas
 pub mod ListLemmas
+mod TakeLemmas
+mod VainLemmas
+pub mod WentLemmas
+pub mod LivesLemmas
+mod AskedLemmas
+mod ConductLemmas
+mod MapConduct

@@ -32,6 +32,9 @@ use Rattle.lnbd_ask.specs.declared.fault.InfoFault.{InfoFault}
 use Rattle.lnbd_ask.specs.declared.fault.InfoFault.TheVariants as fault
 use Rattle.lnbd_ask.specs.declared.quiet.Quiet.{Quiet}
 use Rattle.lnbd_ask.specs.Asks.{IfLink}
+use Rattle.lnbd_ask.specs.Conduct.{Exports}
+use Rattle.lnbd_ask.proofs.AskedLemmas.{has_done_nothing, has_not_connected}
+use Rattle.lnbd_ask.proofs.ConductLemmas.{lists_conduct}
 use Rattle.lnbd_poll.specs.States.{is_opt_mode}
 use Rattle.lnbd_ask.specs.Lists.{AsksEach, AsksFor, NegotiatesList, Breaks_off, GivesUp, HasInquired, HasListed, HasListedOn, Has_inquired, Inquires, Lists, None_left, Not_begun, Not_connected, Not_held, Runs_short, Tells, TellsAt, TellsEntries, aborting, answered, asking, begins_listing, begun_listing, entry_after, naming}
 use Rattle.lnbd_ask.specs.Parts.{Acted, Acts, Follows, Gives, Part, Stops, Then, no_value}
@@ -150,7 +153,7 @@ module _ {World : Type 0} (steps : World → List (Call Quiet) → World → Typ
   listed_on a b c link answer had shut = record {
     calls = had.calls ++ Shut link ∷ [];
     grown = grows_on a b c had.calls (Shut link ∷ []) had.grown shut;
-    lists = Has_inquired (Connect place.to (Some link) ∷ (had.calls ++ Shut link ∷ [])) answer link had.world had.calls had.after had.world' had.end had.inquires had.tells refl;
+    lists = Has_inquired (Connect place.to (Some link) ∷ (had.calls ++ Shut link ∷ [])) answer link had.world had.calls had.after had.world' had.end had.inquires had.going had.tells refl;
   }
 
   pub listed_none : (a c : Option (List wire.Call)) (link : ℕ) (answer : Result (List Entry) InfoFault) → answer ≡ Err fault.NoMemory → Adds a c (Shut link) → HasListedOn steps link place a c answer
@@ -160,14 +163,15 @@ module _ {World : Type 0} (steps : World → List (Call Quiet) → World → Typ
   listing_connected a b c link answer told on = record {
     calls = Connect place.to (Some link) ∷ on.calls;
     grown = grows_on a b c (Connect place.to (Some link) ∷ []) on.calls told on.grown;
+    conducts = lists_conduct steps place (Connect place.to (Some link) ∷ on.calls) answer on.lists;
     lists = on.lists;
   }
 
   pub listing_not_connected : (a b : Option (List wire.Call)) (answer : Result (List Entry) InfoFault) (before after : ℕ) → answer ≡ Err (fault.Link before after) → Adds a b (Connect place.to None) → HasListed steps place a b answer
-  listing_not_connected a b answer before after is told = record { calls = Connect place.to None ∷ []; grown = told; lists = Not_connected (Connect place.to None ∷ []) answer refl (fault.Link before after, is, (before, after, refl)) }
+  listing_not_connected a b answer before after is told = record { calls = Connect place.to None ∷ []; grown = told; conducts = has_not_connected Exports place; lists = Not_connected (Connect place.to None ∷ []) answer refl (fault.Link before after, is, (before, after, refl)) }
 
   pub listing_not_begun : (a : Option (List wire.Call)) (answer : Result (List Entry) InfoFault) → answer ≡ Err fault.NoMemory → HasListed steps place a a answer
-  listing_not_begun a answer is = record { calls = []; grown = grows_none a; lists = Not_begun [] answer refl is }
+  listing_not_begun a answer is = record { calls = []; grown = grows_none a; conducts = has_done_nothing Exports place; lists = Not_begun [] answer refl is }
 
 -- No context is asked for.
 
@@ -199,4 +203,4 @@ pub lists_context : {World : Type 0} (steps : World → List (Call Quiet) → Wo
 lists_context steps place calls answer (Not_begun _ _ none short) = no_context answer fault.NoMemory short (λ e. absurd (cc e))
 lists_context steps place calls answer (Not_connected _ _ made lost) = no_context answer lost.0 lost.1 (death_context cause.LinkFailed lost.0 lost.2)
 lists_context steps place calls answer (Not_held _ _ link made short) = no_context answer fault.NoMemory short (λ e. absurd (cc e))
-lists_context steps place calls answer (Has_inquired _ _ link world talk after world' end inquires tells made) = entries_context end _ _ answer tells
+lists_context steps place calls answer (Has_inquired _ _ link world talk after world' end inquires going tells made) = entries_context end _ _ answer tells

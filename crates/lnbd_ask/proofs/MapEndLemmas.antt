@@ -19,6 +19,9 @@ use Rattle.lnbd_ask.specs.declared.fault.InfoFault.TheVariants as fault
 use Rattle.lnbd_ask.specs.declared.stops.Stop.{Stop}
 use Rattle.lnbd_ask.specs.declared.stops.Stop.TheVariants as stop
 use Rattle.lnbd_ask.specs.Asks.{IfLink}
+use Rattle.lnbd_ask.specs.Conduct.{Map}
+use Rattle.lnbd_ask.proofs.AskedLemmas.{has_done_nothing, has_not_connected}
+use Rattle.lnbd_ask.proofs.MapConduct.{maps_conduct}
 use Rattle.lnbd_ask.specs.Maps.{Has_discussed, IsOfStop, Learned, Lesson, Mapped, Not_begun, Not_connected, Not_held, Stopped, TellsMap}
 use Rattle.lnbd_ask.specs.MapSteps.{IsLesson, MappedOn, Talked_over}
 
@@ -67,7 +70,7 @@ module _ (place : Place) (context : List ℕ) where
   mapped_on a b c link answer talked shut = record {
     calls = talked.calls ++ Shut link ∷ [];
     grown = grows_on a b c talked.calls (Shut link ∷ []) talked.grown shut;
-    maps = Has_discussed (Connect place.to (Some link) ∷ (talked.calls ++ Shut link ∷ [])) answer link talked.calls talked.after talked.lesson talked.discusses talked.tells refl;
+    maps = Has_discussed (Connect place.to (Some link) ∷ (talked.calls ++ Shut link ∷ [])) answer link talked.calls talked.after talked.lesson talked.discusses talked.going talked.tells refl;
   }
 
   pub mapped_none : (a c : Option (List wire.Call)) (link : ℕ) (answer : Result (List Extent) InfoFault) → answer ≡ Err fault.NoMemory → Adds a c (Shut link) → MappedOn link place context a c answer
@@ -77,14 +80,15 @@ module _ (place : Place) (context : List ℕ) where
   mapped a b c link answer told on = record {
     calls = Connect place.to (Some link) ∷ on.calls;
     grown = grows_on a b c (Connect place.to (Some link) ∷ []) on.calls told on.grown;
+    conducts = maps_conduct place context (Connect place.to (Some link) ∷ on.calls) answer on.maps;
     maps = on.maps;
   }
 
   pub unmapped : (a b : Option (List wire.Call)) (answer : Result (List Extent) InfoFault) (before after : ℕ) → answer ≡ Err (fault.Link before after) → Adds a b (Connect place.to None) → Mapped place context a b answer
-  unmapped a b answer before after is told = record { calls = Connect place.to None ∷ []; grown = told; maps = Not_connected (Connect place.to None ∷ []) answer refl (fault.Link before after, is, (before, after, refl)) }
+  unmapped a b answer before after is told = record { calls = Connect place.to None ∷ []; grown = told; conducts = has_not_connected (Map context) place; maps = Not_connected (Connect place.to None ∷ []) answer refl (fault.Link before after, is, (before, after, refl)) }
 
   pub not_mapped : (a : Option (List wire.Call)) (answer : Result (List Extent) InfoFault) → answer ≡ Err fault.NoMemory → Mapped place context a a answer
-  not_mapped a answer is = record { calls = []; grown = grows_none a; maps = Not_begun [] answer refl is }
+  not_mapped a answer is = record { calls = []; grown = grows_none a; conducts = has_done_nothing (Map context) place; maps = Not_begun [] answer refl is }
 
 -- the same context under another name
 pub mapped_in : (place : Place) (context context' : List ℕ) (a b : Option (List wire.Call)) (answer : Result (List Extent) InfoFault) → context' ≡ context → Mapped place context' a b answer → Mapped place context a b answer

@@ -1,5 +1,5 @@
 -- How an export is asked for, and what comes of it.
-use Rattle.std.specs.Prelude.{◌≡◌, ◌⊎◌, ℕ, List, [], ◌∷◌, ◌++◌, Option, Some, None, Result, Ok, Err}
+use Rattle.std.specs.Prelude.{◌≡◌, ◌⊎◌, ℕ, false, List, [], ◌∷◌, ◌++◌, Option, Some, None, Result, Ok, Err}
 use Rattle.lnbd_model.specs.declared.breach.Breach.TheVariants as breach
 use Rattle.lnbd_model.specs.declared.breach.Broken.TheVariants as broken
 use Rattle.lnbd_model.specs.declared.export.ExportInfo.{ExportInfo}
@@ -9,7 +9,10 @@ use Rattle.lnbd_model.specs.declared.state.State.{State}
 use Rattle.lnbd_model.specs.declared.state.State.TheVariants as state
 use Rattle.lnbd_model.specs.declared.target.Place.{Place}
 use Rattle.lnbd_callbacks.specs.Calls.{Call}
+use Rattle.lnbd_handle.specs.Histories.{max_unretired}
 use Rattle.lnbd_history.specs.Answers.{info_after, state_after}
+use Rattle.lnbd_history.specs.Events.{History}
+use Rattle.lnbd_history.specs.Laws.{Lawful, is_closed}
 use Rattle.lnbd_link.specs.Call as wire
 use Rattle.lnbd_link.specs.Call.{Connect, Shut}
 use Rattle.lnbd_link.specs.Part.{Grows}
@@ -22,8 +25,13 @@ use Rattle.lnbd_waits.specs.declared.waiting.Halt.TheVariants as halt
 use Rattle.lnbd_ask.specs.declared.fault.InfoFault.{InfoFault}
 use Rattle.lnbd_ask.specs.declared.fault.InfoFault.TheVariants as fault
 use Rattle.lnbd_ask.specs.declared.quiet.Quiet.{Quiet}
+use Rattle.lnbd_ask.specs.Conduct.{Conducts, Export}
 pub use Rattle.lnbd_waits.specs.Begun.{base_allocation, begun, begins, is_ready, disconnecting, parting}
 use Rattle.lnbd_waits.specs.Waits.{Waits}
+
+-- a history that a handle may have which is not closed
+abbrev pub IsGoing : {K : Type 0} → History K → Type 0
+IsGoing history = Lawful max_unretired history × (is_closed history ≡ false)
 
 -- Negotiation comes to a stand, and then the end is asked for and written.
 pub data Talks {K World : Type 0} (steps : World → List (Call K) → World → Type 0) : Seen K → World → List wire.Call → Seen K → World → Result (Unit {0}) Halt → Type 0 where
@@ -116,14 +124,15 @@ pub data Collects {World : Type 0} (steps : World → List (Call Quiet) → Worl
       → Collects steps place calls answer
   Has_talked : (calls : List wire.Call) (answer : Result Found InfoFault)
       → (link : ℕ) (world : World) (talk : List wire.Call) (after : Seen Quiet) (world' : World) (end : Result (Unit {0}) Halt)
-      → Talks steps (begins link place.name base_allocation) world talk after world' end → Tells end (state_after after.history) (info_after after.history) place answer
+      → Talks steps (begins link place.name base_allocation) world talk after world' end → IsGoing after.history → Tells end (state_after after.history) (info_after after.history) place answer
       → calls ≡ Connect place.to (Some link) ∷ (talk ++ Shut link ∷ [])
       → Collects steps place calls answer
 
--- these calls were made on the wires, and such is the answer
+-- these calls were made on the wires, an export is asked for so, and such is the answer
 pub record Collected {World : Type 0} (steps : World → List (Call Quiet) → World → Type 0) (place : Place) (told told' : Option (List wire.Call)) (answer : Result Found InfoFault) : Type 0 where
   pub calls : List wire.Call
   pub grown : Grows told told' calls
+  pub conducts : Conducts Quiet Export place calls
   pub collects : Collects steps place calls answer
 
 -- The conversation on a link that was had, and what is told of it.
@@ -135,6 +144,7 @@ pub record Conversed {World : Type 0} (steps : World → List (Call Quiet) → W
   pub end : Result (Unit {0}) Halt
   pub grown : Grows told told' calls
   pub talks : Talks steps (begins link place.name base_allocation) world calls after world' end
+  pub going : IsGoing after.history
   pub tells : Tells end (state_after after.history) (info_after after.history) place answer
 
 -- what follows the connect that gave this link

@@ -1,4 +1,5 @@
 pub mod Quiet
+pub mod Conduct
 pub mod Asks
 pub mod Surveys
 pub mod SurveyLaws

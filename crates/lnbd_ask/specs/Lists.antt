@@ -1,5 +1,5 @@
 -- How a server's exports are listed and asked for, and what comes of it.
-use Rattle.std.specs.Prelude.{◌≡◌, ◌==◌, ℕ, true, List, [], ◌∷◌, ◌++◌, Option, Some, None, Result, Ok, Err, if◌then◌else◌}
+use Rattle.std.specs.Prelude.{◌≡◌, ◌==◌, ℕ, List, [], ◌∷◌, ◌++◌, Option, Some, None, Result, Ok, Err, if◌then◌else◌}
 use Rattle.lnbd_model.specs.declared.export.ExportInfo.{ExportInfo}
 use Rattle.lnbd_model.specs.declared.export.Listed.{Listed}
 use Rattle.lnbd_model.specs.declared.state.State.{State}
@@ -9,7 +9,7 @@ use Rattle.lnbd_records.specs.Options.{opt_info, opt_list}
 use Rattle.lnbd_callbacks.specs.Calls.{Call}
 use Rattle.lnbd_history.specs.declared.kinds.OptAnswer.{OptAnswer}
 use Rattle.lnbd_history.specs.declared.kinds.OptAnswer.TheVariants as opt
-use Rattle.lnbd_history.specs.Events.{Abort, Extended, History, Name, Opt, OptMode, Set, Start, Structured}
+use Rattle.lnbd_history.specs.Events.{Abort, Name, Opt, Set}
 use Rattle.lnbd_history.specs.Answers.{info_after, listed_after, opt_answer_after, state_after}
 use Rattle.lnbd_history.specs.Laws.{may_name}
 use Rattle.lnbd_handle.specs.declared.kinds.OptFault.{OptFault}
@@ -26,15 +26,13 @@ use Rattle.lnbd_waits.specs.declared.waiting.Halt.TheVariants as halt
 use Rattle.lnbd_ask.specs.declared.fault.InfoFault.{InfoFault}
 use Rattle.lnbd_ask.specs.declared.fault.InfoFault.TheVariants as fault
 use Rattle.lnbd_ask.specs.declared.quiet.Quiet.{Quiet}
-use Rattle.lnbd_ask.specs.Asks.{IsOfDeath, IsOfHalt, IsLink}
+use Rattle.lnbd_ask.specs.Asks.{IsGoing, IsOfDeath, IsOfHalt, IsLink}
+pub use Rattle.lnbd_ask.specs.Conduct.{begun_listing}
+use Rattle.lnbd_ask.specs.Conduct.{Conducts, Exports}
 use Rattle.lnbd_ask.specs.Parts.{Acts, Gives, Part, Then, no_value}
 use Rattle.lnbd_waits.specs.Waits.{Waits}
 
 -- What is done on the handle.
-
--- opt mode, structured replies and extended headers are asked for: the latest stands first
-abbrev pub begun_listing : {K : Type 0} → History K
-begun_listing = Start ∷ Set (OptMode true) ∷ Set (Structured true) ∷ Set (Extended true) ∷ []
 
 -- a link on which exports are about to be listed
 abbrev pub begins_listing : {K : Type 0} → (link : ℕ) → Seen K
@@ -177,14 +175,15 @@ pub data Lists {World : Type 0} (steps : World → List (Call Quiet) → World �
       → Lists steps place calls answer
   Has_inquired : (calls : List wire.Call) (answer : Result (List Entry) InfoFault)
       → (link : ℕ) (world : World) (talk : List wire.Call) (after : Seen Quiet) (world' : World) (end : Result (List Entry) Halt)
-      → Inquires steps (begins_listing link) world talk after world' end → TellsEntries end (state_after after.history) (opt_answer_after after.history) answer
+      → Inquires steps (begins_listing link) world talk after world' end → IsGoing after.history → TellsEntries end (state_after after.history) (opt_answer_after after.history) answer
       → calls ≡ Connect place.to (Some link) ∷ (talk ++ Shut link ∷ [])
       → Lists steps place calls answer
 
--- these calls were made on the wires, and such is the answer
+-- these calls were made on the wires, exports are asked for so, and such is the answer
 pub record HasListed {World : Type 0} (steps : World → List (Call Quiet) → World → Type 0) (place : Place) (told told' : Option (List wire.Call)) (answer : Result (List Entry) InfoFault) : Type 0 where
   pub calls : List wire.Call
   pub grown : Grows told told' calls
+  pub conducts : Conducts Quiet Exports place calls
   pub lists : Lists steps place calls answer
 
 -- The conversation on a link that was had, and what is told of it.
@@ -196,6 +195,7 @@ pub record HasInquired {World : Type 0} (steps : World → List (Call Quiet) →
   pub end : Result (List Entry) Halt
   pub grown : Grows told told' calls
   pub inquires : Inquires steps (begins_listing link) world calls after world' end
+  pub going : IsGoing after.history
   pub tells : TellsEntries end (state_after after.history) (opt_answer_after after.history) answer
 
 -- what follows the connect that gave this link

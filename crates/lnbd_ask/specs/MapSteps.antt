@@ -18,7 +18,7 @@ use Rattle.lnbd_ask.specs.declared.fault.InfoFault.{InfoFault}
 use Rattle.lnbd_ask.specs.declared.stops.Stop.{Stop}
 use Rattle.lnbd_ask.specs.declared.stops.Stop.TheVariants as stop
 use Rattle.lnbd_ask.specs.declared.survey.Surveyor.{Surveyor}
-use Rattle.lnbd_ask.specs.Asks.{begins}
+use Rattle.lnbd_ask.specs.Asks.{IsGoing, begins}
 use Rattle.lnbd_ask.specs.Maps.{Answers, AreAsked, Asked, Discusses, Inquires, IsMapTold, Learned, Learns, Lesson, Maps, Stopped, Stops, TellsMap, block_of, is_no_context, length_at, max_asked, refused, stop_of, told_by, whole_of}
 use Rattle.lnbd_link.specs.Call.{Connect}
 use Rattle.lnbd_model.specs.declared.target.Place.{Place}
@@ -131,6 +131,7 @@ pub record Talked_over (link : ℕ) (place : Place) (context : List ℕ) (told t
   pub lesson : Lesson
   pub grown : Grows told told' calls
   pub discusses : Discusses context (begins link place.name context) calls after lesson
+  pub going : IsGoing after.history
   pub tells : TellsMap lesson answer
 
 -- what follows the connect that gave this link

@@ -37,7 +37,8 @@ use Rattle.lnbd_ask.specs.declared.stops.Stop.{Stop}
 use Rattle.lnbd_ask.specs.declared.stops.Stop.TheVariants as stop
 use Rattle.lnbd_ask.specs.declared.survey.Surveyor.{Surveyor}
 use Rattle.lnbd_ask.specs.declared.survey.Survey.{Survey}
-use Rattle.lnbd_ask.specs.Asks.{IsLink, IsOfDeath, IsOfHalt, begins, parting}
+use Rattle.lnbd_ask.specs.Asks.{IsGoing, IsLink, IsOfDeath, IsOfHalt, begins, parting}
+use Rattle.lnbd_ask.specs.Conduct.{Conducts, Map}
 use Rattle.lnbd_ask.specs.Surveys.{Surveys, error_in, told_in}
 use Rattle.lnbd_waits.specs.Waits.{Waits}
 
@@ -332,12 +333,13 @@ pub data Maps (place : Place) (context : List ℕ) : List wire.Call → Result (
       → Maps place context calls answer
   Has_discussed : (calls : List wire.Call) (answer : Result (List Extent) InfoFault)
       → (link : ℕ) (talk : List wire.Call) (after : Seen Surveyor) (lesson : Lesson)
-      → Discusses context (begins link place.name context) talk after lesson → TellsMap lesson answer
+      → Discusses context (begins link place.name context) talk after lesson → IsGoing after.history → TellsMap lesson answer
       → calls ≡ Connect place.to (Some link) ∷ (talk ++ Shut link ∷ [])
       → Maps place context calls answer
 
--- these calls were made on the wires, and such is the answer
+-- these calls were made on the wires, a map is asked for so, and such is the answer
 pub record Mapped (place : Place) (context : List ℕ) (told told' : Option (List wire.Call)) (answer : Result (List Extent) InfoFault) : Type 0 where
   pub calls : List wire.Call
   pub grown : Grows told told' calls
+  pub conducts : Conducts Surveyor (Map context) place calls
   pub maps : Maps place context calls answer

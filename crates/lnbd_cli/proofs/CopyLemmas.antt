@@ -15,8 +15,8 @@ use Rattle.lnbd_cli.specs.declared.ending.Fault.{Fault}
 use Rattle.lnbd_cli.specs.declared.ending.Fault.TheVariants as fault
 use Rattle.lnbd_course.specs.Copied.{Copies}
 use Rattle.lnbd_copy.specs.Copier as copier
-use Rattle.lnbd_copy.specs.Decided.{IsDecided}
-use Rattle.lnbd_copy.specs.Grounds.{IsGrounded}
+use Rattle.lnbd_conduct.specs.Decided.{IsDecided}
+use Rattle.lnbd_conduct.specs.Grounds.{IsGrounded}
 
 -- What a copy from one place to another did.
 pub copied_by : (seen : copier.Seen) (from to : Place) (options : CopyOptions) (a b : Option (List Call)) → (seen.options ≡ options) × (seen.from ≡ from) × (seen.to ≡ to) →

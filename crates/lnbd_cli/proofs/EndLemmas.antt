@@ -1,5 +1,5 @@
 -- What the status of a run tells of its end, and how its line is made.
-use Rattle.std.proofs.Common.{◌≡◌, ◌≢◌, ◌==◌, ◌||◌, ◌⊎◌, inl, inr, ℕ, ◌+◌, ◌<◌, ◌≤◌, ◌^◌, min, Bool, true, false, List, [], ◌∷◌, Result, Ok, Err, refl, sym, ◌∙◌, ap, append_assoc, ◌++◌, subst, arith, String}
+use Rattle.std.proofs.Common.{◌≡◌, ◌≢◌, ◌==◌, ◌||◌, ◌⊎◌, inl, inr, ℕ, ◌+◌, ◌<◌, ◌≤◌, ◌^◌, min, Bool, true, false, List, [], ◌∷◌, Option, Result, Ok, Err, refl, sym, ◌∙◌, ap, append_assoc, ◌++◌, subst, arith, String}
 use Rattle.std.proofs.lemmas.Bool.Decides.{nat_tests}
 use Rattle.std.specs.Prelude.{OnOk, if◌then◌else◌, is_ok}
 use Rattle.std.specs.declared.alloc.Global.{Global}
@@ -8,12 +8,14 @@ use Rattle.lnbd_args.specs.declared.asked.Asked.TheVariants as asked
 use Rattle.lnbd_link.specs.Call.{Call}
 use Rattle.lnbd_link.specs.Count.{Rises}
 use Rattle.lnbd_link.specs.Failed.{failed}
+use Rattle.lnbd_store.specs.Shelf.{Shelf}
 use Rattle.lnbd_store.specs.declared.serving.Content.{Content}
 use Rattle.lnbd_store.specs.declared.serving.Content.TheVariants.{Made, File}
 use Rattle.lnbd_cli.specs.Beside.{IsBesideDone, is_all_done, is_beside_status}
 use Rattle.lnbd_cli.specs.Calls.{IsPlayDone, is_calls_status}
 use Rattle.lnbd_cli.specs.Copies.{IsCopyDone, is_copy_status}
 use Rattle.lnbd_cli.specs.Dumps.{IsDumpDone, is_dump_status}
+use Rattle.lnbd_cli.specs.Duplicates.{AreUntold, IsDuplicateDone, is_duplicate_status}
 use Rattle.lnbd_cli.specs.Ends.{Came, End, IsReported, is_one_of, status_of}
 use Rattle.lnbd_cli.specs.Informs.{IsInfoDone, is_info_status}
 use Rattle.lnbd_cli.specs.Runs.{IsRefused, is_known, is_serving_known}
@@ -51,6 +53,7 @@ known_short (asked.Serve s) = serving_short s.content s.run
     serving_short (Made seed size) (program ∷ words) = refl
     serving_short (File path) run = refl
 known_short (asked.Copy options from to) = refl
+known_short (asked.FileCopy options from to) = refl
 known_short (asked.Dump place offset length) = refl
 known_short (asked.Selftest seed size) = refl
 
@@ -176,6 +179,16 @@ copy_done s is link silent = done (one_of (0 ∷ 3 ∷ 4 ∷ 5 ∷ 6 ∷ 7 ∷ 9
     done (inr (inr (inr (inr (inr (inl e)))))) = absurd (silent e)
     done (inr (inr (inr (inr (inr (inr (inl e))))))) = inr (inr (inr (inr e)))
     done (inr (inr (inr (inr (inr (inr (inr e))))))) = absurd e
+
+pub duplicate_done : (s : ℕ) (now : Option Shelf) → is_duplicate_status s ≡ true → (s ≡ 6 → AreUntold now) → (s ≡ 11 → ⊥) → IsDuplicateDone now s
+duplicate_done s now is rule store = done (one_of (0 ∷ 6 ∷ 9 ∷ 11 ∷ []) s is)
+  where
+    done : IsOneOf (0 ∷ 6 ∷ 9 ∷ 11 ∷ []) s → IsDuplicateDone now s
+    done (inl e) = inl e
+    done (inr (inl e)) = inr (inr (e, rule e))
+    done (inr (inr (inl e))) = inr (inl e)
+    done (inr (inr (inr (inl e)))) = absurd (store e)
+    done (inr (inr (inr (inr e)))) = absurd e
 
 pub dump_done : (s : ℕ) → is_dump_status s ≡ true → (s ≡ 5 → ⊥) → (s ≡ 7 → ⊥) → (s ≡ 8 → ⊥) → IsDumpDone s
 dump_done s is link silent output = done (one_of (0 ∷ 3 ∷ 4 ∷ 5 ∷ 6 ∷ 7 ∷ 8 ∷ 9 ∷ []) s is)

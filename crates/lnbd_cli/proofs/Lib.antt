@@ -3,6 +3,7 @@ mod InputLemmas
 mod CallLemmas
 mod CopyLemmas
 mod DumpLemmas
+mod DuplicateLemmas
 mod EndLemmas
 mod HeardLemmas
 mod InfoLemmas

@@ -1,5 +1,5 @@
 -- What a run did is what its words asked.
-use Rattle.std.proofs.Common.{◌≡◌, ◌≢◌, ◌≤◌, ◌∷◌, ◌⊎◌, inl, inr, ℕ, true, List, [], Option, Some, None, Result, Ok, Err, refl, sym, subst, arith, String}
+use Rattle.std.proofs.Common.{◌≡◌, ◌≢◌, ◌≤◌, ◌∷◌, ◌∙◌, ◌⊎◌, inl, inr, ℕ, true, true≢false, List, [], Option, Some, None, Result, Ok, Err, refl, sym, subst, arith, String}
 use Rattle.std.specs.Prelude.{IsErrOf}
 use Rattle.std.specs.declared.alloc.Global.{Global}
 use Rattle.lnbd_args.specs.Tools.{Asks, IsContent, IsSize}
@@ -11,10 +11,13 @@ use Rattle.lnbd_store.specs.Shelf.{Shelf}
 use Rattle.lnbd_store.specs.declared.serving.Content.{Content}
 use Rattle.lnbd_store.specs.declared.serving.Content.TheVariants.{Made, File}
 use Rattle.lnbd_store.specs.declared.serving.Serving.{Serving}
+use Rattle.lnbd_store.specs.declared.side.Side.{Side}
+use Rattle.lnbd_store.specs.declared.side.Side.TheVariants as side
+use Rattle.lnbd_plan.specs.declared.options.CopyOptions.{CopyOptions}
 use Rattle.lnbd_cli.specs.Asks.{Ask, AskFile, AskProgram, IsCalls, IsFile}
 use Rattle.lnbd_cli.specs.Beside as beside
 use Rattle.lnbd_cli.specs.Hosts.{ServeDoes}
-use Rattle.lnbd_cli.specs.Runs.{AskTest, is_serving_known}
+use Rattle.lnbd_cli.specs.Runs.{AskOffWires, is_serving_known}
 use Rattle.lnbd_args.specs.declared.asked.Asked.{Asked}
 use Rattle.lnbd_args.specs.declared.asked.Asked.TheVariants as asked
 use Rattle.lnbd_args.specs.declared.fault.ArgsFault.{ArgsFault}
@@ -23,6 +26,8 @@ use Rattle.lnbd_link.specs.Call.{Call}
 use Rattle.lnbd_cli.specs.Calls as calls
 use Rattle.lnbd_cli.specs.Copies as copies
 use Rattle.lnbd_cli.specs.Dumps as dumps
+use Rattle.lnbd_cli.specs.Duplicates as duplicates
+use Rattle.lnbd_cli.specs.Duplicates.{AreTwoFiles, FilesEnd}
 use Rattle.lnbd_cli.specs.Did.{AsksNoFile, AsksNoProgram, Did, HasRoom, IsOnWires, NeverReads}
 use Rattle.lnbd_cli.specs.Informs as informs
 use Rattle.lnbd_cli.specs.Serves as serves
@@ -51,11 +56,21 @@ few parts (Made seed size) is = omega (arith, (small _ size is.1))
     small (Some digits) n is = is.1
 few parts (File path) is = tt
 
+-- what words may ask to be copied where a side is a file
+two_files : (words : List Word) (options : CopyOptions) (from to : Side) → Asks words (asked.FileCopy options from to) → AreTwoFiles options from to
+two_files words options (side.Nbd from) (side.Nbd to) asks = asks.5
+two_files words options (side.Nbd from) (side.File to) asks = let alike = asks.2.4.2.alike in absurd (true≢false (sym asks.4.0 ∙ sym alike ∙ asks.3.0))
+two_files words options (side.File from) (side.Nbd to) asks = let alike = asks.2.4.2.alike in absurd (true≢false (sym asks.3.0 ∙ alike ∙ asks.4.0))
+two_files words options (side.File from) (side.File to) asks =
+    let some = asks.2.4.1.request_size.0.at_least in
+    ((λ e. asks.2.4.2.apart asks.3.0 (sym asks.3.1 ∙ e ∙ asks.4.1)), omega (arith, some))
+
 pub room : (words : List Word) (a : Asked) → Asks words a → HasRoom a
 room words asked.Calls asks = tt
 room words (asked.Info what json place) asks = tt
 room words (asked.Serve s) asks = few asks.1.2.hosts.parts s.content asks.1.2.hosts.serves.content_is
 room words (asked.Copy options from to) asks = tt
+room words (asked.FileCopy options from to) asks = two_files words options from to asks
 room words (asked.Dump place offset length) asks = tt
 room words (asked.Selftest seed size) asks = tt
 
@@ -64,28 +79,31 @@ never_reads words asked.Calls asks other = other asks
 never_reads words (asked.Info what json place) asks other = tt
 never_reads words (asked.Serve s) asks other = tt
 never_reads words (asked.Copy options from to) asks other = tt
+never_reads words (asked.FileCopy options from to) asks other = tt
 never_reads words (asked.Dump place offset length) asks other = tt
 never_reads words (asked.Selftest seed size) asks other = tt
 
-pub on_wires : (words : List (String Global)) (a : Asked) → Ask words a → ¬ AskTest words → IsOnWires a
+pub on_wires : (words : List (String Global)) (a : Asked) → Ask words a → ¬ AskOffWires words → IsOnWires a
 on_wires words asked.Calls asks other = tt
 on_wires words (asked.Info what json place) asks other = tt
 on_wires words (asked.Serve s) asks other = tt
 on_wires words (asked.Copy options from to) asks other = tt
+on_wires words (asked.FileCopy options from to) asks other = other (inr (options, from, to, asks))
 on_wires words (asked.Dump place offset length) asks other = tt
-on_wires words (asked.Selftest seed size) asks other = other (record { seed = seed; size = size }, asks)
+on_wires words (asked.Selftest seed size) asks other = other (inl (record { seed = seed; size = size }, asks))
 
 -- Where no file and no program is asked for, the tool asks for none.
 
 pub no_file : (words : List (String Global)) (a : Asked) → Ask words a → ¬ AskFile words → AsksNoFile a
 no_file words asked.Calls asks other = tt
 no_file words (asked.Info what json place) asks other = tt
-no_file words (asked.Serve s) asks other = made s.content (λ file. other (s, asks, file))
+no_file words (asked.Serve s) asks other = made s.content (λ file. other (inl (s, asks, file)))
   where
     made : (content : Content) → ¬ IsFile content → IsMade content
     made (Made seed size) none = tt
     made (File path) none = absurd (none tt)
 no_file words (asked.Copy options from to) asks other = tt
+no_file words (asked.FileCopy options from to) asks other = other (inr (options, from, to, asks))
 no_file words (asked.Dump place offset length) asks other = tt
 no_file words (asked.Selftest seed size) asks other = tt
 
@@ -98,16 +116,17 @@ no_program words (asked.Serve s) asks other = none s.run (λ some. other (s, ask
     none [] never = refl
     none (program ∷ words) never = absurd (never (λ e. cc e))
 no_program words (asked.Copy options from to) asks other = tt
+no_program words (asked.FileCopy options from to) asks other = tt
 no_program words (asked.Dump place offset length) asks other = tt
 no_program words (asked.Selftest seed size) asks other = tt
 
 -- Where memory ran out before it was known what they ask, nothing was done.
 
 module _ {I W O S P : Type 0} (left : I → Option (List ℕ)) (input : I) (told : W → Option (List Call)) (wires : W) (taken : O → Option (List ℕ)) (out : O)
-    (moved : S → Option (List Move)) (shelf : S → Option Shelf) (store : S) (deeds : P → Option (List Deed)) (spawn : P) where
+    (moved : S → Option (List Move)) (shelf : S → Option Shelf) (gave took : S → ℕ) (store : S) (deeds : P → Option (List Deed)) (spawn : P) where
   -- so does each tool end
   abbrev Unmade : Asked → Type 0
-  Unmade a = Did left input input told wires wires taken out out moved shelf store store deeds spawn spawn (Err fault.NoMemory) a
+  Unmade a = Did left input input told wires wires taken out out moved shelf gave took store store deeds spawn spawn (Err fault.NoMemory) a
 
   hosting : (s : Serving) (content : Content) (run : List (List ℕ)) → ServeDoes content run s told wires wires taken out out moved store store deeds spawn spawn (Err fault.NoMemory)
   hosting s (Made seed size) [] = serves.Unbegun refl refl refl
@@ -118,6 +137,12 @@ module _ {I W O S P : Type 0} (left : I → Option (List ℕ)) (input : I) (told
   short (Made seed size) [] = refl
   short (Made seed size) (program ∷ words) = refl
   short (File path) run = refl
+
+  filing : (options : CopyOptions) (from to : Side)
+      → FilesEnd options from to (moved store) (moved store) (shelf store) (shelf store) (gave store) (gave store) (took store) (took store) (store ≡ store) (Err fault.NoMemory)
+  filing options (side.File from) (side.File to) = duplicates.Unbegun refl refl
+  filing options (side.File from) (side.Nbd to) = (refl, refl)
+  filing options (side.Nbd from) to = (refl, refl)
 
   unbegun : (a : Asked) → Unmade a
   unbegun asked.Calls = record { does = calls.NotRead (inr refl) (refl, refl); known = refl; accepts = λ held e. cc e; store_same = λ none. refl; spawn_same = λ none. refl; file = tt; child = tt }
@@ -132,6 +157,15 @@ module _ {I W O S P : Type 0} (left : I → Option (List ℕ)) (input : I) (told
     child = λ here done. cc done;
   }
   unbegun (asked.Copy options from to) = record { does = (copies.Unbegun refl refl, refl); known = refl; accepts = tt; store_same = λ none. refl; spawn_same = λ none. refl; file = tt; child = tt }
+  unbegun (asked.FileCopy options from to) = record {
+    does = (filing options from to, refl, refl);
+    known = refl;
+    accepts = tt;
+    store_same = λ none. refl;
+    spawn_same = λ none. refl;
+    file = tt;
+    child = tt;
+  }
   unbegun (asked.Dump place offset length) = record { does = dumps.Unbegun refl refl refl; known = refl; accepts = tt; store_same = λ none. refl; spawn_same = λ none. refl; file = tt; child = tt }
   unbegun (asked.Selftest seed size) = record {
     does = (trials.Unmade refl refl, refl);
@@ -144,8 +178,8 @@ module _ {I W O S P : Type 0} (left : I → Option (List ℕ)) (input : I) (told
   }
 
   pub unread : (why : Fault) (a : Asked) → (◌≡◌ {A = Result Asked Fault} (Err why) (Ok a)) ⊎ (◌≡◌ {A = Result Asked Fault} (Err why) (Err fault.NoMemory))
-      → Did left input input told wires wires taken out out moved shelf store store deeds spawn spawn (Err why) a
+      → Did left input input told wires wires taken out out moved shelf gave took store store deeds spawn spawn (Err why) a
   unread why a (inl is) = absurd (cc is)
   unread why a (inr is) =
       let same : why ≡ fault.NoMemory = cc is in
-      subst (λ (w : Fault). Did left input input told wires wires taken out out moved shelf store store deeds spawn spawn (Err w) a) (sym same) (unbegun a)
+      subst (λ (w : Fault). Did left input input told wires wires taken out out moved shelf gave took store store deeds spawn spawn (Err w) a) (sym same) (unbegun a)

@@ -1,5 +1,5 @@
 -- What the words ask for, and of which tool; or that they ask for nothing.
-use Rattle.std.specs.Prelude.{◌≡◌, ◌≢◌, ◌∷◌, ℕ, Bool, true, false, List, [], String, map, string_bytes}
+use Rattle.std.specs.Prelude.{◌≡◌, ◌≢◌, ◌⊎◌, ◌∷◌, ℕ, Bool, true, false, List, [], String, map, string_bytes}
 use Rattle.std.specs.declared.alloc.Global.{Global}
 use Rattle.lnbd_args.specs.declared.asked.Asked.{Asked}
 use Rattle.lnbd_args.specs.declared.asked.Asked.TheVariants as asked
@@ -8,12 +8,16 @@ use Rattle.lnbd_cli.specs.declared.ending.Fault.{Fault}
 use Rattle.lnbd_cli.specs.declared.ending.Fault.TheVariants as fault
 use Rattle.lnbd_cli.specs.declared.copying.Transfer.{Transfer}
 use Rattle.lnbd_cli.specs.declared.dumping.Excerpt.{Excerpt}
+use Rattle.lnbd_cli.specs.declared.duplicating.Duplication.{Duplication}
 use Rattle.lnbd_cli.specs.declared.hearing.Question.{Question}
 use Rattle.lnbd_cli.specs.declared.selftesting.Trial.{Trial}
 use Rattle.lnbd_cli.specs.declared.serving.Service.{Service}
 use Rattle.lnbd_store.specs.declared.serving.Content.{Content}
 use Rattle.lnbd_store.specs.declared.serving.Content.TheVariants.{Made, File}
 use Rattle.lnbd_store.specs.declared.serving.Serving.{Serving}
+use Rattle.lnbd_store.specs.declared.side.Side.{Side}
+use Rattle.lnbd_store.specs.declared.side.Side.TheVariants as side
+use Rattle.lnbd_plan.specs.declared.options.CopyOptions.{CopyOptions}
 
 -- The words as they are spelled name a tool and ask this of it.
 abbrev pub Ask : List (String Global) → Asked → Type 0
@@ -49,14 +53,18 @@ IsBeside words s = Ask words (asked.Serve s) × (is_alone s.content s.run ≡ fa
 abbrev pub AskBeside : List (String Global) → Type 0
 AskBeside words = (s : Serving) × IsBeside words s
 
+-- nbdcopy: a side is a file
+abbrev pub AskFileCopy : List (String Global) → Type 0
+AskFileCopy words = (options : CopyOptions) × (from : Side) × (to : Side) × Ask words (asked.FileCopy options from to)
+
 -- a file is served
 abbrev pub IsFile : Content → Type 0
 IsFile (Made seed size) = ⊥
 IsFile (File path) = Unit {0}
 
--- They ask for a file to be served, or for a program to be run.
+-- They ask for a file to be served, or for a copy of which a side is a file; or for a program to be run.
 abbrev pub AskFile : List (String Global) → Type 0
-AskFile words = (s : Serving) × Ask words (asked.Serve s) × IsFile s.content
+AskFile words = ((s : Serving) × Ask words (asked.Serve s) × IsFile s.content) ⊎ AskFileCopy words
 
 abbrev pub AskProgram : List (String Global) → Type 0
 AskProgram words = (s : Serving) × Ask words (asked.Serve s) × (s.run ≢ [])
@@ -64,6 +72,10 @@ AskProgram words = (s : Serving) × Ask words (asked.Serve s) × (s.run ≢ [])
 -- nbdcopy: this is to be copied
 abbrev pub IsCopy : List (String Global) → Transfer → Type 0
 IsCopy words t = Ask words (asked.Copy t.options t.from t.to)
+
+-- nbdcopy: this file is to be copied to that path
+abbrev pub IsDuplicate : List (String Global) → Duplication → Type 0
+IsDuplicate words d = Ask words (asked.FileCopy d.options (side.File d.from) (side.File d.to))
 
 -- nbddump: these bytes are to be shown
 abbrev pub IsDump : List (String Global) → Excerpt → Type 0

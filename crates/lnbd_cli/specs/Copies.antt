@@ -9,13 +9,12 @@ use Rattle.lnbd_model.specs.declared.target.Place.{Place}
 use Rattle.lnbd_course.specs.Asks.{GrewBy}
 use Rattle.lnbd_course.specs.Copied.{Copies}
 use Rattle.lnbd_course.specs.Driven.{AreDriven}
-use Rattle.lnbd_copy.specs.Conduct.{Conducts}
-use Rattle.lnbd_copy.specs.Connected.{AllConnected}
-use Rattle.lnbd_copy.specs.Connects.{ConnectsAsTold}
-use Rattle.lnbd_copy.specs.Decided.{IsDecided}
-use Rattle.lnbd_copy.specs.DrivenAs.{AreLeftBy}
-use Rattle.lnbd_copy.specs.Grounds.{IsGrounded}
-use Rattle.lnbd_copy.specs.Made.{IsMade}
+use Rattle.lnbd_conduct.specs.Conduct.{Conducts}
+use Rattle.lnbd_conduct.specs.Links.{AllConnected}
+use Rattle.lnbd_conduct.specs.Connects.{ConnectsAsTold, AreLeftBy}
+use Rattle.lnbd_conduct.specs.Decided.{IsDecided}
+use Rattle.lnbd_conduct.specs.Grounds.{IsGrounded}
+use Rattle.lnbd_conduct.specs.Made.{IsMade}
 use Rattle.lnbd_cli.specs.declared.copying.Transfer.{Transfer}
 use Rattle.lnbd_cli.specs.declared.ending.Fault.{Fault}
 use Rattle.lnbd_cli.specs.declared.ending.Fault.TheVariants as fault

@@ -12,23 +12,26 @@ use Rattle.lnbd_store.specs.declared.serving.Serving.{Serving}
 use Rattle.lnbd_cli.specs.Asks.{Ask, is_alone}
 use Rattle.lnbd_cli.specs.Beside.{FileServed, ProgramRan, is_all_done}
 use Rattle.lnbd_cli.specs.Calls.{HoldsScript}
+use Rattle.lnbd_cli.specs.Duplicates.{AreTwoFiles}
 use Rattle.lnbd_cli.specs.Ends.{End, status_of}
 use Rattle.lnbd_cli.specs.Hosts.{ServeDoes}
-use Rattle.lnbd_cli.specs.Runs.{RunsCalls, RunsCopy, RunsDump, RunsInfo, RunsSelftest, is_known}
+use Rattle.lnbd_cli.specs.Runs.{RunsCalls, RunsCopy, RunsDump, RunsFiles, RunsInfo, RunsSelftest, is_known}
 use Rattle.lnbd_cli.specs.Limits.{most_tested}
 
 abbrev pub Does : {I W O S P : Type 0} → Asked → (left : I → Option (List ℕ)) (input input' : I) (told : W → Option (List Call)) (wires wires' : W) (taken : O → Option (List ℕ)) (out out' : O)
-    (moved : S → Option (List Move)) (store store' : S) (deeds : P → Option (List Deed)) (spawn spawn' : P) → End → Type 0
-Does asked.Calls left input input' told wires wires' taken out out' moved store store' deeds spawn spawn' end = RunsCalls left input input' told wires wires' taken out out' end
-Does (asked.Info what json place) left input input' told wires wires' taken out out' moved store store' deeds spawn spawn' end =
+    (moved : S → Option (List Move)) (shelf : S → Option Shelf) (gave took : S → ℕ) (store store' : S) (deeds : P → Option (List Deed)) (spawn spawn' : P) → End → Type 0
+Does asked.Calls left input input' told wires wires' taken out out' moved shelf gave took store store' deeds spawn spawn' end = RunsCalls left input input' told wires wires' taken out out' end
+Does (asked.Info what json place) left input input' told wires wires' taken out out' moved shelf gave took store store' deeds spawn spawn' end =
     RunsInfo (record { what = what; json = json; place = place }) told wires wires' taken out out' end
-Does (asked.Serve s) left input input' told wires wires' taken out out' moved store store' deeds spawn spawn' end =
+Does (asked.Serve s) left input input' told wires wires' taken out out' moved shelf gave took store store' deeds spawn spawn' end =
     ServeDoes s.content s.run s told wires wires' taken out out' moved store store' deeds spawn spawn' end
-Does (asked.Copy options from to) left input input' told wires wires' taken out out' moved store store' deeds spawn spawn' end =
+Does (asked.Copy options from to) left input input' told wires wires' taken out out' moved shelf gave took store store' deeds spawn spawn' end =
     RunsCopy (record { options = options; from = from; to = to }) told wires wires' out out' end
-Does (asked.Dump place offset length) left input input' told wires wires' taken out out' moved store store' deeds spawn spawn' end =
+Does (asked.FileCopy options from to) left input input' told wires wires' taken out out' moved shelf gave took store store' deeds spawn spawn' end =
+    RunsFiles options from to wires wires' out out' moved shelf gave took store store' end
+Does (asked.Dump place offset length) left input input' told wires wires' taken out out' moved shelf gave took store store' deeds spawn spawn' end =
     RunsDump (record { place = place; offset = offset; length = length }) told wires wires' taken out out' end
-Does (asked.Selftest seed size) left input input' told wires wires' taken out out' moved store store' deeds spawn spawn' end =
+Does (asked.Selftest seed size) left input input' told wires wires' taken out out' moved shelf gave took store store' deeds spawn spawn' end =
     RunsSelftest (record { seed = seed; size = size }) wires wires' taken out out' end
 
 -- What keeps a tool from refusing what it is asked: a script in the input, a size that is not too large; and where it is, that is told.
@@ -37,6 +40,7 @@ Accepts asked.Calls left end = HoldsScript left → status_of end ≢ 1
 Accepts (asked.Info what json place) left end = Unit {0}
 Accepts (asked.Serve s) left end = Unit {0}
 Accepts (asked.Copy options from to) left end = Unit {0}
+Accepts (asked.FileCopy options from to) left end = Unit {0}
 Accepts (asked.Dump place offset length) left end = Unit {0}
 Accepts (asked.Selftest seed size) left end = (size ≤ most_tested → status_of end ≢ 6) × (most_tested < size → (status_of end ≡ 6) ⊎ (status_of end ≡ 9))
 
@@ -46,6 +50,7 @@ AsksNoFile asked.Calls = Unit {0}
 AsksNoFile (asked.Info what json place) = Unit {0}
 AsksNoFile (asked.Serve s) = IsMade s.content
 AsksNoFile (asked.Copy options from to) = Unit {0}
+AsksNoFile (asked.FileCopy options from to) = ⊥
 AsksNoFile (asked.Dump place offset length) = Unit {0}
 AsksNoFile (asked.Selftest seed size) = Unit {0}
 
@@ -54,6 +59,7 @@ AsksNoProgram asked.Calls = Unit {0}
 AsksNoProgram (asked.Info what json place) = Unit {0}
 AsksNoProgram (asked.Serve s) = s.run ≡ []
 AsksNoProgram (asked.Copy options from to) = Unit {0}
+AsksNoProgram (asked.FileCopy options from to) = Unit {0}
 AsksNoProgram (asked.Dump place offset length) = Unit {0}
 AsksNoProgram (asked.Selftest seed size) = Unit {0}
 
@@ -63,12 +69,13 @@ WhereBeside asked.Calls end Is = Unit {0}
 WhereBeside (asked.Info what json place) end Is = Unit {0}
 WhereBeside (asked.Serve s) end Is = is_alone s.content s.run ≡ false → is_all_done (status_of end) ≡ true → Is s
 WhereBeside (asked.Copy options from to) end Is = Unit {0}
+WhereBeside (asked.FileCopy options from to) end Is = Unit {0}
 WhereBeside (asked.Dump place offset length) end Is = Unit {0}
 WhereBeside (asked.Selftest seed size) end Is = Unit {0}
 
 pub record Did {I W O S P : Type 0} (left : I → Option (List ℕ)) (input input' : I) (told : W → Option (List Call)) (wires wires' : W) (taken : O → Option (List ℕ)) (out out' : O)
-    (moved : S → Option (List Move)) (shelf : S → Option Shelf) (store store' : S) (deeds : P → Option (List Deed)) (spawn spawn' : P) (end : End) (asked : Asked) : Type 0 where
-  pub does : Does asked left input input' told wires wires' taken out out' moved store store' deeds spawn spawn' end
+    (moved : S → Option (List Move)) (shelf : S → Option Shelf) (gave took : S → ℕ) (store store' : S) (deeds : P → Option (List Deed)) (spawn spawn' : P) (end : End) (asked : Asked) : Type 0 where
+  pub does : Does asked left input input' told wires wires' taken out out' moved shelf gave took store store' deeds spawn spawn' end
   pub known : is_known asked (status_of end) ≡ true
   pub accepts : Accepts asked (left input) end
   pub store_same : AsksNoFile asked → store' ≡ store
@@ -78,16 +85,18 @@ pub record Did {I W O S P : Type 0} (left : I → Option (List ℕ)) (input inpu
 
 -- The same of all that the words ask.
 abbrev pub DidAsked : {I W O S P : Type 0} → List (String Global) → (left : I → Option (List ℕ)) (input input' : I) (told : W → Option (List Call)) (wires wires' : W)
-    (taken : O → Option (List ℕ)) (out out' : O) (moved : S → Option (List Move)) (shelf : S → Option Shelf) (store store' : S) (deeds : P → Option (List Deed)) (spawn spawn' : P) → End → Type 0
-DidAsked words left input input' told wires wires' taken out out' moved shelf store store' deeds spawn spawn' end =
-    (asked : Asked) → Ask words asked → Did left input input' told wires wires' taken out out' moved shelf store store' deeds spawn spawn' end asked
+    (taken : O → Option (List ℕ)) (out out' : O) (moved : S → Option (List Move)) (shelf : S → Option Shelf) (gave took : S → ℕ) (store store' : S)
+    (deeds : P → Option (List Deed)) (spawn spawn' : P) → End → Type 0
+DidAsked words left input input' told wires wires' taken out out' moved shelf gave took store store' deeds spawn spawn' end =
+    (asked : Asked) → Ask words asked → Did left input input' told wires wires' taken out out' moved shelf gave took store store' deeds spawn spawn' end asked
 
--- What is to be served fits in memory.
+-- What is to be served fits in memory, and two files that are to be copied are two.
 abbrev pub HasRoom : Asked → Type 0
 HasRoom asked.Calls = Unit {0}
 HasRoom (asked.Info what json place) = Unit {0}
 HasRoom (asked.Serve s) = IsFew s.content
 HasRoom (asked.Copy options from to) = Unit {0}
+HasRoom (asked.FileCopy options from to) = AreTwoFiles options from to
 HasRoom (asked.Dump place offset length) = Unit {0}
 HasRoom (asked.Selftest seed size) = Unit {0}
 
@@ -97,6 +106,7 @@ NeverReads asked.Calls = ⊥
 NeverReads (asked.Info what json place) = Unit {0}
 NeverReads (asked.Serve s) = Unit {0}
 NeverReads (asked.Copy options from to) = Unit {0}
+NeverReads (asked.FileCopy options from to) = Unit {0}
 NeverReads (asked.Dump place offset length) = Unit {0}
 NeverReads (asked.Selftest seed size) = Unit {0}
 
@@ -106,5 +116,6 @@ IsOnWires asked.Calls = Unit {0}
 IsOnWires (asked.Info what json place) = Unit {0}
 IsOnWires (asked.Serve s) = Unit {0}
 IsOnWires (asked.Copy options from to) = Unit {0}
+IsOnWires (asked.FileCopy options from to) = ⊥
 IsOnWires (asked.Dump place offset length) = Unit {0}
 IsOnWires (asked.Selftest seed size) = ⊥

@@ -8,6 +8,7 @@ pub mod Informs
 pub mod Serves
 pub mod Beside
 pub mod Copies
+pub mod Duplicates
 pub mod Dumps
 pub mod Trials
 pub mod Runs

@@ -1,24 +1,30 @@
 -- What a run is, by what its words ask; and which statuses each tool tells.
-use Rattle.std.specs.Prelude.{◌≡◌, ◌∷◌, ℕ, Bool, List, [], Option, Ok, Err, String}
+use Rattle.std.specs.Prelude.{◌≡◌, ◌⊎◌, ◌∷◌, ℕ, Bool, List, [], Option, Ok, Err, String}
 use Rattle.std.specs.declared.alloc.Global.{Global}
 use Rattle.lnbd_args.specs.declared.asked.Asked.{Asked}
 use Rattle.lnbd_args.specs.declared.asked.Asked.TheVariants as asked
 use Rattle.lnbd_link.specs.Call.{Call}
 use Rattle.lnbd_spawn.specs.declared.deed.Deed.{Deed}
+use Rattle.lnbd_plan.specs.declared.options.CopyOptions.{CopyOptions}
 use Rattle.lnbd_store.specs.Call.{Call as Move}
+use Rattle.lnbd_store.specs.Shelf.{Shelf}
 use Rattle.lnbd_store.specs.declared.serving.Content.{Content}
 use Rattle.lnbd_store.specs.declared.serving.Content.TheVariants.{Made, File}
 use Rattle.lnbd_store.specs.declared.serving.Serving.{Serving}
+use Rattle.lnbd_store.specs.declared.side.Side.{Side}
+use Rattle.lnbd_store.specs.declared.side.Side.TheVariants as side
 use Rattle.lnbd_cli.specs.declared.copying.Transfer.{Transfer}
 use Rattle.lnbd_cli.specs.declared.dumping.Excerpt.{Excerpt}
+use Rattle.lnbd_cli.specs.declared.duplicating.Duplication.{Duplication}
 use Rattle.lnbd_cli.specs.declared.hearing.Question.{Question}
 use Rattle.lnbd_cli.specs.declared.selftesting.Trial.{Trial}
 use Rattle.lnbd_cli.specs.declared.serving.Service.{Service}
-use Rattle.lnbd_cli.specs.Asks.{IsBeside, IsCalls, IsSelftest, Refuses}
+use Rattle.lnbd_cli.specs.Asks.{AskFileCopy, IsBeside, IsCalls, IsSelftest, Refuses}
 use Rattle.lnbd_cli.specs.Beside.{BesideEnds, is_beside_status}
 use Rattle.lnbd_cli.specs.Calls.{CallsEnds, HoldsScript, is_calls_status}
 use Rattle.lnbd_cli.specs.Copies.{CopyEnds, is_copy_status}
 use Rattle.lnbd_cli.specs.Dumps.{DumpEnds, is_dump_status}
+use Rattle.lnbd_cli.specs.Duplicates.{FilesEnd, is_duplicate_status}
 use Rattle.lnbd_cli.specs.Ends.{End, IsPatient, IsReported, IsSound, Prints}
 use Rattle.lnbd_cli.specs.Informs.{InfoEnds, is_info_status}
 use Rattle.lnbd_cli.specs.Serves.{ServeEnds, is_serve_status}
@@ -59,6 +65,17 @@ Tells taken faults err err' status end = IsReported end (Prints taken faults err
 -- nbdcopy: this was copied, and nothing printed on out
 abbrev pub RunsCopy : {W O : Type 0} → Transfer → (told : W → Option (List Call)) (wires wires' : W) (out out' : O) → End → Type 0
 RunsCopy transfer told wires wires' out out' end = CopyEnds transfer (told wires) (told wires') (wires' ≡ wires) end × (out' ≡ out)
+
+-- nbdcopy: where a side is a file this was copied, no call was made on the wires, and nothing printed on out
+abbrev pub RunsFiles : {W O S : Type 0} → CopyOptions → (from to : Side) → (wires wires' : W) (out out' : O)
+    (moved : S → Option (List Move)) (shelf : S → Option Shelf) (gave took : S → ℕ) (store store' : S) → End → Type 0
+RunsFiles options from to wires wires' out out' moved shelf gave took store store' end =
+    FilesEnd options from to (moved store) (moved store') (shelf store) (shelf store') (gave store) (gave store') (took store) (took store') (store' ≡ store) end × (wires' ≡ wires) × (out' ≡ out)
+
+-- nbdcopy: this file was copied to that path
+abbrev pub RunsDuplicate : {W O S : Type 0} → Duplication → (wires wires' : W) (out out' : O)
+    (moved : S → Option (List Move)) (shelf : S → Option Shelf) (gave took : S → ℕ) (store store' : S) → End → Type 0
+RunsDuplicate d wires wires' out out' moved shelf gave took store store' end = RunsFiles d.options (side.File d.from) (side.File d.to) wires wires' out out' moved shelf gave took store store' end
 
 -- nbddump: these bytes were shown
 abbrev pub RunsDump : {W O : Type 0} → Excerpt → (told : W → Option (List Call)) (wires wires' : W) (taken : O → Option (List ℕ)) (out out' : O) → End → Type 0
@@ -104,9 +121,9 @@ pub record Still {W O S P : Type 0} (faults idles : W → ℕ) (wires wires' : W
   pub stores : IsSound stored store store'
   pub spawns : IsSound spawned spawn spawn'
 
--- They ask for a copy in memory.
-abbrev pub AskTest : List (String Global) → Type 0
-AskTest words = (trial : Trial) × IsSelftest words trial
+-- They ask for what needs no wires: a copy in memory, or one of which a side is a file.
+abbrev pub AskOffWires : List (String Global) → Type 0
+AskOffWires words = ((trial : Trial) × IsSelftest words trial) ⊎ AskFileCopy words
 
 -- The statuses that serve tells, by whether it serves made contents alone.
 abbrev pub is_serving_known : Content → (run : List (List ℕ)) → (status : ℕ) → Bool
@@ -120,5 +137,6 @@ is_known asked.Calls status = is_calls_status status
 is_known (asked.Info what json place) status = is_info_status status
 is_known (asked.Serve s) status = is_serving_known s.content s.run status
 is_known (asked.Copy options from to) status = is_copy_status status
+is_known (asked.FileCopy options from to) status = is_duplicate_status status
 is_known (asked.Dump place offset length) status = is_dump_status status
 is_known (asked.Selftest seed size) status = is_test_status status

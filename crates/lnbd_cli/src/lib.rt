@@ -7,6 +7,7 @@ mod calling;
 mod copying;
 mod counts;
 mod dumping;
+mod duplicating;
 mod ending;
 mod hearing;
 mod informing;

@@ -4,20 +4,23 @@ ghost use Rattle.std.specs.Prelude.{◌≡◌, ◌⊎◌, ◌<◌, ◌≤◌, Er
 ghost use Rattle.lnbd_args.specs.declared.asked.Asked.{Asked};
 ghost use Rattle.lnbd_link.specs.Count.{Rises, patience};
 ghost use Rattle.lnbd_store.specs.declared.serving.Serving.{Serving};
-ghost use Rattle.lnbd_cli.specs.Asks.{Ask, AskBeside, AskFile, AskNothing, AskProgram, IsBeside, IsCalls, IsCopy, IsDump, IsInfo, IsSelftest, IsServe};
+ghost use Rattle.lnbd_cli.specs.Asks.{Ask, AskBeside, AskFile, AskNothing, AskProgram, IsBeside, IsCalls, IsCopy, IsDump, IsDuplicate, IsInfo, IsSelftest, IsServe};
 ghost use Rattle.lnbd_cli.specs.Beside.{FileServed, IsBesideDone, ProgramRan, is_all_done};
 ghost use Rattle.lnbd_cli.specs.Calls.{IsPlayDone};
 ghost use Rattle.lnbd_cli.specs.Copies.{IsCopyDone};
 ghost use Rattle.lnbd_cli.specs.Did.{Did, DidAsked, HasRoom, IsOnWires, NeverReads};
 ghost use Rattle.lnbd_cli.specs.Dumps.{IsDumpDone, IsShown, IsShownInPart};
+ghost use Rattle.lnbd_cli.specs.Duplicates.{IsDuplicateDone};
 ghost use Rattle.lnbd_cli.specs.Ends.{Came, IsPatient, IsSound, Prints, ShowsFault};
 ghost use Rattle.lnbd_cli.specs.Informs.{IsInfoDone};
 ghost use Rattle.lnbd_cli.specs.Inputs.{ReadAtMost};
-ghost use Rattle.lnbd_cli.specs.Runs.{AreQuiet, AreSound, AskTest, Beside, IsPlay, IsRefused, Nothing, Refused, RunsCalls, RunsCopy, RunsDump, RunsInfo, RunsSelftest, RunsServe, Still, Tells, is_known};
+ghost use Rattle.lnbd_cli.specs.Runs.{AreQuiet, AreSound, AskOffWires, Beside, IsPlay, IsRefused, Nothing, Refused, Still, Tells, is_known};
+ghost use Rattle.lnbd_cli.specs.Runs.{RunsCalls, RunsCopy, RunsDump, RunsDuplicate, RunsInfo, RunsSelftest, RunsServe};
 ghost use Rattle.lnbd_cli.specs.Serves.{IsServeDone};
 ghost use Rattle.lnbd_cli.specs.Limits.{most_read, most_tested};
 ghost use Rattle.lnbd_cli.specs.declared.copying.Transfer.{Transfer};
 ghost use Rattle.lnbd_cli.specs.declared.dumping.Excerpt.{Excerpt};
+ghost use Rattle.lnbd_cli.specs.declared.duplicating.Duplication.{Duplication};
 ghost use Rattle.lnbd_cli.specs.declared.ending.Fault.TheVariants as fault;
 ghost use Rattle.lnbd_cli.specs.declared.hearing.Question.{Question};
 ghost use Rattle.lnbd_cli.specs.declared.selftesting.Trial.{Trial};
@@ -27,6 +30,7 @@ use crate::calling::calls;
 use crate::copying::{Transfer, copy};
 use crate::counts::tally;
 use crate::dumping::{Excerpt, show};
+use crate::duplicating::{Duplication, copy_files};
 use crate::ending::{End, print_end};
 use crate::hearing::Question;
 use crate::informing::inform;
@@ -43,7 +47,7 @@ use std::alloc::Global;
 ///
 /// 0: all is done. 1: words or a script are in no grammar. 2: what nbdinfo was asked is false. 3: the peer answered an option or a command by an error. 4: it broke
 /// the protocol, or ended before the run was done; a client of serve broke it. 5: a link failed. 6: the server did not agree to a map's context, two exports don't
-/// fit for a copy, an export has no such range to show, or the size of a selftest or of a served file is too large. 7: the wires were idle for too long. 8: `out` failed. 9: memory ran out. 10: `input`
+/// fit for a copy, a file ended before its told length, an export has no such range to show, or the size of a selftest or of a served file is too large. 7: the wires were idle for too long. 8: `out` failed. 9: memory ran out. 10: `input`
 /// failed. 11: a call on a local file failed. 12: the program beside which serve ran ended badly. 13: it could not be started, or how it ended could not be had. Every
 /// status but 0 and 2 prints its line on `err`.
 pub fn run<W: Wires, I: Source, O: Sink, E: Sink, S: Store, P: Spawner>(
@@ -62,6 +66,8 @@ pub fn run<W: Wires, I: Source, O: Sink, E: Sink, S: Store, P: Spawner>(
     ensures serve { (s : Service) → IsServe words.now s → Came (RunsServe s W.told wires.old wires.new O.taken out.old out.new) (Prints E.taken E.faults err.old err.new) result }
     ensures beside { Beside words.now W.told wires.old wires.new O.taken out.old out.new S.told store.old store.new P.told spawn.old spawn.new (Tells E.taken E.faults err.old err.new result) }
     ensures copy { (t : Transfer) → IsCopy words.now t → Came (RunsCopy t W.told wires.old wires.new out.old out.new) (Prints E.taken E.faults err.old err.new) result }
+    ensures duplicate { (d : Duplication) → IsDuplicate words.now d → Came (RunsDuplicate d wires.old wires.new out.old out.new S.told S.shelf S.given S.taken store.old store.new)
+        (Prints E.taken E.faults err.old err.new) result }
     ensures dump { (e : Excerpt) → IsDump words.now e → Came (RunsDump e W.told wires.old wires.new O.taken out.old out.new) (Prints E.taken E.faults err.old err.new) result }
     ensures selftest { (t : Trial) → IsSelftest words.now t → Came (RunsSelftest t wires.old wires.new O.taken out.old out.new) (Prints E.taken E.faults err.old err.new) result }
 
@@ -84,7 +90,7 @@ pub fn run<W: Wires, I: Source, O: Sink, E: Sink, S: Store, P: Spawner>(
     ensures shows { (e : Excerpt) → IsDump words.now e → result ≡ 0 → IsShown e (W.told wires.old) (W.told wires.new) (O.taken out.old) (O.taken out.new) }
     ensures fronts { (e : Excerpt) → IsDump words.now e → IsShownInPart e (W.told wires.old) (W.told wires.new) (O.taken out.old) (O.taken out.new) }
 
-    // Files are opened for no other words, and no program is started for others.
+    // Files are opened where one is served or copied, and for no other words; and no program is started for others.
     ensures store { (¬ AskFile words.now) → store.new ≡ store.old }
     ensures spawner { (¬ AskProgram words.now) → spawn.new ≡ spawn.old }
 
@@ -101,8 +107,8 @@ pub fn run<W: Wires, I: Source, O: Sink, E: Sink, S: Store, P: Spawner>(
     ensures input_cause { result ≡ 10 → Rises 1 (I.faults input.old) (I.faults input.new) }
     ensures store_cause { result ≡ 11 → Rises 1 (S.faults store.old) (S.faults store.new) }
     ensures spawn_cause { result ≡ 13 → Rises 1 (P.faults spawn.old) (P.faults spawn.new) }
-    ensures well { (¬ AskTest words.now) → (result ≡ 0) ⊎ (result ≡ 2) → IsSound W.faults wires.old wires.new }
-    ensures patient { (¬ AskTest words.now) → (result ≡ 0) ⊎ (result ≡ 2) → IsPatient W.idles wires.old wires.new }
+    ensures well { (¬ AskOffWires words.now) → (result ≡ 0) ⊎ (result ≡ 2) → IsSound W.faults wires.old wires.new }
+    ensures patient { (¬ AskOffWires words.now) → (result ≡ 0) ⊎ (result ≡ 2) → IsPatient W.idles wires.old wires.new }
     ensures output_well { (result ≡ 0) ⊎ (result ≡ 2) → O.faults out.new ≡ O.faults out.old }
     ensures input_well { (result ≡ 0) ⊎ (result ≡ 2) → I.faults input.new ≡ I.faults input.old }
 
@@ -112,6 +118,7 @@ pub fn run<W: Wires, I: Source, O: Sink, E: Sink, S: Store, P: Spawner>(
     ensures serve_complete { (s : Service) → IsServe words.now s → AreQuiet W.faults W.idles wires.old wires.new → IsSound O.faults out.old out.new → IsServeDone result }
     ensures beside_done { AskBeside words.now → Still W.faults W.idles wires.old wires.new O.faults out.old out.new S.faults store.old store.new P.faults spawn.old spawn.new → IsBesideDone result }
     ensures copy_complete { (t : Transfer) → IsCopy words.now t → AreQuiet W.faults W.idles wires.old wires.new → IsCopyDone result }
+    ensures duplicate_complete { (d : Duplication) → IsDuplicate words.now d → IsSound S.faults store.old store.new → IsDuplicateDone (S.shelf store.new) result }
     ensures dump_complete { (e : Excerpt) → IsDump words.now e → AreQuiet W.faults W.idles wires.old wires.new → IsSound O.faults out.old out.new → IsDumpDone result }
     ensures selftest_complete { (t : Trial) → IsSelftest words.now t → t.size ≤ most_tested → IsSound O.faults out.old out.new → (result ≡ 0) ⊎ (result ≡ 9) }
     ensures selftest_refuses { (t : Trial) → IsSelftest words.now t → most_tested < t.size → (result ≡ 6) ⊎ (result ≡ 9) }
@@ -134,7 +141,8 @@ fn act<W: Wires, I: Source, O: Sink, S: Store, P: Spawner>(
     spawn: &mut P,
 ) -> End
     requires { HasRoom asked }
-    ensures did { Did I.left input.old input.new W.told wires.old wires.new O.taken out.old out.new S.told S.shelf store.old store.new P.told spawn.old spawn.new result asked }
+    ensures did { Did I.left input.old input.new W.told wires.old wires.new O.taken out.old out.new S.told S.shelf S.given S.taken
+        store.old store.new P.told spawn.old spawn.new result asked }
     ensures unread { NeverReads asked → input.new ≡ input.old }
     ensures most { ReadAtMost most_read (I.left input.old) (I.left input.new) }
     ensures link { result ≡ Err fault.Link → Rises 1 (W.faults wires.old) (W.faults wires.new) }
@@ -155,6 +163,7 @@ fn act<W: Wires, I: Source, O: Sink, S: Store, P: Spawner>(
         }
         Asked::Serve(asked) => attend(alloc, asked, wires, out, store, spawn),
         Asked::Copy { options, from, to } => copy(alloc, Transfer { options, from, to }, wires),
+        Asked::FileCopy { options, from, to } => copy_files(alloc, options, from, to, store),
         Asked::Dump {
             place,
             offset,
@@ -183,7 +192,8 @@ fn tool<W: Wires, I: Source, O: Sink, S: Store, P: Spawner>(
     store: &mut S,
     spawn: &mut P,
 ) -> End
-    ensures did { DidAsked words.now I.left input.old input.new W.told wires.old wires.new O.taken out.old out.new S.told S.shelf store.old store.new P.told spawn.old spawn.new result }
+    ensures did { DidAsked words.now I.left input.old input.new W.told wires.old wires.new O.taken out.old out.new S.told S.shelf S.given S.taken
+        store.old store.new P.told spawn.old spawn.new result }
     ensures decided { ((asked : Asked) × Ask words.now asked) ⊎ Refused words.now wires.old wires.new out.old out.new result }
     ensures refused { AskNothing words.now → IsRefused words.now result }
     ensures refused_alone { AskNothing words.now → Nothing wires.old wires.new out.old out.new }
@@ -197,8 +207,8 @@ fn tool<W: Wires, I: Source, O: Sink, S: Store, P: Spawner>(
     ensures input { result ≡ Err fault.Input → Rises 1 (I.faults input.old) (I.faults input.new) }
     ensures storing { result ≡ Err fault.Store → Rises 1 (S.faults store.old) (S.faults store.new) }
     ensures spawning { result ≡ Err fault.Spawn → Rises 1 (P.faults spawn.old) (P.faults spawn.new) }
-    ensures well { (¬ AskTest words.now) → OnOk result (IsSound W.faults wires.old wires.new) }
-    ensures patient { (¬ AskTest words.now) → OnOk result (IsPatient W.idles wires.old wires.new) }
+    ensures well { (¬ AskOffWires words.now) → OnOk result (IsSound W.faults wires.old wires.new) }
+    ensures patient { (¬ AskOffWires words.now) → OnOk result (IsPatient W.idles wires.old wires.new) }
     ensures output_well { OnOk result (O.faults out.new ≡ O.faults out.old) }
     ensures input_well { OnOk result (I.faults input.new ≡ I.faults input.old) }
 {

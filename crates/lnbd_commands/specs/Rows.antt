@@ -1,5 +1,5 @@
 -- What a row's fields stand for, and how a row ends.
-use Rattle.std.specs.Prelude.{◌≡◌, ℕ, ◌-◌, List, [], ◌∷◌, ◌++◌, length, get_or, true, false, Option, Some, None, if◌then◌else◌, ◌==◌}
+use Rattle.std.specs.Prelude.{◌≡◌, ℕ, ◌-◌, List, [], ◌∷◌, ◌++◌, length, get_or, Bool, true, false, Option, Some, None, if◌then◌else◌, ◌==◌}
 use Rattle.lnbd_model.specs.declared.kind.Kind.{Kind}
 use Rattle.lnbd_keyed.specs.Keyed.{value_at, with_value, without}
 use Rattle.lnbd_callbacks.specs.declared.caller.Verdict.{Verdict}
@@ -83,6 +83,11 @@ module _ {K : Type 0} where
   abbrev pub flight_of_row : Option (Row K) → Option (Flight K)
   flight_of_row None = None
   flight_of_row (Some row) = row.flight
+
+  -- the row is that of a read
+  abbrev pub is_read_row : Option (Row K) → Bool
+  is_read_row None = false
+  is_read_row (Some row) = is_read row.kind
 
   -- the table after a command that landed was kept or retired
   abbrev pub ended : Verdict → ℕ → Table (Row K) → Table (Row K)

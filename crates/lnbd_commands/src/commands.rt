@@ -12,7 +12,7 @@ ghost use Rattle.lnbd_commands.specs.Commands.{Commands as Seen, cleared, issuin
 ghost use Rattle.lnbd_commands.specs.Contents.{IsSpare, bytes_in};
 ghost use Rattle.lnbd_commands.specs.Faulty.{HasAsked, faulty_at};
 ghost use Rattle.lnbd_commands.specs.Flights.{has_first};
-ghost use Rattle.lnbd_commands.specs.Rows.{flight_of_row};
+ghost use Rattle.lnbd_commands.specs.Rows.{flight_of_row, is_read_row};
 ghost use Rattle.lnbd_commands.specs.Seen.{seen_waiting};
 ghost use Rattle.lnbd_commands.specs.Takes.{IsReply, Takes, TakesReply};
 
@@ -173,6 +173,7 @@ impl<K: Caller> Commands<K> {
         requires { IsReply (waiting_at cookie self.old) error bytes.now }
         ensures ok { OnOk result (TakesReply K.steps cookie (waiting_at cookie self.old) error bytes.now self.old self.new world.old world.new) }
         ensures needed { OnErr result (has_first (flight_of_row (value_at cookie self.old.rows)) ≡ true) }
+        ensures read { OnErr result (is_read_row (value_at cookie self.old.rows) ≡ true) }
         ensures err { OnErr result (self.new ≡ self.old) }
         ensures err_world { OnErr result (world.new ≡ world.old) }
     {
@@ -195,6 +196,7 @@ impl<K: Caller> Commands<K> {
         ensures ok { OnOk result (TakesReply K.steps cookie (waiting_at cookie self.old) error buffer.items self.old self.new world.old world.new) }
         ensures spare { IfOk result (λ spare. length spare.items ≡ length buffer.items) }
         ensures needed { OnErr result (has_first (flight_of_row (value_at cookie self.old.rows)) ≡ true) }
+        ensures read { OnErr result (is_read_row (value_at cookie self.old.rows) ≡ true) }
         ensures handed_back { IfErr result (λ back. back.items ≡ buffer.items) }
         ensures err { OnErr result (self.new ≡ self.old) }
         ensures err_world { OnErr result (world.new ≡ world.old) }
@@ -218,6 +220,7 @@ impl<K: Caller> Commands<K> {
         ensures ok { OnOk result (TakesReply K.steps cookie (waiting_at cookie self.old) error (bytes_in content.entry) self.old self.new world.old world.new) }
         ensures spare { IfOk result (λ spare. IsSpare (Some content.entry) (length spare.items)) }
         ensures needed { OnErr result (has_first (flight_of_row (value_at cookie self.old.rows)) ≡ true) }
+        ensures read { OnErr result (is_read_row (value_at cookie self.old.rows) ≡ true) }
         ensures handed_back { IfErr result (λ back. back ≡ content.entry) }
         ensures err { OnErr result (self.new ≡ self.old) }
         ensures err_world { OnErr result (world.new ≡ world.old) }

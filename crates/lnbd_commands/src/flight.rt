@@ -145,6 +145,7 @@ impl<K: Caller> Flight<K> {
         ensures log { IfOk result (λ heard. desk.new.log ≡ record desk.old.log { notes = desk.old.log.notes ++ map note_of (first_acts self.now.first (told_to told.entry) heard) }) }
         ensures succeeds { OnErr result (desk.old.room ≡ 0) }
         ensures needed { OnErr result (is_some self.now.first ≡ true) }
+        ensures told { OnErr result (is_some (told_to told.entry) ≡ true) }
         ensures err_world { OnErr result (world.new ≡ world.old) }
         ensures err_desk { OnErr result (desk.new ≡ desk.old) }
     {

@@ -444,8 +444,9 @@ impl<K: Caller> Row<K> {
         ensures row { IfOk result (λ end. self.new ≡ landed end.0.failure (unanswered end.0.failure) self.old) }
         ensures spare { IfOk result (λ end. IsSpare (Some content.entry) (length end.1.items)) }
 
-        // Memory is wanted for the note of a chunk callback alone.
+        // Memory is wanted for the note of a chunk callback alone: that of a read.
         ensures needed { OnErr result (has_first self.old.flight ≡ true) }
+        ensures read { OnErr result (is_read self.old.kind ≡ true) }
         ensures handed_back { IfErr result (λ back. back ≡ content.entry) }
         ensures err_row { OnErr result (self.new ≡ self.old) }
         ensures err_desk { OnErr result (desk.new ≡ desk.old) }
@@ -551,6 +552,7 @@ pub(crate) fn hear<K: Caller>(
     ensures hears { IfOk result (λ heard. Hears K.steps flight.now (told_to told.entry) heard desk.old.log desk.new.log world.old world.new) }
     ensures succeeds { OnErr result (desk.old.room ≡ 0) }
     ensures needed { OnErr result (has_first flight.now ≡ true) }
+    ensures told { OnErr result (is_some (told_to told.entry) ≡ true) }
     ensures err_desk { OnErr result (desk.new ≡ desk.old) }
     ensures err_world { OnErr result (world.new ≡ world.old) }
 {

@@ -8,7 +8,7 @@ ghost use Rattle.lnbd_commands.specs.Completes.{EndsByChunk, EndsByLoss, EndsByR
 ghost use Rattle.lnbd_commands.specs.Contents.{IsSpare, IsSpareOf, bytes_in, told_of};
 ghost use Rattle.lnbd_commands.specs.Flights.{has_first};
 ghost use Rattle.lnbd_commands.specs.Lands.{AnswerableAt, IsLiveRow, LosableAt, TellableAt};
-ghost use Rattle.lnbd_commands.specs.Rows.{flight_of_row};
+ghost use Rattle.lnbd_commands.specs.Rows.{flight_of_row, is_read_row};
 
 use crate::content::{Brought, Content};
 use crate::row::Row;
@@ -32,6 +32,7 @@ pub(crate) fn end_by_reply<'a, K: Caller>(
     ensures ends { IfOk result (λ end. IfSome (value_at cookie table.old.rows) (λ row. EndsByReply K.steps cookie row error (bytes_in content.entry) end.0 table.old table.new desk.old.log desk.new.log world.old world.new)) }
     ensures spare { IfOk result (λ end. IsSpare (Some content.entry) (length end.1.items)) }
     ensures needed { OnErr result (has_first (flight_of_row (value_at cookie table.old.rows)) ≡ true) }
+    ensures read { OnErr result (is_read_row (value_at cookie table.old.rows) ≡ true) }
     ensures handed_back { IfErr result (λ back. back ≡ content.entry) }
     ensures err_table { OnErr result (table.new ≡ table.old) }
     ensures err_desk { OnErr result (desk.new ≡ desk.old) }

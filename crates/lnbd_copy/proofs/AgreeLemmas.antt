@@ -14,7 +14,7 @@ use Rattle.lnbd_poll.specs.Seen.{Seen}
 use Rattle.lnbd_drives.proofs.Exports.{info_was_told}
 use Rattle.lnbd_board.specs.declared.ticket.Ticket.{Ticket}
 use Rattle.lnbd_copy.specs.Agreed.{Agrees, AreQuiet, HasTold, IsQuiet, Tells}
-use Rattle.lnbd_copy.specs.Terms.{broken_rule}
+use Rattle.lnbd_conduct.specs.Terms.{broken_rule}
 use Rattle.lnbd_copy.proofs.TurnLemmas.{none_some, some_same}
 
 module _ (handle : Machine Ticket) (info : ExportInfo) (ready : ForEach handle (λ history. state_after history ≡ state.Ready)) (quiet : ForEach handle (λ history. direction_after history ≡ 1)) (told : ForEach handle (λ history. Some info ≡ info_after history)) where

@@ -31,20 +31,22 @@ use Rattle.lnbd_board.specs.Files as board
 use Rattle.lnbd_course.specs.Between.{place_of}
 use Rattle.lnbd_course.proofs.Address.{given_stays}
 use Rattle.lnbd_course.proofs.Holding.{one_has}
-use Rattle.lnbd_copy.specs.declared.sides.Sides.{Sides}
-use Rattle.lnbd_copy.specs.declared.terms.Terms.{Terms}
+use Rattle.lnbd_conduct.specs.declared.sides.Sides.{Sides}
+use Rattle.lnbd_conduct.specs.declared.terms.Terms.{Terms}
 use Rattle.lnbd_copy.specs.Agreed.{AreQuiet}
-use Rattle.lnbd_copy.specs.Alike.{AllAlike, ToldAs}
-use Rattle.lnbd_copy.specs.Begun.{opened}
+use Rattle.lnbd_conduct.specs.Grounds.{AllAlike, ToldAs, AreSame, IsShown}
+use Rattle.lnbd_conduct.specs.Begun.{opened}
 use Rattle.lnbd_copy.specs.Copier.{HasMet, beginning}
 use Rattle.lnbd_copy.specs.Copier as copier
-use Rattle.lnbd_copy.specs.Driven.{WentOn, asks_extents_on, beginning_on}
+use Rattle.lnbd_copy.specs.Driven.{beginning_on}
+use Rattle.lnbd_conduct.specs.Driven.{WentOn, asks_extents_on}
 use Rattle.lnbd_copy.specs.Firsts.{KnowBoth, Knows}
 use Rattle.lnbd_copy.specs.Giving.{GivesNone}
-use Rattle.lnbd_copy.specs.Grounds.{AllSame, AreSame, Happened, Happens, IsShown}
-use Rattle.lnbd_copy.specs.Lasting.{AtSome}
+use Rattle.lnbd_copy.specs.Grounds.{AllSame, Happened, Happens}
+use Rattle.lnbd_conduct.specs.Told.{AtSome, Told}
 use Rattle.lnbd_copy.specs.Settled.{FindsTerms, HasSettled}
-use Rattle.lnbd_copy.specs.Way.{IsOn, Stand, Told, Way, is_source}
+use Rattle.lnbd_copy.specs.Way.{IsOn, Stand, Way}
+use Rattle.lnbd_conduct.specs.Sides.{is_source}
 use Rattle.lnbd_copy.proofs.DrivenLemmas.{went_there}
 use Rattle.lnbd_copy.proofs.GroundLemmas.{driven_at}
 use Rattle.lnbd_copy.proofs.LastLemmas.{terms_later, at_once}

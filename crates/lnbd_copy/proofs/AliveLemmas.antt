@@ -15,8 +15,9 @@ use Rattle.lnbd_board.specs.declared.ticket.Ticket.{Ticket}
 use Rattle.lnbd_board.specs.Files as board
 use Rattle.lnbd_course.proofs.Failing.{there_or_apart}
 use Rattle.lnbd_copy.specs.Deciding.{AreAlive, IsAliveAt}
-use Rattle.lnbd_copy.specs.Decided.{AreAliveSince, AreAliveToEnd, IsAliveSince}
-use Rattle.lnbd_copy.specs.Driven.{AllUnended, AllWentOn, EndAfter, HasEnded, HasParted, IsAlive, WasLeftSince, WasUnendedAlive}
+use Rattle.lnbd_conduct.specs.Decided.{AreAliveSince, AreAliveToEnd, IsAliveSince}
+use Rattle.lnbd_copy.specs.Driven.{AllUnended, AllWentOn, HasEnded}
+use Rattle.lnbd_conduct.specs.Driven.{EndAfter, HasParted, IsAlive, WasLeftSince, WasUnendedAlive}
 use Rattle.lnbd_copy.specs.Way.{IsOn, IsUnderWay, Way}
 use Rattle.lnbd_copy.proofs.DrivenLemmas.{one_drove, went_there}
 use Rattle.lnbd_copy.proofs.DrivingLemmas.{lawful_there, unended_there}

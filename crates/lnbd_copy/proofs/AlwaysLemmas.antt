@@ -22,17 +22,16 @@ use Rattle.lnbd_course.proofs.Cuts.{InFirst, InSecond, cut, front_off}
 use Rattle.lnbd_course.proofs.Fronts.{IsFront, first_false, handle_few, links_few, others_none, over_none, turn_front}
 use Rattle.lnbd_course.proofs.Quiet.{dealt_stays, nothing_stays}
 use Rattle.lnbd_course.proofs.Unasked.{nothing_before}
-use Rattle.lnbd_copy.specs.declared.terms.Terms.{Terms}
-use Rattle.lnbd_copy.specs.Bounded.{AreFewOnEach}
+use Rattle.lnbd_conduct.specs.declared.terms.Terms.{Terms}
+use Rattle.lnbd_conduct.specs.Shares.{AreFewOnEach, IsAlwaysShared, IsShared, rounded_up}
 use Rattle.lnbd_copy.specs.Copier.{IsOnItsWay}
 use Rattle.lnbd_copy.specs.Copier as copier
 use Rattle.lnbd_copy.specs.Job as work
-use Rattle.lnbd_copy.specs.Lasting.{AtSome}
-use Rattle.lnbd_copy.specs.Limit.{IsLimited}
-use Rattle.lnbd_copy.specs.Settled.{AreSettledBy, Settled}
-use Rattle.lnbd_copy.specs.Sharing.{IsAlwaysShared, IsShared}
-use Rattle.lnbd_copy.specs.Spread.{rounded_up}
-use Rattle.lnbd_copy.specs.Way.{IsOn, IsUnderWay, Told, Way, connection_of, connection_on, is_bound, is_source}
+use Rattle.lnbd_conduct.specs.Told.{AtSome, Told}
+use Rattle.lnbd_conduct.specs.Terms.{IsLimited}
+use Rattle.lnbd_conduct.specs.Settled.{AreSettledBy, Settled}
+use Rattle.lnbd_copy.specs.Way.{IsOn, IsUnderWay, Way, connection_on, is_bound}
+use Rattle.lnbd_conduct.specs.Sides.{connection_of, is_source}
 use Rattle.lnbd_copy.proofs.AlikeLemmas.{alike_later}
 use Rattle.lnbd_copy.proofs.CopierLemmas.{told_as}
 use Rattle.lnbd_copy.proofs.EndLemmas.{past_copying}

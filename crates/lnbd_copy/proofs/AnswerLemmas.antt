@@ -22,7 +22,7 @@ use Rattle.lnbd_course.proofs.Holding.{take_drop}
 use Rattle.lnbd_course.proofs.Placed.{links_are_of_sides}
 use Rattle.lnbd_course.proofs.Telling.{sides_are_of_source}
 use Rattle.lnbd_copy.specs.Heard.{IsHeardTo, has_position}
-use Rattle.lnbd_copy.specs.Statuses.{MayBeRead, ReadsAreAnswered}
+use Rattle.lnbd_conduct.specs.Answered.{MayBeRead, ReadsAreAnswered}
 use Rattle.lnbd_copy.specs.Way.{IsOn, Stands, Way, known_of}
 use Rattle.lnbd_copy.specs.Windows as windows
 use Rattle.lnbd_copy.proofs.StepLemmas.{taking_stands}

@@ -11,7 +11,7 @@ use Rattle.lnbd_poll.specs.Turns.{Goes_on, Stops, WritesAll, is_lost}
 use Rattle.lnbd_poll.specs.Turns as turns
 use Rattle.lnbd_drives.specs.Driving.{with_event}
 use Rattle.lnbd_board.specs.declared.ticket.Ticket.{Ticket}
-use Rattle.lnbd_copy.specs.Begun.{BeganAs}
+use Rattle.lnbd_conduct.specs.Begun.{BeganAs}
 use Rattle.lnbd_copy.specs.Statuses.{FirstBegan, first_held}
 
 -- One history.

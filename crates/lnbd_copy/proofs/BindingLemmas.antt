@@ -38,8 +38,9 @@ use Rattle.lnbd_course.specs.Course.{AllHave, Course, beside, on_side}
 use Rattle.lnbd_course.proofs.Holding.{one_has}
 use Rattle.lnbd_course.proofs.Standing.{on_here}
 use Rattle.lnbd_course.proofs.Turning.{steps, turns_all}
-use Rattle.lnbd_copy.specs.declared.sides.Sides.{Sides}
-use Rattle.lnbd_copy.specs.Way.{AreBound, StayBound, Stands, Way, connection_on, connection_of, is_bound, is_source}
+use Rattle.lnbd_conduct.specs.declared.sides.Sides.{Sides}
+use Rattle.lnbd_copy.specs.Way.{AreBound, StayBound, Stands, Way, connection_on, is_bound}
+use Rattle.lnbd_conduct.specs.Sides.{connection_of, is_source}
 
 none_some : {A : Type 0} (one : A) → None ≡ Some one → ⊥
 none_some one e = cc

@@ -14,7 +14,7 @@ use Rattle.lnbd_board.specs.Files.{received, rows_with}
 use Rattle.lnbd_board.specs.Rows.{is_busy}
 use Rattle.lnbd_copy.specs.Bound.{bound_by, bound_to}
 use Rattle.lnbd_copy.specs.Dealt.{IsDealt}
-use Rattle.lnbd_copy.specs.Spread.{rounded_up}
+use Rattle.lnbd_conduct.specs.Shares.{rounded_up}
 
 -- Worked: 64 slices over 4 connections are 16 for each, and 65 are 17; of three slices two are bound to connection 1.
 even_share : rounded_up 64 4 ≡ 16

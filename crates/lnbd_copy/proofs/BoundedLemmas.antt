@@ -10,11 +10,13 @@ use Rattle.lnbd_board.specs.Files as board
 use Rattle.lnbd_course.specs.Between.{place_of}
 use Rattle.lnbd_course.specs.Spread.{FewOn, how_many}
 use Rattle.lnbd_course.proofs.Spread.{handles_have_few, links_have_few, others_have_none, over_has_none}
-use Rattle.lnbd_copy.specs.Bounded.{AreFewOnEach}
+use Rattle.lnbd_conduct.specs.Shares.{AreFewOnEach}
 use Rattle.lnbd_copy.specs.Copier.{IsOnItsWay}
 use Rattle.lnbd_copy.specs.Copier as copier
 use Rattle.lnbd_copy.specs.Job as work
-use Rattle.lnbd_copy.specs.Way.{IsOn, IsUnderWay, Told, Way, connection_of, connection_on, is_bound, is_source}
+use Rattle.lnbd_copy.specs.Way.{IsOn, IsUnderWay, Way, connection_on, is_bound}
+use Rattle.lnbd_conduct.specs.Told.{Told}
+use Rattle.lnbd_conduct.specs.Sides.{connection_of, is_source}
 use Rattle.lnbd_copy.proofs.CopierLemmas.{told_as}
 use Rattle.lnbd_copy.proofs.EndLemmas.{past_copying}
 use Rattle.lnbd_copy.proofs.FailLemmas.{all_stand}

@@ -22,11 +22,12 @@ use Rattle.lnbd_board.proofs.Lists.{Each-front}
 use Rattle.lnbd_course.specs.Cells.{AreInCells, IsCut}
 use Rattle.lnbd_course.proofs.Cells.{parts_are_in_cells, planned_are_cut}
 use Rattle.lnbd_course.proofs.Quiet.{dealt_stays}
-use Rattle.lnbd_copy.specs.Cells.{KeepsToCells}
+use Rattle.lnbd_conduct.specs.Changes.{KeepsToCells}
 use Rattle.lnbd_copy.specs.Job as job
-use Rattle.lnbd_copy.specs.Lasting.{AtSome}
-use Rattle.lnbd_copy.specs.Settled.{AreSettledBy}
-use Rattle.lnbd_copy.specs.Terms as both
+use Rattle.lnbd_conduct.specs.Slices.{cells_of}
+use Rattle.lnbd_conduct.specs.Told.{AtSome}
+use Rattle.lnbd_conduct.specs.Settled.{AreSettledBy}
+use Rattle.lnbd_conduct.specs.Terms as both
 use Rattle.lnbd_copy.specs.Way.{IsUnderWay, Way}
 use Rattle.lnbd_copy.proofs.AlikeLemmas.{alike_later}
 use Rattle.lnbd_copy.proofs.FailLemmas.{all_stand}
@@ -69,7 +70,7 @@ cells_stay options from to calls more quiet none kept = record {
 module _ (options : CopyOptions) (source destination : ExportInfo) (j : job.Seen) (way : Way) (settled : AreSettledBy options source destination j.terms) (now now' : board.Seen) (parting : Bool) (calls part : List wire.Call) (held held' : List (Held Ticket)) (after : List (Seen Ticket))
     (is : job.IsJob j way now) (well : now.error ≡ None) (on : IsUnderWay parting way now calls held) (at : AreAt held' after) (ending : Ending) (turns : Turns steps on.seens now part after now' ending) (two : way.from ≢ way.to) where
   abbrev cells : Cells
-  cells = job.cells_of j.terms
+  cells = cells_of j.terms
 
   begun_cut : Each (IsCut cells) way.slices
   begun_cut =

@@ -4,26 +4,19 @@ use Rattle.lnbd_model.specs.declared.target.Place.{Place}
 use Rattle.lnbd_link.specs.Call as wire
 use Rattle.lnbd_plan.specs.declared.options.CopyOptions.{CopyOptions}
 use Rattle.lnbd_course.specs.Asks.{GrewBy}
-use Rattle.lnbd_copy.specs.Conduct.{Conducts}
-use Rattle.lnbd_copy.specs.Connects.{ConnectsWithin}
-use Rattle.lnbd_copy.specs.DrivenAs.{AreDrivenBy}
-use Rattle.lnbd_copy.specs.Faults.{Behaves}
-use Rattle.lnbd_copy.specs.LeftOut.{WantsAll}
-use Rattle.lnbd_copy.specs.Links.{LinksAreKept}
-use Rattle.lnbd_copy.specs.Little.{WroteLittle}
-use Rattle.lnbd_copy.specs.Patient.{PausesWithin}
-use Rattle.lnbd_copy.specs.Paused.{PausesAreFull}
-use Rattle.lnbd_copy.specs.Pauses.{AtEachPause, WantsOnlyFull}
-use Rattle.lnbd_copy.specs.Tried.{TriedBefore}
-use Rattle.lnbd_copy.specs.Vain.{WantsOnlyEmpty}
-use Rattle.lnbd_copy.specs.Waits.{WaitsWell}
-use Rattle.lnbd_copy.specs.Wanted.{WantsSome}
+use Rattle.lnbd_conduct.specs.Conduct.{Conducts}
+use Rattle.lnbd_conduct.specs.Connects.{ConnectsWithin, AreDrivenBy}
+use Rattle.lnbd_conduct.specs.Changes.{Behaves}
+use Rattle.lnbd_conduct.specs.Waiting.{WantsAll, WroteLittle, PausesAreFull, WaitsWell}
+use Rattle.lnbd_usage.specs.Links.{LinksAreKept}
+use Rattle.lnbd_conduct.specs.Pauses.{KeepsPace, PausesWithin, WantsOnlyFull, TriedBefore, WantsOnlyEmpty, WantsSome}
+use Rattle.lnbd_usage.specs.Pauses.{AtEachPause}
 
 pub conducts : (options : CopyOptions) (from to : Place) (a b : Option (List wire.Call)) → GrewBy LinksAreKept a b → GrewBy (ConnectsWithin options from to) a b
     → (from ≢ to → GrewBy (Behaves options from to) a b) → (from ≢ to → GrewBy (PausesAreFull options from to) a b)
-    → GrewBy (AtEachPause WaitsWell) a b → GrewBy (AtEachPause WantsOnlyFull) a b → GrewBy (AtEachPause WantsOnlyEmpty) a b → GrewBy (AtEachPause WantsSome) a b → GrewBy (AreDrivenBy options from to) a b → GrewBy (AtEachPause TriedBefore) a b → GrewBy (AtEachPause (WroteLittle options.extents from to)) a b → GrewBy (AtEachPause (WantsAll options.extents from to)) a b → GrewBy PausesWithin a b
+    → GrewBy (AtEachPause WaitsWell) a b → GrewBy (AtEachPause WantsOnlyFull) a b → GrewBy (AtEachPause WantsOnlyEmpty) a b → GrewBy (AtEachPause WantsSome) a b → GrewBy (AreDrivenBy options from to) a b → GrewBy (AtEachPause TriedBefore) a b → GrewBy (AtEachPause (WroteLittle options.extents from to)) a b → GrewBy (AtEachPause (WantsAll options.extents from to)) a b → GrewBy PausesWithin a b → GrewBy KeepsPace a b
     → GrewBy (Conducts options from to) a b
-conducts options from to a b links within behaves pauses waits writes reads wanted drives tries little wants_all patient = λ all part is grown. record {
+conducts options from to a b links within behaves pauses waits writes reads wanted drives tries little wants_all patient paces = λ all part is grown. record {
   links = links all part is grown;
   within = within all part is grown;
   behaves = λ two. behaves two all part is grown;
@@ -37,4 +30,5 @@ conducts options from to a b links within behaves pauses waits writes reads want
   little = little all part is grown;
   wants_all = wants_all all part is grown;
   patient = patient all part is grown;
+  paces = paces all part is grown;
 }

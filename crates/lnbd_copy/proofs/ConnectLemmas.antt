@@ -8,16 +8,18 @@ use Rattle.lnbd_model.specs.declared.target.Target.{Target}
 use Rattle.lnbd_plan.specs.declared.options.CopyOptions.{CopyOptions}
 use Rattle.lnbd_poll.specs.Held.{Held}
 use Rattle.lnbd_board.specs.declared.ticket.Ticket.{Ticket}
-use Rattle.lnbd_copy.specs.declared.sides.Sides.{Sides}
-use Rattle.lnbd_copy.specs.declared.terms.Terms.{Terms}
-use Rattle.lnbd_copy.specs.Connected.{AllConnected}
-use Rattle.lnbd_copy.specs.Connects.{ConnectsAsTold, ConnectsWithin, HasSettledOn, LinksGoAsTold, LinksGoWithin, StaysConnected, connected_to, one_each}
+use Rattle.lnbd_conduct.specs.declared.sides.Sides.{Sides}
+use Rattle.lnbd_conduct.specs.declared.terms.Terms.{Terms}
+use Rattle.lnbd_conduct.specs.Links.{AllConnected, ConnectTo}
+use Rattle.lnbd_copy.specs.Connects.{HasSettledOn, LinksGoAsTold, LinksGoWithin, StaysConnected}
+use Rattle.lnbd_conduct.specs.Connects.{ConnectsAsTold, ConnectsWithin, connected_to, one_each}
 use Rattle.lnbd_copy.specs.Copier.{HasMet, Seen}
 use Rattle.lnbd_copy.specs.Lasting.{Lasts}
-use Rattle.lnbd_copy.specs.Links.{ConnectTo, LinksGo, LinksGoTo}
+use Rattle.lnbd_copy.specs.Links.{LinksGo, LinksGoTo}
 use Rattle.lnbd_copy.specs.Settled.{HasTerms}
-use Rattle.lnbd_copy.specs.Terms as both
-use Rattle.lnbd_copy.specs.Way.{Stand, Told}
+use Rattle.lnbd_conduct.specs.Terms as both
+use Rattle.lnbd_copy.specs.Way.{Stand}
+use Rattle.lnbd_conduct.specs.Told.{Told}
 use Rattle.lnbd_copy.proofs.ConnectedLemmas.{connected_links}
 use Rattle.lnbd_copy.proofs.EndLemmas.{told_part}
 use Rattle.lnbd_copy.proofs.LastLemmas.{terms_later}

@@ -6,11 +6,13 @@ use Rattle.lnbd_model.specs.declared.target.Target.{Target}
 use Rattle.lnbd_poll.specs.Held.{Held}
 use Rattle.lnbd_board.specs.declared.ticket.Ticket.{Ticket}
 use Rattle.lnbd_board.specs.Files as board
-use Rattle.lnbd_copy.specs.Connected.{AllConnected}
+use Rattle.lnbd_conduct.specs.Links.{AllConnected}
+use Rattle.lnbd_usage.specs.Links.{targets}
 use Rattle.lnbd_copy.specs.Connects.{StaysConnected}
 use Rattle.lnbd_copy.specs.Giving.{GivesNone}
-use Rattle.lnbd_copy.specs.Links.{LinksGo, targets}
-use Rattle.lnbd_copy.specs.Way.{Goes, Stand, Told}
+use Rattle.lnbd_copy.specs.Links.{LinksGo}
+use Rattle.lnbd_copy.specs.Way.{Goes, Stand}
+use Rattle.lnbd_conduct.specs.Told.{Told}
 use Rattle.lnbd_copy.proofs.RefusalLemmas.{connected_more}
 use Rattle.lnbd_copy.proofs.TurnLemmas.{since_on, told_begins, told_on}
 

@@ -9,25 +9,26 @@ use Rattle.lnbd_board.specs.declared.how.How.{How}
 use Rattle.lnbd_board.specs.declared.row.Row.{Row}
 use Rattle.lnbd_board.specs.declared.ticket.Ticket.{Ticket}
 use Rattle.lnbd_board.specs.Files as board
-use Rattle.lnbd_copy.specs.declared.sides.Sides.{Sides}
-use Rattle.lnbd_copy.specs.declared.terms.Terms.{Terms}
+use Rattle.lnbd_conduct.specs.declared.sides.Sides.{Sides}
+use Rattle.lnbd_conduct.specs.declared.terms.Terms.{Terms}
 use Rattle.lnbd_course.specs.Counted.{HasNotCounted}
 use Rattle.lnbd_course.proofs.Placing.{agreeing_settles}
 use Rattle.lnbd_copy.specs.Agreed.{Agrees, AreAgreed, IsWished}
 use Rattle.lnbd_copy.specs.declared.job.Phase.TheVariants.{Copying}
-use Rattle.lnbd_copy.specs.Connected.{AllConnected}
+use Rattle.lnbd_conduct.specs.Links.{AllConnected}
 use Rattle.lnbd_copy.specs.Copier.{GoesFurther, HasMet, HasNotBegun, IsOnItsWay, Seen, beginning}
 use Rattle.lnbd_copy.specs.Dealt.{AreDealt}
 use Rattle.lnbd_copy.specs.Job as job
-use Rattle.lnbd_copy.specs.Limit.{IsLimited}
+use Rattle.lnbd_conduct.specs.Terms.{IsLimited}
 use Rattle.lnbd_copy.specs.Opening.{Dials, place_of}
-use Rattle.lnbd_copy.specs.Alike.{AllAlike}
+use Rattle.lnbd_conduct.specs.Grounds.{AllAlike, Drove, IsShown}
 use Rattle.lnbd_copy.specs.Firsts.{KnowBoth}
-use Rattle.lnbd_copy.specs.Grounds.{Drove, IsShown}
-use Rattle.lnbd_copy.specs.Lasting.{AtSome}
-use Rattle.lnbd_copy.specs.Settled.{AreSettledBy, HasTerms, HasSettled}
-use Rattle.lnbd_copy.specs.Statuses.{FirstAgreedNone}
-use Rattle.lnbd_copy.specs.Way.{Goes, IsOn, IsUnderWay, Stand, Told, Way, is_source}
+use Rattle.lnbd_conduct.specs.Told.{AtSome, Told}
+use Rattle.lnbd_copy.specs.Settled.{HasTerms, HasSettled}
+use Rattle.lnbd_conduct.specs.Settled.{AreSettledBy}
+use Rattle.lnbd_conduct.specs.Answered.{FirstAgreedNone}
+use Rattle.lnbd_copy.specs.Way.{Goes, IsOn, IsUnderWay, Stand, Way}
+use Rattle.lnbd_conduct.specs.Sides.{is_source}
 use Rattle.lnbd_copy.proofs.ConnectedLemmas.{connected_begins, connected_none, connected_then, goes_connected}
 use Rattle.lnbd_copy.proofs.DialLemmas.{nothing_is_on, settled}
 use Rattle.lnbd_copy.proofs.FiledLemmas.{filed_none, filed_then}

@@ -28,10 +28,11 @@ use Rattle.lnbd_course.specs.Laws.{AsksDestination}
 use Rattle.lnbd_course.specs.Orders.{command_of}
 use Rattle.lnbd_course.specs.Taken.{without_buffer}
 use Rattle.lnbd_course.proofs.Orders.{beginning_asks, going_asks, over_asks_nothing}
-use Rattle.lnbd_copy.specs.declared.sides.Sides.{Sides}
+use Rattle.lnbd_conduct.specs.declared.sides.Sides.{Sides}
 use Rattle.lnbd_copy.specs.Asked.{IsAsked}
 use Rattle.lnbd_copy.specs.Dealing.{Begins, HasBegun, HasGoneOn, IsAskedFirst, IsAskedOf, IsAskedToRead}
-use Rattle.lnbd_copy.specs.Way.{Keeps, connection_of, is_source}
+use Rattle.lnbd_copy.specs.Way.{Keeps}
+use Rattle.lnbd_conduct.specs.Sides.{connection_of, is_source}
 use Rattle.lnbd_copy.specs.Windows as windows
 use Rattle.lnbd_copy.proofs.BindingLemmas.{Binds, SameBindings, binds_first, binds_on, same_without}
 use Rattle.lnbd_copy.proofs.WayLemmas.{board_keeps, destination_keeps, keeps_none, keeps_then, source_keeps}

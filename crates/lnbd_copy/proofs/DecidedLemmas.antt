@@ -17,22 +17,26 @@ use Rattle.lnbd_board.specs.Files as board
 use Rattle.lnbd_tracks.specs.Failing.{failure_by}
 use Rattle.lnbd_course.specs.Failed.{SideFails}
 use Rattle.lnbd_course.proofs.Unfailed.{unfailed_shows}
-use Rattle.lnbd_copy.specs.Decided.{IsDecided, IsDecidedAs, IsDecidedTo, IsUntroubled, Show, is_of_memory}
-use Rattle.lnbd_copy.specs.declared.sides.Sides.{Sides}
-use Rattle.lnbd_copy.specs.Connected.{AllConnected}
+use Rattle.lnbd_copy.specs.Decided.{IsDecidedTo}
+use Rattle.lnbd_conduct.specs.Decided.{IsDecided, IsDecidedAs, IsUntroubled, Show, is_of_memory}
+use Rattle.lnbd_conduct.specs.declared.sides.Sides.{Sides}
+use Rattle.lnbd_conduct.specs.Links.{AllConnected}
 use Rattle.lnbd_copy.specs.Copier.{IsOnItsWay}
 use Rattle.lnbd_copy.specs.Copier as copier
 use Rattle.lnbd_copy.specs.Job as work
 use Rattle.lnbd_copy.specs.Deciding.{DecidesOn, Fits, IsCalm, Reveals}
-use Rattle.lnbd_copy.specs.Grounds.{AtSome, HasDied, IsGrounded, fault_by, fault_of, needs_no_ground}
-use Rattle.lnbd_copy.specs.Settled.{HasTerms, IsFlushSettled}
+use Rattle.lnbd_copy.specs.Grounds.{fault_by, fault_of}
+use Rattle.lnbd_conduct.specs.Told.{AtSome, Told}
+use Rattle.lnbd_conduct.specs.Grounds.{HasDied, IsGrounded, needs_no_ground}
+use Rattle.lnbd_copy.specs.Settled.{HasTerms}
+use Rattle.lnbd_conduct.specs.Settled.{IsFlushSettled}
 use Rattle.lnbd_copy.specs.Lasting.{Lasts}
-use Rattle.lnbd_copy.specs.Terms as both
-use Rattle.lnbd_copy.specs.declared.terms.Terms.{Terms}
+use Rattle.lnbd_conduct.specs.Terms as both
+use Rattle.lnbd_conduct.specs.declared.terms.Terms.{Terms}
 use Rattle.lnbd_plan.specs.declared.options.CopyOptions.{CopyOptions}
 use Rattle.lnbd_board.specs.declared.how.How.{How}
 use Rattle.lnbd_copy.specs.ToldAlike.{HaveTold}
-use Rattle.lnbd_copy.specs.Way.{IsUnderWay, Stand, Told, Way, known_of}
+use Rattle.lnbd_copy.specs.Way.{IsUnderWay, Stand, Way, known_of}
 use Rattle.lnbd_copy.proofs.AliveLemmas.{alive_to_end}
 use Rattle.lnbd_copy.proofs.CopierLemmas.{told_as}
 use Rattle.lnbd_copy.proofs.FailLemmas.{all_stand}

@@ -36,18 +36,21 @@ use Rattle.lnbd_poll.specs.Turned.{TakesPart}
 use Rattle.lnbd_poll.specs.Turns.{Blames, Turns, Whole}
 use Rattle.lnbd_board.specs.declared.ticket.Ticket.{Ticket}
 use Rattle.lnbd_board.specs.Files as board
-use Rattle.lnbd_copy.specs.declared.sides.Sides.{Sides}
-use Rattle.lnbd_copy.specs.Connected.{AllConnected}
+use Rattle.lnbd_conduct.specs.declared.sides.Sides.{Sides}
+use Rattle.lnbd_conduct.specs.Links.{AllConnected}
 use Rattle.lnbd_course.specs.Failed.{SideFails}
 use Rattle.lnbd_course.specs.Unfailed.{NothingFails}
 use Rattle.lnbd_copy.specs.Copier.{IsOnItsWay}
 use Rattle.lnbd_copy.specs.Copier as copier
 use Rattle.lnbd_copy.specs.Job as work
-use Rattle.lnbd_copy.specs.Decided.{AreAliveToEnd, IsDecided, IsDecidedBy, IsDecidedTo, IsOneEvent, IsUntroubled, OnlyShut, Show, is_of_answer, is_of_content, is_of_link, is_of_memory}
+use Rattle.lnbd_copy.specs.Decided.{IsDecidedTo}
+use Rattle.lnbd_conduct.specs.Decided.{AreAliveToEnd, IsDecided, IsDecidedBy, IsOneEvent, IsUntroubled, OnlyShut, Show, is_of_answer, is_of_content, is_of_link, is_of_memory}
 use Rattle.lnbd_copy.specs.Deciding.{AreAlive, DecidesOn, GoesShut, Fits, IsAliveAt, IsCalm, IsSteady, Reveals, WasUntroubled, WasUntroubledAs}
-use Rattle.lnbd_copy.specs.Grounds.{Answers, FindsDead, IsOfError, fault_by, fault_of, needs_no_ground}
+use Rattle.lnbd_copy.specs.Grounds.{Answers, FindsDead, IsOfError, fault_by, fault_of}
+use Rattle.lnbd_conduct.specs.Grounds.{needs_no_ground}
 use Rattle.lnbd_copy.specs.ToldAlike.{FindsUnfit, IsUnfit}
-use Rattle.lnbd_copy.specs.Way.{Goes, IsUnderWay, Told, Way}
+use Rattle.lnbd_copy.specs.Way.{Goes, IsUnderWay, Way}
+use Rattle.lnbd_conduct.specs.Told.{Told}
 use Rattle.lnbd_copy.proofs.AliveLemmas.{alive_to_end}
 use Rattle.lnbd_copy.proofs.ConnectedLemmas.{goes_connected}
 use Rattle.lnbd_drives.proofs.Exports.{turns_give_none}

@@ -31,10 +31,11 @@ use Rattle.lnbd_course.specs.Counted.{HasNotCounted}
 use Rattle.lnbd_course.specs.Told as course
 use Rattle.lnbd_course.proofs.Opening.{opens_between}
 use Rattle.lnbd_course.proofs.Telling.{opening_tells, others_tell}
-use Rattle.lnbd_copy.specs.declared.sides.Sides.{Sides}
-use Rattle.lnbd_copy.specs.Begun.{BeganAs, base_allocation, context_of, opened, with_context}
+use Rattle.lnbd_conduct.specs.declared.sides.Sides.{Sides}
+use Rattle.lnbd_conduct.specs.Begun.{BeganAs, base_allocation, context_of, opened, with_context}
 use Rattle.lnbd_copy.specs.Opening.{Dials, place_of}
-use Rattle.lnbd_copy.specs.Way.{AreSided, HasRested, IsOn, Way, is_source, known_of}
+use Rattle.lnbd_copy.specs.Way.{AreSided, HasRested, IsOn, Way, known_of}
+use Rattle.lnbd_conduct.specs.Sides.{is_source}
 use Rattle.lnbd_copy.proofs.LastLemmas.{lasts_adds}
 use Rattle.lnbd_copy.proofs.HeldLemmas.{held_more}
 use Rattle.lnbd_copy.proofs.BindingLemmas.{bound_more, bound_none}

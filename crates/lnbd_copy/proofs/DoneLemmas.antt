@@ -11,7 +11,7 @@ use Rattle.lnbd_course.proofs.AllDone.{ended_are_all_done}
 use Rattle.lnbd_course.proofs.Flushing.{ended_flushed}
 use Rattle.lnbd_course.proofs.Placed.{ended_carries}
 use Rattle.lnbd_copy.specs.Deciding.{AreAlive}
-use Rattle.lnbd_copy.specs.Driven.{IsAllDone}
+use Rattle.lnbd_conduct.specs.Driven.{IsAllDone}
 use Rattle.lnbd_copy.specs.Job as job
 use Rattle.lnbd_copy.specs.Way.{IsOn, Stands, Way, known_of}
 use Rattle.lnbd_copy.specs.Windows as windows

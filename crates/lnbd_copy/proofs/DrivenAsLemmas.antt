@@ -10,20 +10,23 @@ use Rattle.lnbd_plan.specs.declared.options.CopyOptions.{CopyOptions}
 use Rattle.lnbd_poll.specs.Held.{Held}
 use Rattle.lnbd_board.specs.declared.how.How.{How}
 use Rattle.lnbd_board.specs.declared.ticket.Ticket.{Ticket}
-use Rattle.lnbd_copy.specs.declared.sides.Sides.{Sides}
-use Rattle.lnbd_copy.specs.declared.terms.Terms.{Terms}
-use Rattle.lnbd_copy.specs.Connects.{one_each}
+use Rattle.lnbd_conduct.specs.declared.sides.Sides.{Sides}
+use Rattle.lnbd_conduct.specs.declared.terms.Terms.{Terms}
+use Rattle.lnbd_conduct.specs.Connects.{one_each, AreDrivenBy}
 use Rattle.lnbd_copy.specs.Copier.{HasMet, IsOnItsWay, Seen}
-use Rattle.lnbd_copy.specs.Driven.{AreDrivenTo, given_links}
-use Rattle.lnbd_copy.specs.DrivenAs.{AreDrivenBy}
+use Rattle.lnbd_conduct.specs.Driven.{AreDrivenTo, given_links}
 use Rattle.lnbd_copy.specs.Driving.{DrivesOn}
 use Rattle.lnbd_copy.specs.Faults.{GoesIdly}
 use Rattle.lnbd_copy.specs.Job as work
 use Rattle.lnbd_copy.specs.Lasting.{Lasts}
-use Rattle.lnbd_copy.specs.Links.{ConnectTo, LinksGoTo, LinksStand, serves, targets}
-use Rattle.lnbd_copy.specs.Settled.{HasTerms, IsToldFirst}
-use Rattle.lnbd_copy.specs.Terms as both
-use Rattle.lnbd_copy.specs.Way.{Told, is_source}
+use Rattle.lnbd_copy.specs.Links.{LinksGoTo, LinksStand}
+use Rattle.lnbd_conduct.specs.Links.{ConnectTo}
+use Rattle.lnbd_usage.specs.Links.{serves, targets}
+use Rattle.lnbd_copy.specs.Settled.{HasTerms}
+use Rattle.lnbd_conduct.specs.Settled.{IsToldFirst}
+use Rattle.lnbd_conduct.specs.Terms as both
+use Rattle.lnbd_conduct.specs.Told.{Told}
+use Rattle.lnbd_conduct.specs.Sides.{is_source}
 use Rattle.lnbd_copy.proofs.AlwaysLemmas.{some_longer}
 use Rattle.lnbd_copy.proofs.CopierLemmas.{with_held}
 use Rattle.lnbd_copy.proofs.DrivingLemmas.{driven_stays}

@@ -21,9 +21,11 @@ use Rattle.lnbd_course.proofs.Holding.{apart_or, take_drop}
 use Rattle.lnbd_course.specs.Between.{place_of}
 use Rattle.lnbd_course.specs.Course.{with_link}
 use Rattle.lnbd_course.specs.UnderWay.{AllHeld}
-use Rattle.lnbd_copy.specs.Begun.{opened}
-use Rattle.lnbd_copy.specs.Driven.{AllDriveOn, AllWentOn, HasParted, WasDriven, WasLeft, WentOn, asks_extents_on, beginning_on, may_come}
-use Rattle.lnbd_copy.specs.Statuses.{first_given, first_held, or_later}
+use Rattle.lnbd_conduct.specs.Begun.{opened}
+use Rattle.lnbd_copy.specs.Driven.{AllDriveOn, AllWentOn, beginning_on}
+use Rattle.lnbd_conduct.specs.Driven.{HasParted, WasDriven, WasLeft, WentOn, asks_extents_on, may_come}
+use Rattle.lnbd_copy.specs.Statuses.{first_held}
+use Rattle.lnbd_conduct.specs.Answered.{first_given, or_later}
 use Rattle.lnbd_copy.proofs.HeardLemmas.{given_then, none_given, or_later_none}
 
 -- One history.

@@ -17,7 +17,8 @@ use Rattle.lnbd_poll.specs.Turns as turns
 use Rattle.lnbd_drives.specs.Driving.{AllPlain}
 use Rattle.lnbd_board.specs.declared.ticket.Ticket.{Ticket}
 use Rattle.lnbd_board.specs.Files as board
-use Rattle.lnbd_copy.specs.Driven.{AllMayCome, AllWentOn, WentOn, may_come}
+use Rattle.lnbd_copy.specs.Driven.{AllWentOn}
+use Rattle.lnbd_conduct.specs.Driven.{AllMayCome, WentOn, may_come}
 
 abbrev steps : board.Seen → List (Call Ticket) → board.Seen → Type 0
 steps = OneByOne board.Files

@@ -28,19 +28,22 @@ use Rattle.lnbd_course.specs.Between.{place_of}
 use Rattle.lnbd_course.specs.UnderWay.{AllHeld}
 use Rattle.lnbd_course.proofs.Address.{given_stays, target_stays}
 use Rattle.lnbd_course.proofs.Failing.{there_or_apart}
-use Rattle.lnbd_copy.specs.declared.sides.Sides.{Sides}
-use Rattle.lnbd_copy.specs.declared.terms.Terms.{Terms}
-use Rattle.lnbd_copy.specs.Connects.{one_each}
+use Rattle.lnbd_conduct.specs.declared.sides.Sides.{Sides}
+use Rattle.lnbd_conduct.specs.declared.terms.Terms.{Terms}
+use Rattle.lnbd_conduct.specs.Connects.{one_each}
 use Rattle.lnbd_copy.specs.Copier.{GoesFurther, HasMet, HasNotBegun, beginning}
 use Rattle.lnbd_copy.specs.Copier as copier
-use Rattle.lnbd_copy.specs.Driven.{AllDriveOn, AllUnended, AllWentOn, AreDrivenTo, AreInOrder, AreUnended, EndLast, HasEnded, IsUnended, WasDriven, WasUnended, beginning_on}
+use Rattle.lnbd_copy.specs.Driven.{AllDriveOn, AllUnended, AllWentOn, HasEnded, beginning_on}
+use Rattle.lnbd_conduct.specs.Driven.{AreDrivenTo, AreInOrder, AreUnended, EndLast, IsUnended, WasDriven, WasUnended}
 use Rattle.lnbd_copy.specs.Driving.{DrivesFurther, DrivesOn, DrivesOneMore}
 use Rattle.lnbd_copy.specs.Faults.{GoesIdly}
 use Rattle.lnbd_copy.specs.Lasting.{Lasts}
 use Rattle.lnbd_copy.specs.Opening.{Dials}
 use Rattle.lnbd_copy.specs.Opening as opening
-use Rattle.lnbd_copy.specs.Statuses.{first_given}
-use Rattle.lnbd_copy.specs.Way.{AreHeld, Goes, IsOn, IsUnderWay, Told, Way, is_source}
+use Rattle.lnbd_conduct.specs.Answered.{first_given}
+use Rattle.lnbd_copy.specs.Way.{AreHeld, Goes, IsOn, IsUnderWay, Way}
+use Rattle.lnbd_conduct.specs.Told.{Told}
+use Rattle.lnbd_conduct.specs.Sides.{is_source}
 use Rattle.lnbd_copy.proofs.CopierLemmas.{begins_on, destination_place, first_on, from_first, no_handles, one_some, second_on, source_place, to_second, told_as, with_held}
 use Rattle.lnbd_copy.proofs.DrivenLemmas.{drive_later, driven_later, one_drove}
 use Rattle.lnbd_copy.proofs.DrivenTurns.{AllSpelled, brought_apart, brought_on, brought_spelled, plain_spelled, turns_brought}

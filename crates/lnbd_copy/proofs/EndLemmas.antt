@@ -41,23 +41,26 @@ use Rattle.lnbd_course.proofs.Sparing.{ended_spares}
 use Rattle.lnbd_course.proofs.Telling.{known_was_told, sides_are_of_source}
 use Rattle.lnbd_copy.specs.declared.job.Phase.{Phase}
 use Rattle.lnbd_copy.specs.declared.job.Phase.TheVariants.{Copying, Flushing, Parting}
-use Rattle.lnbd_copy.specs.declared.terms.Terms.{Terms}
+use Rattle.lnbd_conduct.specs.declared.terms.Terms.{Terms}
 use Rattle.lnbd_copy.specs.Agreed.{IsWished}
 use Rattle.lnbd_copy.specs.Copier.{HasJob, HasTurned, IsDone, IsOnItsWay, Seen}
 use Rattle.lnbd_copy.specs.declared.copier.Progress.{Progress}
 use Rattle.lnbd_copy.specs.declared.copier.Progress.TheVariants.{Finished, Moved, Still}
 use Rattle.lnbd_copy.specs.Dealt.{HasDealt, Spreads}
-use Rattle.lnbd_copy.specs.Driven.{AreLeft, HasEnded}
-use Rattle.lnbd_copy.specs.DrivenAs.{AreLeftBy}
+use Rattle.lnbd_copy.specs.Driven.{HasEnded}
+use Rattle.lnbd_conduct.specs.Driven.{AreLeft}
+use Rattle.lnbd_conduct.specs.Connects.{AreLeftBy}
 use Rattle.lnbd_copy.specs.Job as job
 use Rattle.lnbd_copy.specs.Leaving.{Leaves}
-use Rattle.lnbd_copy.specs.Limit.{IsLimited}
-use Rattle.lnbd_copy.specs.Settled.{FlushesWanted, HasSettled, SparesFound, SparesTold}
-use Rattle.lnbd_copy.specs.Terms as both
-use Rattle.lnbd_copy.specs.Statuses.{ReadsAreAnswered}
+use Rattle.lnbd_conduct.specs.Terms.{IsLimited}
+use Rattle.lnbd_copy.specs.Settled.{HasSettled}
+use Rattle.lnbd_conduct.specs.Settled.{FlushesWanted, SparesFound, SparesTold}
+use Rattle.lnbd_conduct.specs.Terms as both
+use Rattle.lnbd_conduct.specs.Answered.{ReadsAreAnswered}
 use Rattle.lnbd_copy.specs.Windows as windows
-use Rattle.lnbd_copy.specs.Way.{Filed, Goes, IsLeaving, IsOn, IsUnderWay, Stands, Told, Way, known_of}
-use Rattle.lnbd_copy.specs.Whole.{WasCopiedWhole}
+use Rattle.lnbd_copy.specs.Way.{Filed, Goes, IsLeaving, IsOn, IsUnderWay, Stands, Way, known_of}
+use Rattle.lnbd_conduct.specs.Told.{Told}
+use Rattle.lnbd_conduct.specs.Slices.{WasCopiedWhole}
 use Rattle.lnbd_copy.proofs.AnswerLemmas.{none_held, reads_are_answered}
 use Rattle.lnbd_copy.proofs.ConnectedLemmas.{gives_connected, goes_connected}
 use Rattle.lnbd_copy.proofs.CopierLemmas.{told_as}

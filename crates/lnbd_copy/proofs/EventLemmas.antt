@@ -22,7 +22,7 @@ use Rattle.lnbd_poll.specs.Turns.{Goes_on, Stops, TurnsOne, WritesAll, is_lost, 
 use Rattle.lnbd_poll.specs.Turns as turns
 use Rattle.lnbd_board.specs.declared.ticket.Ticket.{Ticket}
 use Rattle.lnbd_board.specs.Files as board
-use Rattle.lnbd_copy.specs.Decided.{AreWrittenOn, IsOnOneLink, IsOneOn}
+use Rattle.lnbd_conduct.specs.Decided.{AreWrittenOn, IsOnOneLink, IsOneOn}
 
 abbrev steps : board.Seen → List (Call Ticket) → board.Seen → Type 0
 steps = OneByOne board.Files

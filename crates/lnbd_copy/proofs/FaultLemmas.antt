@@ -26,19 +26,19 @@ use Rattle.lnbd_course.specs.Spares.{ReadsNoZeros, WritesNoZeros}
 use Rattle.lnbd_drives.proofs.Exports.{turns_give_none}
 use Rattle.lnbd_course.proofs.Parts.{parts_ask_once}
 use Rattle.lnbd_course.proofs.Quiet.{at_most_stays, dealt_stays, nothing_stays}
-use Rattle.lnbd_copy.specs.Cells.{KeepsToCells}
+use Rattle.lnbd_conduct.specs.Changes.{KeepsToCells, Behaves, ReadsWerePassed, FlushesOnFirst, KeepsToRuns}
 use Rattle.lnbd_copy.specs.Copier.{IsOnItsWay}
 use Rattle.lnbd_copy.specs.Copier as copier
-use Rattle.lnbd_copy.specs.Faults.{Behaves, GoesIdly, ReadsWerePassed}
-use Rattle.lnbd_copy.specs.Flushing.{FlushesOnFirst}
+use Rattle.lnbd_copy.specs.Faults.{GoesIdly}
 use Rattle.lnbd_copy.specs.Job as job
 use Rattle.lnbd_copy.specs.Giving.{GivesNone}
-use Rattle.lnbd_copy.specs.Runs.{KeepsToRuns}
-use Rattle.lnbd_copy.specs.Settled.{HasSettled, Settled, SparesFound, SparesTold}
-use Rattle.lnbd_copy.specs.Sharing.{IsAlwaysShared}
-use Rattle.lnbd_copy.specs.Statuses.{ReadsAreAnswered, ReadsArePassed, WasPassed}
-use Rattle.lnbd_copy.specs.Terms as both
-use Rattle.lnbd_copy.specs.Way.{IsUnderWay, Told, Way}
+use Rattle.lnbd_copy.specs.Settled.{HasSettled}
+use Rattle.lnbd_conduct.specs.Settled.{Settled, SparesFound, SparesTold}
+use Rattle.lnbd_conduct.specs.Shares.{IsAlwaysShared}
+use Rattle.lnbd_conduct.specs.Answered.{ReadsAreAnswered, ReadsArePassed, WasPassed}
+use Rattle.lnbd_conduct.specs.Terms as both
+use Rattle.lnbd_copy.specs.Way.{IsUnderWay, Way}
+use Rattle.lnbd_conduct.specs.Told.{Told}
 use Rattle.lnbd_copy.proofs.AlikeLemmas.{alike_later, settled_later}
 use Rattle.lnbd_copy.proofs.AlwaysLemmas.{AreTerms, always_stays, always_turned, some_longer, way_settled}
 use Rattle.lnbd_copy.proofs.CellLemmas.{cells_stay, part_in_cells}

@@ -15,8 +15,8 @@ use Rattle.lnbd_poll.specs.Held.{Held, AreAt}
 use Rattle.lnbd_poll.specs.Seen.{Seen}
 use Rattle.lnbd_board.specs.declared.ticket.Ticket.{Ticket}
 use Rattle.lnbd_course.proofs.Address.{given_stays}
-use Rattle.lnbd_copy.specs.Begun.{BeganAs}
-use Rattle.lnbd_copy.specs.Connected.{AllConnected}
+use Rattle.lnbd_conduct.specs.Begun.{BeganAs}
+use Rattle.lnbd_conduct.specs.Links.{AllConnected}
 use Rattle.lnbd_copy.specs.Firsts.{Knows}
 use Rattle.lnbd_copy.specs.Giving.{GivesNone}
 use Rattle.lnbd_copy.proofs.BegunLemmas.{went_none}

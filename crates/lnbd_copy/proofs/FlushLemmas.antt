@@ -16,7 +16,8 @@ use Rattle.lnbd_copy.specs.declared.copier.Progress.TheVariants.{Finished}
 use Rattle.lnbd_copy.specs.Flushed.{HasFlushed}
 use Rattle.lnbd_copy.specs.Job as job
 use Rattle.lnbd_copy.specs.Summed.{IsTally}
-use Rattle.lnbd_copy.specs.Way.{HasRested, IsLeaving, IsUnderWay, Told}
+use Rattle.lnbd_copy.specs.Way.{HasRested, IsLeaving, IsUnderWay}
+use Rattle.lnbd_conduct.specs.Told.{Told}
 use Rattle.lnbd_copy.proofs.CopierLemmas.{told_as}
 use Rattle.lnbd_copy.proofs.EndLemmas.{between_sized, past_copying, some_same, stands_alone, told_part}
 

@@ -38,9 +38,9 @@ use Rattle.lnbd_course.proofs.Address.{target_stays}
 use Rattle.lnbd_course.proofs.Failing.{IsThere, there_or_apart}
 use Rattle.lnbd_course.proofs.Holding.{one_has}
 use Rattle.lnbd_course.proofs.Parts.{destination_listed}
-use Rattle.lnbd_copy.specs.Begun.{opened}
-use Rattle.lnbd_copy.specs.Driven.{given_links}
-use Rattle.lnbd_copy.specs.Flushing.{FlushesOnFirst}
+use Rattle.lnbd_conduct.specs.Begun.{opened}
+use Rattle.lnbd_conduct.specs.Driven.{given_links}
+use Rattle.lnbd_conduct.specs.Changes.{FlushesOnFirst}
 use Rattle.lnbd_copy.specs.Way.{AsksNoFlush, SecondFlushes}
 use Rattle.lnbd_copy.proofs.DrivenTurns.{AllBrought, AreOfLink, Brought}
 use Rattle.lnbd_copy.proofs.OrderLemmas.{given_more, same_given}

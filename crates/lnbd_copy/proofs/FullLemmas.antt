@@ -21,7 +21,8 @@ use Rattle.lnbd_poll.specs.Turns.{All_took, Ending, Goes_on, Runs_short, Breaks_
 use Rattle.lnbd_board.specs.declared.ticket.Ticket.{Ticket}
 use Rattle.lnbd_board.specs.Files.{Files}
 use Rattle.lnbd_board.specs.Files as board
-use Rattle.lnbd_copy.specs.Pauses.{HasNoPause, Unpaused, is_pause}
+use Rattle.lnbd_copy.specs.Pauses.{Unpaused}
+use Rattle.lnbd_usage.specs.Pauses.{HasNoPause, is_pause}
 use Rattle.lnbd_copy.specs.Way.{Stand}
 
 pub true_is : {A : Type 0} → true ≡ false → A

@@ -30,19 +30,22 @@ use Rattle.lnbd_board.specs.Files as board
 use Rattle.lnbd_course.specs.Between.{place_of}
 use Rattle.lnbd_course.proofs.Asking.{not_one}
 use Rattle.lnbd_course.proofs.Holding.{one_has}
-use Rattle.lnbd_copy.specs.declared.sides.Sides.{Sides}
-use Rattle.lnbd_copy.specs.declared.terms.Terms.{Terms}
+use Rattle.lnbd_conduct.specs.declared.sides.Sides.{Sides}
+use Rattle.lnbd_conduct.specs.declared.terms.Terms.{Terms}
 use Rattle.lnbd_copy.specs.Copier.{GoesFurther, HasMet, HasNotBegun, IsOnItsWay, beginning}
 use Rattle.lnbd_copy.specs.Copier as copier
-use Rattle.lnbd_copy.specs.Grounds.{Answers, Differ, Drove, Finds, FindsDead, FindsOther, Happened, Happens, HasDied, IsDead, IsGrounded, IsRefused, IsShown, Lasts, Settle, fault_by, fault_of, first_of, needs_no_ground}
+use Rattle.lnbd_copy.specs.Grounds.{Answers, Finds, FindsDead, FindsOther, Happened, Happens, IsRefused, Lasts, fault_by, fault_of}
+use Rattle.lnbd_conduct.specs.Grounds.{Differ, Drove, HasDied, IsDead, IsGrounded, IsShown, Settle, needs_no_ground}
+use Rattle.lnbd_conduct.specs.Sides.{first_of, is_source}
 use Rattle.lnbd_copy.specs.Driven.{beginning_on}
-use Rattle.lnbd_copy.specs.DrivenBy.{DrivenBy}
+use Rattle.lnbd_conduct.specs.Begun.{DrivenBy}
 use Rattle.lnbd_copy.specs.Firsts.{KnowBoth}
-use Rattle.lnbd_copy.specs.Lasting.{AtSome}
-use Rattle.lnbd_copy.specs.Links.{ConnectTo, LinksGo}
+use Rattle.lnbd_conduct.specs.Told.{AtSome, Told}
+use Rattle.lnbd_copy.specs.Links.{LinksGo}
+use Rattle.lnbd_conduct.specs.Links.{ConnectTo}
 use Rattle.lnbd_copy.specs.Opening.{Dials}
 use Rattle.lnbd_copy.specs.Settled.{FindsTerms, HasTerms}
-use Rattle.lnbd_copy.specs.Way.{Goes, IsOn, IsUnderWay, Stand, Told, Way, is_source}
+use Rattle.lnbd_copy.specs.Way.{Goes, IsOn, IsUnderWay, Stand, Way}
 use Rattle.lnbd_copy.proofs.CopierLemmas.{kept_then, told_as, two_meet_stand, two_on, with_held}
 use Rattle.lnbd_copy.proofs.DrivenLemmas.{went_there}
 use Rattle.lnbd_copy.proofs.LastLemmas.{at_once, told_later}

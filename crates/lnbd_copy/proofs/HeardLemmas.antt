@@ -11,8 +11,9 @@ use Rattle.lnbd_board.specs.declared.ticket.Ticket.{Ticket}
 use Rattle.lnbd_course.specs.Passed.{WasFirst}
 use Rattle.lnbd_course.specs.Reached.{WasTold}
 use Rattle.lnbd_course.proofs.Answering.{answers_stay}
-use Rattle.lnbd_copy.specs.Begun.{BeganAs, opened}
-use Rattle.lnbd_copy.specs.Statuses.{FirstAgreedNone, Hears, IsFirst, MayBeRead, WasPassed, WasSoFirst, first_given, first_held, or_later}
+use Rattle.lnbd_conduct.specs.Begun.{BeganAs, opened}
+use Rattle.lnbd_copy.specs.Statuses.{Hears, IsFirst, first_held}
+use Rattle.lnbd_conduct.specs.Answered.{FirstAgreedNone, MayBeRead, WasPassed, WasSoFirst, first_given, or_later}
 use Rattle.lnbd_copy.proofs.BegunLemmas.{FirstGoes, began_stays, last_began, link_stays}
 
 -- The first number that calls gave.

@@ -9,7 +9,7 @@ use Rattle.lnbd_link.specs.declared.wires.Want.{Want}
 use Rattle.lnbd_drives.proofs.Passing.{both_off}
 use Rattle.lnbd_poll.specs.Alone.{calls_on}
 use Rattle.lnbd_copy.specs.Faults.{GoesIdly}
-use Rattle.lnbd_copy.specs.Way.{Told}
+use Rattle.lnbd_conduct.specs.Told.{Told}
 use Rattle.lnbd_copy.proofs.TurnLemmas.{since_on}
 
 pub idly_none : (told : Option (List wire.Call)) → GoesIdly told told

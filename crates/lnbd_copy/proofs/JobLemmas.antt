@@ -29,17 +29,19 @@ use Rattle.lnbd_tracks.specs.Laws.{asked_by}
 use Rattle.lnbd_tracks.specs.Mapping.{HoldsZero}
 use Rattle.lnbd_copy.specs.declared.job.Phase.{Phase}
 use Rattle.lnbd_copy.specs.declared.job.Phase.TheVariants.{Copying, Flushing, Parting}
-use Rattle.lnbd_copy.specs.declared.sides.Sides.{Sides}
+use Rattle.lnbd_conduct.specs.declared.sides.Sides.{Sides}
 use Rattle.lnbd_copy.specs.Asked.{IsAsked}
 use Rattle.lnbd_copy.specs.Dealing.{Begins}
 use Rattle.lnbd_copy.specs.Deciding.{AreAlive}
 use Rattle.lnbd_copy.specs.Heard.{IsHeardTo, has_position, passed_heard}
 use Rattle.lnbd_copy.specs.Reached.{IsToldTo, told_heard, told_within}
-use Rattle.lnbd_copy.specs.Job.{Acts, AreOfOne, IsJob, IsOver, Seen, cells_of, with_asked, with_heard, is_parting}
-use Rattle.lnbd_copy.specs.Way.{IsOn, Keeps, Stand, Stands, Way, connection_of, with_slices, is_source}
+use Rattle.lnbd_copy.specs.Job.{Acts, AreOfOne, IsJob, IsOver, Seen, with_asked, with_heard, is_parting}
+use Rattle.lnbd_conduct.specs.Slices.{cells_of}
+use Rattle.lnbd_copy.specs.Way.{IsOn, Keeps, Stand, Stands, Way, with_slices}
+use Rattle.lnbd_conduct.specs.Sides.{connection_of, is_source}
 use Rattle.lnbd_copy.specs.Leaving.{Parts}
 use Rattle.lnbd_copy.specs.Spared.{IsSpared, whole_heard, whole_within}
-use Rattle.lnbd_copy.specs.Statuses.{MayBeRead, WasPassed}
+use Rattle.lnbd_conduct.specs.Answered.{MayBeRead, WasPassed}
 use Rattle.lnbd_copy.specs.Windows as windows
 use Rattle.lnbd_copy.proofs.AnswerLemmas.{range_may_be_read}
 use Rattle.lnbd_copy.proofs.PassedLemmas.{passed_has, range_was_passed}

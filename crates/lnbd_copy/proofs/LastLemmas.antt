@@ -5,10 +5,10 @@ use Rattle.lnbd_link.specs.Call as wire
 use Rattle.lnbd_link.specs.Part.{Adds}
 use Rattle.lnbd_model.specs.declared.target.Place.{Place}
 use Rattle.lnbd_plan.specs.declared.options.CopyOptions.{CopyOptions}
-use Rattle.lnbd_copy.specs.declared.terms.Terms.{Terms}
-use Rattle.lnbd_copy.specs.Lasting.{AtSome, Lasts}
+use Rattle.lnbd_conduct.specs.declared.terms.Terms.{Terms}
+use Rattle.lnbd_copy.specs.Lasting.{Lasts}
+use Rattle.lnbd_conduct.specs.Told.{AtSome, Told}
 use Rattle.lnbd_copy.specs.Settled.{HasTerms}
-use Rattle.lnbd_copy.specs.Way.{Told}
 
 -- At the time itself.
 pub at_once : {Is : List wire.Call → Type 0} (calls : List wire.Call) → Is calls → AtSome Is calls

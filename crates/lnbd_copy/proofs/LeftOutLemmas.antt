@@ -23,12 +23,14 @@ use Rattle.lnbd_copy.specs.Copier.{IsOnItsWay}
 use Rattle.lnbd_copy.specs.Copier as copier
 use Rattle.lnbd_copy.specs.Driven.{AllWentOn, beginning_on}
 use Rattle.lnbd_copy.specs.Job as work
-use Rattle.lnbd_copy.specs.LeftOut.{WaitsForNothing, WantsAll, is_wanted}
-use Rattle.lnbd_copy.specs.Links.{LinksStand, links_of, once_if, times}
-use Rattle.lnbd_copy.specs.Pauses.{AtEachPause}
-use Rattle.lnbd_copy.specs.Statuses.{first_given}
+use Rattle.lnbd_conduct.specs.Waiting.{WaitsForNothing, WantsAll, is_wanted}
+use Rattle.lnbd_copy.specs.Links.{LinksStand, links_of, times}
+use Rattle.lnbd_conduct.specs.Links.{once_if}
+use Rattle.lnbd_usage.specs.Pauses.{AtEachPause}
+use Rattle.lnbd_conduct.specs.Answered.{first_given}
 use Rattle.lnbd_copy.specs.Unready.{IsEarlyPause}
-use Rattle.lnbd_copy.specs.Way.{IsUnderWay, Told, Way}
+use Rattle.lnbd_copy.specs.Way.{IsUnderWay, Way}
+use Rattle.lnbd_conduct.specs.Told.{Told}
 use Rattle.lnbd_copy.proofs.CopierLemmas.{told_as}
 use Rattle.lnbd_copy.proofs.DrivenLemmas.{one_drove}
 use Rattle.lnbd_copy.proofs.DrivingLemmas.{lawful_there}

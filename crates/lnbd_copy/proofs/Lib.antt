@@ -89,3 +89,7 @@ pub mod PassedLemmas
 pub mod LeftOutLemmas
 pub mod PatientLemmas
 pub mod ForgetLemmas
+pub mod AwaitLemmas
+pub mod PaceLemmas
+pub mod PaceTurns
+pub mod PaceMeets

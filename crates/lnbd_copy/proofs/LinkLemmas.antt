@@ -31,8 +31,11 @@ use Rattle.lnbd_board.specs.Files.{Files}
 use Rattle.lnbd_board.specs.Files as board
 use Rattle.lnbd_course.specs.Asks.{GrewBy}
 use Rattle.lnbd_board.specs.declared.ticket.Ticket.{Ticket}
-use Rattle.lnbd_copy.specs.Links.{ConnectTo, HaveSameLinks, LinksAreKept, LinksGo, LinksStand, UseOpenLinks, links_of, once_if, serves, target_by, targets, times, used_by}
-use Rattle.lnbd_copy.specs.Way.{Stand, Told}
+use Rattle.lnbd_copy.specs.Links.{HaveSameLinks, LinksGo, LinksStand, links_of, times}
+use Rattle.lnbd_conduct.specs.Links.{ConnectTo, once_if}
+use Rattle.lnbd_usage.specs.Links.{LinksAreKept, UseOpenLinks, serves, target_by, targets, used_by}
+use Rattle.lnbd_copy.specs.Way.{Stand}
+use Rattle.lnbd_conduct.specs.Told.{Told}
 use Rattle.lnbd_copy.proofs.DialLemmas.{last_free}
 use Rattle.lnbd_copy.proofs.EndLemmas.{told_part}
 use Rattle.lnbd_copy.proofs.LastLemmas.{lasts_adds, lasts_none, lasts_then}

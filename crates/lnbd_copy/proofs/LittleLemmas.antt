@@ -39,19 +39,23 @@ use Rattle.lnbd_course.proofs.Little.{handles_are_asked_little}
 use Rattle.lnbd_course.specs.Between.{Between}
 use Rattle.lnbd_course.specs.Counted.{is_flush}
 use Rattle.lnbd_course.specs.Little.{AllAskSome, extents_asked}
-use Rattle.lnbd_copy.specs.declared.terms.Terms.{Terms as Settled}
-use Rattle.lnbd_copy.specs.Begun.{opened}
+use Rattle.lnbd_conduct.specs.declared.terms.Terms.{Terms as Settled}
+use Rattle.lnbd_conduct.specs.Begun.{opened}
 use Rattle.lnbd_copy.specs.Copier.{GoesFurther, HasMet, HasNotBegun, IsOnItsWay, beginning}
 use Rattle.lnbd_copy.specs.Copier as copier
-use Rattle.lnbd_copy.specs.Driven.{AllMayCome, WentOn, beginning_on}
+use Rattle.lnbd_copy.specs.Driven.{beginning_on}
+use Rattle.lnbd_conduct.specs.Driven.{AllMayCome, WentOn}
 use Rattle.lnbd_copy.specs.Faults.{AreUnissued, IsFresh, StaysFresh}
 use Rattle.lnbd_copy.specs.Job as job
-use Rattle.lnbd_copy.specs.Links.{once_if}
-use Rattle.lnbd_copy.specs.Little.{StaysLittle, WroteAtMost, WroteHandshakes, WroteLittle, most_written}
+use Rattle.lnbd_conduct.specs.Links.{once_if}
+use Rattle.lnbd_copy.specs.Little.{StaysLittle}
+use Rattle.lnbd_conduct.specs.Waiting.{WroteAtMost, WroteHandshakes, WroteLittle, most_written}
 use Rattle.lnbd_copy.specs.Opening.{Dials}
-use Rattle.lnbd_copy.specs.Pauses.{AtEachPause, Unpaused}
-use Rattle.lnbd_copy.specs.Way.{Goes, IsOn, IsUnderWay, Stand, Told, Way, WereQueried}
-use Rattle.lnbd_copy.specs.declared.sides.Sides.{Sides}
+use Rattle.lnbd_copy.specs.Pauses.{Unpaused}
+use Rattle.lnbd_usage.specs.Pauses.{AtEachPause}
+use Rattle.lnbd_copy.specs.Way.{Goes, IsOn, IsUnderWay, Stand, Way, WereQueried}
+use Rattle.lnbd_conduct.specs.Told.{Told}
+use Rattle.lnbd_conduct.specs.declared.sides.Sides.{Sides}
 use Rattle.lnbd_copy.proofs.CopierLemmas.{told_as, with_held}
 use Rattle.lnbd_copy.proofs.DrivenLemmas.{went_there}
 use Rattle.lnbd_copy.proofs.EndLemmas.{planned_once}

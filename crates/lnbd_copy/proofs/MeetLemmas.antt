@@ -6,17 +6,19 @@ use Rattle.lnbd_plan.specs.declared.fault.CopyFault.TheVariants as fault
 use Rattle.lnbd_poll.specs.Held.{Held}
 use Rattle.lnbd_board.specs.declared.ticket.Ticket.{Ticket}
 use Rattle.lnbd_board.specs.Files as board
-use Rattle.lnbd_copy.specs.declared.sides.Sides.{Sides}
-use Rattle.lnbd_copy.specs.declared.terms.Terms.{Terms}
-use Rattle.lnbd_copy.specs.Connected.{AllConnected}
+use Rattle.lnbd_conduct.specs.declared.sides.Sides.{Sides}
+use Rattle.lnbd_conduct.specs.declared.terms.Terms.{Terms}
+use Rattle.lnbd_conduct.specs.Links.{AllConnected, ConnectTo}
 use Rattle.lnbd_copy.specs.Copier.{GoesFurther, HasMet, HasNotBegun, beginning}
 use Rattle.lnbd_copy.specs.Copier as copier
-use Rattle.lnbd_copy.specs.Decided.{IsDecided, IsDecidedTo}
+use Rattle.lnbd_copy.specs.Decided.{IsDecidedTo}
+use Rattle.lnbd_conduct.specs.Decided.{IsDecided}
 use Rattle.lnbd_copy.specs.Deciding.{DecidesFurther, DecidesOn, IsCalm}
 use Rattle.lnbd_copy.specs.Grounds.{IsRefused}
-use Rattle.lnbd_copy.specs.Links.{ConnectTo, LinksGo}
+use Rattle.lnbd_copy.specs.Links.{LinksGo}
 use Rattle.lnbd_copy.specs.Opening.{Dials}
-use Rattle.lnbd_copy.specs.Way.{Goes, IsOn, Told, Way}
+use Rattle.lnbd_copy.specs.Way.{Goes, IsOn, Way}
+use Rattle.lnbd_conduct.specs.Told.{Told}
 use Rattle.lnbd_copy.proofs.ConnectedLemmas.{connected_begins}
 use Rattle.lnbd_copy.proofs.CopierLemmas.{begins_on, first_on, no_handles, one_connects, second_connects, second_on, told_as, two_connect, two_on, with_held}
 use Rattle.lnbd_copy.proofs.DecidedLemmas.{calm_untroubled}

@@ -33,7 +33,7 @@ use Rattle.lnbd_copy.specs.Job as work
 use Rattle.lnbd_copy.specs.Moving.{AreTaken, SomethingHappens, HasMoved, Stirs, TurnsInVain}
 use Rattle.lnbd_copy.specs.Pauses.{Unpaused}
 use Rattle.lnbd_copy.specs.UnderWay.{HasBegunOne}
-use Rattle.lnbd_copy.specs.Vain.{has_happened}
+use Rattle.lnbd_usage.specs.Vain.{has_happened}
 use Rattle.lnbd_copy.specs.Way.{Stand}
 use Rattle.lnbd_copy.specs.Windows as windows
 use Rattle.lnbd_copy.proofs.FullLemmas.{both_none, moved_some, some_is_none, steps, still_none, true_is, with_none}
@@ -49,7 +49,7 @@ or_none : (a b : Bool) → (a || b) ≡ false → (a ≡ false) × (b ≡ false)
 or_none true b none = true_is none
 or_none false b none = (refl, none)
 
-none_of_both : (p : wire.Call → Bool) (calls own other : List wire.Call) → calls ≡ own ++ other → list_any p calls ≡ false → (list_any p own ≡ false) × (list_any p other ≡ false)
+pub none_of_both : (p : wire.Call → Bool) (calls own other : List wire.Call) → calls ≡ own ++ other → list_any p calls ≡ false → (list_any p own ≡ false) × (list_any p other ≡ false)
 none_of_both p calls own other are none = or_none _ _ (sym (list_any-append p own other) ∙ sym (ap (list_any p) are) ∙ none)
 
 pub happens_shut : (a b : Option (List wire.Call)) (link : ℕ) → Adds a b (Shut link) → SomethingHappens a b

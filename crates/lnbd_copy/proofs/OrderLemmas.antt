@@ -9,9 +9,11 @@ use Rattle.lnbd_link.specs.Numbers.{given_by, gives, is_given, is_number}
 use Rattle.lnbd_poll.specs.Seen.{Seen}
 use Rattle.lnbd_drives.specs.Driving.{with_event}
 use Rattle.lnbd_board.specs.declared.ticket.Ticket.{Ticket}
-use Rattle.lnbd_copy.specs.declared.sides.Sides.{Sides}
-use Rattle.lnbd_copy.specs.Driven.{AreInOrder, HasOrder, given_links, with_given}
-use Rattle.lnbd_copy.specs.Way.{ArePlaced, is_source}
+use Rattle.lnbd_conduct.specs.declared.sides.Sides.{Sides}
+use Rattle.lnbd_copy.specs.Driven.{HasOrder}
+use Rattle.lnbd_conduct.specs.Driven.{AreInOrder, given_links, with_given}
+use Rattle.lnbd_copy.specs.Way.{ArePlaced}
+use Rattle.lnbd_conduct.specs.Sides.{is_source}
 use Rattle.lnbd_copy.proofs.DrivenTurns.{AllBrought}
 
 -- The links that calls gave.

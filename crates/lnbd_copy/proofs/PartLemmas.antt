@@ -19,10 +19,12 @@ use Rattle.lnbd_board.specs.declared.ticket.Ticket.{Ticket}
 use Rattle.lnbd_board.specs.Files as board
 use Rattle.lnbd_board.specs.Rows as rows
 use Rattle.lnbd_course.specs.Between.{IsSetting}
-use Rattle.lnbd_copy.specs.Driven.{HasEnded, HasParted, may_come}
+use Rattle.lnbd_copy.specs.Driven.{HasEnded}
+use Rattle.lnbd_conduct.specs.Driven.{HasParted, may_come}
 use Rattle.lnbd_copy.specs.Grounds.{Happens}
 use Rattle.lnbd_copy.specs.Leaving.{Leaves, Parts}
-use Rattle.lnbd_copy.specs.Way.{Filed, IsLeaving, IsOn, Stands, Way, is_source}
+use Rattle.lnbd_copy.specs.Way.{Filed, IsLeaving, IsOn, Stands, Way}
+use Rattle.lnbd_conduct.specs.Sides.{is_source}
 use Rattle.lnbd_copy.proofs.FiledLemmas.{filed_none, filed_then}
 use Rattle.lnbd_copy.proofs.FirstLemmas.{adds_none, gives_none, gives_then}
 use Rattle.lnbd_copy.proofs.LastLemmas.{lasts_adds, lasts_none, lasts_then}

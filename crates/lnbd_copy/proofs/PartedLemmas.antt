@@ -9,7 +9,7 @@ use Rattle.lnbd_machine.specs.Machine.{Machine}
 use Rattle.lnbd_handle.specs.Histories.{ForEach}
 use Rattle.lnbd_poll.specs.Held.{Held}
 use Rattle.lnbd_board.specs.declared.ticket.Ticket.{Ticket}
-use Rattle.lnbd_copy.specs.Driven.{HasParted}
+use Rattle.lnbd_conduct.specs.Driven.{HasParted}
 use Rattle.lnbd_copy.specs.Grounds.{Happens}
 use Rattle.lnbd_copy.proofs.GroundLemmas.{happens}
 

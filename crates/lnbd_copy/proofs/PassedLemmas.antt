@@ -21,7 +21,7 @@ use Rattle.lnbd_course.proofs.Passed.{heard_were_first, heard_were_told}
 use Rattle.lnbd_course.proofs.Placed.{links_are_of_sides}
 use Rattle.lnbd_course.proofs.Telling.{sides_are_of_source}
 use Rattle.lnbd_copy.specs.Heard.{has_position, passed_heard}
-use Rattle.lnbd_copy.specs.Statuses.{WasPassed, WasSoFirst}
+use Rattle.lnbd_conduct.specs.Answered.{WasPassed, WasSoFirst}
 use Rattle.lnbd_copy.specs.Way.{IsOn, Stands, Way, known_of}
 use Rattle.lnbd_copy.specs.Windows as windows
 use Rattle.lnbd_copy.proofs.AnswerLemmas.{none_held, unread_behind, wanted_starts}

@@ -12,12 +12,14 @@ use Rattle.lnbd_link.specs.declared.wires.Want.{Want}
 use Rattle.lnbd_plan.specs.declared.fault.CopyFault.{CopyFault}
 use Rattle.lnbd_copy.specs.Copier.{IsOnItsWay}
 use Rattle.lnbd_copy.specs.Copier as copier
-use Rattle.lnbd_copy.specs.Decided.{IsDecided, is_of_memory}
+use Rattle.lnbd_conduct.specs.Decided.{IsDecided, is_of_memory}
 use Rattle.lnbd_copy.specs.Deciding.{IsCalm}
-use Rattle.lnbd_copy.specs.Grounds.{needs_no_ground}
-use Rattle.lnbd_copy.specs.Patient.{HasWaited, PausesLess, PausesWithin, StaysPatient, may_end_waiting, pauses_in}
-use Rattle.lnbd_copy.specs.Pauses.{HasNoPause, Unpaused, is_pause}
-use Rattle.lnbd_copy.specs.Way.{Told}
+use Rattle.lnbd_conduct.specs.Grounds.{needs_no_ground}
+use Rattle.lnbd_copy.specs.Patient.{HasWaited, PausesLess, StaysPatient, may_end_waiting}
+use Rattle.lnbd_conduct.specs.Pauses.{PausesWithin, pauses_in}
+use Rattle.lnbd_usage.specs.Pauses.{is_pause, HasNoPause}
+use Rattle.lnbd_copy.specs.Pauses.{Unpaused}
+use Rattle.lnbd_conduct.specs.Told.{Told}
 use Rattle.lnbd_copy.proofs.CopierLemmas.{told_as}
 use Rattle.lnbd_copy.proofs.DecidingLemmas.{was_decided, way_calm}
 use Rattle.lnbd_copy.proofs.TurnLemmas.{goes_none, since_on, told_begins}

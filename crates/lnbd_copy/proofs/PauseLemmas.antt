@@ -8,8 +8,9 @@ use Rattle.lnbd_link.specs.Call as wire
 use Rattle.lnbd_link.specs.Call.{Pause, Shut}
 use Rattle.lnbd_link.specs.Part.{Adds}
 use Rattle.lnbd_link.specs.declared.wires.Want.{Want}
-use Rattle.lnbd_copy.specs.Pauses.{AtEachPause, HasNoPause, Pauses, Unpaused, is_pause}
-use Rattle.lnbd_copy.specs.Way.{Told}
+use Rattle.lnbd_copy.specs.Pauses.{Pauses, Unpaused}
+use Rattle.lnbd_usage.specs.Pauses.{HasNoPause, AtEachPause, is_pause}
+use Rattle.lnbd_conduct.specs.Told.{Told}
 use Rattle.lnbd_copy.proofs.TurnLemmas.{since_on, told_begins}
 
 -- Among calls.

@@ -25,20 +25,21 @@ use Rattle.lnbd_board.specs.declared.ticket.Ticket.{Ticket}
 use Rattle.lnbd_board.specs.Files as board
 use Rattle.lnbd_course.specs.Asks.{GrewBy}
 use Rattle.lnbd_course.specs.UnderWay.{NoneWrites}
-use Rattle.lnbd_copy.specs.declared.sides.Sides.{Sides}
-use Rattle.lnbd_copy.specs.declared.terms.Terms.{Terms}
+use Rattle.lnbd_conduct.specs.declared.sides.Sides.{Sides}
+use Rattle.lnbd_conduct.specs.declared.terms.Terms.{Terms}
 use Rattle.lnbd_copy.specs.Copier.{GoesFurther, HasMet, HasNotBegun, IsOnItsWay, beginning}
 use Rattle.lnbd_copy.specs.Copier as copier
-use Rattle.lnbd_copy.specs.Full.{HasAllUnderWay}
-use Rattle.lnbd_copy.specs.LeftOut.{WantsAll}
+use Rattle.lnbd_conduct.specs.Slices.{HasAllUnderWay}
+use Rattle.lnbd_conduct.specs.Waiting.{WantsAll, IsFullPause, PausesAreFull, NoneForWriting, IsNegotiating, WaitsWell}
 use Rattle.lnbd_copy.specs.Links.{LinksGo, LinksStand}
 use Rattle.lnbd_copy.specs.Opening.{Dials}
-use Rattle.lnbd_copy.specs.Paused.{IsFullPause, PausesAreFull}
-use Rattle.lnbd_copy.specs.Pauses.{AtEachPause, Unpaused}
-use Rattle.lnbd_copy.specs.Unanswered.{HasAllAsked, NoneForWriting}
-use Rattle.lnbd_copy.specs.Unready.{IsEarlyPause, IsLoud, IsOpeningPause, IsNegotiating, StaysUnready}
-use Rattle.lnbd_copy.specs.Waits.{AreUnparted, WaitsWell}
-use Rattle.lnbd_copy.specs.Way.{Goes, IsOn, Stand, Told, Way}
+use Rattle.lnbd_copy.specs.Pauses.{Unpaused}
+use Rattle.lnbd_usage.specs.Pauses.{AtEachPause}
+use Rattle.lnbd_copy.specs.Unanswered.{HasAllAsked}
+use Rattle.lnbd_copy.specs.Unready.{IsEarlyPause, IsLoud, IsOpeningPause, StaysUnready}
+use Rattle.lnbd_copy.specs.Waits.{AreUnparted}
+use Rattle.lnbd_copy.specs.Way.{Goes, IsOn, Stand, Way}
+use Rattle.lnbd_conduct.specs.Told.{Told}
 use Rattle.lnbd_copy.proofs.CopierLemmas.{first_on, kept_then, no_handles, second_on, told_as, with_held}
 use Rattle.lnbd_copy.proofs.EndLemmas.{told_part}
 use Rattle.lnbd_copy.proofs.FullLemmas.{turns_unpaused}

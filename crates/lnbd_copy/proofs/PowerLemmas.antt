@@ -3,7 +3,8 @@ use Rattle.std.proofs.Common.{◌≡◌, ◌<◌, ◌≤◌, ◌*◌, ◌^◌, �
 use Rattle.std.proofs.lemmas.Bool.{le-leb, leb-false, leb-true, lt-leb}
 use Rattle.std.proofs.lemmas.Nat.{pow_pos}
 use Rattle.std.proofs.Math.Nat.{pow-succ'}
-use Rattle.lnbd_copy.specs.Terms.{IsGreatestPower, greatest_power}
+use Rattle.lnbd_copy.specs.Terms.{IsGreatestPower}
+use Rattle.lnbd_conduct.specs.Terms.{greatest_power}
 
 -- One power more: it fits, or it is too large.
 pub power_more : (exponent most : ℕ) → nat_le (2 ^ suc exponent) most ≡ true → greatest_power (suc exponent) most ≡ 2 ^ suc exponent

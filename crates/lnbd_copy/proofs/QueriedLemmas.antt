@@ -11,11 +11,12 @@ use Rattle.lnbd_poll.specs.Seen.{Seen}
 use Rattle.lnbd_drives.specs.Driving.{with_event}
 use Rattle.lnbd_board.specs.declared.ticket.Ticket.{Ticket}
 use Rattle.lnbd_course.specs.Little.{extents_asked}
-use Rattle.lnbd_copy.specs.Begun.{opened}
+use Rattle.lnbd_conduct.specs.Begun.{opened}
 use Rattle.lnbd_copy.specs.Job as work
-use Rattle.lnbd_copy.specs.Links.{once_if}
+use Rattle.lnbd_conduct.specs.Links.{once_if}
 use Rattle.lnbd_copy.specs.Way.{WereQueried}
 use Rattle.lnbd_copy.specs.Windows as windows
+use Rattle.lnbd_conduct.specs.Slices.{window}
 use Rattle.lnbd_copy.proofs.DrivenTurns.{AllBrought, AreOfLink, Brought}
 
 -- One history.
@@ -120,9 +121,9 @@ queried_left most index seens all = queried_both most (take index seens) (drop (
 -- Windows.
 
 -- No range is wanted of a window that is told whole.
-pub none_wanted : (planned : windows.Seen) (start end : ℕ) → planned.plan.end ≡ start → end ≡ min (start + windows.window) planned.size → end ≤ planned.at → is_some (windows.wanted planned) ≡ true → ⊥
+pub none_wanted : (planned : windows.Seen) (start end : ℕ) → planned.plan.end ≡ start → end ≡ min (start + window) planned.size → end ≤ planned.at → is_some (windows.wanted planned) ≡ true → ⊥
 none_wanted planned start end begins ends past wanted =
-    let same : windows.window_end planned ≡ end = ap (λ (e : ℕ). min (e + windows.window) planned.size) begins ∙ sym ends in
+    let same : windows.window_end planned ≡ end = ap (λ (e : ℕ). min (e + window) planned.size) begins ∙ sym ends in
     let test : nat_lt planned.at end ≡ false = grind (arith, common_steps) in
     let none : windows.wanted planned ≡ None = ap (λ (e : ℕ). if nat_lt planned.at e then Some (planned.at, e - planned.at) else None) same ∙ ap (λ (b : Bool). if b then Some (planned.at, end - planned.at) else None) test in
     false≢true (sym (ap (λ (o : Option (ℕ × ℕ)). is_some o) none) ∙ wanted)

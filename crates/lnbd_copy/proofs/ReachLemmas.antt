@@ -7,7 +7,8 @@ use Rattle.lnbd_model.specs.declared.export.Extent.{Extent}
 use Rattle.lnbd_extents.specs.Lists.{flags_at}
 use Rattle.lnbd_tracks.specs.Saying.{is_told, said_in}
 use Rattle.lnbd_copy.specs.Heard.{IsHeardTo, passed_heard, passed_within}
-use Rattle.lnbd_copy.specs.Windows.{Seen, wanted, window, window_end}
+use Rattle.lnbd_copy.specs.Windows.{Seen, wanted, window_end}
+use Rattle.lnbd_conduct.specs.Slices.{window}
 use Rattle.lnbd_copy.proofs.WindowLemmas.{both_true, or_first, or_second}
 
 -- Worked values, for blocks of 4 bytes of a range of 16 from 8 on: where 2 bytes were told the first block is passed, and where 6 were those 6.

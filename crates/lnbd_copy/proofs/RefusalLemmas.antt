@@ -9,7 +9,7 @@ use Rattle.lnbd_poll.specs.declared.noticed.Noticed.{Noticed}
 use Rattle.lnbd_poll.specs.Notices.{ReadsIf, ReadsOn, WritesIf, is_reading, is_waiting}
 use Rattle.lnbd_poll.specs.Seen.{Seen}
 use Rattle.lnbd_poll.specs.Turns.{All_took, Ending, Goes_on, Runs_short, Breaks_off, Stops, Takes, Turns, TurnsOne, WritesAll}
-use Rattle.lnbd_copy.specs.Connected.{AllConnected, fails_to_connect}
+use Rattle.lnbd_conduct.specs.Links.{AllConnected, fails_to_connect}
 
 neither : (a b : Bool) → a ≡ false → b ≡ false → (a || b) ≡ false
 neither true b e f = e

@@ -17,9 +17,9 @@ use Rattle.lnbd_course.specs.Runs.{WritesRuns}
 use Rattle.lnbd_course.proofs.Quiet.{dealt_stays}
 use Rattle.lnbd_course.proofs.Runs.{parts_write_runs}
 use Rattle.lnbd_copy.specs.Job as job
-use Rattle.lnbd_copy.specs.Lasting.{AtSome}
-use Rattle.lnbd_copy.specs.Runs.{KeepsToRuns}
-use Rattle.lnbd_copy.specs.Terms as both
+use Rattle.lnbd_conduct.specs.Told.{AtSome}
+use Rattle.lnbd_conduct.specs.Changes.{KeepsToRuns}
+use Rattle.lnbd_conduct.specs.Terms as both
 use Rattle.lnbd_copy.specs.Way.{IsUnderWay, Way, known_of}
 use Rattle.lnbd_copy.proofs.AlikeLemmas.{alike_later}
 use Rattle.lnbd_copy.proofs.EndLemmas.{planned_once}

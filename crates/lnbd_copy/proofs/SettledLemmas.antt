@@ -4,12 +4,11 @@ use Rattle.lnbd_link.specs.Call as wire
 use Rattle.lnbd_model.specs.declared.export.ExportInfo.{ExportInfo}
 use Rattle.lnbd_model.specs.declared.target.Place.{Place}
 use Rattle.lnbd_plan.specs.declared.options.CopyOptions.{CopyOptions}
-use Rattle.lnbd_copy.specs.declared.terms.Terms.{Terms}
-use Rattle.lnbd_copy.specs.Alike.{AllAlike}
-use Rattle.lnbd_copy.specs.Grounds.{Drove, IsShown}
-use Rattle.lnbd_copy.specs.Lasting.{AtSome}
-use Rattle.lnbd_copy.specs.Settled.{HasSettled, HasTerms, IsToldFirst, Settled}
-use Rattle.lnbd_copy.specs.Way.{Since, Told}
+use Rattle.lnbd_conduct.specs.declared.terms.Terms.{Terms}
+use Rattle.lnbd_conduct.specs.Grounds.{AllAlike, Drove, IsShown}
+use Rattle.lnbd_conduct.specs.Told.{AtSome, Since, Told}
+use Rattle.lnbd_copy.specs.Settled.{HasSettled, HasTerms}
+use Rattle.lnbd_conduct.specs.Settled.{IsToldFirst, Settled}
 
 pub same_rest : (one two three : List wire.Call) → one ++ two ≡ one ++ three → two ≡ three
 same_rest [] two three e = e

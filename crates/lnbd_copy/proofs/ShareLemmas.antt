@@ -5,9 +5,8 @@ use Rattle.lnbd_board.specs.declared.row.Row.{Row}
 use Rattle.lnbd_course.specs.Spread.{how_many}
 use Rattle.lnbd_copy.specs.Bound.{bound_by, bound_to}
 use Rattle.lnbd_copy.specs.Copier.{IsOnItsWay, Seen}
-use Rattle.lnbd_copy.specs.Spread.{rounded_up}
-use Rattle.lnbd_copy.specs.Sharing.{IsShared, IsSharedBy}
-use Rattle.lnbd_copy.specs.Way.{Told}
+use Rattle.lnbd_conduct.specs.Shares.{rounded_up, IsShared, IsSharedBy}
+use Rattle.lnbd_conduct.specs.Told.{Told}
 use Rattle.lnbd_copy.proofs.BoundedLemmas.{way_has_few}
 use Rattle.lnbd_copy.proofs.CopierLemmas.{told_as}
 use Rattle.lnbd_copy.proofs.SettledLemmas.{settled_with}

@@ -1,8 +1,8 @@
 -- Which handles are connections of the source.
 use Rattle.std.proofs.Common.{◌≡◌, ℕ, ◌+◌, ◌<◌, Bool, true, false, ◌&&◌, ◌||◌, ◌==◌, nat_lt, nat_le, refl, ap, ◌∙◌, arith}
 use Rattle.std.proofs.lemmas.Bool.{lt-ltb, le-leb, lt-leb}
-use Rattle.lnbd_copy.specs.declared.sides.Sides.{Sides}
-use Rattle.lnbd_copy.specs.Way.{is_source}
+use Rattle.lnbd_conduct.specs.declared.sides.Sides.{Sides}
+use Rattle.lnbd_conduct.specs.Sides.{is_source}
 
 either : (a b c : Bool) → b ≡ true → c ≡ true → a || (b && c) ≡ true
 either true b c p q = refl

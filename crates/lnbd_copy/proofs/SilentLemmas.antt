@@ -14,9 +14,10 @@ use Rattle.lnbd_board.specs.Files as board
 use Rattle.lnbd_course.specs.Between.{place_of}
 use Rattle.lnbd_course.proofs.Asking.{not_one}
 use Rattle.lnbd_course.proofs.Holding.{one_has}
-use Rattle.lnbd_copy.specs.Begun.{opened}
-use Rattle.lnbd_copy.specs.Grounds.{Happens, IsShown}
-use Rattle.lnbd_copy.specs.Statuses.{FirstAgreedNone, HasNoContext, contexts_in}
+use Rattle.lnbd_conduct.specs.Begun.{opened}
+use Rattle.lnbd_copy.specs.Grounds.{Happens}
+use Rattle.lnbd_conduct.specs.Grounds.{IsShown}
+use Rattle.lnbd_conduct.specs.Answered.{FirstAgreedNone, HasNoContext, contexts_in}
 use Rattle.lnbd_copy.specs.Way.{IsOn, Way}
 use Rattle.lnbd_copy.proofs.BegunLemmas.{first_began}
 use Rattle.lnbd_copy.proofs.GroundLemmas.{driven_at, given_at}

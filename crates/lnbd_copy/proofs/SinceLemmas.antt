@@ -16,7 +16,8 @@ use Rattle.lnbd_board.specs.declared.ticket.Ticket.{Ticket}
 use Rattle.lnbd_course.proofs.Address.{given_stays}
 use Rattle.lnbd_course.proofs.Holding.{apart_or, take_drop}
 use Rattle.lnbd_course.specs.Between.{place_of}
-use Rattle.lnbd_copy.specs.Driven.{AllDriveOn, AllWentOn, EndAfter, EndsSince, HasParted, LeavesSince, WasLeftSince, WentOn, may_come}
+use Rattle.lnbd_copy.specs.Driven.{AllDriveOn, AllWentOn, EndsSince, LeavesSince}
+use Rattle.lnbd_conduct.specs.Driven.{EndAfter, HasParted, WasLeftSince, WentOn, may_come}
 use Rattle.lnbd_copy.proofs.DrivenLemmas.{driven_later, on_none, one_drove, went_as, went_dropped, went_event, went_joined, went_taken, went_there}
 
 -- What came on the handles that are held.

@@ -16,7 +16,8 @@ use Rattle.lnbd_plan.specs.Plans.{Planned, window_slices}
 use Rattle.lnbd_plan.specs.Laws.{Window, windows_slices, windows_end, told_by}
 use Rattle.lnbd_asked.specs.Transcript.{is_zero, zero_in}
 use Rattle.lnbd_copy.specs.Spared.{HaveOneFlag, IsInside, IsSpared, whole_heard, whole_within}
-use Rattle.lnbd_copy.specs.Windows.{IsPlanned, Seen, wanted, window, window_end, zero_within}
+use Rattle.lnbd_copy.specs.Windows.{IsPlanned, Seen, wanted, window_end, zero_within}
+use Rattle.lnbd_conduct.specs.Slices.{window}
 use Rattle.lnbd_copy.proofs.WindowLemmas.{Joins, Walks, and_left, and_right, both_true, end_behind, less_or_more, or_cases, or_first, slices_behind, walk_here, walk_on}
 
 -- Blocks.

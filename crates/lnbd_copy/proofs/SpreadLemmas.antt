@@ -13,8 +13,8 @@ use Rattle.lnbd_board.specs.declared.ticket.Ticket.{Ticket}
 use Rattle.lnbd_board.specs.Board.{AsksOn, EndsRow, IsNext, begun_with, risen}
 use Rattle.lnbd_board.specs.Bound.{IsFewest}
 use Rattle.lnbd_board.specs.Files as board
-use Rattle.lnbd_copy.specs.declared.sides.Sides.{Sides}
-use Rattle.lnbd_copy.specs.declared.terms.Terms.{Terms}
+use Rattle.lnbd_conduct.specs.declared.sides.Sides.{Sides}
+use Rattle.lnbd_conduct.specs.declared.terms.Terms.{Terms}
 use Rattle.lnbd_copy.specs.Bound.{Bound, on_destination, on_source}
 use Rattle.lnbd_copy.specs.Copier.{IsOnItsWay, Seen}
 use Rattle.lnbd_copy.specs.Dealt.{AreDealt, Deals, HasDealt, IsDealt, Spreads}

@@ -14,7 +14,8 @@ use Rattle.lnbd_copy.specs.declared.copier.Progress.{Progress}
 use Rattle.lnbd_copy.specs.declared.copier.Progress.TheVariants.{Finished}
 use Rattle.lnbd_copy.specs.Job as job
 use Rattle.lnbd_copy.specs.Summed.{HasSummed, IsTally}
-use Rattle.lnbd_copy.specs.Way.{IsLeaving, IsUnderWay, Told}
+use Rattle.lnbd_copy.specs.Way.{IsLeaving, IsUnderWay}
+use Rattle.lnbd_conduct.specs.Told.{Told}
 use Rattle.lnbd_copy.proofs.CopierLemmas.{told_as}
 use Rattle.lnbd_copy.proofs.EndLemmas.{between_sized, past_copying, planned_once, some_same, stands_alone, told_part}
 

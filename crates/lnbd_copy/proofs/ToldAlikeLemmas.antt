@@ -20,19 +20,23 @@ use Rattle.lnbd_board.specs.declared.ticket.Ticket.{Ticket}
 use Rattle.lnbd_board.specs.Files as board
 use Rattle.lnbd_course.specs.Between.{place_of}
 use Rattle.lnbd_course.proofs.Holding.{one_has}
-use Rattle.lnbd_copy.specs.declared.sides.Sides.{Sides}
+use Rattle.lnbd_conduct.specs.declared.sides.Sides.{Sides}
 use Rattle.lnbd_copy.specs.Agreed.{AreQuiet}
-use Rattle.lnbd_copy.specs.Alike.{ToldAs}
-use Rattle.lnbd_copy.specs.Begun.{opened}
-use Rattle.lnbd_copy.specs.Connected.{AllConnected}
-use Rattle.lnbd_copy.specs.Decided.{Show}
+use Rattle.lnbd_conduct.specs.Grounds.{ToldAs, AreSame, IsShown, needs_no_ground}
+use Rattle.lnbd_conduct.specs.Begun.{opened}
+use Rattle.lnbd_conduct.specs.Links.{AllConnected}
+use Rattle.lnbd_conduct.specs.Decided.{Show}
 use Rattle.lnbd_copy.specs.Deciding.{Fits}
-use Rattle.lnbd_copy.specs.Driven.{WentOn, asks_extents_on, beginning_on}
+use Rattle.lnbd_copy.specs.Driven.{beginning_on}
+use Rattle.lnbd_conduct.specs.Driven.{WentOn, asks_extents_on}
 use Rattle.lnbd_copy.specs.Giving.{GivesNone}
-use Rattle.lnbd_copy.specs.Grounds.{AllSame, AreSame, FindsBeside, FindsOther, Happened, Happens, IsShown, first_of, needs_no_ground}
-use Rattle.lnbd_copy.specs.Terms.{broken_rule}
-use Rattle.lnbd_copy.specs.ToldAlike.{AreAlike, AreFitting, AreHeldFit, AreToldAlike, FindsUnfit, HaveTold, IsAlikeAt, IsToldOf, IsUnfit, NoneBroken, WasToldOf}
-use Rattle.lnbd_copy.specs.Way.{IsOn, IsUnderWay, Stand, Told, Way, is_source}
+use Rattle.lnbd_copy.specs.Grounds.{AllSame, FindsBeside, FindsOther, Happened, Happens}
+use Rattle.lnbd_conduct.specs.Sides.{first_of, is_source}
+use Rattle.lnbd_conduct.specs.Terms.{broken_rule}
+use Rattle.lnbd_copy.specs.ToldAlike.{AreAlike, AreFitting, AreHeldFit, FindsUnfit, HaveTold, IsAlikeAt, IsUnfit}
+use Rattle.lnbd_conduct.specs.Settled.{AreToldAlike, IsToldOf, NoneBroken, WasToldOf}
+use Rattle.lnbd_copy.specs.Way.{IsOn, IsUnderWay, Stand, Way}
+use Rattle.lnbd_conduct.specs.Told.{Told}
 use Rattle.lnbd_copy.proofs.AlikeLemmas.{alike_later, below_held, has_link, true_false}
 use Rattle.lnbd_copy.proofs.DrivenLemmas.{went_there}
 use Rattle.lnbd_copy.proofs.GroundLemmas.{differs, driven_at, first_side, seen_same, settles}

@@ -8,7 +8,8 @@ use Rattle.lnbd_extents.specs.Lists.{flags_at, span}
 use Rattle.lnbd_plan.specs.Plans.{Planned}
 use Rattle.lnbd_tracks.specs.Saying.{is_told, said_in}
 use Rattle.lnbd_copy.specs.Reached.{IsToldTo, told_heard, told_within}
-use Rattle.lnbd_copy.specs.Windows.{Seen, wanted, window, window_end}
+use Rattle.lnbd_copy.specs.Windows.{Seen, wanted, window_end}
+use Rattle.lnbd_conduct.specs.Slices.{window}
 use Rattle.lnbd_copy.proofs.SparedLemmas.{JoinsAll, past_none}
 use Rattle.lnbd_copy.proofs.WindowLemmas.{Walks, and_left, and_right, or_cases}
 

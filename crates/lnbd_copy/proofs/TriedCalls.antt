@@ -5,8 +5,9 @@ use Rattle.std.specs.List.{list_any}
 use Rattle.lnbd_link.specs.Call as wire
 use Rattle.lnbd_link.specs.Call.{Connect, Listen, Accept, Read, Write, Pause, Shut, ReadTold, WriteTold}
 use Rattle.lnbd_link.specs.declared.wires.Want.{Want}
-use Rattle.lnbd_copy.specs.Pauses.{HasNoPause, is_pause}
-use Rattle.lnbd_copy.specs.Tried.{NoneLeft, TriedBefore, TriedBut, WasRead, WasTried, WasWritten, WereTried, reads_on, writes_on}
+use Rattle.lnbd_usage.specs.Pauses.{HasNoPause, is_pause}
+use Rattle.lnbd_conduct.specs.Pauses.{TriedBefore, WasRead, WasTried, WasWritten, WereTried, reads_on, writes_on}
+use Rattle.lnbd_copy.specs.Tried.{NoneLeft, TriedBut}
 use Rattle.lnbd_copy.proofs.PauseLemmas.{head_same, has_pause, no_pauses, none_cons, one_more, pauses_stay, tail_same}
 
 -- Where a list of calls is cut in two.

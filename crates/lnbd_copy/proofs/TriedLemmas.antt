@@ -20,9 +20,12 @@ use Rattle.lnbd_board.specs.Files as board
 use Rattle.lnbd_copy.specs.Agreed.{AreQuiet}
 use Rattle.lnbd_copy.specs.Copier.{IsOnItsWay}
 use Rattle.lnbd_copy.specs.Copier as copier
-use Rattle.lnbd_copy.specs.Pauses.{AtEachPause, Unpaused}
-use Rattle.lnbd_copy.specs.Tried.{AnyLeft, AreHeardOut, IsLeft, IsLeftEarly, NoneLeft, RestsEarly, TriedBefore, TriedBut, Tries, TriesAll, WereTried}
-use Rattle.lnbd_copy.specs.Way.{Stand, Told}
+use Rattle.lnbd_copy.specs.Pauses.{Unpaused}
+use Rattle.lnbd_conduct.specs.Pauses.{TriedBefore, WereTried}
+use Rattle.lnbd_usage.specs.Pauses.{AtEachPause}
+use Rattle.lnbd_copy.specs.Tried.{AnyLeft, AreHeardOut, IsLeft, IsLeftEarly, NoneLeft, RestsEarly, TriedBut, Tries, TriesAll}
+use Rattle.lnbd_copy.specs.Way.{Stand}
+use Rattle.lnbd_conduct.specs.Told.{Told}
 use Rattle.lnbd_copy.proofs.CopierLemmas.{told_as}
 use Rattle.lnbd_copy.proofs.FullLemmas.{steps, still_none, turns_unpaused}
 use Rattle.lnbd_copy.proofs.PauseLemmas.{no_pause_then}

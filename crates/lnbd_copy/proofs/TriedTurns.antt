@@ -22,7 +22,8 @@ use Rattle.lnbd_poll.specs.Notices.{Hears, ReadsIf, ReadsOn, WritesIf, is_readin
 use Rattle.lnbd_poll.specs.Seen.{Seen, IsAt}
 use Rattle.lnbd_poll.specs.Turns.{AllTook, All_took, Breaks_off, Ending, Goes_on, Runs_short, Short, Stops, Takes, Told, Turns, TurnsOne, Whole, WritesAll, is_lost, is_moved, is_short, moved_by, with_moved}
 use Rattle.lnbd_board.specs.declared.ticket.Ticket.{Ticket}
-use Rattle.lnbd_copy.specs.Tried.{AreHeardOut, WasTried, WereTried, reads_on, writes_on}
+use Rattle.lnbd_copy.specs.Tried.{AreHeardOut}
+use Rattle.lnbd_conduct.specs.Pauses.{WasTried, WereTried, reads_on, writes_on}
 use Rattle.lnbd_copy.proofs.FullLemmas.{both_none, none_then, some_is_none, with_none}
 use Rattle.lnbd_copy.proofs.TriedCalls.{is_idle, was_read, was_written}
 use Rattle.lnbd_copy.proofs.VainLemmas.{arrives_none}

@@ -32,13 +32,16 @@ use Rattle.lnbd_board.specs.Files.{Files}
 use Rattle.lnbd_board.specs.Files as board
 use Rattle.lnbd_course.specs.Taken.{without_buffer}
 use Rattle.lnbd_copy.specs.Asked.{IsAsked}
-use Rattle.lnbd_copy.specs.declared.sides.Sides.{Sides}
-use Rattle.lnbd_copy.specs.Way.{ArePlaced, Filed, Goes, HasRested, IsOn, IsUnderWay, Keeps, Since, Stand, Told, Way, is_source, with_slices}
-use Rattle.lnbd_copy.specs.Statuses.{first_given, first_held, or_later}
+use Rattle.lnbd_conduct.specs.declared.sides.Sides.{Sides}
+use Rattle.lnbd_copy.specs.Way.{ArePlaced, Filed, Goes, HasRested, IsOn, IsUnderWay, Keeps, Stand, Way, with_slices}
+use Rattle.lnbd_conduct.specs.Told.{Since, Told}
+use Rattle.lnbd_conduct.specs.Sides.{is_source}
+use Rattle.lnbd_copy.specs.Statuses.{first_held}
+use Rattle.lnbd_conduct.specs.Answered.{first_given, or_later}
 use Rattle.lnbd_copy.proofs.FiledLemmas.{filed_none, filed_then, plays_filed}
 use Rattle.lnbd_copy.proofs.LastLemmas.{lasts_adds, lasts_none, lasts_then}
 use Rattle.lnbd_copy.proofs.HeldLemmas.{held_on}
-use Rattle.lnbd_copy.specs.Begun.{BeganAs}
+use Rattle.lnbd_conduct.specs.Begun.{BeganAs}
 use Rattle.lnbd_copy.proofs.BegunLemmas.{FirstGoes, first_stays, went_event, went_same, went_then, writes_went}
 use Rattle.lnbd_copy.proofs.FirstLemmas.{AllGo, adds_none, all_stay, gives_none, gives_then, goes_knowing}
 use Rattle.lnbd_copy.specs.Driven.{beginning_on}

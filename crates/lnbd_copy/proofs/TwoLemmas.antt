@@ -12,9 +12,9 @@ use Rattle.lnbd_board.specs.declared.ticket.Ticket.{Ticket}
 use Rattle.lnbd_board.specs.Files as board
 use Rattle.lnbd_course.specs.Between.{place_of}
 use Rattle.lnbd_course.proofs.Asking.{not_one}
-use Rattle.lnbd_copy.specs.Connected.{AllConnected}
-use Rattle.lnbd_copy.specs.Driven.{given_links, with_given}
-use Rattle.lnbd_copy.specs.Links.{ConnectTo, targets}
+use Rattle.lnbd_conduct.specs.Links.{AllConnected, ConnectTo}
+use Rattle.lnbd_usage.specs.Links.{targets}
+use Rattle.lnbd_conduct.specs.Driven.{given_links, with_given}
 use Rattle.lnbd_copy.specs.Way.{IsOn, Way}
 use Rattle.lnbd_copy.proofs.GroundLemmas.{given_at}
 use Rattle.lnbd_copy.proofs.TurnLemmas.{at_count}

@@ -28,10 +28,11 @@ use Rattle.lnbd_copy.specs.declared.job.Phase.{Phase}
 use Rattle.lnbd_copy.specs.declared.job.Phase.TheVariants.{Copying, Flushing, Parting}
 use Rattle.lnbd_copy.specs.Copier.{IsOnItsWay}
 use Rattle.lnbd_copy.specs.Copier as copier
-use Rattle.lnbd_copy.specs.Statuses.{WasPassed}
-use Rattle.lnbd_copy.specs.Full.{ArePlannedTo, AsksForNone, AsksForWindow, IsFull, IsFullBy, IsUntold}
+use Rattle.lnbd_conduct.specs.Answered.{WasPassed}
+use Rattle.lnbd_conduct.specs.Slices.{ArePlannedTo, AsksForNone, AsksForWindow, IsFull, IsFullBy, IsUntold, cells_of, window}
 use Rattle.lnbd_copy.specs.Job as work
-use Rattle.lnbd_copy.specs.Unanswered.{HasAllAsked, NoneForWriting}
+use Rattle.lnbd_copy.specs.Unanswered.{HasAllAsked}
+use Rattle.lnbd_conduct.specs.Waiting.{NoneForWriting}
 use Rattle.lnbd_copy.specs.UnderWay.{AreAwaited, IsBusy}
 use Rattle.lnbd_copy.specs.UnderWay as state
 use Rattle.lnbd_copy.specs.Way.{IsOn, IsUnderWay, Stands, Way, known_of}
@@ -103,7 +104,7 @@ module _ (j : work.Seen) (way : Way) (now : board.Seen) (calls : List wire.Call)
       let unasked : way.asked ≡ None = is.asked ∙ ap (λ (b : Bool). if b then windows.wanted j.windows else None) none in
       none_are_awaited way.from way.how on.has way.slices now calls (known_of way) (subst (λ (o : Option (ℕ × ℕ)). course.Told way.how on.has way.slices now calls [] o (known_of way)) unasked alone.told) well of_source
 
-  planned_to : ArePlannedTo way.extents j.windows.plan.end way.from j.terms.size j.terms.grain (work.cells_of j.terms) (way.slices ++ j.windows.plan.slices) calls
+  planned_to : ArePlannedTo way.extents j.windows.plan.end way.from j.terms.size j.terms.grain (cells_of j.terms) (way.slices ++ j.windows.plan.slices) calls
   planned_to = whole.planned_to j way now calls is on.has alone well two (on.hears.answered well two) (on.hears.passed well two)
 
   -- Once all slices are over nothing is under way, and nothing is left.
@@ -146,13 +147,13 @@ module _ (j : work.Seen) (way : Way) (now : board.Seen) (calls : List wire.Call)
   told_reached =
       told_are_known way.from way.how on.has way.slices now calls on.seens way.asked (known_of way) on.stands.told well asked_untold (all_stand held on.seens on.at) on.all (of_source j way now calls held false is on well two)
 
-  window_untold : j.windows.plan.end < j.terms.size → IsUntold way.from (min (j.windows.plan.end + windows.window) j.terms.size - 1) calls
+  window_untold : j.windows.plan.end < j.terms.size → IsUntold way.from (min (j.windows.plan.end + window) j.terms.size - 1) calls
   window_untold left told =
       let ends = is.ends in
-      let p : ℕ = min (j.windows.plan.end + windows.window) j.terms.size - 1 in
+      let p : ℕ = min (j.windows.plan.end + window) j.terms.size - 1 in
       let behind : j.windows.plan.end ≤ p = omega (arith, left) in
       let more : p + 1 < windows.window_end j.windows = is.reached.inside p (told_reached p told) behind in
-      let same : windows.window_end j.windows ≡ min (j.windows.plan.end + windows.window) j.terms.size = ap (λ (s : ℕ). min (j.windows.plan.end + windows.window) s) ends in
+      let same : windows.window_end j.windows ≡ min (j.windows.plan.end + window) j.terms.size = ap (λ (s : ℕ). min (j.windows.plan.end + window) s) ends in
       omega (arith, more, same, left)
 
   rest_untold : (p : ℕ) → j.windows.at + j.terms.grain ≤ p → IsUntold way.from p calls
@@ -178,8 +179,8 @@ module _ (j : work.Seen) (way : Way) (now : board.Seen) (calls : List wire.Call)
       record {
         at = j.windows.at;
         ahead = is.heard.planned;
-        inside = subst (λ (size : ℕ). j.windows.at < min (j.windows.plan.end + windows.window) size) ends (wanted_below j.windows some);
-        asks = subst (λ (size : ℕ). AsksExtentsOf (j.windows.at, min (j.windows.plan.end + windows.window) size - j.windows.at) way.from calls) ends
+        inside = subst (λ (size : ℕ). j.windows.at < min (j.windows.plan.end + window) size) ends (wanted_below j.windows some);
+        asks = subst (λ (size : ℕ). AsksExtentsOf (j.windows.at, min (j.windows.plan.end + window) size - j.windows.at) way.from calls) ends
             (awaits (j.windows.at, windows.window_end j.windows - j.windows.at) (is.asked ∙ ap (λ (b : Bool). if b then windows.wanted j.windows else None) awaited.awaited ∙ wanted) awaited);
         untold = rest_untold;
         blocks = is.heard.blocks;

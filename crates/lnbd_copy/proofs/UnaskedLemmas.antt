@@ -28,15 +28,17 @@ use Rattle.lnbd_course.proofs.Once as once
 use Rattle.lnbd_course.proofs.Parts as part
 use Rattle.lnbd_course.proofs.Parts.{AllUnissued}
 use Rattle.lnbd_course.proofs.Quiet.{connects_own, links_stay, nothing_stays}
-use Rattle.lnbd_copy.specs.declared.sides.Sides.{Sides}
-use Rattle.lnbd_copy.specs.declared.terms.Terms.{Terms}
-use Rattle.lnbd_copy.specs.Begun.{opened}
+use Rattle.lnbd_conduct.specs.declared.sides.Sides.{Sides}
+use Rattle.lnbd_conduct.specs.declared.terms.Terms.{Terms}
+use Rattle.lnbd_conduct.specs.Begun.{opened}
 use Rattle.lnbd_copy.specs.Copier.{GoesFurther, HasMet, HasNotBegun, beginning}
 use Rattle.lnbd_copy.specs.Copier as copier
-use Rattle.lnbd_copy.specs.Faults.{AreUnissued, AsksNone, AsksNothing, Behaves, GoesIdly, IsFresh, StaysFresh, StaysUnasked}
+use Rattle.lnbd_copy.specs.Faults.{AreUnissued, AsksNone, AsksNothing, GoesIdly, IsFresh, StaysFresh, StaysUnasked}
+use Rattle.lnbd_conduct.specs.Changes.{Behaves}
 use Rattle.lnbd_copy.specs.Lasting.{Lasts}
 use Rattle.lnbd_copy.specs.Opening.{Dials}
-use Rattle.lnbd_copy.specs.Way.{Goes, IsOn, Stand, Told, Way}
+use Rattle.lnbd_copy.specs.Way.{Goes, IsOn, Stand, Way}
+use Rattle.lnbd_conduct.specs.Told.{Told}
 use Rattle.lnbd_copy.proofs.AlwaysLemmas.{always_nothing}
 use Rattle.lnbd_copy.proofs.CopierLemmas.{begins_on, first_on, no_handles, second_on, told_as, with_held}
 use Rattle.lnbd_copy.proofs.EndLemmas.{all_taken}

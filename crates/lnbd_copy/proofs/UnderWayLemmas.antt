@@ -18,7 +18,7 @@ use Rattle.lnbd_board.specs.Files as board
 use Rattle.lnbd_board.specs.Rows.{busy, is_busy}
 use Rattle.lnbd_copy.specs.declared.job.Phase.{Phase}
 use Rattle.lnbd_copy.specs.declared.job.Phase.TheVariants.{Copying, Flushing, Parting}
-use Rattle.lnbd_copy.specs.declared.terms.Terms.{Terms}
+use Rattle.lnbd_conduct.specs.declared.terms.Terms.{Terms}
 use Rattle.lnbd_copy.specs.Bound.{Bound}
 use Rattle.lnbd_copy.specs.Copier.{IsOnItsWay, IsParting, Seen}
 use Rattle.lnbd_copy.specs.Dealing.{HasBegun}
@@ -55,6 +55,10 @@ pub looked_more : (went : Bool) (a b c : board.Seen) → went ≡ true → lengt
 looked_more true a b c is few looked = omega (arith, few, looked)
 looked_more false a b c is few looked = absurd (false≢true is)
 
+pub looked_none : (went : Bool) (b c : board.Seen) → went ≡ false → HasLooked went b c → c ≡ b
+looked_none true b c is looked = absurd (false≢true (sym is))
+looked_none false b c is looked = looked.1
+
 pub looked_all : (went : Bool) (a b c : board.Seen) → went ≡ false → length b.rows ≤ length a.rows → HasLooked went b c → HaveLooked a c
 looked_all true a b c is few looked = absurd (false≢true (sym is))
 looked_all false a b c is few looked =
@@ -88,6 +92,14 @@ begun_all false p q r a b c is all begun = absurd (false≢true is)
 pub begun_count : (went : Bool) (q r : windows.Seen) (b c : board.Seen) → went ≡ true → HasBegunOne went q r b c → length c.rows ≡ length b.rows + 1
 begun_count true q r b c is begun = begun.0
 begun_count false q r b c is begun = absurd (false≢true is)
+
+-- None is begun where no more may be, or none is planned.
+pub none_to_begin : (went : Bool) (limit : ℕ) (p q r : windows.Seen) (a b c : board.Seen) → went ≡ true → length a.rows ≤ length b.rows → length b.rows < limit → unfinished q b ≡ unfinished p a → (length a.rows < limit → length p.plan.slices ≡ 0) → HasBegunOne went q r b c → ⊥
+none_to_begin true limit p q r a b c is more less all stop begun =
+    let none = stop (omega (arith, more, less)) in
+    let slices = begun.1 in
+    omega (arith, none, slices, all, more)
+none_to_begin false limit p q r a b c is more less all stop begun = absurd (false≢true is)
 
 pub fills_stop : (limit : ℕ) (went : Bool) (p q r : windows.Seen) (a b c : board.Seen) → went ≡ false → unfinished q b ≡ unfinished p a → (length a.rows ≤ limit → length b.rows ≤ limit) → HasBegunOne went q r b c → Fills limit p r a c
 fills_stop limit true p q r a b c is all most begun = absurd (false≢true (sym is))
@@ -147,10 +159,12 @@ pub has_filled : (j : work.Seen) (planned : windows.Seen) (bound : Bound) (now n
     HasFilled j (record j { windows = planned; bound = bound }) now now'
 has_filled j planned bound now now' others begun fills = record {
   job = refl;
+  planned = others;
   wanted = ap (λ (w : windows.Seen). windows.wanted w) others;
   left = λ left. subst IsWantedOf (sym others) left;
   came = ap (λ (s : board.Seen). s.came) begun;
   mapped = ap (λ (s : board.Seen). s.mapped) begun;
+  flushed = ap (λ (s : board.Seen). s.flushed) begun;
   fills = fills;
 }
 

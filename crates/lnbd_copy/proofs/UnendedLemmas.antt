@@ -11,8 +11,9 @@ use Rattle.lnbd_poll.specs.Seen.{Seen}
 use Rattle.lnbd_drives.specs.Driving.{with_event}
 use Rattle.lnbd_board.specs.declared.ticket.Ticket.{Ticket}
 use Rattle.lnbd_course.proofs.Address.{given_stays}
-use Rattle.lnbd_copy.specs.Begun.{opened}
-use Rattle.lnbd_copy.specs.Driven.{AllUnended, EndLast, HasEnded, IsUnended, LeavesSince, WasUnended, is_disconnect, may_come}
+use Rattle.lnbd_conduct.specs.Begun.{opened}
+use Rattle.lnbd_copy.specs.Driven.{AllUnended, HasEnded, LeavesSince}
+use Rattle.lnbd_conduct.specs.Driven.{EndLast, IsUnended, WasUnended, is_disconnect, may_come}
 use Rattle.lnbd_copy.proofs.DrivenLemmas.{driven_later}
 use Rattle.lnbd_copy.proofs.DrivenTurns.{AllBrought, AreOfLink, Brought, brought_apart, brought_on}
 use Rattle.lnbd_copy.proofs.SinceLemmas.{end_later, leaves_later, leaves_none, since_event, since_later}

@@ -21,9 +21,9 @@ use Rattle.lnbd_course.specs.Spares.{ReadsNoZeros}
 use Rattle.lnbd_course.proofs.Quiet.{dealt_stays}
 use Rattle.lnbd_course.proofs.Spared.{parts_spare}
 use Rattle.lnbd_copy.specs.Job as job
-use Rattle.lnbd_copy.specs.Lasting.{AtSome}
-use Rattle.lnbd_copy.specs.Settled.{SparesTold}
-use Rattle.lnbd_copy.specs.Terms as both
+use Rattle.lnbd_conduct.specs.Told.{AtSome}
+use Rattle.lnbd_conduct.specs.Settled.{SparesTold}
+use Rattle.lnbd_conduct.specs.Terms as both
 use Rattle.lnbd_copy.specs.Way.{IsUnderWay, Way, known_of}
 use Rattle.lnbd_copy.specs.Windows as windows
 use Rattle.lnbd_copy.proofs.AlikeLemmas.{alike_later}

@@ -26,9 +26,12 @@ use Rattle.lnbd_poll.specs.Turns.{All_took, Ending, Goes_on, Runs_short, Breaks_
 use Rattle.lnbd_board.specs.declared.ticket.Ticket.{Ticket}
 use Rattle.lnbd_board.specs.Files as board
 use Rattle.lnbd_copy.specs.Moving.{AreTriedInVain, IsTriedInVain, TurnsInVain}
-use Rattle.lnbd_copy.specs.Pauses.{AtEachPause, HasNoPause, Pauses, WantsInVain, WantsOnlyFull}
-use Rattle.lnbd_copy.specs.Vain.{WantsOnlyEmpty, WasReadInVain, WasWrittenInVain, has_happened, is_for_reading}
-use Rattle.lnbd_copy.specs.Way.{Stand, Told}
+use Rattle.lnbd_copy.specs.Pauses.{Pauses, WantsInVain}
+use Rattle.lnbd_usage.specs.Pauses.{HasNoPause, AtEachPause}
+use Rattle.lnbd_conduct.specs.Pauses.{WantsOnlyFull, WantsOnlyEmpty, is_for_reading}
+use Rattle.lnbd_usage.specs.Vain.{WasReadInVain, WasWrittenInVain, has_happened}
+use Rattle.lnbd_copy.specs.Way.{Stand}
+use Rattle.lnbd_conduct.specs.Told.{Told}
 use Rattle.lnbd_copy.proofs.CopierLemmas.{told_as}
 use Rattle.lnbd_copy.proofs.FullLemmas.{both_none, moved_some, none_then, some_is_none, steps, still_none, true_is, with_none}
 use Rattle.lnbd_copy.proofs.PauseLemmas.{pauses_adds, pauses_begin, pauses_stay}

@@ -13,12 +13,14 @@ use Rattle.lnbd_board.specs.Files as board
 use Rattle.lnbd_course.specs.Between.{place_of}
 use Rattle.lnbd_copy.specs.Copier.{IsOnItsWay}
 use Rattle.lnbd_copy.specs.Copier as copier
-use Rattle.lnbd_copy.specs.Begun.{opened}
-use Rattle.lnbd_copy.specs.Driven.{AllWentOn, WentOn, asks_extents_on}
-use Rattle.lnbd_copy.specs.DrivenBy.{DrivenBy}
+use Rattle.lnbd_conduct.specs.Begun.{opened, DrivenBy}
+use Rattle.lnbd_copy.specs.Driven.{AllWentOn}
+use Rattle.lnbd_conduct.specs.Driven.{WentOn, asks_extents_on}
 use Rattle.lnbd_copy.specs.Job as work
-use Rattle.lnbd_copy.specs.Waits.{AreUnparted, WaitsWell}
-use Rattle.lnbd_copy.specs.Way.{IsUnderWay, Told, Way}
+use Rattle.lnbd_copy.specs.Waits.{AreUnparted}
+use Rattle.lnbd_conduct.specs.Waiting.{WaitsWell}
+use Rattle.lnbd_copy.specs.Way.{IsUnderWay, Way}
+use Rattle.lnbd_conduct.specs.Told.{Told}
 use Rattle.lnbd_copy.proofs.CopierLemmas.{told_as}
 use Rattle.lnbd_copy.proofs.GroundLemmas.{driven_at}
 

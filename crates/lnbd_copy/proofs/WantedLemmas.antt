@@ -11,7 +11,8 @@ use Rattle.lnbd_machine.specs.Now.{direction_now, in_flight_now, state_now}
 use Rattle.lnbd_poll.specs.Held.{Held, is_wanting, want_now, wants_now, with_want}
 use Rattle.lnbd_board.specs.declared.ticket.Ticket.{Ticket}
 use Rattle.lnbd_copy.specs.Pauses.{Pauses}
-use Rattle.lnbd_copy.specs.Wanted.{IsWanting, WantsSome}
+use Rattle.lnbd_copy.specs.Wanted.{IsWanting}
+use Rattle.lnbd_conduct.specs.Pauses.{WantsSome}
 use Rattle.lnbd_copy.proofs.CopierLemmas.{told_as}
 use Rattle.lnbd_copy.proofs.PauseLemmas.{pauses_adds}
 use Rattle.lnbd_copy.proofs.TurnLemmas.{none_some, some_same}

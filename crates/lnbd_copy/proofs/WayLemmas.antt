@@ -20,10 +20,11 @@ use Rattle.lnbd_tracks.specs.Mapping.{ToldAlike, asks_extents}
 use Rattle.lnbd_course.specs.Counted.{CountsSame, is_flush}
 use Rattle.lnbd_course.specs.Laws.{AsksSource, AsksDestination}
 use Rattle.lnbd_course.specs.Taken.{without_buffer}
-use Rattle.lnbd_copy.specs.declared.sides.Sides.{Sides}
+use Rattle.lnbd_conduct.specs.declared.sides.Sides.{Sides}
 use Rattle.lnbd_copy.specs.Asked.{WasAsked}
 use Rattle.lnbd_copy.specs.Dealing.{IsAskedOf}
-use Rattle.lnbd_copy.specs.Way.{AreBound, AreSided, IsOn, Keeps, Stands, Way, connection_of, is_source, with_slices}
+use Rattle.lnbd_copy.specs.Way.{AreBound, AreSided, IsOn, Keeps, Stands, Way, with_slices}
+use Rattle.lnbd_conduct.specs.Sides.{connection_of, is_source}
 use Rattle.lnbd_copy.proofs.HeldLemmas.{held_event}
 use Rattle.lnbd_copy.proofs.BindingLemmas.{Binds, SameBindings, asks_bound, rows_bound}
 use Rattle.lnbd_copy.proofs.BegunLemmas.{event_first, first_stays}

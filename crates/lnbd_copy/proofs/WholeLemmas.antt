@@ -17,13 +17,13 @@ use Rattle.lnbd_course.proofs.Slices.{ended_are_begun}
 use Rattle.lnbd_course.proofs.Telling.{known_was_told, sides_are_of_source}
 use Rattle.lnbd_copy.specs.Copier as copier
 use Rattle.lnbd_copy.specs.Copier.{IsOnItsWay}
-use Rattle.lnbd_copy.specs.Finished.{AreAllFinished}
-use Rattle.lnbd_copy.specs.Full.{ArePlannedTo}
+use Rattle.lnbd_conduct.specs.Driven.{AreAllFinished}
+use Rattle.lnbd_conduct.specs.Slices.{ArePlannedTo, cells_of, IsWhole, IsWholeBy, WasCopiedWhole}
 use Rattle.lnbd_copy.specs.Job as job
-use Rattle.lnbd_copy.specs.Statuses.{MayBeRead, WasPassed}
-use Rattle.lnbd_copy.specs.Way.{Stands, Told, Way, known_of}
-use Rattle.lnbd_copy.specs.Whole.{IsWhole, IsWholeBy, WasCopiedWhole}
-use Rattle.lnbd_copy.specs.Windows as windows
+use Rattle.lnbd_conduct.specs.Answered.{MayBeRead, WasPassed}
+use Rattle.lnbd_copy.specs.Way.{Stands, Way, known_of}
+use Rattle.lnbd_conduct.specs.Told.{Told}
+use Rattle.lnbd_conduct.specs.Slices as windows
 use Rattle.lnbd_copy.proofs.AnswerLemmas.{none_held}
 use Rattle.lnbd_copy.proofs.CopierLemmas.{told_as}
 use Rattle.lnbd_copy.proofs.SettledLemmas.{settled_with}
@@ -34,7 +34,7 @@ module _ (j : job.Seen) (way : Way) (now : board.Seen) (calls : List wire.Call) 
   sized = subst (λ (o : Option ℕ). Between way.from way.to o way.how has way.slices now calls []) is.size s.between
 
   -- Where what was heard may be read, slices are planned so far.
-  pub planned_to : ((grain p : ℕ) → way.heard grain p ≡ true → MayBeRead way.extents way.from p calls) → ((grain p : ℕ) → way.heard grain p ≡ true → WasPassed way.extents grain way.from p calls) → ArePlannedTo way.extents j.windows.plan.end way.from j.terms.size j.terms.grain (job.cells_of j.terms) (way.slices ++ j.windows.plan.slices) calls
+  pub planned_to : ((grain p : ℕ) → way.heard grain p ≡ true → MayBeRead way.extents way.from p calls) → ((grain p : ℕ) → way.heard grain p ≡ true → WasPassed way.extents grain way.from p calls) → ArePlannedTo way.extents j.windows.plan.end way.from j.terms.size j.terms.grain (cells_of j.terms) (way.slices ++ j.windows.plan.slices) calls
   planned_to may passed =
       let within = is.planned.within in
       let ends = is.ends in
@@ -62,8 +62,8 @@ module _ (j : job.Seen) (way : Way) (now : board.Seen) (calls : List wire.Call) 
   is_whole : job.IsOver j now → ((grain p : ℕ) → way.heard grain p ≡ true → MayBeRead way.extents way.from p calls) → ((grain p : ℕ) → way.heard grain p ≡ true → WasPassed way.extents grain way.from p calls) → IsWhole way.extents j.terms way.from way.to calls
   is_whole over may passed = record {
     slices = way.slices;
-    planned = subst (λ (l : List Slice). ArePlannedTo way.extents j.terms.size way.from j.terms.size j.terms.grain (job.cells_of j.terms) l calls) (all_handed over)
-        (subst (λ (end : ℕ). ArePlannedTo way.extents end way.from j.terms.size j.terms.grain (job.cells_of j.terms) (way.slices ++ j.windows.plan.slices) calls) over.planned (planned_to may passed));
+    planned = subst (λ (l : List Slice). ArePlannedTo way.extents j.terms.size way.from j.terms.size j.terms.grain (cells_of j.terms) l calls) (all_handed over)
+        (subst (λ (end : ℕ). ArePlannedTo way.extents end way.from j.terms.size j.terms.grain (cells_of j.terms) (way.slices ++ j.windows.plan.slices) calls) over.planned (planned_to may passed));
     finished = subst (λ (how : How). AreBegun how (dealt_with way.from calls) (dealt_with way.to calls) way.slices 0) is.how (finished over);
   }
 

@@ -18,7 +18,8 @@ use Rattle.lnbd_plan.proofs.LongestLaws.{longest}
 use Rattle.lnbd_plan.proofs.OnceLaws.{ends_up}
 use Rattle.lnbd_asked.specs.Transcript.{is_zero, zero_in}
 use Rattle.lnbd_tracks.specs.Saying.{is_told}
-use Rattle.lnbd_copy.specs.Windows.{Seen, IsPlanned, AreFit, AreKept, AreFullWindows, zero_within, zero_heard, wanted, window, window_end}
+use Rattle.lnbd_copy.specs.Windows.{Seen, IsPlanned, AreFit, AreKept, zero_within, zero_heard, wanted, window_end}
+use Rattle.lnbd_conduct.specs.Slices.{AreFullWindows, window}
 
 -- Windows one behind the other.
 

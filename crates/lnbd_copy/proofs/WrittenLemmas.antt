@@ -4,7 +4,7 @@ use Rattle.std.specs.List.{list_any}
 use Rattle.std.proofs.lemmas.Bool.{eq-eqb}
 use Rattle.lnbd_link.specs.Call as wire
 use Rattle.lnbd_link.specs.Call.{Connect, Listen, Accept, Read, Write, Pause, Shut, Moved, Unready, Ended, ReadFault, WriteTold, Sent, Full, WriteFault}
-use Rattle.lnbd_copy.specs.Vain.{has_happened}
+use Rattle.lnbd_usage.specs.Vain.{has_happened}
 use Rattle.lnbd_copy.specs.Written.{VainWritesAreLast, last_write, told_after, told_with}
 use Rattle.lnbd_copy.proofs.FullLemmas.{true_is}
 

@@ -1,7 +1,7 @@
 -- Which connections the slices of a copy are bound to that are begun and not over, and how many of them it counts for each.
 use Rattle.std.specs.Prelude.{ℕ, ◌+◌, ◌==◌, List, [], ◌∷◌, cond}
 use Rattle.lnbd_board.specs.declared.row.Row.{Row}
-use Rattle.lnbd_copy.specs.declared.sides.Sides.{Sides}
+use Rattle.lnbd_conduct.specs.declared.sides.Sides.{Sides}
 
 -- the connection that each row is bound to, of the side where it is this one
 abbrev pub bound_by : (on : Row → ℕ) → List (ℕ × Row) → List ℕ

@@ -17,21 +17,23 @@ use Rattle.lnbd_course.specs.Flushes.{IsUnflushed}
 use Rattle.lnbd_copy.specs.declared.copier.Progress.{Progress}
 use Rattle.lnbd_copy.specs.declared.copier.Progress.TheVariants as progress
 use Rattle.lnbd_copy.specs.declared.counts.Counts.{Counts}
-use Rattle.lnbd_copy.specs.declared.sides.Sides.{Sides}
-use Rattle.lnbd_copy.specs.declared.terms.Terms.{Terms}
+use Rattle.lnbd_conduct.specs.declared.sides.Sides.{Sides}
+use Rattle.lnbd_conduct.specs.declared.terms.Terms.{Terms}
 use Rattle.lnbd_copy.specs.Agreed.{IsWished}
-use Rattle.lnbd_copy.specs.Connected.{AllConnected}
+use Rattle.lnbd_conduct.specs.Links.{AllConnected}
 use Rattle.lnbd_copy.specs.Connects.{StaysConnected}
 use Rattle.lnbd_copy.specs.Dealt.{HasDealt}
 use Rattle.lnbd_copy.specs.Job as work
-use Rattle.lnbd_copy.specs.DrivenAs.{AreLeftBy}
+use Rattle.lnbd_conduct.specs.Connects.{AreLeftBy}
 use Rattle.lnbd_copy.specs.Firsts.{KnowBoth}
 use Rattle.lnbd_copy.specs.Lasting.{Lasts}
-use Rattle.lnbd_copy.specs.Limit.{IsLimited}
-use Rattle.lnbd_copy.specs.Settled.{FlushesWanted, HasSettled, HasTerms, SparesFound, SparesTold}
-use Rattle.lnbd_copy.specs.Statuses.{ReadsAreAnswered}
-use Rattle.lnbd_copy.specs.Way.{Filed, IsOn, IsUnderWay, Stand, Told, Way}
-use Rattle.lnbd_copy.specs.Whole.{WasCopiedWhole}
+use Rattle.lnbd_conduct.specs.Terms.{IsLimited}
+use Rattle.lnbd_copy.specs.Settled.{HasSettled, HasTerms}
+use Rattle.lnbd_conduct.specs.Settled.{FlushesWanted, SparesFound, SparesTold}
+use Rattle.lnbd_conduct.specs.Answered.{ReadsAreAnswered}
+use Rattle.lnbd_copy.specs.Way.{Filed, IsOn, IsUnderWay, Stand, Way}
+use Rattle.lnbd_conduct.specs.Told.{Told}
+use Rattle.lnbd_conduct.specs.Slices.{WasCopiedWhole}
 
 pub record Seen : Type 0 where
   pub options : CopyOptions

@@ -11,9 +11,10 @@ use Rattle.lnbd_board.specs.declared.ticket.Ticket.{Ticket}
 use Rattle.lnbd_board.specs.declared.ticket.Ticket.TheVariants as ticket
 use Rattle.lnbd_board.specs.Files as board
 use Rattle.lnbd_course.specs.Orders.{command_of}
-use Rattle.lnbd_copy.specs.declared.sides.Sides.{Sides}
+use Rattle.lnbd_conduct.specs.declared.sides.Sides.{Sides}
 use Rattle.lnbd_copy.specs.Asked.{IsAsked}
-use Rattle.lnbd_copy.specs.Way.{Keeps, connection_of, is_source}
+use Rattle.lnbd_copy.specs.Way.{Keeps}
+use Rattle.lnbd_conduct.specs.Sides.{connection_of, is_source}
 use Rattle.lnbd_copy.specs.Windows as windows
 
 -- This connection of the source, or else of the destination, was asked the command.

@@ -2,7 +2,7 @@
 use Rattle.std.specs.Prelude.{◌≡◌, ◌<◌, ℕ, List, length, slice_index}
 use Rattle.lnbd_board.specs.declared.row.Row.{Row}
 use Rattle.lnbd_board.specs.Files as board
-use Rattle.lnbd_copy.specs.declared.sides.Sides.{Sides}
+use Rattle.lnbd_conduct.specs.declared.sides.Sides.{Sides}
 use Rattle.lnbd_copy.specs.Bound.{Bound, bound_to, on_destination, on_source}
 use Rattle.lnbd_copy.specs.Job as work
 use Rattle.lnbd_copy.specs.Spread.{IsSpread}

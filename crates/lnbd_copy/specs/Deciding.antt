@@ -11,15 +11,19 @@ use Rattle.lnbd_poll.specs.Held.{Held}
 use Rattle.lnbd_board.specs.declared.how.How.{How}
 use Rattle.lnbd_board.specs.declared.ticket.Ticket.{Ticket}
 use Rattle.lnbd_board.specs.Files as board
-use Rattle.lnbd_copy.specs.Connected.{AllConnected}
+use Rattle.lnbd_conduct.specs.Links.{AllConnected}
 use Rattle.lnbd_copy.specs.Copier.{Seen, beginning}
-use Rattle.lnbd_copy.specs.Decided.{IsAlive, IsDecidedTo, IsUntroubled, OnlyShut, is_of_answer, is_of_content, is_of_link, is_of_memory}
-use Rattle.lnbd_copy.specs.declared.sides.Sides.{Sides}
-use Rattle.lnbd_copy.specs.Grounds.{FindsDead, IsOfError, needs_no_ground}
+use Rattle.lnbd_copy.specs.Decided.{IsDecidedTo}
+use Rattle.lnbd_conduct.specs.Driven.{IsAlive}
+use Rattle.lnbd_conduct.specs.Decided.{IsUntroubled, OnlyShut, is_of_answer, is_of_content, is_of_link, is_of_memory}
+use Rattle.lnbd_conduct.specs.declared.sides.Sides.{Sides}
+use Rattle.lnbd_copy.specs.Grounds.{FindsDead, IsOfError}
+use Rattle.lnbd_conduct.specs.Grounds.{needs_no_ground}
 use Rattle.lnbd_copy.specs.Pauses.{Made}
-use Rattle.lnbd_copy.specs.Settled.{IsFlushSettled}
+use Rattle.lnbd_conduct.specs.Settled.{IsFlushSettled}
 use Rattle.lnbd_copy.specs.ToldAlike.{AreHeldFit, HaveTold, IsUnfit}
-use Rattle.lnbd_copy.specs.Way.{IsOn, IsUnderWay, Stand, Told, Way}
+use Rattle.lnbd_copy.specs.Way.{IsOn, IsUnderWay, Stand, Way}
+use Rattle.lnbd_conduct.specs.Told.{Told}
 
 -- Between two parts of a turn.
 

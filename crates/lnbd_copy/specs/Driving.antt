@@ -7,11 +7,13 @@ use Rattle.lnbd_board.specs.declared.how.How.{How}
 use Rattle.lnbd_board.specs.declared.ticket.Ticket.{Ticket}
 use Rattle.lnbd_board.specs.Files as board
 use Rattle.lnbd_copy.specs.Copier.{Seen, beginning}
-use Rattle.lnbd_copy.specs.declared.sides.Sides.{Sides}
-use Rattle.lnbd_copy.specs.Driven.{AreDrivenTo}
+use Rattle.lnbd_conduct.specs.declared.sides.Sides.{Sides}
+use Rattle.lnbd_conduct.specs.Driven.{AreDrivenTo}
 use Rattle.lnbd_copy.specs.Lasting.{Lasts}
 use Rattle.lnbd_copy.specs.Opening.{place_of}
-use Rattle.lnbd_copy.specs.Way.{IsOn, IsUnderWay, Stand, Told, Way, is_source}
+use Rattle.lnbd_copy.specs.Way.{IsOn, IsUnderWay, Stand, Way}
+use Rattle.lnbd_conduct.specs.Told.{Told}
+use Rattle.lnbd_conduct.specs.Sides.{is_source}
 
 -- A step with calls on the wires does so, wherever on its way the copy was.
 pub record DrivesOn (now : board.Seen) (held : List (Held Ticket)) (told told' : Option (List wire.Call)) : Type 0 where

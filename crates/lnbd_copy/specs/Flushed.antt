@@ -5,7 +5,7 @@ use Rattle.lnbd_course.specs.Flushes.{FlushesLast}
 use Rattle.lnbd_copy.specs.declared.copier.Progress.{Progress}
 use Rattle.lnbd_copy.specs.declared.copier.Progress.TheVariants as progress
 use Rattle.lnbd_copy.specs.Copier.{Seen}
-use Rattle.lnbd_copy.specs.Way.{Told}
+use Rattle.lnbd_conduct.specs.Told.{Told}
 
 -- Where a turn finished the copy, its calls flushed last, if it was from one place to another.
 abbrev pub HasFlushed : (start told : Option (List wire.Call)) → Seen → Progress → Type 0

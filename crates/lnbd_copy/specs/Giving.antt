@@ -2,7 +2,7 @@
 use Rattle.std.specs.Prelude.{◌≡◌, ℕ, false, List, ◌++◌, Option, Some}
 use Rattle.lnbd_link.specs.Call as wire
 use Rattle.lnbd_link.specs.Numbers.{is_given}
-use Rattle.lnbd_copy.specs.Connected.{AllConnected}
+use Rattle.lnbd_conduct.specs.Links.{AllConnected}
 
 -- These calls are those of a transcript and others behind them, none of which gave a link, and none is a connect that failed.
 pub record GaveNone (told : Option (List wire.Call)) (all : List wire.Call) : Type 0 where

@@ -2,21 +2,21 @@
 use Rattle.std.specs.Prelude.{◌≡◌, ◌≢◌, ◌≤◌, ◌||◌, ℕ, ◌+◌, Bool, true, false, List, [], not, Option, Some, None, is_some, if◌then◌else◌}
 use Rattle.lnbd_link.specs.Call as wire
 use Rattle.lnbd_model.specs.declared.export.Extent.{Extent}
-use Rattle.lnbd_plan.specs.declared.cells.Cells.{Cells}
 use Rattle.lnbd_poll.specs.Held.{Held}
 use Rattle.lnbd_board.specs.Files as board
 use Rattle.lnbd_board.specs.declared.ticket.Ticket.{Ticket}
 use Rattle.lnbd_copy.specs.declared.job.Phase.{Phase}
 use Rattle.lnbd_copy.specs.declared.job.Phase.TheVariants.{Copying, Flushing, Parting}
-use Rattle.lnbd_copy.specs.declared.sides.Sides.{Sides}
-use Rattle.lnbd_copy.specs.declared.terms.Terms.{Terms}
+use Rattle.lnbd_conduct.specs.declared.sides.Sides.{Sides}
+use Rattle.lnbd_conduct.specs.declared.terms.Terms.{Terms}
 use Rattle.lnbd_copy.specs.Bound.{Bound}
 use Rattle.lnbd_copy.specs.Heard.{IsHeardTo, passed_heard}
-use Rattle.lnbd_copy.specs.Links.{once_if}
+use Rattle.lnbd_conduct.specs.Links.{once_if}
 use Rattle.lnbd_copy.specs.Reached.{IsToldTo, told_heard}
 use Rattle.lnbd_copy.specs.Spared.{IsSpared, whole_heard}
 use Rattle.lnbd_copy.specs.Way.{Way, IsOn, Stand}
 use Rattle.lnbd_copy.specs.Windows as windows
+use Rattle.lnbd_conduct.specs.Slices.{cells_of}
 
 pub record Seen : Type 0 where
   pub terms : Terms
@@ -26,10 +26,6 @@ pub record Seen : Type 0 where
   pub phase : Phase
   -- how many slices are bound to each connection
   pub bound : Bound
-
--- how slices are cut by these terms; zeros are left out where the destination is zero
-abbrev pub cells_of : Terms → Cells
-cells_of terms = record { cell = terms.cell; zero_cell = terms.zero_cell; zeros = not terms.how.skip }
 
 -- the connections part
 abbrev pub is_parting : Phase → Bool

@@ -1,13 +1,7 @@
 -- What is so of a front of the calls stays so while calls are added.
-use Rattle.std.specs.Prelude.{◌≡◌, List, ◌++◌, Option, Some}
+use Rattle.std.specs.Prelude.{◌≡◌, List, Option, Some}
 use Rattle.lnbd_link.specs.Call as wire
-
--- A front of the calls is so.
-pub record AtSome (Is : List wire.Call → Type 0) (calls : List wire.Call) : Type 0 where
-  pub before : List wire.Call
-  pub after : List wire.Call
-  pub are : calls ≡ before ++ after
-  pub is : Is before
+use Rattle.lnbd_conduct.specs.Told.{AtSome}
 
 -- The transcript goes on, where it is told.
 pub record Lasts (told told' : Option (List wire.Call)) : Type 0 where

@@ -6,7 +6,8 @@ use Rattle.lnbd_board.specs.declared.ticket.Ticket.{Ticket}
 use Rattle.lnbd_board.specs.Files as board
 use Rattle.lnbd_copy.specs.Giving.{GivesNone}
 use Rattle.lnbd_copy.specs.Lasting.{Lasts}
-use Rattle.lnbd_copy.specs.Way.{Filed, IsLeaving, IsOn, Stand, Told, Way}
+use Rattle.lnbd_copy.specs.Way.{Filed, IsLeaving, IsOn, Stand, Way}
+use Rattle.lnbd_conduct.specs.Told.{Told}
 
 -- Handles are asked for the end of their connections: where these were to end, a copy stays on its way.
 pub record Parts (now : board.Seen) (held held' : List (Held Ticket)) : Type 0 where

@@ -9,7 +9,7 @@ use Rattle.lnbd_board.specs.Files as board
 use Rattle.lnbd_copy.specs.Copier.{Seen}
 use Rattle.lnbd_copy.specs.Job as work
 use Rattle.lnbd_copy.specs.Pauses.{Made}
-use Rattle.lnbd_copy.specs.Vain.{WasReadInVain, WasWrittenInVain, has_happened}
+use Rattle.lnbd_usage.specs.Vain.{WasReadInVain, WasWrittenInVain, has_happened}
 
 -- By these calls a link was tried in vain in the direction of its handle: it was read unless that is 0, and written where it is 2 or 3.
 pub record IsTriedInVain (link direction : ℕ) (calls : List wire.Call) : Type 0 where

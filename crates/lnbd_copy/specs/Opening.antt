@@ -9,7 +9,9 @@ use Rattle.lnbd_board.specs.Files as board
 use Rattle.lnbd_copy.specs.Connects.{StaysConnected}
 use Rattle.lnbd_copy.specs.Firsts.{KnowBoth}
 use Rattle.lnbd_copy.specs.Lasting.{Lasts}
-use Rattle.lnbd_copy.specs.Way.{IsOn, Stand, Told, Way, is_source}
+use Rattle.lnbd_copy.specs.Way.{IsOn, Stand, Way}
+use Rattle.lnbd_conduct.specs.Told.{Told}
+use Rattle.lnbd_conduct.specs.Sides.{is_source}
 
 -- where a copy's handle of this place among its handles is connected to
 abbrev pub place_of : Way → (index : ℕ) → Place

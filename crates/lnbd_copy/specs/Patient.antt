@@ -1,19 +1,11 @@
 -- How often a copy pauses.
-use Rattle.std.specs.Prelude.{◌≡◌, ℕ, ◌<◌, ◌≤◌, Bool, true, false, List, length, filter, Option}
+use Rattle.std.specs.Prelude.{◌≡◌, ℕ, ◌<◌, Bool, true, false, List, Option}
 use Rattle.lnbd_link.specs.Call as wire
 use Rattle.lnbd_link.specs.Count.{Rises, patience}
 use Rattle.lnbd_plan.specs.declared.fault.CopyFault.{CopyFault}
 use Rattle.lnbd_plan.specs.declared.fault.CopyFault.TheVariants as fault
-use Rattle.lnbd_copy.specs.Pauses.{is_pause}
-use Rattle.lnbd_copy.specs.Way.{Told}
-
--- how many pauses are among these calls
-abbrev pub pauses_in : List wire.Call → ℕ
-pauses_in calls = length (filter is_pause calls)
-
--- They pause no more often than is borne,
-abbrev pub PausesWithin : List wire.Call → Type 0
-PausesWithin calls = pauses_in calls ≤ patience
+use Rattle.lnbd_conduct.specs.Told.{Told}
+use Rattle.lnbd_conduct.specs.Pauses.{pauses_in, PausesWithin}
 
 -- or less often.
 abbrev pub PausesLess : List wire.Call → Type 0

@@ -1,15 +1,12 @@
 -- How the slices of a copy that are begun and not over are spread over the connections of each side.
-use Rattle.std.specs.Prelude.{◌≡◌, ◌<◌, ◌≤◌, ℕ, ◌+◌, ◌-◌, ◌/◌, List, Option, Some}
+use Rattle.std.specs.Prelude.{◌≡◌, ◌<◌, ◌≤◌, ℕ, List, Option, Some}
 use Rattle.std.specs.List.{All}
 use Rattle.lnbd_board.specs.declared.row.Row.{Row}
 use Rattle.lnbd_board.specs.Files as board
-use Rattle.lnbd_copy.specs.declared.terms.Terms.{Terms}
+use Rattle.lnbd_conduct.specs.declared.terms.Terms.{Terms}
 use Rattle.lnbd_copy.specs.Bound.{bound_to, on_destination, on_source}
 use Rattle.lnbd_copy.specs.Job as work
-
--- so many, divided by this number and rounded up
-abbrev pub rounded_up : (many by : ℕ) → ℕ
-rounded_up many by = (many + by - 1) / by
+use Rattle.lnbd_conduct.specs.Shares.{rounded_up}
 
 -- Each of these is one of so many connections, and none of them is there more often than the limit divided by their number, rounded up.
 pub record IsSpread (limit count : ℕ) (bound : List ℕ) : Type 0 where

@@ -7,7 +7,7 @@ use Rattle.lnbd_copy.specs.declared.copier.Progress.{Progress}
 use Rattle.lnbd_copy.specs.declared.copier.Progress.TheVariants as progress
 use Rattle.lnbd_copy.specs.Copier.{Seen}
 use Rattle.lnbd_copy.specs.Job as work
-use Rattle.lnbd_copy.specs.Way.{Told}
+use Rattle.lnbd_conduct.specs.Told.{Told}
 
 -- It is what the board of a copy under way counted.
 pub record IsTally (copy : Seen) (summary : Summary) : Type 0 where

@@ -5,58 +5,16 @@ use Rattle.lnbd_model.specs.declared.export.ExportInfo.{ExportInfo}
 use Rattle.lnbd_model.specs.declared.state.State.TheVariants as state
 use Rattle.lnbd_model.specs.declared.target.Place.{Place}
 use Rattle.lnbd_link.specs.Call as wire
-use Rattle.lnbd_link.specs.Numbers.{is_given}
-use Rattle.lnbd_link.specs.Traffic.{target_of}
 use Rattle.lnbd_history.specs.Answers.{state_after}
-use Rattle.lnbd_history.specs.Events.{History}
-use Rattle.lnbd_asked.specs.Exports.{name_set}
 use Rattle.lnbd_plan.specs.declared.fault.CopyFault.{CopyFault}
 use Rattle.lnbd_plan.specs.declared.fault.CopyFault.TheVariants as fault
 use Rattle.lnbd_plan.specs.declared.fault.Rule.{Rule}
 use Rattle.lnbd_poll.specs.Held.{Held}
 use Rattle.lnbd_board.specs.declared.ticket.Ticket.{Ticket}
-use Rattle.lnbd_copy.specs.declared.sides.Sides.{Sides}
-use Rattle.lnbd_copy.specs.Alike.{AllAlike, ToldAs}
-use Rattle.lnbd_copy.specs.Begun.{opened}
-use Rattle.lnbd_copy.specs.Driven.{WentOn, asks_extents_on}
-use Rattle.lnbd_copy.specs.DrivenBy.{DrivenBy}
-use Rattle.lnbd_copy.specs.Grounds.{AreSame, Finds, FindsBeside, FindsOther, Happens, needs_no_ground}
-use Rattle.lnbd_copy.specs.Lasting.{AtSome}
-use Rattle.lnbd_copy.specs.Terms.{broken_rule}
-
--- By the calls on the wires.
-
--- By these calls a handle drove this link to this place, and asked for the export there, as a copy's handle begins, and negotiates still: it was told nothing yet.
-pub record Negotiates (extents : Bool) (place : Place) (link : ℕ) (calls : List wire.Call) : Type 0 where
-  pub history : History Ticket
-  pub drives : DrivenBy link history calls
-  pub address : target_of link calls ≡ Some place.to
-  pub name : name_set history ≡ place.name
-  pub is : state_after history ≡ state.Negotiating
-  pub began : WentOn (opened place.name (asks_extents_on link extents calls)) history
-
--- The handle of a link to this place was told what all to it were that were told anything.
-abbrev pub WasToldOf : (extents : Bool) → (place : Place) → (all : Option ExportInfo) → (link : ℕ) → List wire.Call → Type 0
-WasToldOf extents place None link calls = ⊥
-WasToldOf extents place (Some info) link calls = AtSome (ToldAs extents place info link) calls
-
--- Or it negotiates still.
-abbrev pub IsToldOf : (extents : Bool) → (place : Place) → (all : Option ExportInfo) → (link : ℕ) → List wire.Call → Type 0
-IsToldOf extents place all link calls = Negotiates extents place link calls ⊎ WasToldOf extents place all link calls
-
--- All rules hold between what both places' connections were told, once one of each was.
-abbrev pub NoneBroken : (source destination : Option ExportInfo) → Type 0
-NoneBroken None destination = Unit {0}
-NoneBroken (Some source) None = Unit {0}
-NoneBroken (Some source) (Some destination) = broken_rule source destination ≡ None
-
--- By these calls the connections to one place that were told of an export were all told the same, and each other one negotiates still; and what both were told fits.
-pub record AreToldAlike (extents : Bool) (from to : Place) (calls : List wire.Call) : Type 0 where
-  -- what those to each place were told, once one was
-  pub source : Option ExportInfo
-  pub destination : Option ExportInfo
-  pub each : (link : ℕ) → is_given link calls ≡ true → IsToldOf extents from source link calls ⊎ IsToldOf extents to destination link calls
-  pub fit : NoneBroken source destination
+use Rattle.lnbd_conduct.specs.declared.sides.Sides.{Sides}
+use Rattle.lnbd_conduct.specs.Grounds.{AllAlike, AreSame, needs_no_ground}
+use Rattle.lnbd_copy.specs.Grounds.{Finds, FindsBeside, FindsOther, Happens}
+use Rattle.lnbd_conduct.specs.Terms.{broken_rule}
 
 -- By these calls each connection was told the same as all of its side, and what both were told fits.
 pub record HaveTold (extents : Bool) (from to : Place) (calls : List wire.Call) : Type 0 where

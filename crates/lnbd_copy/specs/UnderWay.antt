@@ -67,10 +67,12 @@ pub record HasAsked (old new : work.Seen) (now now' : board.Seen) : Type 0 where
 -- A job filled up what may be under way.
 pub record HasFilled (old new : work.Seen) (now now' : board.Seen) : Type 0 where
   pub job : new ≡ record old { windows = new.windows; bound = new.bound }
+  pub planned : new.windows ≡ record old.windows { plan = record old.windows.plan { slices = new.windows.plan.slices } }
   pub wanted : windows.wanted new.windows ≡ windows.wanted old.windows
   pub left : IsWantedOf old.windows → IsWantedOf new.windows
   pub came : now'.came ≡ now.came
   pub mapped : now'.mapped ≡ now.mapped
+  pub flushed : now'.flushed ≡ now.flushed
   pub fills : Fills old.terms.limit old.windows new.windows now now'
 
 -- With no more under way than may be, a step of a job leaves no more, and all that may be while slices are copied.

@@ -1,28 +1,19 @@
 -- Connections of a copy that negotiate still.
-use Rattle.std.specs.Prelude.{◌≡◌, ◌⊎◌, ℕ, Bool, true, List, Option}
+use Rattle.std.specs.Prelude.{◌≡◌, ◌⊎◌, ℕ, Bool, List, Option}
 use Rattle.lnbd_model.specs.declared.state.State.TheVariants as state
 use Rattle.lnbd_model.specs.declared.target.Place.{Place}
 use Rattle.lnbd_link.specs.Call as wire
-use Rattle.lnbd_link.specs.Numbers.{is_open}
 use Rattle.lnbd_link.specs.declared.wires.Want.{Want}
 use Rattle.lnbd_history.specs.Answers.{direction_after, state_after}
 use Rattle.lnbd_poll.specs.Held.{Held}
 use Rattle.lnbd_board.specs.declared.ticket.Ticket.{Ticket}
 use Rattle.lnbd_board.specs.Files as board
-use Rattle.lnbd_course.specs.Between.{place_of}
-use Rattle.lnbd_copy.specs.Grounds.{Drove, Happens}
-use Rattle.lnbd_copy.specs.LeftOut.{WantsAll}
+use Rattle.lnbd_copy.specs.Grounds.{Happens}
+use Rattle.lnbd_conduct.specs.Waiting.{WantsAll, NoneForWriting, WaitsWell, IsNegotiating}
 use Rattle.lnbd_copy.specs.Links.{LinksStand}
-use Rattle.lnbd_copy.specs.Pauses.{AtEachPause}
-use Rattle.lnbd_copy.specs.Unanswered.{NoneForWriting}
-use Rattle.lnbd_copy.specs.Waits.{WaitsWell}
-use Rattle.lnbd_copy.specs.Way.{IsOn, Stand, Told, Way}
-
--- By these calls a link to one of both places is open, and the handle that drove it, and asked for the export there, negotiates still.
-pub record IsNegotiating (extents : Bool) (from to : Place) (calls : List wire.Call) : Type 0 where
-  pub source : Bool
-  pub drove : Drove extents (place_of from to source) (λ history. state_after history ≡ state.Negotiating) calls
-  pub opened : is_open drove.link calls ≡ true
+use Rattle.lnbd_usage.specs.Pauses.{AtEachPause}
+use Rattle.lnbd_copy.specs.Way.{IsOn, Stand, Way}
+use Rattle.lnbd_conduct.specs.Told.{Told}
 
 -- Where a pause wants no link for writing a connection negotiates still.
 abbrev pub IsOpeningPause : (extents : Bool) → (from to : Place) → (before : List wire.Call) → List Want → Type 0

@@ -1,5 +1,5 @@
 -- What stands between two steps of a copy: by what its handles were asked and told so far, what its board holds is so.
-use Rattle.std.specs.Prelude.{◌≡◌, ◌≢◌, ◌⊎◌, ◌≤◌, ℕ, ◌-◌, Bool, true, false, ◌&&◌, ◌||◌, ◌==◌, nat_lt, nat_le, List, [], ◌∷◌, ◌++◌, length, Option, Some, None, slice_get, if◌then◌else◌}
+use Rattle.std.specs.Prelude.{◌≡◌, ◌≢◌, ◌⊎◌, ◌≤◌, ℕ, Bool, true, false, ◌==◌, List, [], ◌∷◌, ◌++◌, length, Option, Some, None, slice_get, if◌then◌else◌}
 use Rattle.lnbd_model.specs.declared.export.ExportInfo.{ExportInfo}
 use Rattle.lnbd_model.specs.declared.target.Place.{Place}
 use Rattle.lnbd_link.specs.Call as wire
@@ -21,18 +21,16 @@ use Rattle.lnbd_course.specs.Little.{extents_asked}
 use Rattle.lnbd_course.specs.Spread.{AllCount}
 use Rattle.lnbd_course.specs.Told as course
 use Rattle.lnbd_course.specs.UnderWay.{AllHeld}
-use Rattle.lnbd_copy.specs.declared.sides.Sides.{Sides}
+use Rattle.lnbd_conduct.specs.declared.sides.Sides.{Sides}
 use Rattle.lnbd_copy.specs.Bound.{on_destination, on_source}
-use Rattle.lnbd_copy.specs.Driven.{AllDriveOn, HasEnded, HasOrder, given_links}
+use Rattle.lnbd_copy.specs.Driven.{AllDriveOn, HasEnded, HasOrder}
+use Rattle.lnbd_conduct.specs.Driven.{given_links}
 use Rattle.lnbd_copy.specs.Firsts.{KnowBoth}
 use Rattle.lnbd_copy.specs.Giving.{GivesNone}
 use Rattle.lnbd_copy.specs.Lasting.{Lasts}
 use Rattle.lnbd_copy.specs.Statuses.{Hears}
-
--- The first handle is the source's first connection and the second the destination's; behind them stand the others of the source, and then those of the
--- destination.
-abbrev pub is_source : Sides → ℕ → Bool
-is_source sides index = (index == 0) || (nat_lt 1 index && nat_le index sides.source)
+use Rattle.lnbd_conduct.specs.Sides.{is_source, connection_of}
+use Rattle.lnbd_conduct.specs.Told.{Told}
 
 -- Each handle is on the side that its place among the handles says.
 abbrev pub AreSided : Sides → (has : ℕ → Bool) → List (Seen Ticket) → Type 0
@@ -47,10 +45,6 @@ ArePlaced true sides has seens = Unit {0}
 abbrev pub AreHeld : (parting : Bool) → List wire.Call → List (Seen Ticket) → Type 0
 AreHeld false calls seens = AllHeld calls seens
 AreHeld true calls seens = Unit {0}
-
--- which connection of its side the handle at this place is: the first of each is 0
-abbrev pub connection_of : Sides → (index : ℕ) → ℕ
-connection_of sides index = if is_source sides index then index - 1 else (if index == 1 then 0 else index - sides.source)
 
 -- the connection of a side that a row is bound to
 abbrev pub connection_on : (source : Bool) → Row → ℕ
@@ -170,18 +164,6 @@ with_slices more way = record way { slices = way.slices ++ more }
 pub record Keeps (how : How) (sides : Sides) (more : List Slice) (now now' : board.Seen) (held held' : List (Held Ticket)) : Type 0 where
   pub stand : Stand held → Stand held'
   pub on : (way : Way) (calls : List wire.Call) → way.how ≡ how → way.sides ≡ sides → IsOn way now calls held → IsOn (with_slices more way) now' calls held'
-
--- Of the calls of a transcript those since the start are so.
-pub record Since (start : Option (List wire.Call)) (all : List wire.Call) (Is : List wire.Call → Type 0) : Type 0 where
-  pub before : List wire.Call
-  pub calls : List wire.Call
-  pub was : start ≡ Some before
-  pub now : all ≡ before ++ calls
-  pub is : Is calls
-
--- Where the transcript is told, its calls since the start are so.
-pub record Told (start told : Option (List wire.Call)) (Is : List wire.Call → Type 0) : Type 0 where
-  pub since : (all : List wire.Call) → told ≡ Some all → Since start all Is
 
 -- What callbacks are told is filed on a board: no slice is begun or over, and an error that was told stands, as does that the flush was answered.
 pub record Filed (old new : board.Seen) : Type 0 where

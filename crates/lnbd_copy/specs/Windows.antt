@@ -1,11 +1,12 @@
 -- What is planned of a copy's source, and how far its extents were told.
-use Rattle.std.specs.Prelude.{◌≡◌, ◌<◌, ◌≤◌, ◌⊎◌, ℕ, ◌+◌, ◌-◌, ◌^◌, Bool, true, false, ◌&&◌, nat_lt, min, List, [], ◌∷◌, ◌++◌, Option, Some, None, if◌then◌else◌}
+use Rattle.std.specs.Prelude.{◌≡◌, ◌<◌, ◌≤◌, ℕ, ◌+◌, ◌-◌, ◌^◌, Bool, true, false, ◌&&◌, nat_lt, min, List, [], ◌∷◌, ◌++◌, Option, Some, None, if◌then◌else◌}
 use Rattle.lnbd_model.specs.declared.export.Extent.{Extent}
 use Rattle.lnbd_extents.specs.Positions.{within, holds}
 use Rattle.lnbd_asked.specs.Transcript.{zero_in}
 use Rattle.lnbd_plan.specs.declared.grid.Slice.{Slice}
 use Rattle.lnbd_plan.specs.Plans.{Planned}
 use Rattle.lnbd_plan.specs.Laws.{Window, windows_slices, windows_end, told_by}
+use Rattle.lnbd_conduct.specs.Slices.{window, AreFullWindows}
 
 -- What is known of the windows of a copy.
 pub record Seen : Type 0 where
@@ -17,10 +18,6 @@ pub record Seen : Type 0 where
   -- how far the extents are told of the window under way, and its whole blocks that were told as zero
   pub at : ℕ
   pub zero : List (ℕ × ℕ)
-
--- the most bytes of a window, of which extents are asked for at once
-abbrev pub window : ℕ
-window = 134217728
 
 -- where the window under way ends
 abbrev pub window_end : Seen → ℕ
@@ -38,11 +35,6 @@ zero_within range told p = within range p && zero_in range.0 told p
 abbrev pub zero_heard : (range : Option (ℕ × ℕ)) → List Extent → ℕ → Bool
 zero_heard None told p = false
 zero_heard (Some range) told p = zero_within range told p
-
--- Windows from this place on are as long as a window may be, or end where the source does.
-abbrev pub AreFullWindows : (size start : ℕ) → List Window → Type 0
-AreFullWindows size start [] = Unit {0}
-AreFullWindows size start (part ∷ parts) = ((part.count ≡ window) ⊎ (start + part.count ≡ size)) × AreFullWindows size (start + part.count) parts
 
 -- The slices that were handed out, and behind them those still to come, are those of whole windows from the source's beginning on. Nothing is planned as zero, or
 -- to be planned so, but what is among these positions.

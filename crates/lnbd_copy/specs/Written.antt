@@ -2,7 +2,7 @@
 use Rattle.std.specs.Prelude.{◌≡◌, ◌==◌, ℕ, List, [], ◌∷◌, Option, Some, None, if◌then◌else◌}
 use Rattle.lnbd_link.specs.Call as wire
 use Rattle.lnbd_link.specs.Call.{Connect, Listen, Accept, Read, Write, Pause, Shut, WriteTold, Full}
-use Rattle.lnbd_copy.specs.Vain.{WasWrittenInVain}
+use Rattle.lnbd_usage.specs.Vain.{WasWrittenInVain}
 
 -- what the last write of a link told since the last pause, where it was this before the call
 abbrev pub told_with : (link : ℕ) → wire.Call → Option WriteTold → Option WriteTold

@@ -6,66 +6,58 @@ ghost use Rattle.lnbd_link.specs.Count.{Rises, patience};
 ghost use Rattle.lnbd_link.specs.Part.{Adds};
 ghost use Rattle.lnbd_poll.specs.Held.{wants_now};
 ghost use Rattle.lnbd_poll.specs.declared.noticed.Turn.TheVariants as turned;
-ghost use Rattle.lnbd_course.specs.AllDone.{WereAllDone};
-ghost use Rattle.lnbd_course.specs.Asks.{GrewBy, HasAskedOnce};
-ghost use Rattle.lnbd_course.specs.Copied.{Copies};
-ghost use Rattle.lnbd_course.specs.Counts.{Summarizes};
-ghost use Rattle.lnbd_course.specs.Driven.{AreDriven};
-ghost use Rattle.lnbd_course.specs.Flushes.{FlushesLast, IsUnflushed};
-ghost use Rattle.lnbd_course.specs.Parts.{AsksAtMostOnce, FlushesAtMostOnce};
+ghost use Rattle.lnbd_course.specs.Asks.{HasAskedOnce};
 ghost use Rattle.lnbd_copy.specs.Agreed.{AreQuiet};
-ghost use Rattle.lnbd_copy.specs.Causes.{AreWell, GoesOn, HasCause};
-ghost use Rattle.lnbd_copy.specs.Conduct.{Conducts};
-ghost use Rattle.lnbd_copy.specs.Connected.{AllConnected};
-ghost use Rattle.lnbd_copy.specs.Connects.{ConnectsAsTold, ConnectsWithin, LinksGoAsTold, LinksGoWithin, StaysConnected, one_each};
+ghost use Rattle.lnbd_copy.specs.Awaiting.{AwaitsAll};
+ghost use Rattle.lnbd_copy.specs.Causes.{GoesOn, HasCause};
+ghost use Rattle.lnbd_copy.specs.Connects.{LinksGoAsTold, LinksGoWithin, StaysConnected};
+ghost use Rattle.lnbd_conduct.specs.Connects.{one_each, AreDrivenBy};
 ghost use Rattle.lnbd_copy.specs.declared.copier.Progress.TheVariants as progress;
-ghost use Rattle.lnbd_copy.specs.Copier.{GoesFurther, HasJob, HasMet, HasNotBegun, HasTurned, IsDone, IsGoing, IsOnItsWay, IsParting, Seen};
-ghost use Rattle.lnbd_copy.specs.Decided.{IsDecided, is_of_memory};
+ghost use Rattle.lnbd_copy.specs.Copier.{GoesFurther, HasJob, HasMet, HasNotBegun, HasTurned, IsGoing, IsOnItsWay, IsParting, Seen};
+ghost use Rattle.lnbd_conduct.specs.Decided.{IsDecided, is_of_memory};
 ghost use Rattle.lnbd_copy.specs.Deciding.{DecidesFurther, DecidesOn, GoesShut, IsCalm, WasUntroubledAs};
-ghost use Rattle.lnbd_copy.specs.Driven.{AreDrivenTo};
-ghost use Rattle.lnbd_copy.specs.DrivenAs.{AreDrivenBy, AreLeftBy};
+ghost use Rattle.lnbd_conduct.specs.Driven.{AreDrivenTo};
 ghost use Rattle.lnbd_copy.specs.Ended.{EndsWell};
 ghost use Rattle.lnbd_copy.specs.Driving.{DrivesFurther, DrivesOn, DrivesOneMore};
-ghost use Rattle.lnbd_copy.specs.Faults.{AreUnissued, AsksNone, AsksNothing, Behaves, GoesIdly, PassedSoFar, SparesSoFar, StaysFresh, StaysUnasked, UntouchedSoFar};
+ghost use Rattle.lnbd_copy.specs.Faults.{AreUnissued, AsksNone, AsksNothing, GoesIdly, StaysFresh, StaysUnasked};
+ghost use Rattle.lnbd_conduct.specs.Changes.{Behaves};
 ghost use Rattle.lnbd_copy.specs.Flushed.{HasFlushed};
-ghost use Rattle.lnbd_copy.specs.Flushing.{FlushesOnFirst};
-ghost use Rattle.lnbd_copy.specs.Grounds.{AllSame, IsGrounded, Lasts, needs_no_ground};
-ghost use Rattle.lnbd_copy.specs.declared.terms.Terms.{Terms as Settled};
-ghost use Rattle.lnbd_copy.specs.Made.{IsMade};
-ghost use Rattle.lnbd_copy.specs.LeftOut.{WantsAll};
-ghost use Rattle.lnbd_copy.specs.Links.{HaveSameLinks, LinksAreKept, LinksGo, LinksGoTo, LinksStand};
-ghost use Rattle.lnbd_copy.specs.Little.{StaysLittle, WroteHandshakes, WroteLittle};
+ghost use Rattle.lnbd_copy.specs.Grounds.{AllSame, Lasts};
+ghost use Rattle.lnbd_conduct.specs.Grounds.{IsGrounded, needs_no_ground};
+ghost use Rattle.lnbd_conduct.specs.declared.terms.Terms.{Terms as Settled};
+ghost use Rattle.lnbd_conduct.specs.Waiting.{WantsAll, WroteHandshakes, WroteLittle, WaitsWell};
+ghost use Rattle.lnbd_copy.specs.Links.{HaveSameLinks, LinksGo, LinksGoTo, LinksStand};
+ghost use Rattle.lnbd_copy.specs.Little.{StaysLittle};
 ghost use Rattle.lnbd_copy.specs.Moving.{HasMoved, SomethingHappens, Stirs, TurnsInVain};
 ghost use Rattle.lnbd_copy.specs.Opening.{Dials};
-ghost use Rattle.lnbd_copy.specs.Paused.{PausesAreFull};
-ghost use Rattle.lnbd_copy.specs.Patient.{HasWaited, PausesLess, PausesWithin, StaysPatient, may_end_waiting};
-ghost use Rattle.lnbd_copy.specs.Pauses.{AtEachPause, Pauses, Unpaused, WantsInVain, WantsOnlyFull};
-ghost use Rattle.lnbd_copy.specs.Runs.{RunsSoFar};
-ghost use Rattle.lnbd_copy.specs.Settled.{FlushesWanted, SparesFound, SparesTold};
+ghost use Rattle.lnbd_copy.specs.Pace.{IsPaced, StaysPaced, TriesAtMost};
+ghost use Rattle.lnbd_conduct.specs.Pauses.{KeepsPace, WantsOnlyFull, TriedBefore, WantsOnlyEmpty, WantsSome};
+ghost use Rattle.lnbd_usage.specs.Pauses.{AtEachPause};
+ghost use Rattle.lnbd_copy.specs.Patient.{HasWaited, StaysPatient, may_end_waiting};
+ghost use Rattle.lnbd_copy.specs.Pauses.{Pauses, Unpaused, WantsInVain};
 ghost use Rattle.lnbd_copy.specs.Spread.{AreSpread};
-ghost use Rattle.lnbd_copy.specs.Sharing.{IsAlwaysShared, IsShared};
-ghost use Rattle.lnbd_copy.specs.Statuses.{ReadsAreAnswered};
+ghost use Rattle.lnbd_conduct.specs.Shares.{IsShared};
+ghost use Rattle.lnbd_conduct.specs.Answered.{ReadsAreAnswered};
 ghost use Rattle.lnbd_copy.specs.Summed.{HasSummed, IsTally};
-ghost use Rattle.lnbd_copy.specs.Tried.{AnyLeft, NoneLeft, TriedBefore, TriedBut, Tries, TriesAll};
+ghost use Rattle.lnbd_copy.specs.Tried.{AnyLeft, NoneLeft, TriedBut, Tries, TriesAll};
 ghost use Rattle.lnbd_copy.specs.Unanswered.{HasAllAsked};
 ghost use Rattle.lnbd_copy.specs.UnderWay.{IsBusy};
 ghost use Rattle.lnbd_copy.specs.Unready.{IsEarlyPause, IsOpeningPause, StaysUnready};
-ghost use Rattle.lnbd_copy.specs.Vain.{WantsOnlyEmpty};
-ghost use Rattle.lnbd_copy.specs.Waits.{AreUnparted, WaitsWell};
-ghost use Rattle.lnbd_copy.specs.Wanted.{WantsSome};
-ghost use Rattle.lnbd_copy.specs.Way.{Goes, Stand, Told, is_source};
-ghost use Rattle.lnbd_copy.specs.Whole.{WasCopiedWhole};
+ghost use Rattle.lnbd_copy.specs.Waits.{AreUnparted};
+ghost use Rattle.lnbd_copy.specs.Way.{Goes, Stand};
+ghost use Rattle.lnbd_conduct.specs.Told.{Told};
+ghost use Rattle.lnbd_conduct.specs.Sides.{is_source};
 
 use crate::agreeing::{agree, check_well, tells_extents};
 use crate::counts::{Counts, check_counts, check_idles};
 use crate::dialing::{dial, settle, wait};
 use crate::job::Job;
 use crate::parting::{shut_all, shut_parted};
-use crate::sides::{ONE_EACH, Sides};
 use crate::telling::progress_of;
-use crate::terms::{Terms, UNKNOWN};
+use crate::terms::UNKNOWN;
 use crate::turning::{check_calm, turn};
 use lnbd_board::{Board, Ticket};
+use lnbd_conduct::{ONE_EACH, Sides, Terms};
 use lnbd_link::Wires;
 use lnbd_model::{NoMemory, Place};
 use lnbd_plan::{CopyFault, CopyOptions, Summary};
@@ -127,7 +119,8 @@ impl Copier {
         }
     }
 
-    /// Makes all connections, which negotiate, and settles how the copy is made.
+    /// Makes all connections, which negotiate, settles how the copy is made, and asks for what can be asked for at first. Nothing of that is
+    /// written yet.
     ///
     /// # Errors
     ///
@@ -172,6 +165,11 @@ impl Copier {
         // Each was tried before the next pause, and where all connections stand also since the last.
         ensures tries { Told (W.told wires.old) (W.told wires.new) (AtEachPause TriedBefore) }
         ensures tried { OnOk result (Told (W.told wires.old) (W.told wires.new) (TriedBut NoneLeft)) }
+        // While no pause is made and nothing happens on any link, none is tried in vain more than twice; and where all connections stand, more than once since something happened last.
+        ensures paces { Told (W.told wires.old) (W.told wires.new) KeepsPace }
+        ensures paced { OnOk result (Told (W.told wires.old) (W.told wires.new) (IsPaced 1)) }
+        // What can be asked at first was asked of the handles, and nothing is to be asked until something comes.
+        ensures awaits { OnOk result (Told (W.told wires.old) (W.told wires.new) (λ calls. AwaitsAll self.new.job self.new.board)) }
 
         // What the calls show of a fault.
         ensures grounds { IfErr result (λ told. IsGrounded (W.told wires.old) (W.told wires.new) self.old.options.extents self.old.from self.old.to told) }
@@ -210,6 +208,9 @@ impl Copier {
         ensures little { Told (W.told wires.old) (W.told wires.new) (AtEachPause WroteHandshakes) }
         ensures tries { Tries AnyLeft (W.told wires.old) (W.told wires.new) }
         ensures tried { OnOk result (Tries NoneLeft (W.told wires.old) (W.told wires.new)) }
+        ensures paces { Told (W.told wires.old) (W.told wires.new) (IsPaced 2) }
+        ensures paced { OnOk result (Told (W.told wires.old) (W.told wires.new) (IsPaced 1)) }
+        ensures awaits { OnOk result (Told (W.told wires.old) (W.told wires.new) (λ calls. AwaitsAll self.new.job self.new.board)) }
         ensures causes { IfErr result (λ told. HasCause self.old.start (W.faults wires.new) (W.idles wires.new) told) }
         ensures grounds { IfErr result (λ told. IsGrounded (W.told wires.old) (W.told wires.new) self.old.options.extents self.old.from self.old.to told) }
         ensures counts { GoesOn (W.faults wires.old) (W.faults wires.new) (W.idles wires.old) (W.idles wires.new) (W.contents wires.old) (W.contents wires.new) }
@@ -246,6 +247,8 @@ impl Copier {
         ensures little { Told (W.told wires.old) (W.told wires.new) (AtEachPause WroteHandshakes) }
         ensures tries { Tries AnyLeft (W.told wires.old) (W.told wires.new) }
         ensures tried { OnOk result (Tries NoneLeft (W.told wires.old) (W.told wires.new)) }
+        ensures paces { Told (W.told wires.old) (W.told wires.new) (IsPaced 2) }
+        ensures paced { OnOk result (Told (W.told wires.old) (W.told wires.new) (IsPaced 1)) }
         ensures causes { IfErr result (λ told. HasCause self.old.start (W.faults wires.new) (W.idles wires.new) told) }
         ensures grounds { IfErr result (λ told. IsGrounded (W.told wires.old) (W.told wires.new) self.old.options.extents self.old.from self.old.to told) }
         ensures counts { GoesOn (W.faults wires.old) (W.faults wires.new) (W.idles wires.old) (W.idles wires.new) (W.contents wires.old) (W.contents wires.new) }
@@ -265,7 +268,8 @@ impl Copier {
         agree(&self.handles, self.options)
     }
 
-    /// Makes ready what is done once all connections stand.
+    /// Makes ready what is done once all connections stand, and asks for what can be asked for at first. So a turn in which nothing
+    /// happens finds nothing to ask for.
     #[tactic(auto, using(crate::proofs::LinkLemmas::same_none))]
     fn set_up(&mut self, terms: Terms) -> Result<(), NoMemory>
         requires cells { (0 < terms.cell) × (0 < terms.zero_cell) × (0 < terms.grain) }
@@ -275,11 +279,13 @@ impl Copier {
         requires same { AllSame terms.sides (length self.old.held) self.old.held }
         ensures kept { self.new ≡ record self.old { held = self.new.held; board = self.new.board; job = self.new.job } }
         ensures begins { (start told : Option (List Call)) → HasMet self.old start told terms → OnOk result (IsOnItsWay start told self.new) }
+        ensures awaits { (start told : Option (List Call)) → HasMet self.old start told terms → OnOk result (Told start told (λ calls. AwaitsAll self.new.job self.new.board)) }
         ensures links { HaveSameLinks self.old.held self.new.held }
     {
         let extents = tells_extents(&self.handles)?;
         mem::replace(&mut self.board, Board::new(self.alloc, terms.how)).end();
         self.job = Some(Job::new(self.alloc, terms, extents)?);
+        self.act()?;
         Ok(())
     }
 
@@ -294,6 +300,7 @@ impl Copier {
         ensures kept { self.new ≡ record self.old { held = self.new.held; board = self.new.board } }
         ensures dials { OnOk result (Dials self.old.from extents self.old.board self.old.held (W.told wires.old) self.new.held (W.told wires.new)) }
         ensures unpaused { Unpaused (W.told wires.old) (W.told wires.new) }
+        ensures untried { TriesAtMost 0 (W.told wires.old) (W.told wires.new) }
         ensures board { OnOk result (self.new.board ≡ self.old.board) }
         ensures unasked { StaysUnasked self.old.from self.old.to (W.told wires.old) (W.told wires.new) }
         ensures unissued { OnOk result (AreUnissued self.old.held → AreUnissued self.new.held) }
@@ -324,6 +331,7 @@ impl Copier {
         ensures kept { self.new ≡ record self.old { held = self.new.held; board = self.new.board } }
         ensures dials { OnOk result (Dials self.old.to false self.old.board self.old.held (W.told wires.old) self.new.held (W.told wires.new)) }
         ensures unpaused { Unpaused (W.told wires.old) (W.told wires.new) }
+        ensures untried { TriesAtMost 0 (W.told wires.old) (W.told wires.new) }
         ensures board { OnOk result (self.new.board ≡ self.old.board) }
         ensures unasked { StaysUnasked self.old.from self.old.to (W.told wires.old) (W.told wires.new) }
         ensures unissued { OnOk result (AreUnissued self.old.held → AreUnissued self.new.held) }
@@ -363,6 +371,8 @@ impl Copier {
         ensures little { StaysLittle self.old.board self.old.held (W.told wires.old) (W.told wires.new) }
         ensures tries { Stand self.old.held → Tries AnyLeft (W.told wires.old) (W.told wires.new) }
         ensures tried { OnOk result (Stand self.old.held → Tries NoneLeft (W.told wires.old) (W.told wires.new)) }
+        ensures paces { StaysPaced 2 self.old.board self.old.held (W.told wires.old) (W.told wires.new) }
+        ensures paced { OnOk result (StaysPaced 1 self.old.board self.old.held (W.told wires.old) (W.told wires.new)) }
         ensures causes { IfErr result (λ told. HasCause self.old.start (W.faults wires.new) (W.idles wires.new) told) }
         ensures counts { GoesOn (W.faults wires.old) (W.faults wires.new) (W.idles wires.old) (W.idles wires.new) (W.contents wires.old) (W.contents wires.new) }
         ensures links { Stand self.old.held → LinksGo [] self.old.held (W.told wires.old) self.new.held (W.told wires.new) }
@@ -391,6 +401,8 @@ impl Copier {
         ensures little { (start : Option (List Call)) (terms : Settled) → HasMet self.old start (W.told wires.old) terms → sides ≡ terms.sides → Told start (W.told wires.old) (λ calls. AreUnissued self.old.held) → length self.old.held ≡ 2 → Told start (W.told wires.old) (AtEachPause WroteHandshakes) → Told start (W.told wires.new) (AtEachPause WroteHandshakes) }
         ensures tries { Stand self.old.held → Tries AnyLeft (W.told wires.old) (W.told wires.new) }
         ensures tried { OnOk result (Stand self.old.held → Tries NoneLeft (W.told wires.old) (W.told wires.new)) }
+        ensures paces { (start : Option (List Call)) (terms : Settled) → HasMet self.old start (W.told wires.old) terms → sides ≡ terms.sides → length self.old.held ≡ 2 → Told start (W.told wires.old) (IsPaced 1) → Told start (W.told wires.new) (IsPaced 2) }
+        ensures paced { OnOk result ((start : Option (List Call)) (terms : Settled) → HasMet self.old start (W.told wires.old) terms → sides ≡ terms.sides → length self.old.held ≡ 2 → Told start (W.told wires.old) (IsPaced 1) → Told start (W.told wires.new) (IsPaced 1)) }
         ensures causes { IfErr result (λ told. HasCause self.old.start (W.faults wires.new) (W.idles wires.new) told) }
         ensures grounds { IfErr result (λ told. (start : Option (List Call)) (terms : Settled) → HasMet self.old start (W.told wires.old) terms → sides ≡ terms.sides → length self.old.held ≡ 2 → IsGrounded start (W.told wires.new) self.old.options.extents self.old.from self.old.to told) }
         ensures counts { GoesOn (W.faults wires.old) (W.faults wires.new) (W.idles wires.old) (W.idles wires.new) (W.contents wires.old) (W.contents wires.new) }
@@ -408,7 +420,7 @@ impl Copier {
         self.settle(wires, sides)
     }
 
-    #[tactic(auto, using(crate::proofs::CauseLemmas::goes_same, crate::proofs::CauseLemmas::goes_then, crate::proofs::CauseLemmas::cause_later, crate::proofs::CauseLemmas::cause_free, crate::proofs::PauseLemmas::unpaused_none, crate::proofs::LinkLemmas::links_none))]
+    #[tactic(auto, using(crate::proofs::CauseLemmas::goes_same, crate::proofs::CauseLemmas::goes_then, crate::proofs::CauseLemmas::cause_later, crate::proofs::CauseLemmas::cause_free, crate::proofs::PauseLemmas::unpaused_none, crate::proofs::PaceLemmas::tires_none, crate::proofs::LinkLemmas::links_none))]
     fn dial_sources<W: Wires>(&mut self, wires: &mut W, sides: Sides) -> Result<(), CopyFault>
         requires faults { self.old.start.faults ≤ W.faults wires.old }
         requires some { 0 < sides.source }
@@ -418,6 +430,7 @@ impl Copier {
         ensures unasked { StaysUnasked self.old.from self.old.to (W.told wires.old) (W.told wires.new) }
         ensures unissued { OnOk result (AreUnissued self.old.held → AreUnissued self.new.held) }
         ensures unpaused { Unpaused (W.told wires.old) (W.told wires.new) }
+        ensures untried { TriesAtMost 0 (W.told wires.old) (W.told wires.new) }
         ensures causes { IfErr result (λ told. HasCause self.old.start (W.faults wires.new) (W.idles wires.new) told) }
         ensures free { IfErr result (λ told. needs_no_ground told ≡ true) }
         ensures counts { GoesOn (W.faults wires.old) (W.faults wires.new) (W.idles wires.old) (W.idles wires.new) (W.contents wires.old) (W.contents wires.new) }
@@ -433,7 +446,7 @@ impl Copier {
         Ok(())
     }
 
-    #[tactic(auto, using(crate::proofs::CauseLemmas::goes_same, crate::proofs::CauseLemmas::goes_then, crate::proofs::CauseLemmas::cause_later, crate::proofs::CauseLemmas::cause_free, crate::proofs::PauseLemmas::unpaused_none, crate::proofs::LinkLemmas::links_none))]
+    #[tactic(auto, using(crate::proofs::CauseLemmas::goes_same, crate::proofs::CauseLemmas::goes_then, crate::proofs::CauseLemmas::cause_later, crate::proofs::CauseLemmas::cause_free, crate::proofs::PauseLemmas::unpaused_none, crate::proofs::PaceLemmas::tires_none, crate::proofs::LinkLemmas::links_none))]
     fn dial_destinations<W: Wires>(&mut self, wires: &mut W, sides: Sides) -> Result<(), CopyFault>
         requires faults { self.old.start.faults ≤ W.faults wires.old }
         ensures kept { self.new ≡ record self.old { held = self.new.held; board = self.new.board } }
@@ -441,6 +454,7 @@ impl Copier {
         ensures unasked { StaysUnasked self.old.from self.old.to (W.told wires.old) (W.told wires.new) }
         ensures unissued { OnOk result (AreUnissued self.old.held → AreUnissued self.new.held) }
         ensures unpaused { Unpaused (W.told wires.old) (W.told wires.new) }
+        ensures untried { TriesAtMost 0 (W.told wires.old) (W.told wires.new) }
         ensures causes { IfErr result (λ told. HasCause self.old.start (W.faults wires.new) (W.idles wires.new) told) }
         ensures free { IfErr result (λ told. needs_no_ground told ≡ true) }
         ensures counts { GoesOn (W.faults wires.old) (W.faults wires.new) (W.idles wires.old) (W.idles wires.new) (W.contents wires.old) (W.contents wires.new) }
@@ -500,6 +514,11 @@ impl Copier {
         ensures still { IfOk result (λ told. told ≡ progress.Still → TurnsInVain self.new.held (W.told wires.old) (W.told wires.new)) }
         // `Moved`: something happened on a link, or bytes arrived that had been read of one; or else its board is not as it was, or what is under way isn't.
         ensures moved { IfOk result (λ told. (count : ℕ) → told ≡ progress.Moved count → HasMoved self.old self.new (W.told wires.old) (W.told wires.new)) }
+        // Something did happen on a link, or such bytes arrived, where nothing was to be asked when it began; and nothing is then to be asked until something comes.
+        ensures stirs { IfOk result (λ told. (count : ℕ) → told ≡ progress.Moved count → (start : Option (List Call)) → Told start (W.told wires.old) (λ calls. AwaitsAll self.old.job self.old.board) → Stirs self.old.held (W.told wires.old) (W.told wires.new)) }
+        ensures awaits { OnOk result ((start : Option (List Call)) → IsOnItsWay start (W.told wires.old) self.old → Told start (W.told wires.new) (λ calls. AwaitsAll self.new.job self.new.board)) }
+        // Whatever it comes to, no link is tried in vain twice in it.
+        ensures once { (start : Option (List Call)) → IsOnItsWay start (W.told wires.old) self.old → TriesAtMost 1 (W.told wires.old) (W.told wires.new) }
 
         // Its links are kept, whether it goes on or not.
         ensures links { LinksGo [] self.old.held (W.told wires.old) self.new.held (W.told wires.new) }
@@ -547,6 +566,9 @@ impl Copier {
         ensures tries { OnOk result ((start : Option (List Call)) → IsOnItsWay start (W.told wires.old) self.old → TriesAll self.old.held (W.told wires.old) (W.told wires.new)) }
         ensures still { IfOk result (λ told. told ≡ progress.Still → TurnsInVain self.new.held (W.told wires.old) (W.told wires.new)) }
         ensures moved { IfOk result (λ told. (count : ℕ) → told ≡ progress.Moved count → HasMoved self.old self.new (W.told wires.old) (W.told wires.new)) }
+        ensures stirs { IfOk result (λ told. (count : ℕ) → told ≡ progress.Moved count → (start : Option (List Call)) → Told start (W.told wires.old) (λ calls. AwaitsAll self.old.job self.old.board) → Stirs self.old.held (W.told wires.old) (W.told wires.new)) }
+        ensures awaits { OnOk result ((start : Option (List Call)) → IsOnItsWay start (W.told wires.old) self.old → Told start (W.told wires.new) (λ calls. AwaitsAll self.new.job self.new.board)) }
+        ensures once { (start : Option (List Call)) → IsOnItsWay start (W.told wires.old) self.old → TriesAtMost 1 (W.told wires.old) (W.told wires.new) }
         ensures fair { (start : Option (List Call)) → IsOnItsWay start (W.told wires.old) self.old → self.old.from ≢ self.old.to → Told start (W.told wires.old) (Behaves self.old.options self.old.from self.old.to) → Told start (W.told wires.new) (Behaves self.old.options self.old.from self.old.to) }
         ensures causes { IfErr result (λ told. HasCause self.old.start (W.faults wires.new) (W.idles wires.new) told) }
         ensures grounds { IfErr result (λ told. (start : Option (List Call)) → IsOnItsWay start (W.told wires.old) self.old → IsGrounded start (W.told wires.new) self.old.options.extents self.old.from self.old.to told) }
@@ -580,6 +602,7 @@ impl Copier {
         ensures still { IfOk result (λ told. told ≡ turned.Still → Stand self.old.held → TurnsInVain self.new.held (W.told wires.old) (W.told wires.new)) }
         ensures same { IfOk result (λ told. told ≡ turned.Still → Stand self.old.held → self.new.board ≡ self.old.board) }
         ensures moved { IfOk result (λ told. (count : ℕ) → told ≡ turned.Moved count → Stand self.old.held → Stirs self.old.held (W.told wires.old) (W.told wires.new)) }
+        ensures once { (start : Option (List Call)) → IsOnItsWay start (W.told wires.old) self.old → TriesAtMost 1 (W.told wires.old) (W.told wires.new) }
         ensures fair { (start : Option (List Call)) → IsOnItsWay start (W.told wires.old) self.old → self.old.from ≢ self.old.to → Told start (W.told wires.old) (Behaves self.old.options self.old.from self.old.to) → Told start (W.told wires.new) (Behaves self.old.options self.old.from self.old.to) }
         ensures causes { IfErr result (λ told. HasCause self.old.start (W.faults wires.new) (W.idles wires.new) told) }
         ensures grounds { IfErr result (λ told. (start : Option (List Call)) → IsOnItsWay start (W.told wires.old) self.old → IsGrounded start (W.told wires.new) self.old.options.extents self.old.from self.old.to told) }
@@ -604,6 +627,8 @@ impl Copier {
         ensures busy { OnOk result ((start told : Option (List Call)) → IsOnItsWay start told self.old → IsBusy self.new.job self.new.board) }
         ensures still { IfOk result (λ acted. acted ≡ false → self.new.held ≡ self.old.held) }
         ensures acted { IfOk result (λ acted. acted ≡ true → self.new.board ≡ self.old.board → self.new.job ≢ self.old.job) }
+        ensures awaits { OnOk result ((start told : Option (List Call)) → IsOnItsWay start told self.old → Told start told (λ calls. AwaitsAll self.new.job self.new.board)) }
+        ensures idle { IfOk result (λ acted. AwaitsAll self.old.job self.old.board → acted ≡ false) }
         ensures links { HaveSameLinks self.old.held self.new.held }
     {
         match &mut self.job {
@@ -628,6 +653,7 @@ impl Copier {
         ensures kept { self.new ≡ record self.old { held = self.new.held; board = self.new.board } }
         ensures on { (start : Option (List Call)) → IsOnItsWay start (W.told wires.old) self.old → IsOnItsWay start (W.told wires.new) self.new }
         ensures busy { IsBusy self.old.job self.old.board → IsBusy self.new.job self.new.board }
+        ensures awaits { AwaitsAll self.old.job self.old.board → AwaitsAll self.new.job self.new.board }
         ensures unpaused { Unpaused (W.told wires.old) (W.told wires.new) }
         ensures still { result ≡ 0 → (self.new.held ≡ self.old.held) × (wires.new ≡ wires.old) × (self.new.board ≡ self.old.board) }
         ensures happens { result ≢ 0 → SomethingHappens (W.told wires.old) (W.told wires.new) }

@@ -3,8 +3,9 @@
 ghost use Rattle.std.specs.Prelude.{◌≡◌, ◌≤◌, ◌<◌, true, IfErr, OnOk};
 ghost use Rattle.lnbd_link.specs.Count.{Rises, patience};
 ghost use Rattle.lnbd_copy.specs.Causes.{AreWell, HasCause, tells_no_count};
-ghost use Rattle.lnbd_copy.specs.Decided.{is_of_link};
-ghost use Rattle.lnbd_copy.specs.Grounds.{fault_by, fault_of, needs_no_ground};
+ghost use Rattle.lnbd_conduct.specs.Decided.{is_of_link};
+ghost use Rattle.lnbd_copy.specs.Grounds.{fault_by, fault_of};
+ghost use Rattle.lnbd_conduct.specs.Grounds.{needs_no_ground};
 ghost use Rattle.lnbd_copy.specs.Patient.{may_end_waiting};
 
 use lnbd_link::{Wires, is_long, rose};

@@ -12,12 +12,11 @@ ghost use Rattle.lnbd_copy.specs.Dealt.{Deals};
 ghost use Rattle.lnbd_copy.specs.Dealing.{Begins, HasBegun, HasGoneOn, IsAskedFirst, IsAskedOf};
 ghost use Rattle.lnbd_copy.specs.Links.{HaveSameLinks};
 ghost use Rattle.lnbd_copy.specs.UnderWay.{Fills, HasBegunOne, HasLooked, HaveLooked};
-ghost use Rattle.lnbd_copy.specs.Way.{Keeps, is_source};
+ghost use Rattle.lnbd_copy.specs.Way.{Keeps};
 
-use crate::sides::{FIRST_DESTINATION, FIRST_SOURCE, Sides};
-use crate::terms::Terms;
 use crate::windows::Windows;
 use lnbd_board::{Ask, Board, Bound, Change, Next, Ticket};
+use lnbd_conduct::{FIRST_DESTINATION, FIRST_SOURCE, Sides, Terms};
 use lnbd_handle::IssueFault;
 use lnbd_model::NoMemory;
 use lnbd_plan::Slice;
@@ -292,6 +291,7 @@ impl Bindings {
         ensures keeps { OnOk result (Keeps board.old.how self.old.sides [] board.old board.new handles.old handles.new) }
         ensures looked { OnOk result (HaveLooked board.old board.new) }
         ensures none { IfOk result (λ done. board.old.came ≡ [] → done ≡ 0) }
+        ensures same { IfOk result (λ done. done ≡ 0 → board.new ≡ board.old) }
         ensures still { IfOk result (λ done. done ≡ 0 → handles.new ≡ handles.old) }
         ensures dealt { OnOk result ((limit : ℕ) → Deals limit self.old.sides self.old.bound self.new.bound board.old.rows board.new.rows) }
         ensures links { HaveSameLinks handles.old handles.new }
@@ -404,6 +404,7 @@ impl Bindings {
         ensures begins { OnOk result (Begins board.old.how self.old.sides windows.old windows.new board.old board.new handles.old handles.new) }
         ensures fills { OnOk result (Fills limit windows.old windows.new board.old board.new) }
         ensures begun { IfOk result (λ done. board.new.begun ≡ board.old.begun → done ≡ 0) }
+        ensures none { IfOk result (λ done. (length board.old.rows < limit → length windows.old.plan.slices ≡ 0) → done ≡ 0) }
         ensures still { IfOk result (λ done. done ≡ 0 → handles.new ≡ handles.old) }
         ensures dealt { OnOk result (Deals limit self.old.sides self.old.bound self.new.bound board.old.rows board.new.rows) }
         ensures links { HaveSameLinks handles.old handles.new }

@@ -13,26 +13,27 @@ ghost use Rattle.lnbd_copy.specs.Connects.{StaysConnected};
 ghost use Rattle.lnbd_copy.specs.Deciding.{DecidesOn, IsCalm};
 ghost use Rattle.lnbd_copy.specs.Driving.{DrivesOn, DrivesOneMore};
 ghost use Rattle.lnbd_copy.specs.Faults.{AreUnissued, AsksNone, GoesIdly, StaysFresh, StaysUnasked};
-ghost use Rattle.lnbd_copy.specs.Grounds.{needs_no_ground};
+ghost use Rattle.lnbd_conduct.specs.Grounds.{needs_no_ground};
 ghost use Rattle.lnbd_copy.specs.Links.{LinksGo, LinksGoTo};
 ghost use Rattle.lnbd_copy.specs.Little.{StaysLittle};
 ghost use Rattle.lnbd_copy.specs.Moving.{TurnsInVain};
 ghost use Rattle.lnbd_copy.specs.Opening.{Dials};
+ghost use Rattle.lnbd_copy.specs.Pace.{StaysPaced, TriesAtMost};
 ghost use Rattle.lnbd_copy.specs.Patient.{StaysPatient, may_end_waiting};
 ghost use Rattle.lnbd_copy.specs.Pauses.{Pauses, Unpaused, WantsInVain};
 ghost use Rattle.lnbd_copy.specs.Tried.{AnyLeft, NoneLeft, RestsEarly, Tries};
 ghost use Rattle.lnbd_copy.specs.Unready.{StaysUnready};
 ghost use Rattle.lnbd_copy.specs.Waits.{AreUnparted};
-ghost use Rattle.lnbd_copy.specs.Wanted.{WantsSome};
+ghost use Rattle.lnbd_conduct.specs.Pauses.{WantsSome};
 ghost use Rattle.lnbd_copy.specs.Way.{Goes, Stand};
 
 use crate::agreeing::are_quiet;
 use crate::counts::{Counts, check_idles};
 use crate::opening::open;
-use crate::sides::Sides;
 use crate::turning::{check_calm, turn};
 use crate::wanting::{check_loud, check_unparted, check_wanted};
 use lnbd_board::{Board, Ticket};
+use lnbd_conduct::Sides;
 use lnbd_handle::Handle;
 use lnbd_link::Wires;
 use lnbd_model::{NoMemory, Place};
@@ -93,6 +94,7 @@ pub(crate) fn dial<W: Wires>(
     requires counted { start.faults ≤ W.faults wires.old }
     ensures dials { OnOk result (Dials place.now extents board.old handles.old (W.told wires.old) handles.new (W.told wires.new)) }
     ensures unpaused { Unpaused (W.told wires.old) (W.told wires.new) }
+    ensures untried { TriesAtMost 0 (W.told wires.old) (W.told wires.new) }
     ensures board { OnOk result (board.new ≡ board.old) }
     ensures causes { IfErr result (λ told. HasCause start (W.faults wires.new) (W.idles wires.new) told) }
     ensures free { IfErr result (λ told. needs_no_ground told ≡ true) }
@@ -168,14 +170,12 @@ fn rest<W: Wires>(
     ensures wanted { Pauses WantsSome (W.told wires.old) (W.told wires.new) }
     ensures little { (now : Seen) → StaysLittle now handles.old (W.told wires.old) (W.told wires.new) }
     ensures rests { OnOk result (RestsEarly handles.old (told ≡ turned.Still) (W.told wires.old) (W.told wires.new)) }
+    ensures paused { OnOk result (told ≡ turned.Still → Adds (W.told wires.old) (W.told wires.new) (Pause (wants_now handles.old))) }
     ensures still { OnErr result (W.told wires.new ≡ W.told wires.old) }
     ensures patient { StaysPatient true start.idles (W.told wires.old) (W.idles wires.old) (W.told wires.new) (W.idles wires.new) }
 {
     match told {
         Turn::Still => {
-            if are_quiet(handles) {
-                return Ok(());
-            }
             check_loud(handles)?;
             wait(handles, wires, start)
         }
@@ -212,6 +212,8 @@ pub(crate) fn settle<W: Wires>(
     ensures calm { OnOk result (IsCalm (Some sides) board.new handles.new) }
     ensures tries { Stand handles.old → Tries AnyLeft (W.told wires.old) (W.told wires.new) }
     ensures tried { OnOk result (Stand handles.old → Tries NoneLeft (W.told wires.old) (W.told wires.new)) }
+    ensures paces { StaysPaced 2 board.old handles.old (W.told wires.old) (W.told wires.new) }
+    ensures paced { OnOk result (StaysPaced 1 board.old handles.old (W.told wires.old) (W.told wires.new)) }
     ensures patient { OnOk result (Stand handles.old → StaysPatient false start.idles (W.told wires.old) (W.idles wires.old) (W.told wires.new) (W.idles wires.new)) }
     ensures impatient { IfErr result (λ told. Stand handles.old → StaysPatient (may_end_waiting told) start.idles (W.told wires.old) (W.idles wires.old) (W.told wires.new) (W.idles wires.new)) }
 {

@@ -1,6 +1,5 @@
 //! What the connections of a copy note: each command leaves notes, which nobody reads, so they are forgotten. When is not known here.
 
-ghost use Rattle.std.specs.Prelude.{◌≡◌, length};
 ghost use Rattle.lnbd_copy.specs.Forgetting.{Forgets, NoneKeepNotes};
 ghost use Rattle.lnbd_copy.specs.Links.{HaveSameLinks};
 

@@ -1,15 +1,16 @@
 //! What a copy does once both sides are known: slices are begun and go on, extents are asked for, and in the end the
 //! destination is flushed and all connections part. How bytes move is not known here.
 
-ghost use Rattle.std.specs.Prelude.{◌≡◌, ◌≢◌, ◌<◌, ◌≤◌, ◌^◌, ℕ, true, false, not, List, [], length, Bool, Some, None, IfOk, OnErr, OnOk};
+ghost use Rattle.std.specs.Prelude.{◌≡◌, ◌≢◌, ◌⊎◌, ◌<◌, ◌≤◌, ◌^◌, ℕ, true, false, not, List, [], length, Bool, Some, None, IfOk, OnErr, OnOk};
 ghost use Rattle.lnbd_poll.specs.Held.{Held};
 ghost use Rattle.lnbd_board.specs.declared.ticket.Ticket.{Ticket as Tag};
 ghost use Rattle.lnbd_board.specs.Files.{Seen as Kept};
 ghost use Rattle.lnbd_board.specs.Rows.{busy};
+ghost use Rattle.lnbd_copy.specs.Awaiting.{AreToAsk, HasNothingToAsk};
 ghost use Rattle.lnbd_copy.specs.Dealt.{AreDealt, Spreads};
 ghost use Rattle.lnbd_copy.specs.Heard.{IsHeardTo};
 ghost use Rattle.lnbd_copy.specs.Reached.{IsToldTo};
-ghost use Rattle.lnbd_copy.specs.Job.{cells_of};
+ghost use Rattle.lnbd_conduct.specs.Slices.{cells_of};
 ghost use Rattle.lnbd_copy.specs.UnderWay.{HasAsked, HasFilled, HaveLooked, IsPast, IsWantedOf, Refills, unfinished};
 ghost use Rattle.lnbd_copy.specs.Dealing.{HasGoneOn};
 ghost use Rattle.lnbd_copy.specs.Deciding.{AreAlive};
@@ -23,10 +24,10 @@ ghost use Rattle.lnbd_copy.specs.Windows.{IsPlanned};
 use crate::dealing::{Bindings, ask_extents, ask_flush};
 use crate::forgetting::forget;
 use crate::parting::part;
-use crate::terms::Terms;
 use crate::turning::check_alive;
 use crate::windows::Windows;
 use lnbd_board::{Board, Ticket};
+use lnbd_conduct::Terms;
 use lnbd_model::NoMemory;
 use lnbd_poll::Handles;
 use std::alloc::Global;
@@ -122,6 +123,8 @@ impl Job {
         ensures onward { self.old.phase ≢ phase.Copying → self.new.phase ≢ phase.Copying }
         ensures parting { self.old.phase ≡ phase.Parting → (self.new ≡ self.old) × (board.new ≡ board.old) × (handles.new ≡ handles.old) }
         ensures acted { IfOk result (λ acted. acted ≡ true → HasChanged self.old self.new board.old board.new) }
+        ensures awaits { OnOk result ((self.old.phase ≡ phase.Copying → board.old.flushed ≡ false) → HasNothingToAsk self.new board.new) }
+        ensures idle { IfOk result (λ acted. HasNothingToAsk self.old board.old → acted ≡ false) }
         ensures full { OnOk result (Refills self.old self.new board.old board.new) }
         ensures still { IfOk result (λ acted. acted ≡ false → handles.new ≡ handles.old) }
         ensures forgets { IfOk result (λ acted. acted ≡ true → NoneKeepNotes handles.new) }
@@ -151,6 +154,8 @@ impl Job {
         ensures onward { self.old.phase ≢ phase.Copying → self.new.phase ≢ phase.Copying }
         ensures parting { self.old.phase ≡ phase.Parting → (self.new ≡ self.old) × (board.new ≡ board.old) × (handles.new ≡ handles.old) }
         ensures acted { IfOk result (λ acted. acted ≡ true → HasChanged self.old self.new board.old board.new) }
+        ensures awaits { OnOk result ((self.old.phase ≡ phase.Copying → board.old.flushed ≡ false) → HasNothingToAsk self.new board.new) }
+        ensures idle { IfOk result (λ acted. HasNothingToAsk self.old board.old → acted ≡ false) }
         ensures full { OnOk result (Refills self.old self.new board.old board.new) }
         ensures still { IfOk result (λ acted. acted ≡ false → handles.new ≡ handles.old) }
         ensures spread { OnOk result (Spreads self.old self.new board.old board.new) }
@@ -177,6 +182,8 @@ impl Job {
         ensures acts { OnOk result (Acts self.old self.new board.old board.new handles.old handles.new) }
         ensures terms { self.new.terms ≡ self.old.terms }
         ensures acted { IfOk result (λ acted. acted ≡ true → HasChanged self.old self.new board.old board.new) }
+        ensures awaits { OnOk result (board.old.flushed ≡ false → HasNothingToAsk self.new board.new) }
+        ensures idle { IfOk result (λ acted. HasNothingToAsk self.old board.old → acted ≡ false) }
         ensures full { OnOk result (Refills self.old self.new board.old board.new) }
         ensures still { IfOk result (λ acted. acted ≡ false → handles.new ≡ handles.old) }
         ensures spread { OnOk result (Spreads self.old self.new board.old board.new) }
@@ -206,6 +213,7 @@ impl Job {
         ensures how { OnOk result (board.new.how ≡ board.old.how) }
         ensures others { OnOk result (HasGoneOn board.old board.new) }
         ensures none { IfOk result (λ done. board.old.came ≡ [] → done ≡ 0) }
+        ensures same { IfOk result (λ done. done ≡ 0 → board.new ≡ board.old) }
         ensures looked { OnOk result (HaveLooked board.old board.new) }
         ensures still { IfOk result (λ done. done ≡ 0 → handles.new ≡ handles.old) }
         ensures job { self.new ≡ record self.old { bound = self.new.bound } }
@@ -258,6 +266,8 @@ impl Job {
         ensures well { OnOk result (board.new.error ≡ board.old.error) }
         ensures asks { OnOk result (HasAsked self.old self.new board.old board.new) }
         ensures asked { IfOk result (λ asked. AsksFor asked self.old self.new board.new) }
+        ensures due { IfOk result (λ asked. asked ≡ true → AreToAsk self.old board.old) }
+        ensures done { OnOk result (¬ AreToAsk self.new board.new) }
         ensures still { IfOk result (λ asked. asked ≡ false → handles.new ≡ handles.old) }
         ensures links { HaveSameLinks handles.old handles.new }
     {
@@ -278,7 +288,9 @@ impl Job {
     /// under way.
     fn may_ask(&self, board: &Board) -> bool
         ensures unasked { result ≡ true → self.now.asked ≡ false }
+        ensures few { result ≡ true → (self.now.windows.plan.end < self.now.windows.at) ⊎ (unfinished self.now.windows board.now < self.now.terms.limit) }
         ensures planned { result ≡ false → self.now.asked ≡ false → self.now.terms.limit ≤ unfinished self.now.windows board.now }
+        ensures whole { result ≡ false → self.now.asked ≡ false → self.now.windows.at ≤ self.now.windows.plan.end }
         ensures wanted { IsWantedOf self.now.windows }
     {
         let planned = self.windows.left().saturating_add(board.count() as u64);
@@ -299,6 +311,7 @@ impl Job {
         ensures well { OnOk result (board.new.error ≡ board.old.error) }
         ensures fills { OnOk result (HasFilled self.old self.new board.old board.new) }
         ensures begun { IfOk result (λ done. board.new.begun ≡ board.old.begun → done ≡ 0) }
+        ensures none { IfOk result (λ done. (length board.old.rows < self.old.terms.limit → length self.old.windows.plan.slices ≡ 0) → done ≡ 0) }
         ensures still { IfOk result (λ done. done ≡ 0 → handles.new ≡ handles.old) }
         ensures phase { self.new.phase ≡ self.old.phase }
         ensures spread { OnOk result (Spreads self.old self.new board.old board.new) }
@@ -313,6 +326,7 @@ impl Job {
     /// Whether all extents were heard, and all slices of all windows are over.
     fn is_copied(&self, board: &Board) -> bool
         ensures over { result ≡ true → IsOver self.now board.now }
+        ensures left { result ≡ false → ¬ IsOver self.now board.now }
         ensures quiet { board.now.came ≡ [] → busy board.now.rows ≡ length board.now.rows }
     {
         let count = board.count();
@@ -328,6 +342,7 @@ impl Job {
         ensures acts { OnOk result (Acts self.old self.new board.old board.new handles.old handles.new) }
         ensures terms { self.new.terms ≡ self.old.terms }
         ensures past { OnOk result (IsPast self.new board.old board.new) }
+        ensures flushed { OnOk result (board.new.flushed ≡ board.old.flushed) }
         ensures bound { self.new.bound ≡ self.old.bound }
         ensures links { HaveSameLinks handles.old handles.new }
     {
@@ -347,6 +362,8 @@ impl Job {
         ensures acts { OnOk result (Acts self.old self.new board.now board.now handles.old handles.new) }
         ensures terms { self.new.terms ≡ self.old.terms }
         ensures phase { self.new.phase ≢ phase.Copying }
+        ensures awaits { OnOk result (HasNothingToAsk self.new board.now) }
+        ensures idle { IfOk result (λ acted. HasNothingToAsk self.old board.now → acted ≡ false) }
         ensures still { IfOk result (λ acted. acted ≡ false → handles.new ≡ handles.old) }
         ensures acted { IfOk result (λ acted. acted ≡ true → self.new.phase ≢ self.old.phase) }
         ensures bound { self.new.bound ≡ self.old.bound }

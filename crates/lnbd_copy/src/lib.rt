@@ -14,7 +14,6 @@ mod laws;
 mod opening;
 mod parting;
 mod running;
-mod sides;
 mod telling;
 mod terms;
 mod turning;

@@ -5,7 +5,7 @@ ghost use Rattle.lnbd_handle.specs.Histories.{max_unretired};
 ghost use Rattle.lnbd_history.specs.Events.{History};
 ghost use Rattle.lnbd_records.specs.Limits.{max_text};
 ghost use Rattle.lnbd_standing.specs.Standing.{StandsFor};
-ghost use Rattle.lnbd_copy.specs.Begun.{base_allocation, begun, context_of, opened, with_context};
+ghost use Rattle.lnbd_conduct.specs.Begun.{base_allocation, begun, context_of, opened, with_context};
 
 use lnbd_board::{Board, Ticket};
 use lnbd_handle::{Handle, SetFault};

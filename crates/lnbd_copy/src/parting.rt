@@ -4,7 +4,7 @@ ghost use Rattle.std.specs.Prelude.{◌≡◌, ◌≢◌, ◌<◌, ◌+◌, [], 
 ghost use Rattle.lnbd_board.specs.Files.{Seen};
 ghost use Rattle.lnbd_copy.specs.Causes.{GoesOn};
 ghost use Rattle.lnbd_copy.specs.Deciding.{GoesShut};
-ghost use Rattle.lnbd_copy.specs.Driven.{HasParted};
+ghost use Rattle.lnbd_conduct.specs.Driven.{HasParted};
 ghost use Rattle.lnbd_copy.specs.Faults.{GoesIdly};
 ghost use Rattle.lnbd_copy.specs.Grounds.{Happens, Lasts};
 ghost use Rattle.lnbd_copy.specs.Leaving.{Leaves, Parts};

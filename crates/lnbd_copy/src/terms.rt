@@ -1,16 +1,16 @@
 //! What both sides of a copy and its options settle before a slice begins: the rules between the sides, and the sizes by
 //! which slices are cut.
 
-ghost use Rattle.std.specs.Prelude.{◌≡◌, ◌<◌, ◌≤◌, ◌^◌, ◌*◌, ◌/◌, true, false, Some, None, IfOk, IfErr, max, min};
+ghost use Rattle.std.specs.Prelude.{◌≡◌, ◌<◌, ◌≤◌, ◌*◌, ◌/◌, false, Some, None, min};
 ghost use Rattle.lnbd_records.specs.Limits.{max_data, max_minimum_block};
 ghost use Rattle.lnbd_records.specs.Numbers.{has_bit};
 ghost use Rattle.lnbd_copy.specs.Agreed.{IsWished};
-ghost use Rattle.lnbd_copy.specs.Limit.{IsLimited, max_under_way};
-ghost use Rattle.lnbd_copy.specs.Settled.{AreSettledBy};
-ghost use Rattle.lnbd_copy.specs.Terms.{IsGreatestPower, broken_rule, connections, greatest_power, least_block, most_bytes, sparse_block};
+ghost use Rattle.lnbd_conduct.specs.Terms.{IsLimited, max_under_way, broken_rule, connections, greatest_power, least_block, most_bytes, sparse_block};
+ghost use Rattle.lnbd_conduct.specs.Settled.{AreSettledBy};
+ghost use Rattle.lnbd_copy.specs.Terms.{IsGreatestPower};
 
-use crate::sides::Sides;
 use lnbd_board::How;
+use lnbd_conduct::{Sides, Terms};
 use lnbd_model::{Blocks, ExportInfo};
 use lnbd_plan::{CopyOptions, Rule};
 
@@ -42,24 +42,6 @@ pub(crate) const MAX_ZEROES: u64 = 134_217_728;
 
 /// The most bytes of data slices that are begun and not over.
 const MAX_UNDER_WAY: u64 = 1_073_741_824;
-
-/// What is settled.
-#[derive(Clone, Copy, Debug)]
-pub(crate) struct Terms {
-    /// The source's size in bytes.
-    pub(crate) size: u64,
-    /// All slices start and end at multiples of it.
-    pub(crate) grain: u32,
-    /// Data slices are cut at its multiples, and zero slices at those of `zero_cell`.
-    pub(crate) cell: u32,
-    pub(crate) zero_cell: u64,
-    pub(crate) how: How,
-    pub(crate) sides: Sides,
-    /// The most slices that are begun and not over.
-    pub(crate) limit: u64,
-    /// Whether the destination is to be flushed in the end.
-    pub(crate) flush: bool,
-}
 
 /// Whether a flag is told.
 fn has(info: &ExportInfo, flag: u16) -> bool

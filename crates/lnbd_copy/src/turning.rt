@@ -8,7 +8,7 @@ ghost use Rattle.lnbd_poll.specs.Seen.{Goes};
 ghost use Rattle.lnbd_poll.specs.Turned.{TurnsCut, TurnsWhole};
 ghost use Rattle.lnbd_board.specs.Files.{Files};
 ghost use Rattle.lnbd_copy.specs.Causes.{GoesOn, HasCause, tells_no_count};
-ghost use Rattle.lnbd_copy.specs.Decided.{is_of_answer};
+ghost use Rattle.lnbd_conduct.specs.Decided.{is_of_answer};
 ghost use Rattle.lnbd_copy.specs.Deciding.{AreAlive, DecidesOn, IsAliveAt, IsCalm, IsSteady, Reveals};
 ghost use Rattle.lnbd_copy.specs.Grounds.{FindsDead};
 ghost use Rattle.lnbd_copy.specs.ToldAlike.{AreHeldFit, FindsUnfit};
@@ -17,8 +17,8 @@ use crate::agreeing::{
     check_alike, check_answers, check_content, check_memory, check_rules, check_well,
 };
 use crate::counts::{Counts, check_faults, of_death};
-use crate::sides::Sides;
 use lnbd_board::{Board, Ticket};
+use lnbd_conduct::Sides;
 use lnbd_link::Wires;
 use lnbd_model::{NoMemory, State};
 use lnbd_plan::CopyFault;

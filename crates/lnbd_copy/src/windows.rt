@@ -1,7 +1,7 @@
 //! The windows of a copy: how far the source's extents were asked for and told, and the slices that are planned of it.
 //! One window after another is asked for; which connection is asked, and when, is not known here.
 
-ghost use Rattle.std.specs.Prelude.{◌≡◌, ◌<◌, ◌≤◌, ◌⊎◌, ◌+◌, ◌-◌, ◌*◌, ◌/◌, ◌^◌, ℕ, Bool, true, false, not, ◌&&◌, ◌||◌, ◌==◌, ◌↔◌, nat_lt, min, length, List, [], ◌++◌, IfSome, IsSome, is_some, IfOk, OnOk, OnErr, None, option_to_list};
+ghost use Rattle.std.specs.Prelude.{◌≡◌, ◌<◌, ◌≤◌, ◌⊎◌, ◌+◌, ◌-◌, ◌*◌, ◌/◌, ◌^◌, ℕ, Bool, true, false, not, ◌||◌, ◌==◌, ◌↔◌, nat_lt, min, length, List, [], ◌++◌, IfSome, IsSome, is_some, IfOk, OnOk, None, option_to_list};
 ghost use Rattle.std.specs.Option.{option_map};
 ghost use Rattle.lnbd_extents.specs.Positions.{within, holds};
 ghost use Rattle.lnbd_extents.specs.Lists.{flags_at, AreJoined};
@@ -10,7 +10,7 @@ ghost use Rattle.lnbd_tracks.specs.Saying.{is_told};
 ghost use Rattle.lnbd_copy.specs.Spared.{HaveOneFlag, IsInside, whole_within};
 ghost use Rattle.lnbd_copy.specs.Windows.{zero_within};
 
-use crate::terms::Terms;
+use lnbd_conduct::Terms;
 use lnbd_extents::{Ranges, push_joined};
 use lnbd_model::{Extent, NoMemory};
 use lnbd_plan::{Plan, Slice};

@@ -1,12 +1,14 @@
 -- A file of zeros that is filled from its beginning on, and the file from which it is.
-use Rattle.std.proofs.Common.{◌≡◌, ℕ, ◌+◌, ◌-◌, ◌≤◌, List, [], ◌++◌, length, take, drop, replicate, refl, ap, sym, subst, ◌∙◌, arith, append_assoc, append-nil, length-append, length-drop}
+use Rattle.std.proofs.Common.{◌≡◌, ℕ, ◌+◌, ◌-◌, ◌<◌, ◌≤◌, List, [], ◌++◌, length, take, drop, replicate, refl, ap, sym, subst, ◌∙◌, arith, append_assoc, append-nil, length-append, length-drop}
 use Rattle.std.proofs.lemmas.Grind.{common_steps}
 use Rattle.std.proofs.lemmas.List.{drop-replicate, replicate-append-replicate, take_all}
 use Rattle.std.proofs.Math.Seq.{take-add}
 use Rattle.lnbd_store.specs.Bytes.{cut_to, put_at}
-use Rattle.lnbd_touched.specs.Parts.{IsShort, Puts, Tells}
+use Rattle.lnbd_touched.specs.Parts.{Puts, Tells}
 use Rattle.lnbd_touched.proofs.PartLemmas.{put_behind, size_of}
-use Rattle.lnbd_copyfile.specs.Steps.{Fills, Lacking, Moved}
+use Rattle.lnbd_copyfile.specs.Steps.{AreCounted, Fills, IsSlice, Lacking, Moved}
+use Rattle.lnbd_copyfile.specs.Zeros.{in_zero_piece, is_zero_at}
+use Rattle.lnbd_copyfile.proofs.CountLemmas.{counted_then, slice_counted}
 
 zeros_apart : (n rest : ℕ) → replicate {A = ℕ} (n + rest) 0 ≡ replicate n 0 ++ replicate rest 0
 zeros_apart n rest = sym (replicate-append-replicate n rest 0)
@@ -18,6 +20,9 @@ zeros_behind n rest = drop-replicate n (n + rest) 0 ∙ ap (λ (k : ℕ). replic
 
 pub drop_room : (at n : ℕ) (bytes : List ℕ) → at + n ≤ length bytes → n ≤ length (drop at bytes)
 drop_room at n bytes fits = let k = length-drop at bytes in omega (arith, k, fits)
+
+pub front_size : (n : ℕ) (old new : List ℕ) → length new ≡ length old → n ≤ length old → length (take n new) ≡ n
+front_size n old new same room = size_of n new (omega (arith, same, room))
 
 pub tells_nothing : (at : ℕ) (old : List ℕ) → Tells at [] old old
 tells_nothing at old = record { same = refl; are = refl }
@@ -76,46 +81,54 @@ fills_piece offset at n bytes x y z within f g =
 
 -- Two files.
 
-pub moved_none : (size at : ℕ) (x y : List ℕ) → Moved size at at x y x y
-moved_none size at x y = record { same = refl; on = λ long is. is }
+module _ (cell block size : ℕ) where
+  pub moved_none : (at : ℕ) (x y : List ℕ) → Moved cell block size at at 0 x y x y
+  moved_none at x y = record { same = refl; on = λ long is. is; count = λ long. let none : 0 ≡ at - at = omega arith in subst (λ (k : ℕ). AreCounted (in_zero_piece cell block x) 0 at k) none refl }
 
-pub moved_then : (size a b c : ℕ) (x y x2 y2 x3 y3 : List ℕ) → Moved size a b x y x2 y2 → Moved size b c x2 y2 x3 y3 → Moved size a c x y x3 y3
-moved_then size a b c x y x2 y2 x3 y3 f g = record {
-  same = g.same ∙ f.same;
-  on = λ long is.
-      subst (λ (v : List ℕ). y3 ≡ take c v ++ replicate (size - c) 0) f.same
-      (g.on (ap (λ (xs : List ℕ). length xs) f.same ∙ long) (subst (λ (v : List ℕ). y2 ≡ take b v ++ replicate (size - b) 0) (sym f.same) (f.on long is)));
-}
+  pub moved_then : (a b c w v : ℕ) (x y x2 y2 x3 y3 : List ℕ) → a ≤ b → b ≤ c → Moved cell block size a b w x y x2 y2 → Moved cell block size b c v x2 y2 x3 y3
+      → Moved cell block size a c (w + v) x y x3 y3
+  moved_then a b c w v x y x2 y2 x3 y3 low high f g = record {
+    same = g.same ∙ f.same;
+    on = λ long is.
+        subst (λ (u : List ℕ). y3 ≡ take c u ++ replicate (size - c) 0) f.same
+        (g.on (ap (λ (xs : List ℕ). length xs) f.same ∙ long) (subst (λ (u : List ℕ). y2 ≡ take b u ++ replicate (size - b) 0) (sym f.same) (f.on long is)));
+    count = λ long. counted_then (in_zero_piece cell block x) w v a b c low high (f.count long)
+        (subst (λ (u : List ℕ). AreCounted (in_zero_piece cell block u) v b (c - b)) f.same (g.count (ap (λ (xs : List ℕ). length xs) f.same ∙ long)));
+  }
 
-pub moved_same : (size at to : ℕ) (x y x2 y2 x3 y3 : List ℕ) → Moved size at to x y x2 y2 → x3 ≡ x2 → y3 ≡ y2 → Moved size at to x y x3 y3
-moved_same size at to x y x2 y2 x3 y3 f one two = record { same = one ∙ f.same; on = λ long is. two ∙ f.on long is }
+  pub moved_same : (at to w : ℕ) (x y x2 y2 x3 y3 : List ℕ) → Moved cell block size at to w x y x2 y2 → x3 ≡ x2 → y3 ≡ y2 → Moved cell block size at to w x y x3 y3
+  moved_same at to w x y x2 y2 x3 y3 f one two = record { same = one ∙ f.same; on = λ long is. two ∙ f.on long is; count = f.count }
 
--- so many bytes were read, and written
-pub moved_once : (size at count : ℕ) (bytes x y x2 y2 x3 y3 : List ℕ) → length bytes ≡ count → at + count ≤ size
-    → Tells at bytes x x2 × (y2 ≡ y) → (x3 ≡ x2) × Fills at bytes y2 y3 → Moved size at (at + count) x y x3 y3
-moved_once size at count bytes x y x2 y2 x3 y3 long fits told put = record {
-  same = put.0 ∙ told.0.same;
-  on = λ is zeros.
-      let front : length (take at x) ≡ at = size_of at x (omega (arith, is, fits)) in
-      let rest = size - (at + count) in
-      let left : size - at ≡ length bytes + rest = omega (arith, long, fits) in
-      let before : y2 ≡ take at x ++ replicate (length bytes + rest) 0 = told.1 ∙ zeros ∙ ap (λ (n : ℕ). take at x ++ replicate n 0) left in
-      let read : bytes ≡ take count (drop at x) = told.0.are ∙ ap (λ (n : ℕ). take n (drop at x)) long in
-      put.1.on (take at x) rest front before ∙ sym (append_assoc (take at x) bytes (replicate rest 0)) ∙ ap (λ (xs : List ℕ). (take at x ++ xs) ++ replicate rest 0) read
-      ∙ ap (λ (xs : List ℕ). xs ++ replicate rest 0) (sym (take-add at count x));
-}
+  -- a slice was read, and written
+  pub moved_once : (at n w : ℕ) (bytes x y x2 y2 x3 y3 : List ℕ) → 0 < cell → length bytes ≡ n → at + n ≤ size → IsSlice cell size at n → AreCounted (is_zero_at block at bytes) w at n
+      → Tells at bytes x x2 × (y2 ≡ y) → (x3 ≡ x2) × Fills at bytes y2 y3 → Moved cell block size at (at + n) w x y x3 y3
+  moved_once at n w bytes x y x2 y2 x3 y3 some long fits slice counted told put =
+      let read : bytes ≡ take n (drop at x) = told.0.are ∙ ap (λ (k : ℕ). take k (drop at x)) long in
+      record {
+        same = put.0 ∙ told.0.same;
+        on = λ is zeros.
+            let front : length (take at x) ≡ at = size_of at x (omega (arith, is, fits)) in
+            let rest = size - (at + n) in
+            let left : size - at ≡ length bytes + rest = omega (arith, long, fits) in
+            let before : y2 ≡ take at x ++ replicate (length bytes + rest) 0 = told.1 ∙ zeros ∙ ap (λ (k : ℕ). take at x ++ replicate k 0) left in
+            put.1.on (take at x) rest front before ∙ sym (append_assoc (take at x) bytes (replicate rest 0)) ∙ ap (λ (xs : List ℕ). (take at x ++ xs) ++ replicate rest 0) read
+            ∙ ap (λ (xs : List ℕ). xs ++ replicate rest 0) (sym (take-add at n x));
+        count = λ is.
+            let e : n ≡ at + n - at = omega arith in
+            subst (λ (k : ℕ). AreCounted (in_zero_piece cell block x) w at k) e (slice_counted cell block size at n w bytes x some slice is read counted);
+      }
 
 -- the source ended early, behind moves
-pub lacking_then : (size a b : ℕ) (x y x2 y2 x3 y3 : List ℕ) → Moved size a b x y x2 y2 → Lacking size x2 y2 x3 y3 → Lacking size x y x3 y3
-lacking_then size a b x y x2 y2 x3 y3 f g = record { short = let e = ap (λ (xs : List ℕ). length xs) f.same in let l = g.short in omega (arith, e, l) }
+pub lacking_then : (cell block size a b w : ℕ) (x y x2 y2 x3 y3 : List ℕ) → Moved cell block size a b w x y x2 y2 → Lacking size x2 y2 x3 y3 → Lacking size x y x3 y3
+lacking_then cell block size a b w x y x2 y2 x3 y3 f g = record { short = let e = ap (λ (xs : List ℕ). length xs) f.same in let l = g.short in omega (arith, e, l) }
 
 -- a file that is cut to nothing and to a size
 pub cut_twice : (size : ℕ) (bytes : List ℕ) → cut_to size (cut_to 0 bytes) ≡ replicate size 0
 cut_twice size bytes = grind (arith, common_steps)
 
 -- all was moved, of a file of zeros
-pub moved_all : (size : ℕ) (x x2 y2 : List ℕ) → length x ≡ size → Moved size 0 size x (replicate size 0) x2 y2 → y2 ≡ x
-moved_all size x x2 y2 long f =
+pub moved_all : (cell block size w : ℕ) (x x2 y2 : List ℕ) → length x ≡ size → Moved cell block size 0 size w x (replicate size 0) x2 y2 → y2 ≡ x
+moved_all cell block size w x x2 y2 long f =
     let zero : size - size ≡ 0 = omega arith in
     let whole : size ≡ size - 0 = omega arith in
     let all : length x ≤ size = omega (arith, long) in

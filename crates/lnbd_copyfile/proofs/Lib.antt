@@ -1,8 +1,16 @@
 pub mod AnswerLemmas
 pub mod CallLemmas
+pub mod OneFileLemmas
 pub mod CauseLemmas
+pub mod CountLemmas
 pub mod FillLemmas
 pub mod OpeningLemmas
 pub mod PieceLemmas
 pub mod ShelfLemmas
 pub mod SumLemmas
+pub mod ChangeLemmas
+pub mod MadeLemmas
+pub mod WentLemmas
+pub mod LoadLemmas
+pub mod FarLemmas
+pub mod SumsLemmas

@@ -11,7 +11,7 @@ use Rattle.lnbd_plan.proofs.BlockLaws.{zeros_mean}
 use Rattle.lnbd_plan.proofs.LongestLaws.{longest}
 use Rattle.lnbd_copyfile.specs.Steps.{ArePieces, data_length}
 
-between_order : (start end : ℕ) (pieces : List Slice) → LieBetween start end pieces → start ≤ end
+pub between_order : (start end : ℕ) (pieces : List Slice) → LieBetween start end pieces → start ≤ end
 between_order start end [] e = omega (arith, e)
 between_order start end (piece ∷ pieces) between = let l = between_order (start + piece.length) end pieces between.2 in omega (arith, l)
 
@@ -55,15 +55,6 @@ cond_few : (b : Bool) (n : ℕ) → cond b 0 n ≤ n
 cond_few true n = omega arith
 cond_few false n = omega arith
 
-pub data_few : (at : ℕ) (bytes : List ℕ) (pieces : List Slice) → ArePieces at bytes pieces → data_length pieces ≤ length bytes
-data_few at bytes [] are = omega arith
-data_few at bytes (piece ∷ pieces) are =
-    let rest = data_few (at + piece.length) (drop piece.length bytes) pieces are.3 in
-    let here = cond_few piece.zero piece.length in
-    let size = length-drop piece.length bytes in
-    let fits = are.1 in
-    omega (arith, rest, here, size, fits)
-
 -- The piece that is next.
 
 pub next_piece : (at : ℕ) (bytes : List ℕ) (pieces : List Slice) (i : ℕ) (d : Slice) → i < length pieces
@@ -90,6 +81,12 @@ next_left offset at bytes pieces i d below are =
     let place : offset + at + n ≡ offset + (at + n) = omega arith in
     let rest : drop n (drop at bytes) ≡ drop (at + n) bytes = drop-drop n at bytes ∙ ap (λ (k : ℕ). drop k bytes) (omega arith) in
     subst (λ (k : ℕ). ArePieces k (drop (at + n) bytes) (drop (i + 1) pieces)) place (subst (λ (bs : List ℕ). ArePieces (offset + at + n) bs (drop (i + 1) pieces)) rest next.3)
+
+pub part_few : (at n cell : ℕ) (bytes : List ℕ) → length bytes ≤ cell → length (take n (drop at bytes)) ≤ cell
+part_few at n cell bytes few = let k = length-take n (drop at bytes) in let m = length-drop at bytes in omega (arith, k, m, few)
+
+pub rest_few : (at cell : ℕ) (bytes : List ℕ) → length bytes ≤ cell → length (drop at bytes) ≤ cell
+rest_few at cell bytes few = let m = length-drop at bytes in omega (arith, m, few)
 
 part_size : (at n : ℕ) (bytes : List ℕ) → at + n ≤ length bytes → length (take (at + n - at) (drop at bytes)) ≡ n
 part_size at n bytes fits = let k = length-take (at + n - at) (drop at bytes) in let m = length-drop at bytes in omega (arith, k, m, fits)

@@ -1,13 +1,15 @@
 -- Two files of a store, from the opening of the first to the last write.
-use Rattle.std.proofs.Common.{◌≡◌, ◌≢◌, ℕ, ◌+◌, ◌≤◌, true, false, List, length, replicate, Option, Some, None, refl, ap, sym, ◌∙◌, arith}
+use Rattle.std.proofs.Common.{◌≡◌, ◌≢◌, ℕ, ◌+◌, ◌-◌, ◌<◌, ◌≤◌, true, false, List, length, replicate, Option, Some, None, refl, ap, sym, subst, ◌∙◌, arith}
+use Rattle.lnbd_plan.specs.declared.options.CopyOptions.{CopyOptions}
 use Rattle.lnbd_store.specs.Bytes.{cut_to}
 use Rattle.lnbd_store.specs.Shelf.{Shelf, Goes, Opens, Reads, Changes, IsOpen, or_empty}
 use Rattle.lnbd_touched.specs.Both.{Both}
 use Rattle.lnbd_touched.specs.Parts.{IsShort, Tells}
 use Rattle.lnbd_touched.specs.Touches.{Touches}
 use Rattle.lnbd_touched.proofs.BothLemmas.{both_first, both_none, both_second, both_then}
-use Rattle.lnbd_copyfile.specs.Between.{IsDuplicated}
-use Rattle.lnbd_copyfile.specs.Steps.{Fills, IsBlank, IsFilled, IsSource, Kept, Lacking, Moved, WasShort}
+use Rattle.lnbd_copyfile.specs.Between.{HasPassed, IsDuplicated}
+use Rattle.lnbd_copyfile.specs.Steps.{AreCounted, Fills, IsBlank, IsFilled, IsSlice, IsSource, Kept, Lacking, Moved, WasShort}
+use Rattle.lnbd_copyfile.specs.Zeros.{block_of, count_of, in_zero_piece, is_zero_at, passed_of}
 use Rattle.lnbd_copyfile.proofs.FillLemmas.{cut_twice, lacking_then, moved_all, moved_once, moved_same, moved_then}
 
 pub goes_then : (P Q R : Shelf → Shelf → Type 0) (a b c : Option Shelf) → ((x y z : Shelf) → P x y → Q y z → R x z) → Goes a b P → Goes b c Q → Goes a c R
@@ -79,8 +81,9 @@ module _ (n m size : ℕ) (path : List ℕ) where
   still_open : (w z : Shelf) (from bytes : List ℕ) → IsBlank path m size w z → IsOpen w n from bytes → from ≢ path → IsOpen z n from bytes
   still_open w z from bytes blank o d = record { path_ = still_number w z from blank o.path_; file = blank.rest from d ∙ o.file }
 
-  pub filled_is : (a b c : Option Shelf) → Goes a b (IsBlank path m size) → Both n m (Moved size 0 size) b c → Goes a c (IsFilled n size path)
-  filled_is a b c blank both = record {
+  pub filled_is : (cell block written : ℕ) (a b c : Option Shelf) → Goes a b (IsBlank path m size) → Both n m (Moved cell block size 0 size written) b c
+      → Goes a c (IsFilled cell block size n written path)
+  filled_is cell block written a b c blank both = record {
     on = λ now e.
         let two = both.on now e in
         let one = blank.on two.0 two.1 in
@@ -93,7 +96,11 @@ module _ (n m size : ℕ) (path : List ℕ) where
                 f.1.1 ∙ ap (λ (xs : List ℕ). Some xs) f.1.3.same;
             file = λ from bytes o d long.
                 let f = two.2.files from path bytes (replicate size 0) (still_open one.0 two.0 from bytes k o d) k.opened d in
-                f.1.2 ∙ ap (λ (xs : List ℕ). Some xs) (moved_all size bytes f.0 f.1.0 long f.1.3);
+                f.1.2 ∙ ap (λ (xs : List ℕ). Some xs) (moved_all cell block size written bytes f.0 f.1.0 long f.1.3);
+            count = λ from bytes o d long.
+                let f = two.2.files from path bytes (replicate size 0) (still_open one.0 two.0 from bytes k o d) k.opened d in
+                let whole : size - 0 ≡ size = omega arith in
+                subst (λ (j : ℕ). AreCounted (in_zero_piece cell block bytes) written 0 j) whole (f.1.3.count long);
             rest = λ from bytes other o far d. two.2.rest from path other (still_number one.0 two.0 from k o.path_) k.opened.path_ far d ∙ k.rest other d;
           },
         );
@@ -115,8 +122,8 @@ module _ (n m size : ℕ) (path : List ℕ) where
         );
   }
 
-pub copied_is : (from to : List ℕ) (n size : ℕ) (x y z : Shelf) → from ≢ to → IsSource from n size x y → IsFilled n size to y z → IsDuplicated from to size x z
-copied_is from to n size x y z d source filled = record {
+pub copied_is : (from to : List ℕ) (cell block size n written : ℕ) (x y z : Shelf) → from ≢ to → IsSource from n size x y → IsFilled cell block size n written to y z → IsDuplicated from to size x z
+copied_is from to cell block size n written x y z d source filled = record {
   bytes = source.bytes;
   size_ = source.size_;
   source = source.file;
@@ -128,8 +135,23 @@ copied_is from to n size x y z d source filled = record {
 pub never_is : (from to : List ℕ) (n size : ℕ) (x y z : Shelf) → from ≢ to → IsSource from n size x y → WasShort n size to y z → ⊥
 never_is from to n size x y z d source short = let l = short.short from source.bytes source.opened d in let e = source.size_ in absurd (omega (arith, l, e))
 
-pub copied_goes : (from to : List ℕ) (n size : ℕ) (a b c : Option Shelf) → from ≢ to → Goes a b (IsSource from n size) → Goes b c (IsFilled n size to) → Goes a c (IsDuplicated from to size)
-copied_goes from to n size a b c d source filled = goes_then (IsSource from n size) (IsFilled n size to) (IsDuplicated from to size) a b c (λ x y z f g. copied_is from to n size x y z d f g) source filled
+pub copied_goes : (from to : List ℕ) (cell block size n written : ℕ) (a b c : Option Shelf) → from ≢ to → Goes a b (IsSource from n size) → Goes b c (IsFilled cell block size n written to)
+    → Goes a c (IsDuplicated from to size)
+copied_goes from to cell block size n written a b c d source filled =
+    goes_then (IsSource from n size) (IsFilled cell block size n written to) (IsDuplicated from to size) a b c (λ x y z f g. copied_is from to cell block size n written x y z d f g) source filled
+
+-- what was not written lies in zero pieces of the source
+pub passed_goes : (from to : List ℕ) (options : CopyOptions) (size n block written : ℕ) (a b c : Option Shelf) → from ≢ to → block ≡ block_of options → Goes a b (IsSource from n size)
+    → Goes b c (IsFilled options.request_size block size n written to) → HasPassed options from (size - written) c
+passed_goes from to options size n block written a b c d same source filled = λ now bytes e here.
+    let two = filled.on now e in
+    let one = source.on two.0 two.1 in
+    let old = one.2 in
+    let own : bytes ≡ old.bytes = some_is (sym here ∙ two.2.kept from old.bytes old.opened d old.size_) in
+    let counted = two.2.count from old.bytes old.opened d old.size_ in
+    let passed : size - written ≡ count_of (in_zero_piece options.request_size block old.bytes) 0 size = omega (arith, counted) in
+    passed ∙ ap (λ (k : ℕ). count_of (in_zero_piece options.request_size k old.bytes) 0 size) same
+    ∙ ap (λ (k : ℕ). count_of (in_zero_piece options.request_size (block_of options) old.bytes) 0 k) (sym old.size_) ∙ ap (λ (bs : List ℕ). passed_of options bs) (sym own)
 
 pub never_goes : (from to : List ℕ) (n size : ℕ) (a b c : Option Shelf) → from ≢ to → Goes a b (IsSource from n size) → Goes b c (WasShort n size to) → (now : Shelf) → c ≡ Some now → ⊥
 never_goes from to n size a b c d source short now e =
@@ -139,24 +161,31 @@ never_goes from to n size a b c d source short now e =
 
 -- Both files, where one is read and then the other one written.
 
-pub slice_moves : (n m size at count : ℕ) (bytes : List ℕ) (a b c : Option Shelf) → length bytes ≡ count → at + count ≤ size
-    → Touches n (Tells at bytes) a b → Touches m (Fills at bytes) b c → Both n m (Moved size at (at + count)) a c
-slice_moves n m size at count bytes a b c long fits tells fills =
-    both_then n m (λ x y x2 y2. Tells at bytes x x2 × (y2 ≡ y)) (λ x y x2 y2. (x2 ≡ x) × Fills at bytes y y2) (Moved size at (at + count)) a b c
-    (λ x y x2 y2 x3 y3 p q. moved_once size at count bytes x y x2 y2 x3 y3 long fits p q) (both_first n m (Tells at bytes) a b tells) (both_second n m (Fills at bytes) b c fills)
+pub slice_moves : (cell block n m size at count written : ℕ) (bytes : List ℕ) (a b c : Option Shelf) → 0 < cell → length bytes ≡ count → at + count ≤ size → IsSlice cell size at count
+    → AreCounted (is_zero_at block at bytes) written at count → Touches n (Tells at bytes) a b → Touches m (Fills at bytes) b c → Both n m (Moved cell block size at (at + count) written) a c
+slice_moves cell block n m size at count written bytes a b c some long fits slice counted tells fills =
+    both_then n m (λ x y x2 y2. Tells at bytes x x2 × (y2 ≡ y)) (λ x y x2 y2. (x2 ≡ x) × Fills at bytes y y2) (Moved cell block size at (at + count) written) a b c
+    (λ x y x2 y2 x3 y3 p q. moved_once cell block size at count written bytes x y x2 y2 x3 y3 some long fits slice counted p q) (both_first n m (Tells at bytes) a b tells)
+    (both_second n m (Fills at bytes) b c fills)
 
 pub source_lacks : (n m size : ℕ) (a b : Option Shelf) → Touches n (IsShort size) a b → Both n m (Lacking size) a b
 source_lacks n m size a b short =
     both_then n m (λ x y x2 y2. IsShort size x x2 × (y2 ≡ y)) (λ x y x2 y2. Unit {0}) (Lacking size) a b b (λ x y x2 y2 x3 y3 p q. record { short = p.0.short })
     (both_first n m (IsShort size) a b short) (both_none n m (λ x y x2 y2. Unit {0}) b (λ x y. tt))
 
-pub moves_lack : (n m size at to : ℕ) (a b c : Option Shelf) → Both n m (Moved size at to) a b → Both n m (Lacking size) b c → Both n m (Lacking size) a c
-moves_lack n m size at to a b c f g = both_then n m (Moved size at to) (Lacking size) (Lacking size) a b c (λ x y x2 y2 x3 y3 p q. lacking_then size at to x y x2 y2 x3 y3 p q) f g
+module _ (cell block n m size : ℕ) where
+  pub moves_lack : (at to written : ℕ) (a b c : Option Shelf) → Both n m (Moved cell block size at to written) a b → Both n m (Lacking size) b c → Both n m (Lacking size) a c
+  moves_lack at to written a b c f g =
+      both_then n m (Moved cell block size at to written) (Lacking size) (Lacking size) a b c (λ x y x2 y2 x3 y3 p q. lacking_then cell block size at to written x y x2 y2 x3 y3 p q) f g
 
-pub moves_follow : (n m size at mid to : ℕ) (a b c : Option Shelf) → Both n m (Moved size at mid) a b → Both n m (Moved size mid to) b c → Both n m (Moved size at to) a c
-moves_follow n m size at mid to a b c f g = both_then n m (Moved size at mid) (Moved size mid to) (Moved size at to) a b c (λ x y x2 y2 x3 y3 p q. moved_then size at mid to x y x2 y2 x3 y3 p q) f g
+  pub moves_follow : (at mid to w v : ℕ) (a b c : Option Shelf) → at ≤ mid → mid ≤ to → Both n m (Moved cell block size at mid w) a b → Both n m (Moved cell block size mid to v) b c
+      → Both n m (Moved cell block size at to (w + v)) a c
+  moves_follow at mid to w v a b c low high f g =
+      both_then n m (Moved cell block size at mid w) (Moved cell block size mid to v) (Moved cell block size at to (w + v)) a b c
+      (λ x y x2 y2 x3 y3 p q. moved_then cell block size at mid to w v x y x2 y2 x3 y3 low high p q) f g
 
--- the destination is synced
-pub moves_kept : (n m size at to : ℕ) (a b c : Option Shelf) → Both n m (Moved size at to) a b → Touches m Kept b c → Both n m (Moved size at to) a c
-moves_kept n m size at to a b c f g =
-    both_then n m (Moved size at to) (λ x y x2 y2. (x2 ≡ x) × (y2 ≡ y)) (Moved size at to) a b c (λ x y x2 y2 x3 y3 p q. moved_same size at to x y x2 y2 x3 y3 p q.0 q.1) f (both_second n m Kept b c g)
+  -- the destination is synced
+  pub moves_kept : (at to w : ℕ) (a b c : Option Shelf) → Both n m (Moved cell block size at to w) a b → Touches m Kept b c → Both n m (Moved cell block size at to w) a c
+  moves_kept at to w a b c f g =
+      both_then n m (Moved cell block size at to w) (λ x y x2 y2. (x2 ≡ x) × (y2 ≡ y)) (Moved cell block size at to w) a b c
+      (λ x y x2 y2 x3 y3 p q. moved_same cell block size at to w x y x2 y2 x3 y3 p q.0 q.1) f (both_second n m Kept b c g)

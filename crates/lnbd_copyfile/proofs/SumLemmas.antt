@@ -1,8 +1,11 @@
 -- How many bytes were read, written and passed over.
-use Rattle.std.proofs.Common.{◌≡◌, ◌-◌, ◌<◌, ◌≤◌, ◌^◌, ℕ, refl, ap, sym, subst, ◌∙◌, arith}
+use Rattle.std.proofs.Common.{◌≡◌, ◌-◌, ◌<◌, ◌≤◌, ◌^◌, ◌||◌, Bool, true, ℕ, refl, ap, sym, subst, ◌∙◌, arith}
+use Rattle.std.specs.Prelude.{if◌then◌else◌, nat_lt}
+use Rattle.lnbd_plan.specs.declared.options.CopyOptions.{CopyOptions}
 use Rattle.lnbd_plan.specs.declared.summary.Summary.{Summary}
 use Rattle.lnbd_touched.specs.Grown.{RoseBy}
 use Rattle.lnbd_copyfile.specs.Between.{IsSummed}
+use Rattle.lnbd_copyfile.specs.Zeros.{block_of}
 
 pub summed_is : (size written : ℕ) (summary : Summary) (g0 g1 g2 t0 t1 t2 : ℕ)
     → summary ≡ record { read = size; written = written; zeroed = 0; skipped = size - written } → size < 2 ^ 63 → written ≤ size
@@ -17,3 +20,6 @@ summed_is size written summary g0 g1 g2 t0 t1 t2 is bound few e f k h =
 
 pub none_skipped : (size written : ℕ) (summary : Summary) → summary ≡ record { read = size; written = written; zeroed = 0; skipped = size - written } → written ≡ size → summary.skipped ≡ 0
 none_skipped size written summary is all = ap (λ (s : Summary). s.skipped) is ∙ omega (arith, all)
+
+pub no_blocks : (options : CopyOptions) → options.allocated ≡ true → block_of options ≡ 0
+no_blocks options on = ap (λ (b : Bool). if b || nat_lt options.request_size options.sparse then 0 else options.sparse) on

@@ -1,7 +1,9 @@
 -- What a copy between two files leaves, and what it tells of that.
 use Rattle.std.specs.Prelude.{◌≡◌, ◌≢◌, ◌+◌, ◌<◌, ◌^◌, ℕ, List, length, Option, Some}
+use Rattle.lnbd_plan.specs.declared.options.CopyOptions.{CopyOptions}
 use Rattle.lnbd_plan.specs.declared.summary.Summary.{Summary}
 use Rattle.lnbd_store.specs.Shelf.{Shelf, Goes}
+use Rattle.lnbd_copyfile.specs.Zeros.{passed_of}
 
 -- The file at the second path is now exactly the one at the first, which has so many bytes and is as it was. No other file changed.
 pub record IsDuplicated (from to : List ℕ) (size : ℕ) (was now : Shelf) : Type 0 where
@@ -22,3 +24,7 @@ pub record IsSummed (summary : Summary) (given given' taken taken' : ℕ) : Type
   pub written : taken < 2 ^ 63 → taken' ≡ taken + summary.written
   pub whole : summary.written + summary.skipped ≡ summary.read
   pub zeroed : summary.zeroed ≡ 0
+
+-- Where the store tells its files, as many bytes were passed over as the source has in zero pieces.
+abbrev pub HasPassed : CopyOptions → (from : List ℕ) → (skipped : ℕ) → (new : Option Shelf) → Type 0
+HasPassed options from skipped new = (now : Shelf) (bytes : List ℕ) → new ≡ Some now → now.files from ≡ Some bytes → skipped ≡ passed_of options bytes

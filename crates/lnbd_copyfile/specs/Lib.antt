@@ -1,4 +1,9 @@
 pub mod Causes
+pub mod Zeros
 pub mod Between
 pub mod Calls
+pub mod OneFile
 pub mod Steps
+pub mod Making
+pub mod Loading
+pub mod OneSide

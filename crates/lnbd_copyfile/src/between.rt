@@ -4,10 +4,11 @@ ghost use Rattle.std.specs.Prelude.{◌≡◌, ◌≢◌, ◌-◌, ◌<◌, ◌�
 ghost use Rattle.lnbd_link.specs.Count.{Rises};
 ghost use Rattle.lnbd_store.specs.Shelf.{Goes, Shelf};
 ghost use Rattle.lnbd_touched.specs.Grown.{Grew};
-ghost use Rattle.lnbd_copyfile.specs.Between.{HasCopied, IsSummed};
+ghost use Rattle.lnbd_copyfile.specs.Between.{HasCopied, HasPassed, IsSummed};
 ghost use Rattle.lnbd_copyfile.specs.Calls.{HasDone, IsOpening, NotDone, NotOpened, stop_of};
 ghost use Rattle.lnbd_copyfile.specs.Causes.{HasCause, IsChanged, TellsChange};
 ghost use Rattle.lnbd_copyfile.specs.Steps.{IsSource};
+ghost use Rattle.lnbd_copyfile.specs.Zeros.{block_of};
 
 use crate::fault::{FileFault, Stop};
 use crate::filling::{Way, fill};
@@ -41,7 +42,7 @@ fn open_source<S: Store>(store: &mut S, path: &Text) -> Result<Source, StoreFail
 
 /// The blocks of zeros that are passed over; 0 where none are.
 fn block_of(options: CopyOptions) -> u32
-    ensures { options.allocated ≡ true → result ≡ 0 }
+    ensures { result ≡ block_of options }
 {
     if options.allocated || options.request_size < options.sparse {
         return 0;
@@ -73,10 +74,11 @@ fn copy<S: Store>(
     requires apart { from.now ≢ to.now }
     requires cell { 0 < options.request_size }
     ensures between { IfOk result (λ summary. HasCopied from.now to.now summary.read (S.shelf store.old) (S.shelf store.new)) }
-    ensures stores { IfOk result (λ summary. Grew (S.told store.old) (S.told store.new) (HasDone from.now to.now summary.read options.flush)) }
+    ensures stores { IfOk result (λ summary. Grew (S.told store.old) (S.told store.new) (HasDone from.now to.now summary.read options)) }
     ensures sums { IfOk result (λ summary. IsSummed summary (S.given store.old) (S.given store.new) (S.taken store.old) (S.taken store.new)) }
+    ensures passed { IfOk result (λ summary. HasPassed options from.now summary.skipped (S.shelf store.new)) }
     ensures allocated { options.allocated ≡ true → IfOk result (λ summary. summary.skipped ≡ 0) }
-    ensures stopped { IfErr result (λ why. Grew (S.told store.old) (S.told store.new) (NotDone from.now to.now options.flush why)) }
+    ensures stopped { IfErr result (λ why. Grew (S.told store.old) (S.told store.new) (NotDone from.now to.now options why)) }
     ensures changed { IfErr result (λ why. IsChanged why → (now : Shelf) → S.shelf store.new ≡ Some now → ⊥) }
     ensures failed { result ≡ Err Stop.Failed → Rises 1 (S.faults store.old) (S.faults store.new) }
     ensures later { S.faults store.old ≤ S.faults store.new }
@@ -116,12 +118,13 @@ pub fn copy_between<S: Store>(
     // Where the store tells its files, the destination is exactly the source, and every other file is as it was.
     ensures between { IfOk result (λ summary. HasCopied from.now to.now summary.read (S.shelf store.old) (S.shelf store.new)) }
 
-    // Which calls were made.
-    ensures stores { IfOk result (λ summary. Grew (S.told store.old) (S.told store.new) (HasDone from.now to.now summary.read options.flush)) }
-    ensures stopped { IfErr result (λ why. Grew (S.told store.old) (S.told store.new) (NotDone from.now to.now options.flush (stop_of why))) }
+    // Which calls were made: each read asks for the rest of a slice.
+    ensures stores { IfOk result (λ summary. Grew (S.told store.old) (S.told store.new) (HasDone from.now to.now summary.read options)) }
+    ensures stopped { IfErr result (λ why. Grew (S.told store.old) (S.told store.new) (NotDone from.now to.now options (stop_of why))) }
 
     // How many bytes were read, written and passed over.
     ensures sums { IfOk result (λ summary. IsSummed summary (S.given store.old) (S.given store.new) (S.taken store.old) (S.taken store.new)) }
+    ensures passed { IfOk result (λ summary. HasPassed options from.now summary.skipped (S.shelf store.new)) }
     ensures allocated { options.allocated ≡ true → IfOk result (λ summary. summary.skipped ≡ 0) }
 
     // What a fault comes from. A store that tells its files has none that changed.

@@ -1,6 +1,6 @@
 //! A file is made at a path and filled with the bytes of another one, slice by slice. How that one was opened is not known here.
 
-ghost use Rattle.std.specs.Prelude.{◌≡◌, ◌+◌, ◌<◌, ◌≤◌, ◌^◌, ℕ, Err, IfErr, IfOk, OnErr, OnOk, length, true};
+ghost use Rattle.std.specs.Prelude.{◌≡◌, ◌+◌, ◌<◌, ◌≤◌, ◌^◌, Err, IfErr, IfOk, OnErr, OnOk, length, min};
 ghost use Rattle.lnbd_link.specs.Count.{Rises};
 ghost use Rattle.lnbd_store.specs.Shelf.{Goes};
 ghost use Rattle.lnbd_touched.specs.Both.{Both};
@@ -8,7 +8,7 @@ ghost use Rattle.lnbd_touched.specs.Grown.{Grew, RoseBy};
 ghost use Rattle.lnbd_touched.specs.Touches.{Touches};
 ghost use Rattle.lnbd_copyfile.specs.Calls.{Breaks, HasFilled, HasMoved, IsClosing, IsMaking, Moves, NotClosed, NotFilled, NotMade, NotMoved};
 ghost use Rattle.lnbd_copyfile.specs.Causes.{IsChanged};
-ghost use Rattle.lnbd_copyfile.specs.Steps.{IsBlank, IsFilled, Kept, Lacking, Moved, WasShort};
+ghost use Rattle.lnbd_copyfile.specs.Steps.{IsBlank, IsFilled, IsSlice, Kept, Lacking, Moved, WasShort};
 
 use crate::fault::Stop;
 use crate::reading::read_slice;
@@ -42,13 +42,15 @@ fn move_slice<S: Store>(
     buffer: &mut [u8],
     pieces: &mut Vec<Slice>,
 ) -> Result<u64, Stop>
+    requires cell { 0 < way.cell }
     requires room { count ≤ length buffer.old }
     requires fits { offset + count ≤ way.size }
+    requires slice { IsSlice way.cell way.size offset count }
     requires size { way.size < 2 ^ 63 }
     ensures same { length buffer.new ≡ length buffer.old }
-    ensures moved { OnOk result (Both way.from to (Moved way.size offset (offset + count)) (S.shelf store.old) (S.shelf store.new)) }
-    ensures moves { OnOk result (Grew (S.told store.old) (S.told store.new) (Moves way.from to)) }
-    ensures breaks { IfErr result (λ why. Grew (S.told store.old) (S.told store.new) (Breaks way.from to way.size why)) }
+    ensures moved { IfOk result (λ n. Both way.from to (Moved way.cell way.block way.size offset (offset + count) n) (S.shelf store.old) (S.shelf store.new)) }
+    ensures moves { OnOk result (Grew (S.told store.old) (S.told store.new) (Moves way.cell way.size way.from to)) }
+    ensures breaks { IfErr result (λ why. Grew (S.told store.old) (S.told store.new) (Breaks way.cell way.size way.from to why)) }
     ensures short { IfErr result (λ why. IsChanged why → Both way.from to (Lacking way.size) (S.shelf store.old) (S.shelf store.new)) }
     ensures failed { result ≡ Err Stop.Failed → Rises 1 (S.faults store.old) (S.faults store.new) }
     ensures later { S.faults store.old ≤ S.faults store.new }
@@ -71,11 +73,12 @@ fn move_slices<S: Store>(
     buffer: &mut [u8],
     pieces: &mut Vec<Slice>,
 ) -> Result<u64, Stop>
-    requires room { 0 < way.size → 0 < length buffer.old }
+    requires cell { 0 < way.cell }
+    requires room { length buffer.old ≡ min way.size way.cell }
     requires size { way.size < 2 ^ 63 }
-    ensures moved { OnOk result (Both way.from to (Moved way.size 0 way.size) (S.shelf store.old) (S.shelf store.new)) }
-    ensures moves { OnOk result (Grew (S.told store.old) (S.told store.new) (Moves way.from to)) }
-    ensures breaks { IfErr result (λ why. Grew (S.told store.old) (S.told store.new) (Breaks way.from to way.size why)) }
+    ensures moved { IfOk result (λ n. Both way.from to (Moved way.cell way.block way.size 0 way.size n) (S.shelf store.old) (S.shelf store.new)) }
+    ensures moves { OnOk result (Grew (S.told store.old) (S.told store.new) (Moves way.cell way.size way.from to)) }
+    ensures breaks { IfErr result (λ why. Grew (S.told store.old) (S.told store.new) (Breaks way.cell way.size way.from to why)) }
     ensures short { IfErr result (λ why. IsChanged why → Both way.from to (Lacking way.size) (S.shelf store.old) (S.shelf store.new)) }
     ensures failed { result ≡ Err Stop.Failed → Rises 1 (S.faults store.old) (S.faults store.new) }
     ensures later { S.faults store.old ≤ S.faults store.new }
@@ -137,11 +140,12 @@ fn transfer<S: Store>(
     buffer: &mut [u8],
     pieces: &mut Vec<Slice>,
 ) -> Result<u64, Stop>
-    requires room { 0 < way.size → 0 < length buffer.old }
+    requires cell { 0 < way.cell }
+    requires room { length buffer.old ≡ min way.size way.cell }
     requires size { way.size < 2 ^ 63 }
-    ensures moved { OnOk result (Both way.from to (Moved way.size 0 way.size) (S.shelf store.old) (S.shelf store.new)) }
-    ensures moves { OnOk result (Grew (S.told store.old) (S.told store.new) (HasMoved way.from to way.flush)) }
-    ensures breaks { IfErr result (λ why. Grew (S.told store.old) (S.told store.new) (NotMoved way.from to way.size way.flush why)) }
+    ensures moved { IfOk result (λ n. Both way.from to (Moved way.cell way.block way.size 0 way.size n) (S.shelf store.old) (S.shelf store.new)) }
+    ensures moves { OnOk result (Grew (S.told store.old) (S.told store.new) (HasMoved way.cell way.size way.from to way.flush)) }
+    ensures breaks { IfErr result (λ why. Grew (S.told store.old) (S.told store.new) (NotMoved way.cell way.size way.from to way.flush why)) }
     ensures short { IfErr result (λ why. IsChanged why → Both way.from to (Lacking way.size) (S.shelf store.old) (S.shelf store.new)) }
     ensures failed { result ≡ Err Stop.Failed → Rises 1 (S.faults store.old) (S.faults store.new) }
     ensures later { S.faults store.old ≤ S.faults store.new }
@@ -168,11 +172,12 @@ fn fill_by<S: Store>(
     buffer: &mut [u8],
     pieces: &mut Vec<Slice>,
 ) -> Result<u64, Stop>
-    requires room { 0 < way.size → 0 < length buffer.old }
+    requires cell { 0 < way.cell }
+    requires room { length buffer.old ≡ min way.size way.cell }
     requires size { way.size < 2 ^ 63 }
-    ensures filled { OnOk result (Goes (S.shelf store.old) (S.shelf store.new) (IsFilled way.from way.size path.now)) }
-    ensures calls { OnOk result (Grew (S.told store.old) (S.told store.new) (HasFilled way.from way.size path.now way.flush)) }
-    ensures breaks { IfErr result (λ why. Grew (S.told store.old) (S.told store.new) (NotFilled way.from way.size path.now way.flush why)) }
+    ensures filled { IfOk result (λ n. Goes (S.shelf store.old) (S.shelf store.new) (IsFilled way.cell way.block way.size way.from n path.now)) }
+    ensures calls { OnOk result (Grew (S.told store.old) (S.told store.new) (HasFilled way.cell way.size way.from path.now way.flush)) }
+    ensures breaks { IfErr result (λ why. Grew (S.told store.old) (S.told store.new) (NotFilled way.cell way.size way.from path.now way.flush why)) }
     ensures short { IfErr result (λ why. IsChanged why → Goes (S.shelf store.old) (S.shelf store.new) (WasShort way.from way.size path.now)) }
     ensures failed { result ≡ Err Stop.Failed → Rises 1 (S.faults store.old) (S.faults store.new) }
     ensures later { S.faults store.old ≤ S.faults store.new }
@@ -196,9 +201,9 @@ pub(crate) fn fill<S: Store>(
 ) -> Result<u64, Stop>
     requires cell { 0 < way.cell }
     requires size { way.size < 2 ^ 63 }
-    ensures filled { OnOk result (Goes (S.shelf store.old) (S.shelf store.new) (IsFilled way.from way.size path.now)) }
-    ensures calls { OnOk result (Grew (S.told store.old) (S.told store.new) (HasFilled way.from way.size path.now way.flush)) }
-    ensures breaks { IfErr result (λ why. Grew (S.told store.old) (S.told store.new) (NotFilled way.from way.size path.now way.flush why)) }
+    ensures filled { IfOk result (λ n. Goes (S.shelf store.old) (S.shelf store.new) (IsFilled way.cell way.block way.size way.from n path.now)) }
+    ensures calls { OnOk result (Grew (S.told store.old) (S.told store.new) (HasFilled way.cell way.size way.from path.now way.flush)) }
+    ensures breaks { IfErr result (λ why. Grew (S.told store.old) (S.told store.new) (NotFilled way.cell way.size way.from path.now way.flush why)) }
     ensures short { IfErr result (λ why. IsChanged why → Goes (S.shelf store.old) (S.shelf store.new) (WasShort way.from way.size path.now)) }
     ensures failed { result ≡ Err Stop.Failed → Rises 1 (S.faults store.old) (S.faults store.new) }
     ensures later { S.faults store.old ≤ S.faults store.new }

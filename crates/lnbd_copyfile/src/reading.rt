@@ -12,6 +12,8 @@ ghost use Rattle.lnbd_touched.specs.Parts.{IsShort, Tells};
 ghost use Rattle.lnbd_touched.specs.Touches.{Touches};
 ghost use Rattle.lnbd_copyfile.specs.Calls.{Breaks, Moves};
 ghost use Rattle.lnbd_copyfile.specs.Causes.{IsChanged};
+ghost use Rattle.lnbd_copyfile.specs.OneFile.{BreaksReading, Reads};
+ghost use Rattle.lnbd_copyfile.specs.Steps.{IsSlice};
 
 use crate::fault::Stop;
 use lnbd_store::{Store, StoreGot};
@@ -40,7 +42,7 @@ fn read_more<S: Store>(
 }
 
 /// Reads as many bytes as there is room for, from a place on, of a file that told that it has so many.
-fn read_all<S: Store>(
+pub(crate) fn read_all<S: Store>(
     store: &mut S,
     file: u32,
     size: u64,
@@ -50,8 +52,10 @@ fn read_all<S: Store>(
     requires fits { offset + length bytes.old ≤ size }
     ensures same { length bytes.new ≡ length bytes.old }
     ensures tells { OnOk result (Touches file (Tells offset bytes.new) (S.shelf store.old) (S.shelf store.new)) }
-    ensures moves { OnOk result ((to : ℕ) → Grew (S.told store.old) (S.told store.new) (Moves file to)) }
-    ensures breaks { IfErr result (λ why. (to : ℕ) → Grew (S.told store.old) (S.told store.new) (Breaks file to size why)) }
+    ensures moves { OnOk result ((cell to : ℕ) → IsSlice cell size offset (length bytes.old) → Grew (S.told store.old) (S.told store.new) (Moves cell size file to)) }
+    ensures breaks { IfErr result (λ why. (cell to : ℕ) → IsSlice cell size offset (length bytes.old) → Grew (S.told store.old) (S.told store.new) (Breaks cell size file to why)) }
+    ensures reads { OnOk result (Grew (S.told store.old) (S.told store.new) (Reads file)) }
+    ensures breaks_reading { IfErr result (λ why. Grew (S.told store.old) (S.told store.new) (BreaksReading file size why)) }
     ensures short { IfErr result (λ why. IsChanged why → Touches file (IsShort size) (S.shelf store.old) (S.shelf store.new)) }
     ensures failed { result ≡ Err Stop.Failed → Rises 1 (S.faults store.old) (S.faults store.new) }
     ensures later { S.faults store.old ≤ S.faults store.new }
@@ -87,8 +91,8 @@ pub(crate) fn read_slice<S: Store>(
     requires fits { offset + count ≤ size }
     ensures same { length buffer.new ≡ length buffer.old }
     ensures tells { OnOk result (Touches file (Tells offset (take count buffer.new)) (S.shelf store.old) (S.shelf store.new)) }
-    ensures moves { OnOk result ((to : ℕ) → Grew (S.told store.old) (S.told store.new) (Moves file to)) }
-    ensures breaks { IfErr result (λ why. (to : ℕ) → Grew (S.told store.old) (S.told store.new) (Breaks file to size why)) }
+    ensures moves { OnOk result ((cell to : ℕ) → IsSlice cell size offset count → Grew (S.told store.old) (S.told store.new) (Moves cell size file to)) }
+    ensures breaks { IfErr result (λ why. (cell to : ℕ) → IsSlice cell size offset count → Grew (S.told store.old) (S.told store.new) (Breaks cell size file to why)) }
     ensures short { IfErr result (λ why. IsChanged why → Touches file (IsShort size) (S.shelf store.old) (S.shelf store.new)) }
     ensures failed { result ≡ Err Stop.Failed → Rises 1 (S.faults store.old) (S.faults store.new) }
     ensures later { S.faults store.old ≤ S.faults store.new }

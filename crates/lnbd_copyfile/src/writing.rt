@@ -7,7 +7,9 @@ ghost use Rattle.lnbd_touched.specs.Grown.{Grew, RoseBy};
 ghost use Rattle.lnbd_touched.specs.Parts.{Puts};
 ghost use Rattle.lnbd_touched.specs.Touches.{Touches};
 ghost use Rattle.lnbd_copyfile.specs.Calls.{Breaks, Moves};
-ghost use Rattle.lnbd_copyfile.specs.Steps.{ArePieces, Fills, data_length};
+ghost use Rattle.lnbd_copyfile.specs.OneFile.{BreaksWriting, Writes};
+ghost use Rattle.lnbd_copyfile.specs.Steps.{AreCounted, ArePieces, Fills, data_length};
+ghost use Rattle.lnbd_copyfile.specs.Zeros.{is_zero_at};
 
 use crate::fault::Stop;
 use lnbd_model::NoMemory;
@@ -15,7 +17,7 @@ use lnbd_plan::{Slice, pieces};
 use lnbd_store::{Store, StoreFailed, StoreTook};
 
 /// Writes all of the bytes at a place.
-fn write_all<S: Store>(
+pub(crate) fn write_all<S: Store>(
     store: &mut S,
     file: u32,
     offset: u64,
@@ -23,8 +25,10 @@ fn write_all<S: Store>(
 ) -> Result<(), StoreFailed>
     requires { offset + length bytes.now < 2 ^ 64 }
     ensures puts { OnOk result (Touches file (Puts offset bytes.now) (S.shelf store.old) (S.shelf store.new)) }
-    ensures moves { OnOk result ((from : ℕ) → Grew (S.told store.old) (S.told store.new) (Moves from file)) }
-    ensures breaks { OnErr result ((from size : ℕ) → Grew (S.told store.old) (S.told store.new) (Breaks from file size Stop.Failed)) }
+    ensures moves { OnOk result ((cell size from : ℕ) → length bytes.now ≤ cell → Grew (S.told store.old) (S.told store.new) (Moves cell size from file)) }
+    ensures breaks { OnErr result ((cell size from : ℕ) → length bytes.now ≤ cell → Grew (S.told store.old) (S.told store.new) (Breaks cell size from file Stop.Failed)) }
+    ensures writes { OnOk result (Grew (S.told store.old) (S.told store.new) (Writes file)) }
+    ensures breaks_writing { OnErr result (Grew (S.told store.old) (S.told store.new) (BreaksWriting file Stop.Failed)) }
     ensures failed { OnErr result (Rises 1 (S.faults store.old) (S.faults store.new)) }
     ensures later { S.faults store.old ≤ S.faults store.new }
     ensures given { S.given store.new ≡ S.given store.old }
@@ -51,8 +55,8 @@ fn put_piece<S: Store>(
     requires fits { offset + length bytes.now < 2 ^ 64 }
     requires zero { zero ≡ true → bytes.now ≡ replicate (length bytes.now) 0 }
     ensures fills { OnOk result (Touches file (Fills offset bytes.now) (S.shelf store.old) (S.shelf store.new)) }
-    ensures moves { OnOk result ((from : ℕ) → Grew (S.told store.old) (S.told store.new) (Moves from file)) }
-    ensures breaks { OnErr result ((from size : ℕ) → Grew (S.told store.old) (S.told store.new) (Breaks from file size Stop.Failed)) }
+    ensures moves { OnOk result ((cell size from : ℕ) → length bytes.now ≤ cell → Grew (S.told store.old) (S.told store.new) (Moves cell size from file)) }
+    ensures breaks { OnErr result ((cell size from : ℕ) → length bytes.now ≤ cell → Grew (S.told store.old) (S.told store.new) (Breaks cell size from file Stop.Failed)) }
     ensures failed { OnErr result (Rises 1 (S.faults store.old) (S.faults store.new)) }
     ensures later { S.faults store.old ≤ S.faults store.new }
     ensures given { S.given store.new ≡ S.given store.old }
@@ -79,8 +83,8 @@ fn put_pieces<S: Store>(
     requires fits { offset + length bytes.now < 2 ^ 64 }
     requires pieces { ArePieces offset bytes.now pieces.now }
     ensures fills { OnOk result (Touches file (Fills offset bytes.now) (S.shelf store.old) (S.shelf store.new)) }
-    ensures moves { OnOk result ((from : ℕ) → Grew (S.told store.old) (S.told store.new) (Moves from file)) }
-    ensures breaks { OnErr result ((from size : ℕ) → Grew (S.told store.old) (S.told store.new) (Breaks from file size Stop.Failed)) }
+    ensures moves { OnOk result ((cell size from : ℕ) → length bytes.now ≤ cell → Grew (S.told store.old) (S.told store.new) (Moves cell size from file)) }
+    ensures breaks { OnErr result ((cell size from : ℕ) → length bytes.now ≤ cell → Grew (S.told store.old) (S.told store.new) (Breaks cell size from file Stop.Failed)) }
     ensures failed { OnErr result (Rises 1 (S.faults store.old) (S.faults store.new)) }
     ensures later { S.faults store.old ≤ S.faults store.new }
     ensures given { S.given store.new ≡ S.given store.old }
@@ -104,7 +108,7 @@ fn put_pieces<S: Store>(
 fn cut_pieces(offset: u64, bytes: &[u8], block: u32, out: &mut Vec<Slice>) -> Result<(), NoMemory>
     requires room { offset + length bytes.now ≤ 2 ^ 63 }
     ensures pieces { OnOk result (ArePieces offset bytes.now out.new.items) }
-    ensures whole { block ≡ 0 → OnOk result (data_length out.new.items ≡ length bytes.now) }
+    ensures counts { OnOk result (AreCounted (is_zero_at block offset bytes.now) (data_length out.new.items) offset (length bytes.now)) }
 {
     out.clear();
     if block == 0 {
@@ -129,15 +133,14 @@ pub(crate) fn settle<S: Store>(
 ) -> Result<u64, Stop>
     requires room { offset + length bytes.now ≤ 2 ^ 63 }
     ensures fills { OnOk result (Touches file (Fills offset bytes.now) (S.shelf store.old) (S.shelf store.new)) }
-    ensures moves { OnOk result ((from : ℕ) → Grew (S.told store.old) (S.told store.new) (Moves from file)) }
-    ensures breaks { IfErr result (λ why. (from size : ℕ) → Grew (S.told store.old) (S.told store.new) (Breaks from file size why)) }
+    ensures moves { OnOk result ((cell size from : ℕ) → length bytes.now ≤ cell → Grew (S.told store.old) (S.told store.new) (Moves cell size from file)) }
+    ensures breaks { IfErr result (λ why. (cell size from : ℕ) → length bytes.now ≤ cell → Grew (S.told store.old) (S.told store.new) (Breaks cell size from file why)) }
     ensures unchanged { (n end : ℕ) → result ≡ Err (Stop.Changed n end) → ⊥ }
     ensures failed { result ≡ Err Stop.Failed → Rises 1 (S.faults store.old) (S.faults store.new) }
     ensures later { S.faults store.old ≤ S.faults store.new }
     ensures given { S.given store.new ≡ S.given store.old }
     ensures taken { IfOk result (λ n. RoseBy n (S.taken store.old) (S.taken store.new)) }
-    ensures few { IfOk result (λ n. n ≤ length bytes.now) }
-    ensures all { block ≡ 0 → IfOk result (λ n. n ≡ length bytes.now) }
+    ensures count { IfOk result (λ n. AreCounted (is_zero_at block offset bytes.now) n offset (length bytes.now)) }
 {
     match cut_pieces(offset, bytes, block, pieces) {
         Ok(()) => {}

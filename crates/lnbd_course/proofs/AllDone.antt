@@ -1,5 +1,5 @@
 -- Each request of a copy is done in the end: those for slices are over, block statuses were heard, and a flush was answered.
-use Rattle.std.proofs.Common.{◌≡◌, ◌≢◌, ◌⊎◌, inl, inr, ℕ, Bool, true, false, List, [], ◌∷◌, Some, None, refl, ap, sym, subst, ◌∙◌, nat_le, if◌then◌else◌}
+use Rattle.std.proofs.Common.{◌≡◌, ◌⊎◌, inl, inr, ℕ, Bool, true, false, List, [], ◌∷◌, Some, None, refl, ap, sym, subst, ◌∙◌, nat_le, if◌then◌else◌}
 use Rattle.std.proofs.lemmas.Bool.{false≢true}
 use Rattle.lnbd_model.specs.declared.target.Place.{Place}
 use Rattle.lnbd_outcome.specs.Outcome.{Unfinished}
@@ -9,24 +9,25 @@ use Rattle.lnbd_history.specs.Commands.{Command}
 use Rattle.lnbd_history.specs.History.{request}
 use Rattle.lnbd_asked.specs.Driven.{written}
 use Rattle.lnbd_asked.specs.Link.{Nobody}
-use Rattle.lnbd_asked.specs.Transcript.{answered, bare, dealt_with, is_of, on_link}
+use Rattle.lnbd_asked.specs.Transcript.{Dealt, answered, bare, dealt_with, is_of, on_link}
 use Rattle.lnbd_plan.specs.declared.grid.Slice.{Slice}
 use Rattle.lnbd_board.specs.declared.how.How.{How}
 use Rattle.lnbd_board.specs.declared.ticket.Ticket.{Ticket}
 use Rattle.lnbd_board.specs.declared.ticket.Ticket.TheVariants as ticket
 use Rattle.lnbd_board.specs.Files as board
-use Rattle.lnbd_board.specs.Requests.{Each, Request}
+use Rattle.lnbd_board.specs.Requests.{Each, IsDealt, Request, Under}
 use Rattle.lnbd_board.specs.Rows.{AsksOfDestination, AsksOfSource, IsChange}
 use Rattle.lnbd_board.proofs.Lists.{Each-back, in_each}
 use Rattle.lnbd_tracks.specs.Laws.{IsDone, moves_bytes}
-use Rattle.lnbd_tracks.specs.Mapping.{first_tells, is_extents}
+use Rattle.lnbd_tracks.specs.Mapping.{NoneAsked, first_tells, is_extents}
+use Rattle.lnbd_tracks.specs.Tracks.{AllTrack, Histories}
 use Rattle.lnbd_course.specs.AllDone.{AreAllDone, EndedAreAllDone}
 use Rattle.lnbd_course.specs.Asks.{AreDone}
-use Rattle.lnbd_course.specs.Between.{Between}
 use Rattle.lnbd_course.specs.Counted.{is_flush}
 use Rattle.lnbd_course.specs.Course.{beside, on_side}
+use Rattle.lnbd_course.specs.Flushes.{NoneFlushes, OneFlushes, WasFlushed}
 use Rattle.lnbd_course.specs.Told.{Known, Told}
-use Rattle.lnbd_course.proofs.Ending.{destination_dealt, out_in}
+use Rattle.lnbd_course.proofs.Ending.{Of, destination_dealt, gone_out, of_it, out_in}
 use Rattle.lnbd_course.proofs.Flushing.{ended_flushed, ended_flushes_once, ended_unflushed}
 use Rattle.lnbd_course.proofs.Listing.{asked_here, listed, one_of}
 use Rattle.lnbd_course.proofs.Once.{ended_are_done}
@@ -70,34 +71,57 @@ module _ (from : Place) (how : How) (has : ℕ → Bool) (slices : List Slice) (
             is = ap (λ (b : Bool). if b then answered (on_link link calls) cookie else Unfinished) here ∙ (t.course.parted link tt).outcomes cookie out ∙ done.is;
           }
 
--- What the destination was asked is done where that is so of each of its changes, and a flush was answered.
-module _ (from to : Place) (size : ℕ) (how : How) (has : ℕ → Bool) (slices : List Slice) (now : board.Seen) (calls : List wire.Call) (b : Between from to (Some size) how has slices now calls []) (well : now.error ≡ None)
-    (flushed : now.flushing ≡ true → now.flushed ≡ true) (two : from ≢ to) (changes : AreDone (dealt_with to calls)) where
-  flush_done : (link cookie : ℕ) (command : Command Nobody) → (dealt_with to calls).asked link cookie ≡ Some command → is_flush command.kind ≡ true → IsDone ((dealt_with to calls).outcome link cookie)
-  flush_done link cookie command asked flush = go now.flushing refl
+-- What a destination was asked is done where that is so of each of its changes, and a flush that was asked was answered.
+module _ (how : How) (slices : List Slice) (histories : Histories) (requests : List Request) (dealt : Dealt) (went : IsDealt (gone_out histories requests) dealt)
+    (each : Each (λ (r : Request). AsksOfDestination how slices r.ticket r.said.command) requests)
+    (changes : AreDone dealt) (flushing : Bool) (once : OneFlushes dealt) (none : flushing ≡ false → NoneFlushes dealt) (flushed : flushing ≡ true → WasFlushed dealt) where
+  flush_done : (link cookie : ℕ) (command : Command Nobody) → dealt.asked link cookie ≡ Some command → is_flush command.kind ≡ true → IsDone (dealt.outcome link cookie)
+  flush_done link cookie command asked flush = go flushing refl
     where
-      go : (f : Bool) → now.flushing ≡ f → IsDone ((dealt_with to calls).outcome link cookie)
+      go : (f : Bool) → flushing ≡ f → IsDone (dealt.outcome link cookie)
       go true e =
-          let was = ended_flushed from to size how has slices now calls b well (flushed e) two in
-          let same = ended_flushes_once from to size how has slices now calls b two was.link was.cookie link cookie was.command command was.asked asked was.kind flush in
-          subst (λ (l : ℕ). IsDone ((dealt_with to calls).outcome l cookie)) (sym same.0) (subst (λ (c : ℕ). IsDone ((dealt_with to calls).outcome was.link c)) (sym same.1) was.done)
-      go false e = absurd (false≢true (sym (ended_unflushed from to size how has slices now calls b e two link cookie command asked) ∙ flush))
+          let was = flushed e in
+          let same = once was.link was.cookie link cookie was.command command was.asked asked was.kind flush in
+          subst (λ (l : ℕ). IsDone (dealt.outcome l cookie)) (sym same.0) (subst (λ (c : ℕ). IsDone (dealt.outcome was.link c)) (sym same.1) was.done)
+      go false e = absurd (false≢true (sym (none e link cookie command asked) ∙ flush))
 
-  destination_done : AreAllDone (dealt_with to calls)
-  destination_done link cookie command asked =
-      let u = (destination_dealt from to how has slices now calls b.course (links_are_of_sides from to size how has slices now calls b two).0).only link cookie command asked in
-      let mine = in_each (λ (r : Request). AsksOfDestination how slices r.ticket r.said.command) u.request b.course.stood.destination
-      (out_in (on_side (beside has) b.course.histories) u.request b.course.stood.destination u.within).0 (b.course.stood.stands well).changes in
+  pub stores_done : AreAllDone dealt
+  stores_done link cookie command asked =
+      let u = went.only link cookie command asked in
+      let mine = in_each (λ (r : Request). AsksOfDestination how slices r.ticket r.said.command) u.request requests (out_in histories u.request requests u.within).0 each in
       go u.request u.asks (destination_asks how slices u.request.ticket u.request.said.command mine)
     where
-      go : (r : Request) → r.said.command ≡ command → (moves_bytes r.said.command.kind ≡ true) ⊎ (is_flush r.said.command.kind ≡ true) → IsDone ((dealt_with to calls).outcome link cookie)
+      go : (r : Request) → r.said.command ≡ command → (moves_bytes r.said.command.kind ≡ true) ⊎ (is_flush r.said.command.kind ≡ true) → IsDone (dealt.outcome link cookie)
       go r same (inl moves) = changes link cookie command asked (ap (λ (c : Command Nobody). moves_bytes c.kind) (sym same) ∙ moves)
       go r same (inr flush) = flush_done link cookie command asked (ap (λ (c : Command Nobody). is_flush c.kind) (sym same) ∙ flush)
+
+-- What a source was asked is, where that is so of each of its reads, and no extents are waited for.
+pub looks_done : (slices : List Slice) (histories : Histories) (requests : List Request) (dealt : Dealt) → AllTrack histories requests → IsDealt (gone_out histories requests) dealt →
+    Each (λ (r : Request). AsksOfSource slices r.ticket r.said.command) requests →
+    AreDone dealt → NoneAsked histories → AreAllDone dealt
+looks_done slices histories requests dealt track went each reads none link cookie command asked =
+    let within = (out_in histories u.request requests u.within).0 in
+    go (of_it histories requests u.request track within) (source_asks slices u.request.ticket u.request.said.command
+    (in_each (λ (r : Request). AsksOfSource slices r.ticket r.said.command) u.request requests within each))
+  where
+    u : Under link cookie command (gone_out histories requests)
+    u = went.only link cookie command asked
+
+    go : Of histories u.request → (moves_bytes u.request.said.command.kind ≡ true) ⊎ (is_extents u.request.ticket ≡ true) → IsDone (dealt.outcome link cookie)
+    go o (inl moves) = reads link cookie command asked (ap (λ (c : Command Nobody). moves_bytes c.kind) (sym u.asks) ∙ moves)
+    go o (inr extents) =
+        let done = none u.request.link u.request.cookie o.asks o.is (either_true (first_tells o.asks.flight.first) (is_extents o.asks.flight.done.callback) (ap is_extents (sym o.by) ∙ extents)) in
+        subst (λ (l : ℕ). IsDone (dealt.outcome l cookie)) u.on
+        (subst (λ (c : ℕ). IsDone (dealt.outcome u.request.link c)) u.by (record { bytes = done.bytes; is = (went.shown u.request u.within).1 ∙ o.outcome ∙ done.is }))
 
 pub ended_are_all_done : EndedAreAllDone
 ended_are_all_done from to size how has slices now calls known b t over well flushed two =
     let done = ended_are_done from to size how has slices now calls b over well two in
     record {
       source = source_done from how has slices now calls known t well (links_are_of_sides from to size how has slices now calls b two).0.source done.source;
-      destination = destination_done from to size how has slices now calls b well flushed two done.destination;
+      destination = stores_done how slices (on_side (beside has) b.course.histories) b.course.stood.destination (dealt_with to calls)
+          (destination_dealt from to how has slices now calls b.course (links_are_of_sides from to size how has slices now calls b two).0)
+          (b.course.stood.stands well).changes done.destination now.flushing (ended_flushes_once from to size how has slices now calls b two)
+          (λ e. ended_unflushed from to size how has slices now calls b e two)
+          (λ e. ended_flushed from to size how has slices now calls b well (flushed e) two);
     }

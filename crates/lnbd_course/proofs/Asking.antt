@@ -1,5 +1,5 @@
 -- A caller asks a handle, or does something else with it; and the board goes on.
-use Rattle.std.proofs.Common.{◌≡◌, ◌≢◌, ℕ, zero, suc, Bool, true, false, List, [], ◌∷◌, Some, None, slice_get, refl, ap, sym, subst, ◌∙◌}
+use Rattle.std.proofs.Common.{◌≡◌, ◌≢◌, ℕ, zero, suc, true, false, List, [], ◌∷◌, Some, None, slice_get, refl, ap, sym, subst, ◌∙◌}
 use Rattle.lnbd_link.specs.Call as wire
 use Rattle.lnbd_history.specs.Events.{Event, Issue}
 use Rattle.lnbd_asked.specs.Driven.{DrivenSays, Spells, is_inward}
@@ -8,12 +8,10 @@ use Rattle.lnbd_poll.specs.Alone.{AreApart, HaveOwnLinks}
 use Rattle.lnbd_poll.specs.Seen.{Seen}
 use Rattle.lnbd_drives.specs.Driving.{sets_opt_mode, with_event}
 use Rattle.lnbd_drives.proofs.Calling.{callers_drive}
-use Rattle.lnbd_plan.specs.declared.grid.Slice.{Slice}
-use Rattle.lnbd_board.specs.declared.how.How.{How}
 use Rattle.lnbd_board.specs.declared.ticket.Ticket.{Ticket}
 use Rattle.lnbd_board.specs.Files as board
 use Rattle.lnbd_tracks.specs.Tracks.{Histories}
-use Rattle.lnbd_course.specs.Course.{Course, Stood, AllHave}
+use Rattle.lnbd_course.specs.Course.{CourseOf, Stood, AllHave}
 use Rattle.lnbd_course.specs.Laws.{SourceAsksKeep, DestinationAsksKeep, BoardMovesKeep, OthersKeep}
 use Rattle.lnbd_course.proofs.Counting.{counted_same}
 use Rattle.lnbd_course.proofs.Standing.{quiet_stood, source_asked, destination_asked, with_history, with_here, with_others, with_happens}
@@ -60,11 +58,12 @@ module _ (event : Event Ticket) (histories : Histories) where
   then_have (suc index) seen (first ∷ others) there own have =
       (with_others seen.link (event ∷ histories seen.link) histories first.link (λ e. not_one first.link index seen others there own.0 e) ∙ have.0, then_have index seen others there own.1 have.1)
 
--- What stands on, with what stands of both sides after the event.
-unfoldable pub goes_on : (how : How) (has : ℕ → Bool) (slices slices' : List Slice) (now now' : board.Seen) (calls : List wire.Call) (seens : List (Seen Ticket)) (index : ℕ) (seen : Seen Ticket) (event : Event Ticket) →
-    (c : Course how has slices now calls seens) → slice_get seens index ≡ Some seen → is_inward event ≡ true → Spells seen.history event → sets_opt_mode event ≡ false →
-    Stood how has slices' now' (then event c.histories seen.link) → Course how has slices' now' calls (with_event index event seens)
-goes_on how has slices slices' now now' calls seens index seen event c there inward spells off stood = record {
+-- What stands on, with the facts that stand after the event.
+unfoldable pub goes_on : (Facts Facts' : board.Seen → Histories → Type 0) (now now' : board.Seen) (calls : List wire.Call) (seens : List (Seen Ticket)) (index : ℕ) (seen : Seen Ticket)
+    (event : Event Ticket) →
+    (c : CourseOf Facts now calls seens) → slice_get seens index ≡ Some seen → is_inward event ≡ true → Spells seen.history event → sets_opt_mode event ≡ false →
+    Facts' now' (then event c.histories seen.link) → CourseOf Facts' now' calls (with_event index event seens)
+goes_on Facts Facts' now now' calls seens index seen event c there inward spells off stood = record {
   histories = then event c.histories seen.link;
   held = then_have event c.histories index seen seens there c.drive.own c.held;
   drive = callers_drive calls seens index seen event c.drive there inward spells off;
@@ -82,36 +81,33 @@ goes_on how has slices slices' now now' calls seens index seen event c there inw
   driven = λ link apart. c.driven link (was_apart link index event seens apart);
 }
 
+-- The same handles and calls, with the facts that stand of another board.
+abbrev pub moves_on : (Facts Facts' : board.Seen → Histories → Type 0) (now now' : board.Seen) (calls : List wire.Call) (seens : List (Seen Ticket)) (c : CourseOf Facts now calls seens) →
+    Facts' now' c.histories → CourseOf Facts' now' calls seens
+moves_on Facts Facts' now now' calls seens c stood = record { histories = c.histories; held = c.held; drive = c.drive; parted = c.parted; unused = c.unused; stood = stood; driven = c.driven }
+
 unfoldable pub source_asks_keep : SourceAsksKeep
 source_asks_keep how has slices slices' now now' calls seens index seen command c there is spells asks =
-    goes_on how has slices slices' now now' calls seens index seen (Issue command) c there refl spells refl
+    goes_on (Stood how has slices) (Stood how has slices') now now' calls seens index seen (Issue command) c there refl spells refl
     (source_asked how has slices slices' seen.link command c.histories (then (Issue command) c.histories seen.link) (with_happens seen.link (Issue command) c.histories) now now' is asks c.stood)
 
 unfoldable pub destination_asks_keep : DestinationAsksKeep
 destination_asks_keep how has slices slices' now now' calls seens index seen command c there is spells asks =
-    goes_on how has slices slices' now now' calls seens index seen (Issue command) c there refl spells refl
+    goes_on (Stood how has slices) (Stood how has slices') now now' calls seens index seen (Issue command) c there refl spells refl
     (destination_asked how has slices slices' seen.link command c.histories (then (Issue command) c.histories seen.link) (with_happens seen.link (Issue command) c.histories) now now' is asks c.stood)
 
 unfoldable pub others_keep : OthersKeep
 others_keep how has slices now calls seens index seen event c there inward other none spells off =
-    goes_on how has slices slices now now calls seens index seen event c there inward spells off
+    goes_on (Stood how has slices) (Stood how has slices) now now calls seens index seen event c there inward spells off
     (quiet_stood how has slices seen.link event c.histories (then event c.histories seen.link) (with_happens seen.link event c.histories) now c.stood other none)
 
 unfoldable pub board_moves_keep : BoardMovesKeep
-board_moves_keep how has slices now now' calls seens c earlier same keeps = record {
-  histories = c.histories;
-  held = c.held;
-  drive = c.drive;
-  parted = c.parted;
-  unused = c.unused;
-  stood = record {
-    source = c.stood.source;
-    destination = c.stood.destination;
-    reads = c.stood.reads;
-    changes = c.stood.changes;
-    stands = λ none. (keeps c.stood.source c.stood.destination).on slices (c.stood.stands (earlier none));
-    counted = counted_same now now' c.stood.source c.stood.destination same c.stood.counted;
-    flushed = λ none told. c.stood.flushed (earlier none) (sym same.flushed ∙ told);
-  };
-  driven = c.driven;
-}
+board_moves_keep how has slices now now' calls seens c earlier same keeps = moves_on (Stood how has slices) (Stood how has slices) now now' calls seens c (record {
+  source = c.stood.source;
+  destination = c.stood.destination;
+  reads = c.stood.reads;
+  changes = c.stood.changes;
+  stands = λ none. (keeps c.stood.source c.stood.destination).on slices (c.stood.stands (earlier none));
+  counted = counted_same now now' c.stood.source c.stood.destination same c.stood.counted;
+  flushed = λ none told. c.stood.flushed (earlier none) (sym same.flushed ∙ told);
+})

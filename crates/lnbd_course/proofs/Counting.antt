@@ -165,9 +165,6 @@ same_total weight (x ∷ xs) other h =
 pub same_bytes : (counts : Kind → Bool) (one other : List Request) → AskAlike one other → bytes_of counts one ≡ bytes_of counts other
 same_bytes counts one other h = same_total (λ command. cond (counts command.kind) command.length 0) one other h
 
-same_flushes : (one other : List Request) → AskAlike one other → flushes_of one ≡ flushes_of other
-same_flushes one other h = same_total (λ command. cond (is_flush command.kind) 1 0) one other h
-
 -- What handles were asked.
 
 abbrev pub commands_in : Option (commands_of.Request Ticket) → List (Command Nobody)
@@ -242,14 +239,22 @@ pub calls_same : (calls : List (Call Ticket)) (old new : board.Seen) → OneByOn
 calls_same [] old new done = same_is old new done
 calls_same (call ∷ calls) old new done = same_then old done.0 new (call_same old done.0 call done.1.0) (calls_same calls done.0 new done.1.1)
 
--- Then the counts stand for lists that ask alike,
-pub counted_alike : (now now' : board.Seen) (source destination source' destination' : List Request) → CountsAlike now now' → AskAlike source source' → AskAlike destination destination' → IsCounted now source destination → IsCounted now' source' destination'
-counted_alike now now' source destination source' destination' same reads changes k = record {
-  read = same.read ∙ k.read ∙ ap up_to_end (same_bytes is_read source source' reads);
-  written = same.written ∙ k.written ∙ ap up_to_end (same_bytes is_write destination destination' changes);
-  zeroed = same.zeroed ∙ k.zeroed ∙ ap up_to_end (same_bytes is_zero destination destination' changes);
-  flushes = sym (same_flushes destination destination' changes) ∙ k.flushes ∙ ap (λ (b : Bool). cond b 1 0) (sym same.flushing);
+-- Then the counts stand for lists of which the same is counted,
+pub counted_totals : (now now' : board.Seen) (source destination source' destination' : List Request) → CountsAlike now now' →
+    ((weight : Command Nobody → ℕ) → total weight source ≡ total weight source') →
+    ((weight : Command Nobody → ℕ) → total weight destination ≡ total weight destination') → IsCounted now source destination → IsCounted now' source' destination'
+counted_totals now now' source destination source' destination' same reads changes k = record {
+  read = same.read ∙ k.read ∙ ap up_to_end (reads (λ command. cond (is_read command.kind) command.length 0));
+  written = same.written ∙ k.written ∙ ap up_to_end (changes (λ command. cond (is_write command.kind) command.length 0));
+  zeroed = same.zeroed ∙ k.zeroed ∙ ap up_to_end (changes (λ command. cond (is_zero command.kind) command.length 0));
+  flushes = sym (changes (λ command. cond (is_flush command.kind) 1 0)) ∙ k.flushes ∙ ap (λ (b : Bool). cond b 1 0) (sym same.flushing);
 }
+
+-- as of lists that ask alike,
+pub counted_alike : (now now' : board.Seen) (source destination source' destination' : List Request) → CountsAlike now now' → AskAlike source source' → AskAlike destination destination' →
+    IsCounted now source destination → IsCounted now' source' destination'
+counted_alike now now' source destination source' destination' same reads changes k =
+    counted_totals now now' source destination source' destination' same (λ weight. same_total weight source source' reads) (λ weight. same_total weight destination destination' changes) k
 
 -- and for the same lists.
 pub counted_same : (now now' : board.Seen) (source destination : List Request) → CountsSame now now' → IsCounted now source destination → IsCounted now' source destination

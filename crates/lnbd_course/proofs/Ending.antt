@@ -13,8 +13,9 @@ use Rattle.lnbd_asked.specs.Driven.{DrivenSays, outcome_after, written}
 use Rattle.lnbd_asked.specs.Link.{Nobody}
 use Rattle.lnbd_asked.specs.Transcript.{is_of, on_link, asked_on, answered, bare, only_if, dealt_with}
 use Rattle.lnbd_keyed.specs.Keyed.{value_at}
+use Rattle.lnbd_plan.specs.declared.cells.Cells.{Cells}
 use Rattle.lnbd_plan.specs.declared.grid.Slice.{Slice}
-use Rattle.lnbd_plan.specs.Laws.{IsPlannedOnce, windows_slices, told_by}
+use Rattle.lnbd_plan.specs.Laws.{IsPlannedOnce, Window, windows_end, windows_slices, told_by}
 use Rattle.lnbd_plan.proofs.OnceLaws.{all_planned_once}
 use Rattle.lnbd_board.specs.declared.how.How.{How}
 use Rattle.lnbd_board.specs.declared.row.Row.{Row}
@@ -66,6 +67,7 @@ pub record Of (histories : Histories) (r : Request) : Type 0 where
   pub is : history_of.request (histories r.link) r.cookie ≡ Some asks
   pub command : r.said.command ≡ bare asks
   pub outcome : r.said.outcome ≡ outcome_after (histories r.link) r.cookie
+  pub by : r.ticket ≡ asks.flight.done.callback
 
 module _ (histories : Histories) where
   pub of_it : (xs : List Request) (r : Request) → AllTrack histories xs → IsIn r xs → Of histories r
@@ -74,7 +76,14 @@ module _ (histories : Histories) where
       go : (a : Option (commands.Request Ticket)) → history_of.request (histories r.link) r.cookie ≡ a → IsIn r (request_of r.link r.cookie a (outcome_after (histories r.link) r.cookie)) → Of histories r
       go None is h = absurd h
       go (Some q) is (inr h) = absurd h
-      go (Some q) is (inl e) = record { asks = q; is = is; command = sym (ap (λ (x : Request). x.said.command) e); outcome = sym (ap (λ (x : Request). x.said.outcome) e) }
+      go (Some q) is (inl e) = record {
+        asks = q;
+        is = is;
+        command = sym (ap (λ (x : Request). x.said.command) e);
+        outcome = sym (ap (λ (x : Request). x.said.outcome) e);
+        by =
+            sym (ap (λ (x : Request). x.ticket) e);
+      }
 
   -- whether the command was wholly written
   abbrev pub is_out : Request → Bool
@@ -158,34 +167,56 @@ write_out how slices (ticket.Slice n) said asks slice = change_moves how said.co
 write_out how slices ticket.Extents said asks slice = absurd (false≢true slice)
 write_out how slices ticket.Flush said asks slice = absurd (false≢true slice)
 
-module _ (how : How) (slices : List Slice) (sources destinations : Histories) (source destination : List Request) (stands : Stands how slices [] source destination)
-    (reads : AllTrack sources source) (changes : AllTrack destinations destination) where
+none_left : (a b c d : ℕ) → a + b ≡ 0 → c ≤ a → d ≤ b → c + d ≡ 0
+none_left a b c d e f g = omega (arith, e, f, g)
+
+same_left : (n : ℕ) → n ≤ n
+same_left n = omega arith
+
+-- of the source alone
+module _ (how : How) (slices : List Slice) (sources : Histories) (source destination : List Request) (stands : Stands how slices [] source destination) (reads : AllTrack sources source) where
   source_out : SlicesAreOut sources source
   source_out = each_of (λ (r : Request). is_slice r.ticket ≡ true → is_out sources r ≡ true) source
       (λ r there slice. done_out sources source r reads there
       (in_each (λ (x : Request). moves_bytes x.said.command.kind ≡ true → IsDone x.said.outcome) source (finished_are_done how slices source destination stands).0 r there
       (read_out slices r.ticket r.said (in_each (λ (x : Request). AsksOfSource slices x.ticket x.said.command) source stands.reads r there) slice)))
 
+  pub source_out_stands : Stands how slices [] (gone_out sources source) destination
+  source_out_stands = record {
+    each = λ i l. subst (λ (x : List Said). StandsAs how (slice_at slices i) (value_at {V = Row} i []) x (own i destination)) (sym (own_out sources i source source_out)) (stands.each i l);
+    reads = each_out sources (λ (r : Request). AsksOfSource slices r.ticket r.said.command) source stands.reads;
+    changes = stands.changes;
+    rising = stands.rising;
+    below = stands.below;
+    counted = none_left (unanswered source) (unanswered destination) (unanswered (gone_out sources source)) (unanswered destination) stands.counted (fewer_out sources source)
+        (same_left (unanswered destination));
+  }
+
+-- and of the destination
+module _ (how : How) (slices : List Slice) (destinations : Histories) (source destination : List Request) (stands : Stands how slices [] source destination)
+    (changes : AllTrack destinations destination) where
   destination_out : SlicesAreOut destinations destination
   destination_out = each_of (λ (r : Request). is_slice r.ticket ≡ true → is_out destinations r ≡ true) destination
       (λ r there slice. done_out destinations destination r changes there
       (in_each (λ (x : Request). moves_bytes x.said.command.kind ≡ true → IsDone x.said.outcome) destination (finished_are_done how slices source destination stands).1 r there
       (write_out how slices r.ticket r.said (in_each (λ (x : Request). AsksOfDestination how slices x.ticket x.said.command) destination stands.changes r there) slice)))
 
-  none_left : (a b c d : ℕ) → a + b ≡ 0 → c ≤ a → d ≤ b → c + d ≡ 0
-  none_left a b c d e f g = omega (arith, e, f, g)
-
-  pub out_stands : Stands how slices [] (gone_out sources source) (gone_out destinations destination)
-  out_stands = record {
-    each = λ i l.
-        subst (λ (x : List Said). StandsAs how (slice_at slices i) (value_at {V = Row} i []) x (own i (gone_out destinations destination))) (sym (own_out sources i source source_out))
-        (subst (λ (x : List Said). StandsAs how (slice_at slices i) (value_at {V = Row} i []) (own i source) x) (sym (own_out destinations i destination destination_out)) (stands.each i l));
-    reads = each_out sources (λ (r : Request). AsksOfSource slices r.ticket r.said.command) source stands.reads;
+  pub destination_out_stands : Stands how slices [] source (gone_out destinations destination)
+  destination_out_stands = record {
+    each = λ i l. subst (λ (x : List Said). StandsAs how (slice_at slices i) (value_at {V = Row} i []) (own i source) x) (sym (own_out destinations i destination destination_out)) (stands.each i l);
+    reads = stands.reads;
     changes = each_out destinations (λ (r : Request). AsksOfDestination how slices r.ticket r.said.command) destination stands.changes;
     rising = stands.rising;
     below = stands.below;
-    counted = none_left (unanswered source) (unanswered destination) (unanswered (gone_out sources source)) (unanswered (gone_out destinations destination)) stands.counted (fewer_out sources source) (fewer_out destinations destination);
+    counted = none_left (unanswered source) (unanswered destination) (unanswered source) (unanswered (gone_out destinations destination)) stands.counted (same_left (unanswered source))
+        (fewer_out destinations destination);
   }
+
+pub out_stands : (how : How) (slices : List Slice) (sources destinations : Histories) (source destination : List Request) → Stands how slices [] source destination → AllTrack sources source →
+    AllTrack destinations destination →
+    Stands how slices [] (gone_out sources source) (gone_out destinations destination)
+out_stands how slices sources destinations source destination stands reads changes =
+    destination_out_stands how slices destinations (gone_out sources source) destination (source_out_stands how slices sources source destination stands reads) changes
 
 -- What went out is what was dealt.
 
@@ -277,6 +308,12 @@ module _ (from to : Place) (how : How) (has : ℕ → Bool) (slices : List Slice
   pub destination_dealt : IsDealt (gone_out (on_side (beside has) course.histories) course.stood.destination) (dealt_with to calls)
   destination_dealt = are_dealt to calls (on_side (beside has) course.histories) course.stood.destination course.stood.changes (side_says (beside has) to (λ link here. ap not (sides.destination link here))) destination_of
 
+pub planned_once : (cells : Cells) (windows : List Window) (size : ℕ) (slices : List Slice) → slices ≡ windows_slices cells 0 windows → windows_end 0 windows ≡ size → (p : ℕ) →
+    IsPlannedOnce cells (told_by 0 windows) 0 size p slices
+planned_once cells windows size slices are whole p =
+    subst (λ (l : List Slice). IsPlannedOnce cells (told_by 0 windows) 0 size p l) (sym are)
+    (subst (λ (n : ℕ). IsPlannedOnce cells (told_by 0 windows) 0 n p (windows_slices cells 0 windows)) whole (all_planned_once cells 0 windows p))
+
 module _ (from to : Place) (how : How) (calls : List Call) (f : IsFinished from to how calls) where
   abbrev histories : Histories
   histories = f.course.histories
@@ -290,14 +327,9 @@ module _ (from to : Place) (how : How) (calls : List Call) (f : IsFinished from 
   abbrev destinations : List Request
   destinations = gone_out (on_side (beside f.has) histories) f.course.stood.destination
 
-  planned_once : (p : ℕ) → IsPlannedOnce f.cells (told_by 0 f.windows) 0 f.size p f.slices
-  planned_once p =
-      subst (λ (l : List Slice). IsPlannedOnce f.cells (told_by 0 f.windows) 0 f.size p l) (sym f.planned.are)
-      (subst (λ (n : ℕ). IsPlannedOnce f.cells (told_by 0 f.windows) 0 n p (windows_slices f.cells 0 f.windows)) f.planned.whole (all_planned_once f.cells 0 f.windows p))
-
   is_copied : IsCopied how f.cells (told_by 0 f.windows) f.size f.slices sources destinations
   is_copied = record {
-    planned = planned_once;
+    planned = planned_once f.cells f.windows f.size f.slices f.planned.are f.planned.whole;
     left_out = f.planned.left_out;
     over = out_stands how f.slices (on_side f.has histories) (on_side (beside f.has) histories) f.course.stood.source f.course.stood.destination stands_over f.course.stood.reads f.course.stood.changes;
   }

@@ -71,8 +71,11 @@ alike one other same f = record {
 }
 
 -- A request more.
+pub flush_more : (r : Request) (xs : List Request) → HasDoneFlush xs → HasDoneFlush (xs ++ r ∷ [])
+flush_more r xs f = record { flush = f.flush; within = in_front f.flush xs (r ∷ []) f.within; kind = f.kind; done = f.done }
+
 pub flush_asking : (link cookie : ℕ) (by : Ticket) (command : Command Nobody) (xs : List Request) → HasDoneFlush xs → HasDoneFlush (asking link cookie by command xs)
-flush_asking link cookie by command xs f = record { flush = f.flush; within = in_front f.flush xs (request link cookie by (waiting command) ∷ []) f.within; kind = f.kind; done = f.done }
+flush_asking link cookie by command xs f = flush_more (request link cookie by (waiting command)) xs f
 
 -- Which requests the flush's ticket has.
 
@@ -232,13 +235,14 @@ known how slices now source destination none stands flushed = record {
 }
 
 -- What happens on a handle of the source, but that it is asked, leaves it so;
-pub source_flushes : (how : How) (slices : List Slice) (link : ℕ) (event : Event Ticket) (sources destinations : Histories) (added : List (Call Ticket)) (before after : Seen) (source destination destination2 : List Request) →
-    AllTrack sources source → AllTrack destinations destination → AllTrack destinations destination2 → (before.error ≡ None → Stands how slices before.rows source destination) → is_issue event ≡ false →
+pub source_flushes : (how : How) (slices : List Slice) (link : ℕ) (event : Event Ticket) (sources : Histories) (added : List (Call Ticket)) (before after : Seen)
+    (source destination destination2 : List Request) →
+    AllTrack sources source → ((n c : ℕ) → under n c destination2 ≡ under n c destination) → (before.error ≡ None → Stands how slices before.rows source destination) → is_issue event ≡ false →
     Adds event (sources link) added → OneByOne Files before added after → FlushIsDone destination before → FlushIsDone destination2 after
-source_flushes how slices link event sources destinations added before after source destination destination2 reads changes changes2 stands other adds files flushed none told =
+source_flushes how slices link event sources added before after source destination destination2 reads same stands other adds files flushed none told =
     let g : Leads link (event ∷ sources link) added source = event_tracks link (sources link) event source (reads link) other added adds (files_well added before after files) in
     let k = calls_know added before after source destination g.new destination files none (source_all added source g.new destination g.tells) (known how slices before source destination (none_earlier added before after files none) stands flushed) in
-    alike destination destination2 (λ n c. (changes2 n).each c ∙ sym ((changes n).each c)) (k.flushed told)
+    alike destination destination2 same (k.flushed told)
 
 -- and so does what happens on one of the destination.
 pub destination_flushes : (how : How) (slices : List Slice) (link : ℕ) (event : Event Ticket) (destinations destinations2 : Histories) (added : List (Call Ticket)) (before after : Seen) (source destination destination2 : List Request) →

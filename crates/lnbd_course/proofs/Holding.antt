@@ -12,7 +12,7 @@ use Rattle.lnbd_history.specs.Events.{History}
 use Rattle.lnbd_asked.specs.Driven.{DrivenSays, written}
 use Rattle.lnbd_asked.specs.Link.{Nobody}
 use Rattle.lnbd_asked.specs.Transcript.{on_link}
-use Rattle.lnbd_poll.specs.Alone.{AreApart}
+use Rattle.lnbd_poll.specs.Alone.{AreApart, calls_on}
 use Rattle.lnbd_poll.specs.Seen.{Seen}
 use Rattle.lnbd_poll.specs.Turns.{Turns, Whole}
 use Rattle.lnbd_drives.specs.Driving.{DriveOwnLinks, new_on}
@@ -33,8 +33,9 @@ use Rattle.lnbd_board.proofs.Lists.{Each-map}
 use Rattle.lnbd_board.proofs.Turning.{nothing_stands}
 use Rattle.lnbd_tracks.specs.Tracks.{Histories}
 use Rattle.lnbd_tracks.proofs.Sides.{nothing_tracks}
-use Rattle.lnbd_course.specs.Course.{Course, Stood, AllHave, on_side, beside, with_link}
+use Rattle.lnbd_course.specs.Course.{Course, CourseOf, Stood, AllHave, on_side, beside, with_link}
 use Rattle.lnbd_course.specs.Laws.{NothingIsOnCourse, OpensOnCourse, SettlingKeeps, TurnsKeep, CallsKeep, TakingKeeps}
+use Rattle.lnbd_course.proofs.Asking.{moves_on}
 use Rattle.lnbd_course.proofs.Counting.{nothing_counted}
 use Rattle.lnbd_course.proofs.Driving.{nothing_driven, driven_stays, handle_drove}
 use Rattle.lnbd_course.proofs.Standing.{Same, same_track, event_stood, quiet_stood}
@@ -59,24 +60,28 @@ says_nothing = record { requests = λ c. nothing_asked (nat_le c (written {K = T
     nothing_asked true = refl
     nothing_asked false = refl
 
-unfoldable pub nothing_is_on_course : NothingIsOnCourse
-nothing_is_on_course how has now none uncounted = record {
+-- with the facts that stand of it
+abbrev pub begins_course : (Facts : board.Seen → Histories → Type 0) (now : board.Seen) → Facts now no_history → CourseOf Facts now [] []
+begins_course Facts now stood = record {
   histories = no_history;
   held = tt;
   drive = record { own = tt; drive = tt; plain = tt };
   parted = λ link apart. says_nothing;
   unused = λ link new. record { apart = tt; quiet = refl; blank = refl };
-  stood = record {
-    source = [];
-    destination = [];
-    reads = same_track (on_side has no_history) (λ link. []) [] (none_on has) nothing_tracks;
-    changes = same_track (on_side (beside has) no_history) (λ link. []) [] (none_on (beside has)) nothing_tracks;
-    stands = λ e. subst (λ (rows : List (ℕ × Row)). Stands how [] rows [] []) (sym none) (nothing_stands how);
-    counted = nothing_counted how [] now [] [] (nothing_stands how) refl uncounted;
-    flushed = λ none told. absurd (false≢true (sym uncounted.flushed ∙ told));
-  };
+  stood = stood;
   driven = λ link apart. nothing_driven link;
 }
+
+unfoldable pub nothing_is_on_course : NothingIsOnCourse
+nothing_is_on_course how has now none uncounted = begins_course (Stood how has []) now (record {
+  source = [];
+  destination = [];
+  reads = same_track (on_side has no_history) (λ link. []) [] (none_on has) nothing_tracks;
+  changes = same_track (on_side (beside has) no_history) (λ link. []) [] (none_on (beside has)) nothing_tracks;
+  stands = λ e. subst (λ (rows : List (ℕ × Row)). Stands how [] rows [] []) (sym none) (nothing_stands how);
+  counted = nothing_counted how [] now [] [] (nothing_stands how) refl uncounted;
+  flushed = λ none told. absurd (false≢true (sym uncounted.flushed ∙ told));
+})
 
 -- Numbers that are given stay so.
 first_not : (a b : Bool) → (a || b) ≡ false → a ≡ false
@@ -88,8 +93,9 @@ not_before link calls more e = first_not (is_given link calls) (is_given link mo
 
 -- Calls that read and write no link.
 
-unfoldable pub calls_keep : CallsKeep
-calls_keep how has slices now calls more seens c none = record {
+abbrev pub calls_pass : (Facts : board.Seen → Histories → Type 0) (now : board.Seen) (calls more : List wire.Call) (seens : List (Seen Ticket)) → CourseOf Facts now calls seens →
+    ((link : ℕ) → calls_on link more ≡ []) → CourseOf Facts now (calls ++ more) seens
+calls_pass Facts now calls more seens c none = record {
   histories = c.histories;
   held = c.held;
   drive = passing_calls_drive calls more seens c.drive (other_calls_pass more seens none);
@@ -101,12 +107,16 @@ calls_keep how has slices now calls more seens c none = record {
   driven = λ link apart. driven_stays link calls more (none link) (c.driven link apart);
 }
 
+unfoldable pub calls_keep : CallsKeep
+calls_keep how has slices now calls more seens c none = calls_pass (Stood how has slices) now calls more seens c none
+
 -- A turn.
 
 -- after a turn in which the others had their histories
-unfoldable pub turned_keeps : (how : How) (has : ℕ → Bool) (slices : List Slice) (now now' : board.Seen) (calls part : List wire.Call) (before after : List (Seen Ticket)) (moved : Option ℕ) (c : Course how has slices now calls before) → Turns steps before now part after now' (Whole moved) →
-    (S : board.Seen → Histories → Type 0) → Turned S before after now' c.histories → ((histories : Histories) → S now' histories → Stood how has slices now' histories) → Course how has slices now' (calls ++ part) after
-turned_keeps how has slices now now' calls part before after moved c turns S t stood = record {
+abbrev pub turned_on : (Facts Facts' : board.Seen → Histories → Type 0) (now now' : board.Seen) (calls part : List wire.Call) (before after : List (Seen Ticket)) (moved : Option ℕ)
+    (c : CourseOf Facts now calls before) → Turns steps before now part after now' (Whole moved) →
+    (S : board.Seen → Histories → Type 0) → Turned S before after now' c.histories → ((histories : Histories) → S now' histories → Facts' now' histories) → CourseOf Facts' now' (calls ++ part) after
+turned_on Facts Facts' now now' calls part before after moved c turns S t stood = record {
   histories = t.histories;
   held = t.held;
   drive = turns_drive steps calls part before after now now' moved c.drive turns;
@@ -126,6 +136,12 @@ turned_keeps how has slices now now' calls part before after moved c turns S t s
       let was = t.was_apart link apart in
       driven_stays link calls part (turns_pass_others steps link part before after now now' (Whole moved) was turns) (c.driven link was);
 }
+
+unfoldable pub turned_keeps : (how : How) (has : ℕ → Bool) (slices : List Slice) (now now' : board.Seen) (calls part : List wire.Call) (before after : List (Seen Ticket)) (moved : Option ℕ)
+    (c : Course how has slices now calls before) → Turns steps before now part after now' (Whole moved) →
+    (S : board.Seen → Histories → Type 0) → Turned S before after now' c.histories → ((histories : Histories) → S now' histories → Stood how has slices now' histories) →
+    Course how has slices now' (calls ++ part) after
+turned_keeps how has slices now now' calls part before after moved c turns S t stood = turned_on (Stood how has slices) (Stood how has slices) now now' calls part before after moved c turns S t stood
 
 unfoldable pub turns_keep : TurnsKeep
 turns_keep how has slices now now' calls part before after moved c turns =
@@ -189,9 +205,10 @@ removed_apart link index [] apart = tt
 removed_apart link zero (seen ∷ others) apart = apart.1
 removed_apart link (suc index) (seen ∷ others) apart = (apart.0, removed_apart link index others apart.1)
 
-pub removed_says : (how : How) (has : ℕ → Bool) (slices : List Slice) (now : board.Seen) (calls : List wire.Call) (seens : List (Seen Ticket)) (index : ℕ) (seen : Seen Ticket) (limit : ℕ) (handle : Machine Ticket) → (c : Course how has slices now calls seens) → slice_get seens index ≡ Some seen → StandsFor limit seen.history handle →
+pub removed_says : (Facts : board.Seen → Histories → Type 0) (now : board.Seen) (calls : List wire.Call) (seens : List (Seen Ticket)) (index : ℕ) (seen : Seen Ticket) (limit : ℕ)
+    (handle : Machine Ticket) → (c : CourseOf Facts now calls seens) → slice_get seens index ≡ Some seen → StandsFor limit seen.history handle →
     (link : ℕ) → AreApart link (removed index seens) → DrivenSays (c.histories link) (on_link link calls)
-removed_says how has slices now calls seens index seen limit handle c there stands link apart = by (cases_eq link seen.link)
+removed_says Facts now calls seens index seen limit handle c there stands link apart = by (cases_eq link seen.link)
   where
     taken : DrivenSays (c.histories seen.link) (on_link seen.link calls)
     taken = subst (λ h. DrivenSays h (on_link seen.link calls)) (sym (one_has index seen c.histories seens there c.held)) (driven_said limit calls seens index seen handle c.drive there stands)
@@ -200,31 +217,33 @@ removed_says how has slices now calls seens index seen limit handle c there stan
     by (inl is) = subst (λ (n : ℕ). DrivenSays (c.histories n) (on_link n calls)) (sym is) taken
     by (inr differ) = c.parted link (apart_or link index seen seens there apart differ)
 
-pub removed_driven : (how : How) (has : ℕ → Bool) (slices : List Slice) (now : board.Seen) (calls : List wire.Call) (seens : List (Seen Ticket)) (index : ℕ) (seen : Seen Ticket) (limit : ℕ) (handle : Machine Ticket) → Course how has slices now calls seens → slice_get seens index ≡ Some seen → StandsFor limit seen.history handle →
+pub removed_driven : (Facts : board.Seen → Histories → Type 0) (now : board.Seen) (calls : List wire.Call) (seens : List (Seen Ticket)) (index : ℕ) (seen : Seen Ticket) (limit : ℕ)
+    (handle : Machine Ticket) → CourseOf Facts now calls seens → slice_get seens index ≡ Some seen → StandsFor limit seen.history handle →
     (link : ℕ) → AreApart link (removed index seens) → IsDriven Ticket link calls
-removed_driven how has slices now calls seens index seen limit handle c there stands link apart = by (cases_eq link seen.link)
+removed_driven Facts now calls seens index seen limit handle c there stands link apart = by (cases_eq link seen.link)
   where
     by : (link ≡ seen.link) ⊎ (link ≡ seen.link → ⊥) → IsDriven Ticket link calls
     by (inl is) = subst (λ (n : ℕ). IsDriven Ticket n calls) (sym is) (handle_drove limit calls seens index seen handle c.drive there stands)
     by (inr differ) = c.driven link (apart_or link index seen seens there apart differ)
 
-unfoldable pub removed_keeps : (how : How) (has : ℕ → Bool) (slices : List Slice) (now : board.Seen) (calls : List wire.Call) (seens : List (Seen Ticket)) (index : ℕ) (seen : Seen Ticket) (limit : ℕ) (handle : Machine Ticket) →
-    Course how has slices now calls seens → slice_get seens index ≡ Some seen → StandsFor limit seen.history handle → Course how has slices now calls (removed index seens)
-removed_keeps how has slices now calls seens index seen limit handle c there stands = record {
+unfoldable pub removed_keeps : (Facts : board.Seen → Histories → Type 0) (now : board.Seen) (calls : List wire.Call) (seens : List (Seen Ticket)) (index : ℕ) (seen : Seen Ticket) (limit : ℕ)
+    (handle : Machine Ticket) →
+    CourseOf Facts now calls seens → slice_get seens index ≡ Some seen → StandsFor limit seen.history handle → CourseOf Facts now calls (removed index seens)
+removed_keeps Facts now calls seens index seen limit handle c there stands = record {
   histories = c.histories;
   held = removed_have index c.histories seens c.held;
   drive = subst (DriveOwnLinks calls) (sym (take_drop index seens)) (taken_drive calls seens index c.drive);
-  parted = removed_says how has slices now calls seens index seen limit handle c there stands;
+  parted = removed_says Facts now calls seens index seen limit handle c there stands;
   unused = λ link new.
       let u = c.unused link new in
       record { apart = removed_apart link index seens u.apart; quiet = u.quiet; blank = u.blank };
   stood = c.stood;
-  driven = removed_driven how has slices now calls seens index seen limit handle c there stands;
+  driven = removed_driven Facts now calls seens index seen limit handle c there stands;
 }
 
 pub taking_keeps : TakingKeeps
 taking_keeps how has slices now calls seens index seen limit handle c there stands =
-    subst (Course how has slices now calls) (take_drop index seens) (removed_keeps how has slices now calls seens index seen limit handle c there stands)
+    subst (Course how has slices now calls) (take_drop index seens) (removed_keeps (Stood how has slices) now calls seens index seen limit handle c there stands)
 
 -- A handle begins.
 
@@ -277,10 +296,12 @@ same_beside has histories link source blank other = go (cases_eq link other)
         either (beside (with_link link source has) other) (histories other) none ∙ sym (either (beside has other) (histories other) none)
     go (inr differ) = ap (λ (b : Bool). let none : History Ticket = [] in if not (if b then source else has other) then histories other else none) (ne_eqb link other differ)
 
-unfoldable pub opens_on_course : OpensOnCourse
-unfolding calls_keep
-opens_on_course how has slices now calls seens to link source c new =
-    let k = calls_keep how has slices now calls (wire.Connect to (Some link) ∷ []) seens c (λ n. refl) in
+-- with the facts that stand then
+abbrev pub opens_course : (Facts Facts' : board.Seen → Histories → Type 0) (now : board.Seen) (calls : List wire.Call) (seens : List (Seen Ticket)) (to : Target) (link : ℕ)
+    (c : CourseOf Facts now calls seens) → is_given link calls ≡ false → Facts' now c.histories →
+    CourseOf Facts' now (calls ++ wire.Connect to (Some link) ∷ []) (seens ++ new_on link ∷ [])
+opens_course Facts Facts' now calls seens to link c new stood =
+    let k = calls_pass Facts now calls (wire.Connect to (Some link) ∷ []) seens c (λ n. refl) in
     let u = c.unused link new in
     record {
       histories = c.histories;
@@ -290,17 +311,23 @@ opens_on_course how has slices now calls seens to link source c new =
       unused = λ n free.
           let v = k.unused n free in
           record { apart = new_apart n link seens (other_given n link calls to free) v.apart; quiet = v.quiet; blank = v.blank };
-      stood = record {
-        source = c.stood.source;
-        destination = c.stood.destination;
-        reads = same_track (on_side (with_link link source has) c.histories) (on_side has c.histories) c.stood.source (same_side has c.histories link source u.blank) c.stood.reads;
-        changes = same_track (on_side (beside (with_link link source has)) c.histories) (on_side (beside has) c.histories) c.stood.destination (same_beside has c.histories link source u.blank) c.stood.changes;
-        stands = c.stood.stands;
-        counted = c.stood.counted;
-        flushed = c.stood.flushed;
-      };
+      stood = stood;
       driven = λ n apart. k.driven n (old_apart n link seens apart);
     }
+
+unfoldable pub opens_on_course : OpensOnCourse
+opens_on_course how has slices now calls seens to link source c new =
+    let u = c.unused link new in
+    opens_course (Stood how has slices) (Stood how (with_link link source has) slices) now calls seens to link c new (record {
+      source = c.stood.source;
+      destination = c.stood.destination;
+      reads = same_track (on_side (with_link link source has) c.histories) (on_side has c.histories) c.stood.source (same_side has c.histories link source u.blank) c.stood.reads;
+      changes = same_track (on_side (beside (with_link link source has)) c.histories) (on_side (beside has) c.histories) c.stood.destination
+          (same_beside has c.histories link source u.blank) c.stood.changes;
+      stands = c.stood.stands;
+      counted = c.stood.counted;
+      flushed = c.stood.flushed;
+    })
 
 -- Before any slice is begun it is no matter how a copy writes.
 
@@ -326,21 +353,13 @@ stands_so how how' source destination s = record {
     none_below n l = omega (arith, l)
 
 unfoldable pub settling_keeps : SettlingKeeps
-settling_keeps how how' has now now' calls seens c none well unflushed none' uncounted = record {
-  histories = c.histories;
-  held = c.held;
-  drive = c.drive;
-  parted = c.parted;
-  unused = c.unused;
-  stood = record {
-    source = c.stood.source;
-    destination = c.stood.destination;
-    reads = c.stood.reads;
-    changes = c.stood.changes;
-    stands = λ e. subst (λ (rows : List (ℕ × Row)). Stands how' [] rows c.stood.source c.stood.destination) (sym none')
-        (stands_so how how' c.stood.source c.stood.destination (subst (λ (rows : List (ℕ × Row)). Stands how [] rows c.stood.source c.stood.destination) none (c.stood.stands well)));
-    counted = nothing_counted how now.rows now' c.stood.source c.stood.destination (c.stood.stands well) (c.stood.counted.flushes ∙ ap (λ (b : Bool). cond b 1 0) unflushed) uncounted;
-    flushed = λ none told. absurd (false≢true (sym uncounted.flushed ∙ told));
-  };
-  driven = c.driven;
-}
+settling_keeps how how' has now now' calls seens c none well unflushed none' uncounted = moves_on (Stood how has []) (Stood how' has []) now now' calls seens c (record {
+  source = c.stood.source;
+  destination = c.stood.destination;
+  reads = c.stood.reads;
+  changes = c.stood.changes;
+  stands = λ e. subst (λ (rows : List (ℕ × Row)). Stands how' [] rows c.stood.source c.stood.destination) (sym none')
+      (stands_so how how' c.stood.source c.stood.destination (subst (λ (rows : List (ℕ × Row)). Stands how [] rows c.stood.source c.stood.destination) none (c.stood.stands well)));
+  counted = nothing_counted how now.rows now' c.stood.source c.stood.destination (c.stood.stands well) (c.stood.counted.flushes ∙ ap (λ (b : Bool). cond b 1 0) unflushed) uncounted;
+  flushed = λ none told. absurd (false≢true (sym uncounted.flushed ∙ told));
+})

@@ -46,3 +46,7 @@ pub mod Passed
 pub mod Little
 pub mod Cutting
 pub mod Runs
+pub mod FarStanding
+pub mod FarKeeping
+pub mod FarEnding
+pub mod FarShowing

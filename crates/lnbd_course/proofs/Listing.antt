@@ -49,6 +49,14 @@ asked_by history link cookie command says is = go (nat_le cookie (written histor
     go true out None there e = absurd (cc e)
     go false out o there e = absurd (cc e)
 
+-- What was dealt with an export was asked on one of its links, by handles of these histories.
+pub asked_on_it : (from : Place) (calls : List wire.Call) (histories : Histories) → ((link : ℕ) → DrivenSays (histories link) (on_link link calls)) → (link cookie : ℕ) (command : Command Nobody) →
+    (dealt_with from calls).asked link cookie ≡ Some command →
+    (is_of from calls link ≡ true) × IsAsked (histories link) cookie command
+asked_on_it from calls histories says link cookie command is =
+    let both = only_if_some (is_of from calls link) (asked_on (on_link link calls) cookie) command is in
+    (both.0, asked_by (histories link) (on_link link calls) cookie command (says link) both.1)
+
 module _ (from : Place) (how : How) (sides : ℕ → Bool) (slices : List Slice) (now : board.Seen) (calls : List wire.Call) (course : Course how sides slices now calls []) (of : (link : ℕ) → is_of from calls link ≡ true → sides link ≡ true) where
   abbrev pub one_of : (link cookie : ℕ) → commands.Request Ticket → Request
   one_of link cookie asks = asked.request link cookie asks.flight.done.callback (record { command = bare asks; outcome = outcome_after (course.histories link) cookie })
@@ -60,9 +68,7 @@ module _ (from : Place) (how : How) (sides : ℕ → Bool) (slices : List Slice)
       ∙ ap (λ o. tracks.request_of link cookie o (outcome_after (course.histories link) cookie)) is)
 
   pub asked_here : (link cookie : ℕ) (command : Command Nobody) → (dealt_with from calls).asked link cookie ≡ Some command → (is_of from calls link ≡ true) × IsAsked (course.histories link) cookie command
-  asked_here link cookie command is =
-      let both = only_if_some (is_of from calls link) (asked_on (on_link link calls) cookie) command is in
-      (both.0, asked_by (course.histories link) (on_link link calls) cookie command (course.parted link tt) both.1)
+  asked_here = asked_on_it from calls course.histories (λ link. course.parted link tt)
 
   -- Where the list reads a position nowhere, no request reads it.
   pub none_read : (p : ℕ) → reads_over p course.stood.source ≡ [] → (link cookie : ℕ) (command : Command Nobody) → (dealt_with from calls).asked link cookie ≡ Some command → reads command p ≡ false

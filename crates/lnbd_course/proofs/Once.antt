@@ -28,8 +28,8 @@ use Rattle.lnbd_tracks.specs.Laws.{IsDone, moves_bytes}
 use Rattle.lnbd_tracks.specs.Tracks.{Histories}
 use Rattle.lnbd_tracks.proofs.Finished.{finished_are_done}
 use Rattle.lnbd_course.specs.Asks.{AreAskedOnce, AreDone, AreOwnLinks, EachAsked, EndedAreDone, EndedAsksOnce, EndsBy, IsPlain, NoneMeet, is_look, is_store}
-use Rattle.lnbd_course.specs.Between.{Between, place_of}
-use Rattle.lnbd_course.specs.Course.{beside, on_side}
+use Rattle.lnbd_course.specs.Between.{AreSettled, Between, BetweenOf, place_of}
+use Rattle.lnbd_course.specs.Course.{Stood, beside, on_side}
 use Rattle.lnbd_course.proofs.Ending.{destination_dealt, gone_out, out_in, source_dealt}
 use Rattle.lnbd_course.proofs.Placed.{links_are_of_sides}
 use Rattle.lnbd_course.proofs.Plain.{few_extents, no_zeroes, plain_look, plain_store}
@@ -169,8 +169,9 @@ listed histories asked dealt d link cookie command asks =
 
 -- Links.
 
-pub own_links : (from to : Place) (size : Option ℕ) (how : How) (has : ℕ → Bool) (slices : List Slice) (now : board.Seen) (calls : List Call) → Between from to size how has slices now calls [] → AreOwnLinks from to calls
-own_links from to size how has slices now calls b = record {
+pub placed_links : (Facts : board.Seen → Histories → Type 0) (Sizes : List Call → Histories → Type 0) (from to : Place) (has : ℕ → Bool) (now : board.Seen) (calls : List Call) →
+    BetweenOf Facts Sizes from to has now calls [] → AreOwnLinks from to calls
+placed_links Facts Sizes from to has now calls b = record {
   connected = λ link given. side (has link) (target_of link calls) (b.placed.address link given);
   used = λ link new. (b.course.unused link new).quiet;
 }
@@ -178,6 +179,10 @@ own_links from to size how has slices now calls b = record {
     side : (source : Bool) (target : Option Target) → target ≡ Some (place_of from to source).to → (target ≡ Some from.to) ⊎ (target ≡ Some to.to)
     side true target is = inl is
     side false target is = inr is
+
+pub own_links : (from to : Place) (size : Option ℕ) (how : How) (has : ℕ → Bool) (slices : List Slice) (now : board.Seen) (calls : List Call) → Between from to size how has slices now calls [] →
+    AreOwnLinks from to calls
+own_links from to size how has slices now calls b = placed_links (Stood how has slices) (λ calls histories. AreSettled size calls has histories) from to has now calls b
 
 pub ended_asks_once : EndedAsksOnce
 ended_asks_once from to size how has slices rest now calls cells told end b well planned fits two =
@@ -192,7 +197,8 @@ ended_asks_once from to size how has slices rest now calls cells told end b well
     }
 
 -- Where each request of a list that moves bytes is done, so is what was dealt of it.
-dealt_done : (histories : Histories) (asked : List Request) (dealt : Dealt) → IsDealt (gone_out histories asked) dealt → Each (λ r. moves_bytes r.said.command.kind ≡ true → IsDone r.said.outcome) asked → AreDone dealt
+pub dealt_done : (histories : Histories) (asked : List Request) (dealt : Dealt) → IsDealt (gone_out histories asked) dealt →
+    Each (λ r. moves_bytes r.said.command.kind ≡ true → IsDone r.said.outcome) asked → AreDone dealt
 dealt_done histories asked dealt d done link cookie command asks moves =
     let u = d.only link cookie command asks in
     let came = in_each (λ (r : Request). moves_bytes r.said.command.kind ≡ true → IsDone r.said.outcome) u.request asked (out_in histories u.request asked u.within).0 done (ap (λ (c : Command Nobody). moves_bytes c.kind) u.asks ∙ moves) in

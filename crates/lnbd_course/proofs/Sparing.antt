@@ -8,7 +8,8 @@ use Rattle.lnbd_outcome.specs.Outcome.{Done, Unfinished}
 use Rattle.lnbd_link.specs.Call as wire
 use Rattle.lnbd_history.specs.Commands as commands
 use Rattle.lnbd_history.specs.Commands.{Command}
-use Rattle.lnbd_asked.specs.Driven.{outcome_after, zero_after}
+use Rattle.lnbd_history.specs.History.{request}
+use Rattle.lnbd_asked.specs.Driven.{DrivenSays, outcome_after, zero_after}
 use Rattle.lnbd_asked.specs.Honest.{has}
 use Rattle.lnbd_asked.specs.Link.{Nobody}
 use Rattle.lnbd_asked.specs.Transcript.{answered, bare, dealt_with, is_of, on_link, told_zero}
@@ -23,18 +24,18 @@ use Rattle.lnbd_board.specs.declared.row.Stage.TheVariants.{Reading, Last, Came,
 use Rattle.lnbd_board.specs.declared.ticket.Ticket.{Ticket}
 use Rattle.lnbd_board.specs.declared.ticket.Ticket.TheVariants as ticket
 use Rattle.lnbd_board.specs.Files as board
-use Rattle.lnbd_board.specs.Requests.{Each, IsIn, Request, Said, own, reads, reads_over, reads_over_said}
-use Rattle.lnbd_board.specs.Requests as asked
+use Rattle.lnbd_board.specs.Requests.{Each, Request, Said, own, reads_over, reads_over_said}
 use Rattle.lnbd_board.specs.Rows.{AsksOfSource, KnownBy, Stands, StandsAs, StandsAt, slice_at}
 use Rattle.lnbd_board.proofs.Inside.{reads_nowhere, reads_slice}
 use Rattle.lnbd_board.proofs.Lists.{Each-back}
 use Rattle.lnbd_board.proofs.Spelling.{found}
-use Rattle.lnbd_tracks.specs.Heeding.{is_whole}
+use Rattle.lnbd_tracks.specs.Heeding.{AllHeard, is_whole}
 use Rattle.lnbd_tracks.specs.Mapping.{first_tells, is_extents}
 use Rattle.lnbd_tracks.specs.Tracks.{Histories}
+use Rattle.lnbd_course.specs.Course.{Course}
 use Rattle.lnbd_course.specs.Spares.{EndedSpares, WasToldWhole}
-use Rattle.lnbd_course.specs.Told.{Known, Told}
-use Rattle.lnbd_course.proofs.Listing.{asked_here, listed, none_end, none_read}
+use Rattle.lnbd_course.specs.Told.{Known}
+use Rattle.lnbd_course.proofs.Listing.{asked_on_it, listed, none_end, none_read, one_of}
 
 -- For a slice that is zero nothing is read.
 
@@ -101,33 +102,33 @@ pub either_true : (a b : Bool) → b ≡ true → (a || b) ≡ true
 either_true true b e = refl
 either_true false b e = e
 
-module _ (from : Place) (how : How) (sides : ℕ → Bool) (slices : List Slice) (now : board.Seen) (calls : List wire.Call) (known : Known) (t : Told how sides slices now calls [] None known) (well : now.error ≡ None)
-    (of : (link : ℕ) → is_of from calls link ≡ true → sides link ≡ true) where
-  abbrev histories : Histories
-  histories = t.course.histories
+-- A block that was told as zero whole is known, where each command is one that a copy asks of its source.
+pub told_known : (from : Place) (calls : List wire.Call) (histories : Histories) (slices : List Slice) (known : Known) → AllHeard histories known.whole known.reach →
+    ((link : ℕ) → DrivenSays (histories link) (on_link link calls)) →
+    ((link cookie : ℕ) (asks : commands.Request Ticket) → is_of from calls link ≡ true → request (histories link) cookie ≡ Some asks → AsksOfSource slices asks.flight.done.callback (bare asks)) →
+    (block p : ℕ) → WasToldWhole block (dealt_with from calls) p → known.whole block p ≡ true
+told_known from calls histories slices known heeds says mine block p w =
+    let a = asked_on_it from calls histories says w.link w.cookie w.command w.asked in
+    let it = says w.link in
+    let extents = extents_by slices a.1.asks.flight.done.callback (bare a.1.asks) (mine w.link w.cookie a.1.asks a.0 a.1.is) (ap (λ (c : Command Nobody). c.kind) a.1.same ∙ w.kind) in
+    let heard = heeds w.link w.cookie a.1.asks a.1.is (either_true (first_tells a.1.asks.flight.first) (is_extents a.1.asks.flight.done.callback) extents) in
+    let done : outcome_after (histories w.link) w.cookie ≡ Done w.bytes =
+    sym (it.outcomes w.cookie a.1.out) ∙ sym (ap (λ (b : Bool). if b then answered (on_link w.link calls) w.cookie else Unfinished) a.0) ∙ w.done in
+    heard.whole (record { bytes = w.bytes; is = done }) block p
+    (ap (λ (f : ℕ → Bool). is_whole block f p) (λ i q. (ap (λ (c : Command Nobody). has c q && zero_after (histories w.link) w.cookie q) a.1.same
+    ∙ ap (λ (b : Bool). has w.command q && b) (sym (it.zero w.cookie q a.1.out)) ∙ sym (ap (λ (b : Bool). has w.command q && (b && told_zero (on_link w.link calls) w.cookie q)) a.0)) i) ∙ w.whole)
 
-  stands : Stands how slices now.rows t.course.stood.source t.course.stood.destination
-  stands = t.course.stood.stands well
-
-  abbrev mine_of : (link cookie : ℕ) → commands.Request Ticket → Request
-  mine_of link cookie asks = asked.request link cookie asks.flight.done.callback (record { command = bare asks; outcome = outcome_after (histories link) cookie })
-
-  -- a block that was told as zero whole is known
-  told_known : (block p : ℕ) → WasToldWhole block (dealt_with from calls) p → known.whole block p ≡ true
-  told_known block p w =
-      let a = asked_here from how sides slices now calls t.course of w.link w.cookie w.command w.asked in
-      let says = t.course.parted w.link tt in
-      let in_list = listed from how sides slices now calls t.course of w.link w.cookie a.1.asks a.0 a.1.is in
-      let mine = (Each-back (λ (r : Request). AsksOfSource slices r.ticket r.said.command) in_list.front (mine_of w.link w.cookie a.1.asks ∷ in_list.back) (subst (λ (l : List Request). Each (λ r. AsksOfSource slices r.ticket r.said.command) l) in_list.is stands.reads)).0 in
-      let extents = extents_by slices a.1.asks.flight.done.callback (bare a.1.asks) mine (ap (λ (c : Command Nobody). c.kind) a.1.same ∙ w.kind) in
-      let heard = t.heeds w.link w.cookie a.1.asks a.1.is (either_true (first_tells a.1.asks.flight.first) (is_extents a.1.asks.flight.done.callback) extents) in
-      let done : outcome_after (histories w.link) w.cookie ≡ Done w.bytes =
-      sym (says.outcomes w.cookie a.1.out) ∙ sym (ap (λ (b : Bool). if b then answered (on_link w.link calls) w.cookie else Unfinished) a.0) ∙ w.done in
-      heard.whole (record { bytes = w.bytes; is = done }) block p
-      (ap (λ (f : ℕ → Bool). is_whole block f p) (λ i q. (ap (λ (c : Command Nobody). has c q && zero_after (histories w.link) w.cookie q) a.1.same
-      ∙ ap (λ (b : Bool). has w.command q && b) (sym (says.zero w.cookie q a.1.out)) ∙ sym (ap (λ (b : Bool). has w.command q && (b && told_zero (on_link w.link calls) w.cookie q)) a.0)) i) ∙ w.whole)
+-- Of two exports each command on a link of the source is.
+asks_of_source : (from : Place) (how : How) (sides : ℕ → Bool) (slices : List Slice) (now : board.Seen) (calls : List wire.Call) (course : Course how sides slices now calls []) → now.error ≡ None →
+    ((link : ℕ) → is_of from calls link ≡ true → sides link ≡ true) →
+    (link cookie : ℕ) (asks : commands.Request Ticket) → is_of from calls link ≡ true → request (course.histories link) cookie ≡ Some asks → AsksOfSource slices asks.flight.done.callback (bare asks)
+asks_of_source from how sides slices now calls course well of link cookie asks here is =
+    let in_list = listed from how sides slices now calls course of link cookie asks here is in
+    (Each-back (λ (r : Request). AsksOfSource slices r.ticket r.said.command) in_list.front (one_of from how sides slices now calls course of link cookie asks ∷ in_list.back)
+    (subst (λ (l : List Request). Each (λ r. AsksOfSource slices r.ticket r.said.command) l) in_list.is (course.stood.stands well).reads)).0
 
 pub ended_spares : EndedSpares
 ended_spares from how sides slices rest now calls known cells told end block t well of planned zeros p w =
     none_read from how sides slices now calls t.course of p
-    (unread how cells told end p slices rest now.rows t.course.stood.source t.course.stood.destination (t.course.stood.stands well) (planned p) (zeros p (told_known from how sides slices now calls known t well of block p w)))
+    (unread how cells told end p slices rest now.rows t.course.stood.source t.course.stood.destination (t.course.stood.stands well) (planned p)
+    (zeros p (told_known from calls t.course.histories slices known t.heeds (λ link. t.course.parted link tt) (asks_of_source from how sides slices now calls t.course well of) block p w)))

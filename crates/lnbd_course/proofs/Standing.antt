@@ -69,7 +69,8 @@ module _ (how : How) (has : ℕ → Bool) (slices : List Slice) (link : ℕ) (ev
         counted = counted_alike now now' s.source s.destination k.source2 k.destination2 (calls_same plays.calls now now' plays.world)
             (event_alike link event (on_side has before) (on_side has after) s.source k.source2 (side_happens link event before after happens has is) other s.reads k.reads)
             (all_alike (on_side (beside has) before) s.destination k.destination2 s.changes k.changes) s.counted;
-        flushed = source_flushes how slices link event (on_side has before) (on_side (beside has) before) plays.calls now now' s.source s.destination k.destination2 s.reads s.changes k.changes s.stands other
+        flushed = source_flushes how slices link event (on_side has before) plays.calls now now' s.source s.destination k.destination2 s.reads
+            (λ n c. (k.changes n).each c ∙ sym ((s.changes n).each c)) s.stands other
             (subst (λ h. Adds event h plays.calls) (sym (on_here has before link is)) plays.told) plays.world s.flushed;
       }
 

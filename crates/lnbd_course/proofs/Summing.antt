@@ -1,5 +1,5 @@
 -- In the end what a board counted is a summary of the calls of its copy.
-use Rattle.std.proofs.Common.{◌≡◌, inl, inr, ℕ, ◌+◌, ◌-◌, ◌≤◌, Bool, true, false, ◌&&◌, ◌==◌, List, [], ◌∷◌, cond, length, min, Option, Some, None, refl, ap, sym, subst, ◌∙◌, arith}
+use Rattle.std.proofs.Common.{◌≡◌, ◌++◌, inl, inr, ℕ, ◌+◌, ◌-◌, ◌≤◌, Bool, true, false, ◌&&◌, ◌==◌, List, [], ◌∷◌, cond, length, min, Option, Some, None, refl, ap, sym, subst, ◌∙◌, arith}
 use Rattle.std.proofs.lemmas.Bool.{false≢true}
 use Rattle.lnbd_model.specs.Kind.{is_read, is_write}
 use Rattle.lnbd_model.specs.declared.kind.Kind.{Kind}
@@ -11,18 +11,21 @@ use Rattle.lnbd_history.specs.History as history_of
 use Rattle.lnbd_asked.specs.Driven.{outcome_after}
 use Rattle.lnbd_asked.specs.Honest.{changes, covers}
 use Rattle.lnbd_asked.specs.Link.{Nobody}
+use Rattle.lnbd_plan.specs.Laws.{IsPlannedOnce}
+use Rattle.lnbd_plan.specs.declared.cells.Cells.{Cells}
 use Rattle.lnbd_plan.specs.declared.grid.Slice.{Slice}
 use Rattle.lnbd_board.specs.declared.how.How.{How}
 use Rattle.lnbd_board.specs.declared.row.Row.{Row}
 use Rattle.lnbd_board.specs.declared.ticket.Ticket.{Ticket}
 use Rattle.lnbd_board.specs.declared.ticket.Ticket.TheVariants as ticket
+use Rattle.lnbd_board.specs.Files as board
 use Rattle.lnbd_board.specs.Requests.{Each, IsIn, Request, Said, over, reads, reads_over}
 use Rattle.lnbd_board.specs.Rows.{AsksOfDestination, IsChange, Stands}
 use Rattle.lnbd_board.proofs.Once.{once}
 use Rattle.lnbd_tracks.specs.Laws.{IsDone, moves_bytes}
 use Rattle.lnbd_tracks.specs.Tracks.{AllTrack, Histories, request_of, under}
 use Rattle.lnbd_tracks.proofs.Finished.{finished_are_done}
-use Rattle.lnbd_course.specs.Counted.{bytes_of, is_zero}
+use Rattle.lnbd_course.specs.Counted.{bytes_of, is_zero, up_to_end}
 use Rattle.lnbd_course.specs.Counts.{EndedSums, uncovered}
 use Rattle.lnbd_course.specs.Course.{beside, on_side}
 use Rattle.lnbd_course.proofs.Ending.{destination_dealt, done_out, gone_out, is_out, out_stands, source_dealt}
@@ -89,7 +92,7 @@ module _ (histories : Histories) where
   told_few link cookie None outcome = omega arith
   told_few link cookie (Some asks) outcome = omega arith
 
-  out_once : (xs : List Request) → AllTrack histories xs → (link cookie : ℕ) → length (under link cookie (gone_out histories xs)) ≤ 1
+  pub out_once : (xs : List Request) → AllTrack histories xs → (link cookie : ℕ) → length (under link cookie (gone_out histories xs)) ≤ 1
   out_once xs track link cookie =
       let few = subst (λ (l : List Request). length l ≤ 1) (sym ((track link).each cookie)) (told_few link cookie (history_of.request (histories link) cookie) (outcome_after (histories link) cookie)) in
       let out = under_out link cookie xs in
@@ -122,7 +125,7 @@ store_weight how slices (ticket.Slice n) command asks = change_weight asks.0
 store_weight how slices ticket.Extents command asks = absurd asks
 store_weight how slices ticket.Flush command asks = subst (λ (kind : Kind). cond (changes kind) command.length 0 ≡ cond (is_write kind) command.length 0 + cond (is_zero kind) command.length 0) (sym asks.0) (omega arith)
 
-both_bytes : (how : How) (slices : List Slice) (xs : List Request) → Each (λ r. AsksOfDestination how slices r.ticket r.said.command) xs → bytes_of changes xs ≡ bytes_of is_write xs + bytes_of is_zero xs
+pub both_bytes : (how : How) (slices : List Slice) (xs : List Request) → Each (λ r. AsksOfDestination how slices r.ticket r.said.command) xs → bytes_of changes xs ≡ bytes_of is_write xs + bytes_of is_zero xs
 both_bytes how slices [] each = omega arith
 both_bytes how slices (x ∷ xs) each =
     let rest = both_bytes how slices xs each.1 in
@@ -149,6 +152,49 @@ zeroed_fits both w z u size e f = omega (arith, e, f)
 past : (end size p : ℕ) → end ≤ size → size ≤ p → end ≤ p
 past end size p l m = omega (arith, l, m)
 
+-- what the sums of a copy are, by the requests of both sides
+pub record Sums (source destination : List Request) (size : ℕ) (now : board.Seen) : Type 0 where
+  pub read : now.read ≡ bytes_of is_read source
+  pub written : now.written ≡ bytes_of is_write destination
+  pub zeroed : now.zeroed ≡ bytes_of is_zero destination
+  pub skipped : size - now.written - now.zeroed ≡ uncovered destination size
+
+-- Of requests that plan no position twice and are over no count has come to its end.
+pub sums_of : (how : How) (slices rest : List Slice) (source destination : List Request) (now : board.Seen) (cells : Cells) (told : ℕ → Bool) (end size : ℕ) → Stands how slices [] source destination →
+    ((p : ℕ) → IsPlannedOnce cells told 0 end p (slices ++ rest)) → end ≤ size → size ≤ 18446744073709551615 →
+    now.read ≡ up_to_end (bytes_of is_read source) → now.written ≡ up_to_end (bytes_of is_write destination) → now.zeroed ≡ up_to_end (bytes_of is_zero destination) → Sums source destination size now
+sums_of how slices rest source destination now cells told end size stands planned fits room counted_read counted_written counted_zeroed =
+    let asked_once = once how cells told end slices rest [] source destination stands planned in
+    let few = λ (p : ℕ). at_most 1 (over p destination) (touching changes p destination) (over_same p destination) (asked_once.0.changes p) in
+    let none = λ (p : ℕ) (l : size ≤ p). at_most 0 (over p destination) (touching changes p destination) (over_same p destination)
+    (is_none (over p destination) (asked_once.1.changes p (past end size p fits l))) in
+    let whole : bytes_of changes destination + uncovered destination size ≡ size = bytes_rest size destination few none in
+    let both : bytes_of changes destination ≡ bytes_of is_write destination + bytes_of is_zero destination = both_bytes how slices destination stands.changes in
+    let read_fits : bytes_of is_read source ≤ end = bytes_fit is_read end source
+    (λ p. at_most 1 (reads_over p source) (touching is_read p source) (reads_same p source) (asked_once.0.reads p))
+    (λ p l. at_most 0 (reads_over p source) (touching is_read p source) (reads_same p source) (is_none (reads_over p source) (asked_once.1.reads p l))) in
+    let written : now.written ≡ bytes_of is_write destination = exact 18446744073709551615 now.written (bytes_of is_write destination) (bytes_of is_write destination) size counted_written refl
+    (written_fits (bytes_of changes destination) (bytes_of is_write destination) (bytes_of is_zero destination) (uncovered destination size) size both whole) room in
+    let zeroed : now.zeroed ≡ bytes_of is_zero destination = exact 18446744073709551615 now.zeroed (bytes_of is_zero destination) (bytes_of is_zero destination) size counted_zeroed refl
+    (zeroed_fits (bytes_of changes destination) (bytes_of is_write destination) (bytes_of is_zero destination) (uncovered destination size) size both whole) room in
+    record {
+      read = exact 18446744073709551615 now.read (bytes_of is_read source) (bytes_of is_read source) size counted_read refl (fits_in (bytes_of is_read source) end size read_fits fits) room;
+      written = written;
+      zeroed = zeroed;
+      skipped = left size now.written now.zeroed (bytes_of is_write destination) (bytes_of is_zero destination) (uncovered destination size) (bytes_of changes destination) written zeroed both whole;
+    }
+
+-- The counts of what was asked are those of what went out, where it is done.
+module _ (histories : Histories) (asked : List Request) (track : AllTrack histories asked) (done : AllDone asked) where
+  pub out_read : bytes_of is_read asked ≡ bytes_of is_read (gone_out histories asked)
+  out_read = sym (out_bytes histories is_read read_moves asked asked track (λ r there. there) done)
+
+  pub out_written : bytes_of is_write asked ≡ bytes_of is_write (gone_out histories asked)
+  out_written = sym (out_bytes histories is_write write_moves asked asked track (λ r there. there) done)
+
+  pub out_zeroed : bytes_of is_zero asked ≡ bytes_of is_zero (gone_out histories asked)
+  out_zeroed = sym (out_bytes histories is_zero zero_moves asked asked track (λ r there. there) done)
+
 pub ended_sums : EndedSums
 ended_sums from to size how has slices rest now calls cells told end b ended well planned fits room two =
     let law = links_are_of_sides from to size how has slices now calls b two in
@@ -158,32 +204,20 @@ ended_sums from to size how has slices rest now calls cells told end b ended wel
     let destinations : Histories = on_side (beside has) b.course.histories in
     let stands = subst (λ (rows : List (ℕ × Row)). Stands how slices rows source destination) ended (b.course.stood.stands well) in
     let done = finished_are_done how slices source destination stands in
-    let out = out_stands how slices sources destinations source destination stands b.course.stood.reads b.course.stood.changes in
-    let went = gone_out sources source in
-    let came = gone_out destinations destination in
-    let asked_once = once how cells told end slices rest [] went came out planned in
-    let few = λ (p : ℕ). at_most 1 (over p came) (touching changes p came) (over_same p came) (asked_once.0.changes p) in
-    let none = λ (p : ℕ) (l : size ≤ p). at_most 0 (over p came) (touching changes p came) (over_same p came) (is_none (over p came) (asked_once.1.changes p (past end size p fits l))) in
-    let whole : bytes_of changes came + uncovered came size ≡ size = bytes_rest size came few none in
-    let both : bytes_of changes came ≡ bytes_of is_write came + bytes_of is_zero came = both_bytes how slices came out.changes in
-    let read_fits : bytes_of is_read went ≤ end = bytes_fit is_read end went
-    (λ p. at_most 1 (reads_over p went) (touching is_read p went) (reads_same p went) (asked_once.0.reads p))
-    (λ p l. at_most 0 (reads_over p went) (touching is_read p went) (reads_same p went) (is_none (reads_over p went) (asked_once.1.reads p l))) in
     let counted = b.course.stood.counted in
-    let written : now.written ≡ bytes_of is_write came = exact 18446744073709551615 now.written (bytes_of is_write destination) (bytes_of is_write came) size counted.written
-    (out_bytes destinations is_write write_moves destination destination b.course.stood.changes (λ r there. there) done.1) (written_fits (bytes_of changes came) (bytes_of is_write came) (bytes_of is_zero came) (uncovered came size) size both whole) room in
-    let zeroed : now.zeroed ≡ bytes_of is_zero came = exact 18446744073709551615 now.zeroed (bytes_of is_zero destination) (bytes_of is_zero came) size counted.zeroed
-    (out_bytes destinations is_zero zero_moves destination destination b.course.stood.changes (λ r there. there) done.1) (zeroed_fits (bytes_of changes came) (bytes_of is_write came) (bytes_of is_zero came) (uncovered came size) size both whole) room in
+    let sums = sums_of how slices rest (gone_out sources source) (gone_out destinations destination) now cells told end size
+    (out_stands how slices sources destinations source destination stands b.course.stood.reads b.course.stood.changes) planned fits room
+    (counted.read ∙ ap up_to_end (out_read sources source b.course.stood.reads done.0)) (counted.written ∙ ap up_to_end (out_written destinations destination b.course.stood.changes done.1))
+    (counted.zeroed ∙ ap up_to_end (out_zeroed destinations destination b.course.stood.changes done.1)) in
     record {
-      source = went;
-      destination = came;
+      source = gone_out sources source;
+      destination = gone_out destinations destination;
       reads = record { are = source_dealt from to how has slices now calls b.course law.0; once = out_once sources source b.course.stood.reads };
       changes = record { are = destination_dealt from to how has slices now calls b.course law.0; once = out_once destinations destination b.course.stood.changes };
       size = size;
       told = law.1.source;
-      read = exact 18446744073709551615 now.read (bytes_of is_read source) (bytes_of is_read went) size counted.read
-          (out_bytes sources is_read read_moves source source b.course.stood.reads (λ r there. there) done.0) (fits_in (bytes_of is_read went) end size read_fits fits) room;
-      written = written;
-      zeroed = zeroed;
-      skipped = left size now.written now.zeroed (bytes_of is_write came) (bytes_of is_zero came) (uncovered came size) (bytes_of changes came) written zeroed both whole;
+      read = sums.read;
+      written = sums.written;
+      zeroed = sums.zeroed;
+      skipped = sums.skipped;
     }

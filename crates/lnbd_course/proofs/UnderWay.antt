@@ -36,16 +36,16 @@ use Rattle.lnbd_tracks.proofs.Living.{waiting_lives}
 use Rattle.lnbd_tracks.proofs.Staying.{or_right}
 use Rattle.lnbd_tracks.proofs.Under.{found}
 use Rattle.lnbd_tracks.proofs.Unanswered.{tracked_are_unanswered}
-use Rattle.lnbd_course.specs.Between.{Between, place_of}
-use Rattle.lnbd_course.specs.Course.{beside, on_side}
+use Rattle.lnbd_course.specs.Between.{AreSettled, Between, BetweenOf, place_of}
+use Rattle.lnbd_course.specs.Course.{Stood, beside, on_side}
 use Rattle.lnbd_course.specs.Failed.{AllStand}
 use Rattle.lnbd_course.specs.Slices.{AsksExtentsOf, QuietAsks}
 use Rattle.lnbd_course.specs.Told.{Known, Told}
 use Rattle.lnbd_course.specs.UnderWay.{AllHeld, AreUnderWay, AsksExtents, NoneWrites, QuietAwaits, QuietCounts, is_block_status}
 use Rattle.lnbd_course.proofs.Address.{both, name_is, target_is}
-use Rattle.lnbd_course.proofs.Failing.{IsThere, of, says, there_or_apart}
+use Rattle.lnbd_course.proofs.Failing.{IsThere, of, says, there_or_apart, written_here}
 use Rattle.lnbd_course.proofs.Holding.{one_has}
-use Rattle.lnbd_course.proofs.Placed.{asked_given, given_by_target, of_side, one_written, place_same}
+use Rattle.lnbd_course.proofs.Placed.{asked_given, given_by_target, place_same, was_given}
 use Rattle.lnbd_course.proofs.Standing.{on_here}
 
 none_some : {A : Type 0} (one : A) → None ≡ Some one → ⊥
@@ -56,7 +56,7 @@ some_same one other e = cc
 
 -- Which requests move bytes: those of slices.
 
-source_moves : (slices : List Slice) (by : Ticket) (command : Command Nobody) → AsksOfSource slices by command → moves_bytes command.kind ≡ is_slice by
+pub source_moves : (slices : List Slice) (by : Ticket) (command : Command Nobody) → AsksOfSource slices by command → moves_bytes command.kind ≡ is_slice by
 source_moves slices (ticket.Slice n) command asks = ap moves_bytes asks.0
 source_moves slices ticket.Extents command asks = ap moves_bytes asks.0
 source_moves slices ticket.Flush command asks = absurd asks
@@ -65,18 +65,18 @@ change_moves : (how : How) (command : Command Nobody) → IsChange how command �
 change_moves how command (inl is) = ap moves_bytes is.0
 change_moves how command (inr is) = ap moves_bytes is.0
 
-destination_moves : (how : How) (slices : List Slice) (by : Ticket) (command : Command Nobody) → AsksOfDestination how slices by command → moves_bytes command.kind ≡ is_slice by
+pub destination_moves : (how : How) (slices : List Slice) (by : Ticket) (command : Command Nobody) → AsksOfDestination how slices by command → moves_bytes command.kind ≡ is_slice by
 destination_moves how slices (ticket.Slice n) command asks = change_moves how command asks.0
 destination_moves how slices ticket.Extents command asks = absurd asks
 destination_moves how slices ticket.Flush command asks = ap moves_bytes asks.0
 
-same_count : (requests : List sides.Request) → Each (λ (r : sides.Request). moves_bytes r.said.command.kind ≡ is_slice r.ticket) requests → unanswered_of moves_bytes requests ≡ unanswered requests
+pub same_count : (requests : List sides.Request) → Each (λ (r : sides.Request). moves_bytes r.said.command.kind ≡ is_slice r.ticket) requests → unanswered_of moves_bytes requests ≡ unanswered requests
 same_count [] each = refl
 same_count (r ∷ rs) each =
     ap (λ (b : Bool). cond (b && is_waiting r.said) 1 0 + unanswered_of moves_bytes rs) each.0
     ∙ ap (λ (n : ℕ). cond (is_slice r.ticket && is_waiting r.said) 1 0 + n) (same_count rs each.1)
 
-each_so : (P Q : sides.Request → Type 0) → ((r : sides.Request) → P r → Q r) → (requests : List sides.Request) → Each P requests → Each Q requests
+pub each_so : (P Q : sides.Request → Type 0) → ((r : sides.Request) → P r → Q r) → (requests : List sides.Request) → Each P requests → Each Q requests
 each_so P Q so [] each = tt
 each_so P Q so (r ∷ rs) each = (so r each.0, each_so P Q so rs each.1)
 
@@ -112,36 +112,49 @@ has_side histories side link cookie asks is = go (side link) refl
     go true e = e
     go false e = absurd (none_some asks (ap (λ (b : Bool). let none : History Ticket = [] in request (if b then histories link else none) cookie) (sym e) ∙ is))
 
-module _ (from to : Place) (size : Option ℕ) (how : How) (has : ℕ → Bool) (slices : List Slice) (now : board.Seen) (calls : List wire.Call) (seens : List (Seen Ticket)) (b : Between from to size how has slices now calls seens)
+module _ (Facts : board.Seen → Histories → Type 0) (Sizes : List wire.Call → Histories → Type 0) (from to : Place) (has : ℕ → Bool) (now : board.Seen) (calls : List wire.Call)
+    (seens : List (Seen Ticket)) (b : BetweenOf Facts Sizes from to has now calls seens)
     (stands : AllStand seens) (none : NoneWrites seens) (all : AllHeld calls seens) where
-  abbrev histories : Histories
-  histories = b.course.histories
-
   -- A link with a command is that of a handle.
-  held : (link : ℕ) → is_given link calls ≡ true → IsThere link seens
-  held link given = go (there_or_apart link seens stands)
+  is_held : (link : ℕ) → is_given link calls ≡ true → IsThere link seens
+  is_held link given = go (there_or_apart link seens stands)
     where
       go : IsThere link seens ⊎ AreApart link seens → IsThere link seens
       go (inl there) = there
       go (inr apart) = absurd (false≢true (sym (all link apart) ∙ given))
 
   -- Each command that waits was wholly written.
-  out : (link cookie : ℕ) (asks : Request Ticket) → request (histories link) cookie ≡ Some asks → outcome_after (histories link) cookie ≡ Unfinished → nat_le cookie (written (histories link)) ≡ true
-  out link cookie asks is waits =
-      let t = held link (asked_given from to size how has slices now calls seens b link cookie asks is) in
-      let same : histories link ≡ t.seen.history = ap histories (sym t.same) ∙ one_has t.index t.seen histories seens t.there b.course.held in
+  pub waiting_out : (link cookie : ℕ) (asks : Request Ticket) → request (b.course.histories link) cookie ≡ Some asks → outcome_after (b.course.histories link) cookie ≡ Unfinished →
+      nat_le cookie (written (b.course.histories link)) ≡ true
+  waiting_out link cookie asks is waits =
+      let t = is_held link (was_given Facts Sizes from to has now calls seens b link cookie asks is) in
+      let same : b.course.histories link ≡ t.seen.history = ap b.course.histories (sym t.same) ∙ one_has t.index t.seen b.course.histories seens t.there b.course.held in
       let is_it : request t.seen.history cookie ≡ Some asks = ap (λ (h : History Ticket). request h cookie) (sym same) ∙ is in
       let lives = waiting_lives t.stands.limit t.seen.history cookie asks t.stands.stands.lawful t.stands.stands.going is_it (ap (λ (h : History Ticket). outcome_after h cookie) (sym same) ∙ waits) in
       subst (λ (h : History Ticket). nat_le cookie (written h) ≡ true) (sym same)
       (all_out t.seen.history cookie asks is_it (nothing_waits t.seen.history (reads_alone (is_living (reading t.seen.history).known.stage) (out_after t.seen.history) lives (writes_none seens t.index t.seen none t.there))))
 
-  -- A link on which a command was wholly written is of its side's export,
-  here : (link cookie : ℕ) (asks : Request Ticket) → request (histories link) cookie ≡ Some asks → nat_le cookie (written (histories link)) ≡ true → is_of (place_of from to (has link)) calls link ≡ true
-  here link cookie asks is gone =
-      of_side from to size how has slices now calls seens b link (asked_given from to size how has slices now calls seens b link cookie asks is)
-      ((of from to size how has slices now calls seens b stands link).asked (one_written (histories link) cookie asks is gone)).0
+-- Two exports.
 
-  -- and of no other.
+module _ (from to : Place) (size : Option ℕ) (how : How) (has : ℕ → Bool) (slices : List Slice) (now : board.Seen) (calls : List wire.Call) (seens : List (Seen Ticket))
+    (b : Between from to size how has slices now calls seens)
+    (stands : AllStand seens) (none : NoneWrites seens) (all : AllHeld calls seens) where
+  abbrev histories : Histories
+  histories = b.course.histories
+
+  abbrev Sizes : List wire.Call → Histories → Type 0
+  Sizes calls histories = AreSettled size calls has histories
+
+  held : (link : ℕ) → is_given link calls ≡ true → IsThere link seens
+  held = is_held (Stood how has slices) Sizes from to has now calls seens b stands none all
+
+  out : (link cookie : ℕ) (asks : Request Ticket) → request (histories link) cookie ≡ Some asks → outcome_after (histories link) cookie ≡ Unfinished → nat_le cookie (written (histories link)) ≡ true
+  out = waiting_out (Stood how has slices) Sizes from to has now calls seens b stands none all
+
+  here : (link cookie : ℕ) (asks : Request Ticket) → request (histories link) cookie ≡ Some asks → nat_le cookie (written (histories link)) ≡ true → is_of (place_of from to (has link)) calls link ≡ true
+  here = written_here (Stood how has slices) Sizes from to has now calls seens b stands
+
+  -- A link is of its side's export and of no other.
   only_side : (other : Place) (link : ℕ) → is_of other calls link ≡ true → place_of from to (has link) ≡ other
   only_side other link e =
       let c = both (is_target other.to (target_of link calls)) (is_name other.name (name_asked (on_link link calls).wishes)) e in

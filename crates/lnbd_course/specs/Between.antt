@@ -17,7 +17,7 @@ use Rattle.lnbd_board.specs.declared.ticket.Ticket.{Ticket}
 use Rattle.lnbd_board.specs.Files as board
 use Rattle.lnbd_tracks.specs.Laws.{is_coming}
 use Rattle.lnbd_tracks.specs.Tracks.{Histories, is_issue}
-use Rattle.lnbd_course.specs.Course.{Course}
+use Rattle.lnbd_course.specs.Course.{CourseOf, Stood}
 
 -- the place of a side
 abbrev pub place_of : (from to : Place) → (source : Bool) → Place
@@ -47,13 +47,18 @@ abbrev pub AreSettled : Option ℕ → List wire.Call → (ℕ → Bool) → His
 AreSettled None calls has histories = Unit {0}
 AreSettled (Some size) calls has histories = WereTold size calls has histories
 
--- Between two turns the copy is on its course; each link is of its side; a link without a handle tells what the handle that it had was told; and the sizes were
--- told, once they are settled.
-pub record Between (from to : Place) (size : Option ℕ) (how : How) (has : ℕ → Bool) (slices : List Slice) (now : board.Seen) (calls : List wire.Call) (seens : List (Seen Ticket)) : Type 0 where
-  pub course : Course how has slices now calls seens
+-- Between two turns the copy is on its course, with these facts of the board; each link is of its side; a link without a handle tells what the handle that it had was
+-- told; and this was told of sizes.
+pub record BetweenOf (Facts : board.Seen → Histories → Type 0) (Sizes : List wire.Call → Histories → Type 0) (from to : Place) (has : ℕ → Bool) (now : board.Seen) (calls : List wire.Call)
+    (seens : List (Seen Ticket)) : Type 0 where
+  pub course : CourseOf Facts now calls seens
   pub placed : ArePlaced from to calls has course.histories
   pub parted : (link : ℕ) → AreApart link seens → DrivenIsOf (course.histories link) (on_link link calls)
-  pub told : AreSettled size calls has course.histories
+  pub told : Sizes calls course.histories
+
+-- Of a copy from one export to another both sizes were told, once they are settled.
+abbrev pub Between : (from to : Place) → (size : Option ℕ) → How → (has : ℕ → Bool) → List Slice → board.Seen → List wire.Call → List (Seen Ticket) → Type 0
+Between from to size how has slices now calls seens = BetweenOf (Stood how has slices) (λ calls histories. AreSettled size calls has histories) from to has now calls seens
 
 -- What a caller does with a handle that neither asks anything nor moves bytes, and leaves opt mode off.
 pub record IsSetting (before : History Ticket) (event : Event Ticket) : Type 0 where

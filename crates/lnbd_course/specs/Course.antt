@@ -63,15 +63,19 @@ pub record IsUnused (calls : List wire.Call) (seens : List (Seen Ticket)) (histo
   pub blank : histories link ≡ []
 
 -- Between two turns: by these calls the handles drive links of their own; a link without a handle says what the history of the handle says that it had, if
--- it had one, and was driven by that handle alone; and what both sides were asked is what the board's rows say.
-pub record Course (how : How) (has : ℕ → Bool) (slices : List Slice) (now : board.Seen) (calls : List wire.Call) (seens : List (Seen Ticket)) : Type 0 where
+-- it had one, and was driven by that handle alone; and these facts stand of the board and of the histories on all links.
+pub record CourseOf (Facts : board.Seen → Histories → Type 0) (now : board.Seen) (calls : List wire.Call) (seens : List (Seen Ticket)) : Type 0 where
   pub histories : Histories
   pub held : AllHave histories seens
   pub drive : DriveOwnLinks calls seens
   pub parted : (link : ℕ) → AreApart link seens → DrivenSays (histories link) (on_link link calls)
   pub unused : (link : ℕ) → is_given link calls ≡ false → IsUnused calls seens histories link
-  pub stood : Stood how has slices now histories
+  pub stood : Facts now histories
   pub driven : (link : ℕ) → AreApart link seens → IsDriven Ticket link calls
+
+-- Between two turns of a copy from one export to another what both sides were asked is what the board's rows say.
+abbrev pub Course : How → (has : ℕ → Bool) → List Slice → board.Seen → List wire.Call → List (Seen Ticket) → Type 0
+Course how has slices now calls seens = CourseOf (Stood how has slices) now calls seens
 
 -- The end.
 

@@ -29,3 +29,8 @@ pub mod Reached
 pub mod Passed
 pub mod Little
 pub mod Runs
+pub mod Far
+pub mod FarCourse
+pub mod FarLaws
+pub mod FarEnds
+pub mod FarShows

@@ -28,7 +28,7 @@ use Rattle.lnbd_tracks.specs.Awaiting.{Awaits}
 use Rattle.lnbd_tracks.specs.Laws.{is_coming}
 use Rattle.lnbd_tracks.specs.Mapping.{Maps, IsToldZero, HoldsZero, ToldAlike, asks_extents}
 use Rattle.lnbd_tracks.specs.Heeding.{Heeds, ListensTo, holds_told, holds_whole}
-use Rattle.lnbd_tracks.specs.Tracks.{is_issue}
+use Rattle.lnbd_tracks.specs.Tracks.{Histories, is_issue}
 use Rattle.lnbd_tracks.specs.Unfailed.{IsUnfailed}
 use Rattle.lnbd_course.specs.Counted.{CountsSame, HasNotCounted}
 use Rattle.lnbd_course.specs.Course.{Course, AreOfSides, with_link}
@@ -52,6 +52,15 @@ pub record Told (how : How) (has : ℕ → Bool) (slices : List Slice) (now : bo
   pub heeds : Heeds course.histories wanted known.whole known.reach now
   pub awaits : Awaits has course.histories wanted now
   pub unfailed : IsUnfailed course.histories now
+
+-- The same beside other facts of the board and of the histories on all links.
+pub record Knows (Facts : board.Seen → Histories → Type 0) (has : ℕ → Bool) (wanted : Option (ℕ × ℕ)) (known : Known) (now : board.Seen) (histories : Histories) : Type 0 where
+  pub stood : Facts now histories
+  pub maps : Maps has histories wanted now
+  pub knows : (p : ℕ) → known.zero p ≡ true → IsToldZero has histories p
+  pub heeds : Heeds histories wanted known.whole known.reach now
+  pub awaits : Awaits has histories wanted now
+  pub unfailed : IsUnfailed histories now
 
 -- The beginning.
 

@@ -37,6 +37,7 @@ use Rattle.lnbd_records.specs.Limits.{max_text}
 use Rattle.lnbd_poll.specs.Seen.{Seen}
 use Rattle.lnbd_waits.specs.Begun.{base_allocation, begins, begun}
 use Rattle.lnbd_waits.specs.declared.waiting.Halt.TheVariants as halt
+use Rattle.lnbd_usage.proofs.Talking.{conversations_use_one_link, converse_none, failed_use, no_calls_use}
 use Rattle.lnbd_dump.specs.declared.fault.DumpFault.{DumpFault}
 use Rattle.lnbd_dump.specs.declared.fault.DumpFault.TheVariants as fault
 use Rattle.lnbd_dump.specs.declared.reader.Reader.{Reader}
@@ -323,7 +324,7 @@ module _ (place : Place) (link : ℕ) (offset : ℕ) (given : Option ℕ) (small
     left_made (Err why) (inr l) = inr (l.0, fit l.0 l.1, front_made l.0 l.2)
 
     is_dump : IsDump place offset given made taken taken' answer
-    is_dump = record { dumps = dumps; made_is = left_made answer c.left }
+    is_dump = record { uses = conversations_use_one_link place.to link c.calls ((c.leads.speaks refl).converse c.going); dumps = dumps; made_is = left_made answer c.left }
 
     -- and then it is shut
     pub dumped_on : (told'' : Option (List wire.Call)) → Adds told' told'' (Shut link) → DumpedOn link place offset given told told'' taken taken' answer
@@ -335,6 +336,7 @@ module _ (place : Place) (link : ℕ) (offset : ℕ) (given : Option ℕ) (small
     calls = Shut link ∷ [];
     grown = adds;
     is = record {
+      uses = conversations_use_one_link place.to link [] (converse_none link);
       dumps = Not_held (Connect place.to (Some link) ∷ Shut link ∷ []) answer link refl is;
       made_is = subst (IsMade place (Connect place.to (Some link) ∷ Shut link ∷ []) offset given taken taken) (sym is) (inl refl);
     };
@@ -349,6 +351,7 @@ not_connected place offset given told told' taken answer before after is adds = 
   calls = Connect place.to None ∷ [];
   grown = adds;
   is = record {
+    uses = failed_use place.to;
     dumps = Not_connected (Connect place.to None ∷ []) answer refl (fault.Link before after, is, (before, after, refl));
     made_is = subst (IsMade place (Connect place.to None ∷ []) offset given taken taken) (sym is) (inl refl);
   };
@@ -358,14 +361,14 @@ pub not_begun : (place : Place) (offset : ℕ) (given : Option ℕ) (told : Opti
 not_begun place offset given told taken answer is = record {
   calls = [];
   grown = grows_none told;
-  is = record { dumps = Not_begun [] answer refl is; made_is = subst (IsMade place [] offset given taken taken) (sym is) (inl refl) };
+  is = record { uses = no_calls_use place.to; dumps = Not_begun [] answer refl is; made_is = subst (IsMade place [] offset given taken taken) (sym is) (inl refl) };
 }
 
 -- ---- The clauses of a dump.
 
 module _ (place : Place) (offset : ℕ) (given : Option ℕ) (told told' : Option (List wire.Call)) (taken taken' : Option (List ℕ)) where
   pub dumped_is : (answer : Result ℕ DumpFault) → DumpedAll place offset given told told' taken taken' answer → Dumped place offset given told told' answer
-  dumped_is answer d = record { calls = d.calls; grown = d.grown; dumps = d.is.dumps }
+  dumped_is answer d = record { calls = d.calls; grown = d.grown; uses = d.is.uses; dumps = d.is.dumps }
 
   pub clause_shown : (answer : Result ℕ DumpFault) → DumpedAll place offset given told told' taken taken' answer → IfOk answer (λ count. Shown (WasTold place told told') offset count taken taken')
   clause_shown (Ok count) d = shown_told (Told (dealt_with place d.calls)) (WasTold place told told') offset count taken taken' (λ p byte t. was_told place told told' d.calls p byte d.grown t) d.is.made_is.1

@@ -11,6 +11,10 @@ use Rattle.lnbd_link.specs.Part.{Grows}
 use Rattle.lnbd_link.proofs.Openings.{is_given-append}
 use Rattle.lnbd_link.proofs.Parts.{grows_none, grows_on}
 use Rattle.lnbd_asked.specs.Driven.{AllSpell, Arrives, Begins, Does, Drives, Ends, Fails_to_read, Fails_to_write, Passes, Reads, Reads_none, Spells, Writes, Writes_none, is_inward}
+use Rattle.lnbd_ask.proofs.LivesLemmas.{awaited_some}
+use Rattle.lnbd_ask.proofs.WentLemmas.{going_back, waits_went}
+use Rattle.lnbd_usage.specs.OneLink.{Converse}
+use Rattle.lnbd_usage.proofs.Talking.{converse_none, converse_on}
 use Rattle.lnbd_ask.proofs.LostLemmas.{IsKept, waits_kept, well_first, well_later}
 use Rattle.lnbd_poll.specs.declared.noticed.Noticed.{Noticed}
 use Rattle.lnbd_poll.specs.declared.noticed.Noticed.TheVariants as noticed
@@ -53,6 +57,7 @@ leads_none short seen = record {
   lawful = λ l. l;
   kept = λ w k. k;
   gives = λ n. refl;
+  speaks = λ empty. record { same = refl; none = λ e. empty; converse = λ going. converse_none seen.link };
 }
 
 -- where the bytes that were read arrived, the handle goes on from there
@@ -75,6 +80,14 @@ leads_on short a b e c d p q one two = record {
   lawful = two.lawful;
   kept = λ well k. two.kept (well_later p q well) (one.kept (well_first p q well) k);
   gives = λ n. is_given-append n p q ∙ ap (λ (x : Bool). x || is_given n q) (one.gives n) ∙ two.gives n;
+  speaks = λ empty. (
+      let first = one.speaks empty in
+      let second = two.speaks (first.none refl) in
+      record {
+        same = second.same ∙ first.same;
+        none = second.none;
+        converse = λ going. converse_on a.link p q (first.converse (going_back two.later.grown.since b.history (subst IsGoing two.later.grown.is going))) (subst (λ (n : ℕ). Converse n q) first.same (second.converse going));
+      });
 }
 
 ran_less : (link : ℕ) (all : List wire.Call) (short : Bool) (after : Seen Reader) → Ran link all false after → Ran link all short after
@@ -91,12 +104,13 @@ leads_less short a c d p one = record {
   lawful = one.lawful;
   kept = one.kept;
   gives = one.gives;
+  speaks = λ empty. (let first = one.speaks empty in record { same = first.same; none = λ e. first.none refl; converse = first.converse });
 }
 
 -- what is done with the handle between turns
 pub leads_event : (seen : Seen Reader) (event : Event Reader) → is_inward event ≡ true → Spells seen.history event → sets_opt_mode event ≡ false → (IsKept seen.history → IsKept (event ∷ seen.history)) → Later seen.history (event ∷ seen.history)
     → Leads false seen [] (happened event seen) (happened event seen)
-leads_event seen event inward spells off kept later = record { drives = ran; ends = ran; same = λ e. refl; later = later; grown = later.grown; asks = λ k. refl; lawful = λ l. l; kept = λ well k. kept k; gives = λ n. refl }
+leads_event seen event inward spells off kept later = record { drives = ran; ends = ran; same = λ e. refl; later = later; grown = later.grown; asks = λ k. refl; lawful = λ l. l; kept = λ well k. kept k; gives = λ n. refl; speaks = λ empty. record { same = refl; none = λ e. empty; converse = λ going. converse_none seen.link } }
   where
     ran : (all : List wire.Call) → seen.unread ≡ [] → Runs seen.link all seen.history [] → Ran seen.link (all ++ []) false (happened event seen)
     ran all none r = record {
@@ -337,6 +351,9 @@ waits_lead awaited before world calls after world' end waits =
         lawful = w.lawful;
         kept = waits_kept Hears awaited before world calls after world' end waits;
         gives = waits_give awaited before world calls after world' end waits;
+        speaks = λ empty. (
+            let went = waits_went awaited_some Hears awaited before world calls after world' end waits empty in
+            record { same = went.same; none = went.none; converse = went.converse });
       },
     )
 

@@ -25,6 +25,7 @@ use Rattle.lnbd_link.specs.Call.{Connect, Shut}
 use Rattle.lnbd_link.specs.Part.{Grows}
 use Rattle.lnbd_asked.specs.Driven.{Drives, outcome_after, zero_after}
 use Rattle.lnbd_poll.specs.Seen.{Seen}
+use Rattle.lnbd_usage.specs.OneLink.{UseOneLink}
 use Rattle.lnbd_waits.specs.Begun.{base_allocation, begun}
 use Rattle.lnbd_dump.specs.declared.fault.DumpFault.{DumpFault}
 use Rattle.lnbd_dump.specs.declared.fault.DumpFault.TheVariants as fault
@@ -224,10 +225,11 @@ pub data Dumps (place : Place) (offset : ℕ) (given : Option ℕ) : List wire.C
       → calls ≡ Connect place.to (Some link) ∷ (talk ++ Shut link ∷ [])
       → Dumps place offset given calls answer
 
--- these calls were made on the wires, and such is the answer
+-- these calls were made on the wires, they use one link alone, and such is the answer
 pub record Dumped (place : Place) (offset : ℕ) (given : Option ℕ) (told told' : Option (List wire.Call)) (answer : Result ℕ DumpFault) : Type 0 where
   pub calls : List wire.Call
   pub grown : Grows told told' calls
+  pub uses : UseOneLink place.to calls
   pub dumps : Dumps place offset given calls answer
 
 -- ---- Which counts a fault tells.

@@ -8,6 +8,7 @@ use Rattle.lnbd_link.specs.Call.{Connect}
 use Rattle.lnbd_link.specs.Part.{Grows}
 use Rattle.lnbd_asked.specs.Transcript.{dealt_with}
 use Rattle.lnbd_poll.specs.Seen.{Seen}
+use Rattle.lnbd_usage.specs.OneLink.{UseOneLink}
 use Rattle.lnbd_waits.specs.Begun.{base_allocation, begins}
 use Rattle.lnbd_dump.specs.declared.fault.DumpFault.{DumpFault}
 use Rattle.lnbd_dump.specs.declared.reader.Reader.{Reader}
@@ -55,6 +56,7 @@ IsMade place made offset given taken taken' (Err why) = (taken' ≡ taken) ⊎ (
 
 -- a dump, by all its calls
 pub record IsDump (place : Place) (offset : ℕ) (given : Option ℕ) (made : List wire.Call) (taken taken' : Option (List ℕ)) (answer : Result ℕ DumpFault) : Type 0 where
+  pub uses : UseOneLink place.to made
   pub dumps : Dumps place offset given made answer
   pub made_is : IsMade place made offset given taken taken' answer
 

@@ -21,6 +21,7 @@ use Rattle.lnbd_poll.specs.Turns.{Blames}
 use Rattle.lnbd_kept.specs.Kept.{AllKeep}
 use Rattle.lnbd_ask.proofs.LostLemmas.{AllWell, IsKept}
 use Rattle.lnbd_waits.specs.Waits.{Holds}
+use Rattle.lnbd_usage.specs.OneLink.{Converse}
 use Rattle.lnbd_dump.specs.declared.reader.Latest.{Latest}
 use Rattle.lnbd_dump.specs.declared.reader.Reader.{Reader}
 use Rattle.lnbd_dump.specs.Conduct.{AreWell, AsksNothing}
@@ -94,6 +95,12 @@ pub record Quiet (before after : History Reader) : Type 0 where
   pub well : (info : ExportInfo) → AreWell info before → AreWell info after
   pub unasked : AsksNothing before → AsksNothing after
 
+-- The calls are a conversation on the handle's link, and nothing is left unread but where memory ran out.
+pub record Speaks (short : Bool) (before : Seen Reader) (part : List wire.Call) (after : Seen Reader) : Type 0 where
+  pub same : after.link ≡ before.link
+  pub none : short ≡ false → after.unread ≡ []
+  pub converse : IsGoing after.history → Converse before.link part
+
 -- By these calls the handle goes on, on its link, which it drives as before. Where memory ran out at a read, it ends as if all that was read had arrived;
 -- where nothing broke off, that is where it stands.
 pub record Leads (short : Bool) (before : Seen Reader) (part : List wire.Call) (after : Seen Reader) (ended : Seen Reader) : Type 0 where
@@ -106,6 +113,7 @@ pub record Leads (short : Bool) (before : Seen Reader) (part : List wire.Call) (
   pub lawful : IsGoing after.history → IsGoing ended.history
   pub kept : AllWell part → IsKept before.history → IsKept after.history
   pub gives : (n : ℕ) → is_given n part ≡ false
+  pub speaks : before.unread ≡ [] → Speaks short before part after
 
 -- ---- The one handle, wherever it stands.
 

@@ -4,10 +4,14 @@ ghost use Rattle.std.specs.Prelude.{◌<◌, ◌≤◌, ◌^◌, IfSome, length}
 
 use std::fs::{File, Files, OpenFile, OpenOptions};
 use std::io::ErrorKind;
-use std::os::unix::fs::FileExt;
+use std::os::unix::fs::{FileExt, MetadataExt};
 
-/// The file at a path. For writing, a missing one is made, and one that is there keeps its bytes.
+/// The file at a path. For writing, a missing one is made, and one that is there keeps its bytes. What is there and is no regular file is
+/// not opened: a pipe would wait for its other end.
 pub(crate) fn open<R: Files<File = File>>(files: &R, path: &str, write: bool) -> Option<File> {
+    if matches!(files.metadata(path), Ok(told) if !told.is_file()) {
+        return None;
+    }
     let mut options = OpenOptions::new();
     if write {
         options.write(true).create(true);
@@ -17,12 +21,20 @@ pub(crate) fn open<R: Files<File = File>>(files: &R, path: &str, write: bool) ->
     options.open(files, path).ok()
 }
 
-/// How many bytes the file has, below 2^63 as the system's own offsets.
+/// Whether both are one file of the system, whatever its names. Where that can't be told it counts as so.
+pub(crate) fn is_same(one: &File, other: &File) -> bool {
+    match (one.metadata(), other.metadata()) {
+        (Ok(one), Ok(other)) => one.dev() == other.dev() && one.ino() == other.ino(),
+        _ => true,
+    }
+}
+
+/// How many bytes the file has, below 2^63 as the system's own offsets. A folder, a pipe or a device has no such length.
 pub(crate) fn length_of(file: Option<&File>) -> Option<u64>
     ensures { IfSome result (λ n. n < 2 ^ 63) }
 {
     match file?.metadata() {
-        Ok(told) if told.len() <= i64::MAX as u64 => Some(told.len()),
+        Ok(told) if told.is_file() && told.len() <= i64::MAX as u64 => Some(told.len()),
         _ => None,
     }
 }

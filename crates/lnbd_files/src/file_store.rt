@@ -9,11 +9,19 @@ use lnbd_store::{Store, StoreFailed, StoreGot, StoreTook};
 use std::alloc::Global;
 use std::fs::{File, Files};
 
+/// A file that is open, and the path at which it was opened.
+#[derive(Drop)]
+struct Opened {
+    file: File,
+    path: Text,
+}
+
 /// Files of the system. Each stays open until the store goes.
 #[derive(Drop)]
 pub struct FileStore<'a, R: Files<File = File>> {
+    alloc: Global,
     files: &'a R,
-    opened: Vec<File>,
+    opened: Vec<Opened>,
     faults: u64,
     given: u64,
     taken: u64,
@@ -22,6 +30,7 @@ pub struct FileStore<'a, R: Files<File = File>> {
 impl<'a, R: Files<File = File>> FileStore<'a, R> {
     pub fn new(alloc: Global, files: &'a R) -> Self {
         FileStore {
+            alloc,
             files,
             opened: Vec::new(alloc),
             faults: 0,
@@ -31,16 +40,39 @@ impl<'a, R: Files<File = File>> FileStore<'a, R> {
     }
 }
 
-/// Opens a file, and keeps it behind the others. Its number.
+/// Whether this file is open already under another name: as a link to it, say, or as `./a` and `a`.
+fn is_open_elsewhere(opened: &[Opened], file: &File, path: &Text) -> bool {
+    for one in opened {
+        if one.path.as_str() != path.as_str() && calls::is_same(&one.file, file) {
+            return true;
+        }
+    }
+    false
+}
+
+/// Opens a file, and keeps it behind the others. Its number. One that is open under another name is not opened for writing: what is read under
+/// that name would be cut and written over.
 fn keep<R: Files<File = File>>(
+    alloc: Global,
     files: &R,
-    opened: &mut Vec<File>,
+    opened: &mut Vec<Opened>,
     path: &Text,
     write: bool,
 ) -> Option<u32> {
     let number = u32::try_from(opened.len()).ok()?;
-    opened.push(calls::open(files, path.as_str(), write)?).ok()?;
+    let file = calls::open(files, path.as_str(), write)?;
+    if write && is_open_elsewhere(opened, &file, path) {
+        return None;
+    }
+    let path = path.try_clone(alloc).ok()?;
+    opened.push(Opened { file, path }).ok()?;
     Some(number)
+}
+
+/// The open file of a number.
+fn file_of(opened: &[Opened], number: u32) -> Option<&File> {
+    let one = opened.get(number as usize)?;
+    Some(&one.file)
 }
 
 impl<'a, R: Files<File = File>> Store for FileStore<'a, R> {
@@ -55,7 +87,7 @@ impl<'a, R: Files<File = File>> Store for FileStore<'a, R> {
     ghost taken = { λ s. s.taken };
 
     fn open(&mut self, path: &Text, write: bool) -> Result<u32, StoreFailed> {
-        match keep(self.files, &mut self.opened, path, write) {
+        match keep(self.alloc, self.files, &mut self.opened, path, write) {
             Some(number) => Ok(number),
             None => {
                 self.faults = raised(self.faults, 1);
@@ -65,7 +97,7 @@ impl<'a, R: Files<File = File>> Store for FileStore<'a, R> {
     }
 
     fn length(&mut self, file: u32) -> Result<u64, StoreFailed> {
-        match calls::length_of(self.opened.get(file as usize)) {
+        match calls::length_of(file_of(&self.opened, file)) {
             Some(length) => Ok(length),
             None => {
                 self.faults = raised(self.faults, 1);
@@ -75,7 +107,7 @@ impl<'a, R: Files<File = File>> Store for FileStore<'a, R> {
     }
 
     fn read_at(&mut self, file: u32, offset: u64, into: &mut [u8]) -> StoreGot {
-        match calls::read(self.opened.get(file as usize), offset, into) {
+        match calls::read(file_of(&self.opened, file), offset, into) {
             Some(0) => StoreGot::End,
             Some(n) => {
                 self.given = raised(self.given, n as u64);
@@ -89,7 +121,7 @@ impl<'a, R: Files<File = File>> Store for FileStore<'a, R> {
     }
 
     fn write_at(&mut self, file: u32, offset: u64, from: &[u8]) -> StoreTook {
-        match calls::write(self.opened.get(file as usize), offset, from) {
+        match calls::write(file_of(&self.opened, file), offset, from) {
             Some(n) if n > 0 => {
                 self.taken = raised(self.taken, n as u64);
                 StoreTook::Bytes(n)
@@ -102,7 +134,7 @@ impl<'a, R: Files<File = File>> Store for FileStore<'a, R> {
     }
 
     fn cut(&mut self, file: u32, length: u64) -> Result<(), StoreFailed> {
-        match calls::cut(self.opened.get(file as usize), length) {
+        match calls::cut(file_of(&self.opened, file), length) {
             Some(()) => Ok(()),
             None => {
                 self.faults = raised(self.faults, 1);
@@ -112,7 +144,7 @@ impl<'a, R: Files<File = File>> Store for FileStore<'a, R> {
     }
 
     fn sync(&mut self, file: u32) -> Result<(), StoreFailed> {
-        match calls::sync(self.opened.get(file as usize)) {
+        match calls::sync(file_of(&self.opened, file)) {
             Some(()) => Ok(()),
             None => {
                 self.faults = raised(self.faults, 1);

@@ -26,7 +26,7 @@ use Rattle.lnbd_history.specs.Entries.{Framed}
 use Rattle.lnbd_machine.specs.Machine.{Row, Machine, State, Doing, enter, file_in, kill, sight, table_rules, waited, waited_of, waiting_row}
 use Rattle.lnbd_chunks.proofs.Steady.{at_more}
 use Rattle.lnbd_commands.specs.Flights.{has_first}
-use Rattle.lnbd_commands.specs.Rows.{flight_of_row}
+use Rattle.lnbd_commands.specs.Rows.{flight_of_row, is_read_row}
 use Rattle.lnbd_commands.specs.Seen.{seen_waiting}
 use Rattle.lnbd_commands.specs.declared.row.Waiting.{Waiting as Told}
 use Rattle.lnbd_arrivals.specs.Frames.{Announces, IsFront, IsSuccess, front_size, is_structured}
@@ -269,14 +269,14 @@ module _ {K : Type 0} where
           let same = same_length r.command command (sym r.waits ∙ ap (waited (state_of c)) a.cookie_is ∙ there) in
           omega (arith, sized, same, short)
 
-  -- Where no command in flight has a chunk callback, that of no cookie has one.
-  pub first_none : (row : Option (Row K)) (rows : List (ℕ × Row K)) (cookie : ℕ) → value_at cookie rows ≡ row → NoneHears rows → has_first (flight_of_row row) ≡ true → ⊥
-  first_none None rows cookie at none has = false≢true has
-  first_none (Some row) rows cookie at none has = go row.flight (each_at _ cookie row rows none at) has
+  -- Where no command in flight has a chunk callback, the read of no cookie has one.
+  pub first_none : (row : Option (Row K)) (rows : List (ℕ × Row K)) (cookie : ℕ) → value_at cookie rows ≡ row → NoneHears rows → is_read_row row ≡ true → has_first (flight_of_row row) ≡ true → ⊥
+  first_none None rows cookie at none read has = false≢true has
+  first_none (Some row) rows cookie at none read has = go row.flight (each_at _ cookie row rows none at) has
     where
-      go : (f : Option (Flight K)) → IfFlies (λ kind length flight. flight.first ≡ None) row.kind row.length f → has_first f ≡ true → ⊥
+      go : (f : Option (Flight K)) → IfFlies (λ kind length flight. is_read kind ≡ true → flight.first ≡ None) row.kind row.length f → has_first f ≡ true → ⊥
       go None here has = false≢true has
-      go (Some flight) here has = false≢true (sym (ap is_some here) ∙ has)
+      go (Some flight) here has = false≢true (sym (ap is_some (here read)) ∙ has)
 
   -- What a record lacks is data that its head announced, or of the head of a simple reply.
   pub within_lacks : (c : Connection K) (p : Pending) (announced : Option Announced) (head front : List ℕ) (lack : ℕ) → head ≡ p.head.items → RepliesSimply c.stage c.talk.phase c.talk.structured c.talk.extended → IsKept p → length p.head.items ≤ simple_head_size →

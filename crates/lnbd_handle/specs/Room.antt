@@ -65,9 +65,9 @@ module _ {K : Type 0} where
   abbrev pub ReadsFit : (size : ℕ) → List (ℕ × Row K) → Type 0
   ReadsFit size rows = EachFlies (λ kind length flight. is_read kind ≡ true → length ≤ size) rows
 
-  -- No command in flight has a chunk callback.
+  -- No command in flight has a chunk callback: the first callback of a read. That of a block status hears extents, which no simple reply tells.
   abbrev pub NoneHears : List (ℕ × Row K) → Type 0
-  NoneHears rows = EachFlies (λ kind length flight. flight.first ≡ None) rows
+  NoneHears rows = EachFlies (λ kind length flight. is_read kind ≡ true → flight.first ≡ None) rows
 
   -- The buffer of data has room for each read in flight, and of a simple reply no more than its head is held as one.
   pub record HasPlaces (stage : Stage) (phase : Phase) (structured extended : Bool) (rows : List (ℕ × Row K)) (pending : Pending) : Type 0 where

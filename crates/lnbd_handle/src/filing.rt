@@ -4,7 +4,7 @@ ghost use Rattle.std.specs.Prelude.{◌≡◌, ◌≤◌, true, false, take, vec
 ghost use Rattle.lnbd_keyed.specs.Keyed.{value_at};
 ghost use Rattle.lnbd_commands.specs.Commands.{waiting_at};
 ghost use Rattle.lnbd_commands.specs.Flights.{has_first};
-ghost use Rattle.lnbd_commands.specs.Rows.{flight_of_row};
+ghost use Rattle.lnbd_commands.specs.Rows.{flight_of_row, is_read_row};
 ghost use Rattle.lnbd_arrivals.specs.Frames.{is_chunk};
 ghost use Rattle.lnbd_handle.specs.Filing.{MayFile, TakesData};
 
@@ -29,6 +29,7 @@ pub(crate) fn file_data<K: Caller>(
     requires may { MayFile (waiting_at announced.cookie commands.old) announced (take announced.size buffer.old.items) }
     ensures ok { OnOk result (TakesData contexts.now K.steps announced (take announced.size buffer.old.items) commands.old commands.new world.old world.new) }
     ensures needed { is_chunk announced.carrier ≡ false → OnErr result (has_first (flight_of_row (value_at announced.cookie commands.old.rows)) ≡ true) }
+    ensures read { is_chunk announced.carrier ≡ false → OnErr result (is_read_row (value_at announced.cookie commands.old.rows) ≡ true) }
     ensures err { OnErr result (commands.new ≡ record commands.old { room = commands.new.room }) }
     ensures err_buffer { OnErr result (buffer.new.items ≡ buffer.old.items) }
     ensures err_world { OnErr result (world.new ≡ world.old) }
@@ -62,6 +63,7 @@ fn file_copied<K: Caller>(
     requires { MayFile (waiting_at announced.cookie commands.old) announced content.now }
     ensures ok { OnOk result (TakesData contexts.now K.steps announced content.now commands.old commands.new world.old world.new) }
     ensures needed { is_chunk announced.carrier ≡ false → OnErr result (has_first (flight_of_row (value_at announced.cookie commands.old.rows)) ≡ true) }
+    ensures read { is_chunk announced.carrier ≡ false → OnErr result (is_read_row (value_at announced.cookie commands.old.rows) ≡ true) }
     ensures err { OnErr result (commands.new ≡ record commands.old { room = commands.new.room }) }
     ensures err_world { OnErr result (world.new ≡ world.old) }
 {
@@ -89,6 +91,7 @@ fn file_filled<K: Caller>(
     requires { MayFile (waiting_at announced.cookie commands.old) announced content.items }
     ensures ok { OnOk result (TakesData contexts.now K.steps announced content.items commands.old commands.new world.old world.new) }
     ensures needed { is_chunk announced.carrier ≡ false → OnErr result (has_first (flight_of_row (value_at announced.cookie commands.old.rows)) ≡ true) }
+    ensures read { is_chunk announced.carrier ≡ false → OnErr result (is_read_row (value_at announced.cookie commands.old.rows) ≡ true) }
     ensures spare { IfOk result (λ spare. length spare.items ≡ length content.items) }
     ensures handed_back { IfErr result (λ back. back.items ≡ content.items) }
     ensures err { OnErr result (commands.new ≡ record commands.old { room = commands.new.room }) }

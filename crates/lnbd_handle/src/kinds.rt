@@ -52,7 +52,8 @@ impl From<lnbd_model::NoMemory> for OptFault {
 }
 
 /// Memory ran out behind so many bytes: these count as arrived, and the others are to be handed in again.
-#[derive(Clone, Copy, Debug, PartialEq, Eq)]
+#[derive(Clone, Copy, Debug, PartialEq, Eq, Error)]
+#[error("no memory behind {taken} bytes")]
 pub struct Short {
     pub taken: usize,
 }

@@ -5,7 +5,6 @@ ghost use Rattle.lnbd_onesided.specs.Dealt.{ApartAreDealt};
 ghost use Rattle.lnbd_onesided.specs.Desk.{ChangesAreMade, ReadsAreMade};
 ghost use Rattle.lnbd_onesided.specs.Files.{FromFileHolds, ToFileHolds};
 ghost use Rattle.lnbd_onesided.specs.Honest.{ChangesAreHonest, ReadsAreHonest};
-ghost use Rattle.lnbd_onesided.specs.Stood.{ChangesKeepStood, EventsKeepStood, ReadsKeepStood};
 
 /// A change that a row asks for is made at once.
 #[tactic(auto, using(crate::proofs::DeskLemmas::changes_are_made))]
@@ -59,11 +58,4 @@ pub fn to_file_holds()
 #[tactic(auto, using(crate::proofs::FileLemmas::from_file_holds))]
 pub fn from_file_holds()
     ensures { FromFileHolds }
-{}
-
-/// What stands of a copy to a file between two turns goes on with whatever happens, is asked and is made.
-pub fn stood_goes_on()
-    ensures events { EventsKeepStood }
-    ensures reads { ReadsKeepStood }
-    ensures changes { ChangesKeepStood }
 {}

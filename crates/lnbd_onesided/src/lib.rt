@@ -8,6 +8,5 @@ mod laws;
 pub use desk::{comes_back, complete};
 pub use laws::{
     apart_are_dealt, changes_are_honest, changes_are_made, destination_alone_keeps,
-    from_file_holds, reads_are_honest, reads_are_made, source_alone_keeps, stood_goes_on,
-    to_file_holds,
+    from_file_holds, reads_are_honest, reads_are_made, source_alone_keeps, to_file_holds,
 };

@@ -28,18 +28,16 @@ use Rattle.lnbd_spoken.specs.Speaking.{SaysWell, SpeaksFrom, SpeaksWell}
 use Rattle.lnbd_spoken.proofs.Driving.{driven_speak_well}
 use Rattle.lnbd_board.specs.declared.ticket.Ticket.{Ticket}
 use Rattle.lnbd_course.specs.Between.{place_of}
-use Rattle.lnbd_copy.specs.Begun.{opened}
-use Rattle.lnbd_copy.specs.Conduct.{Conducts}
-use Rattle.lnbd_copy.specs.Driven.{AllMayCome, AreDrivenTo, asks_extents_on}
-use Rattle.lnbd_copy.specs.DrivenBy.{DrivenBy}
-use Rattle.lnbd_copy.specs.Grounds.{Drove, IsShown}
-use Rattle.lnbd_copy.specs.Lasting.{AtSome}
-use Rattle.lnbd_copy.specs.Little.{WroteAtMost, WroteLittle, most_written}
-use Rattle.lnbd_copy.specs.Tried.{WereTried}
-use Rattle.lnbd_copy.specs.Tried as tries
-use Rattle.lnbd_copy.specs.Vain.{WantsOnlyEmpty, WasReadInVain, has_happened, is_for_reading}
-use Rattle.lnbd_copy.specs.Waits.{IsWaitedFor, WaitsWell}
-use Rattle.lnbd_copy.specs.Way.{is_source}
+use Rattle.lnbd_conduct.specs.Begun.{opened, DrivenBy}
+use Rattle.lnbd_conduct.specs.Conduct.{Conducts}
+use Rattle.lnbd_conduct.specs.Driven.{AllMayCome, AreDrivenTo, asks_extents_on}
+use Rattle.lnbd_conduct.specs.Grounds.{Drove, IsShown}
+use Rattle.lnbd_conduct.specs.Told.{AtSome}
+use Rattle.lnbd_conduct.specs.Waiting.{WroteAtMost, WroteLittle, most_written, IsWaitedFor, WaitsWell}
+use Rattle.lnbd_conduct.specs.Pauses.{WereTried, WantsOnlyEmpty, is_for_reading}
+use Rattle.lnbd_usage.specs.Vain.{WasReadInVain, has_happened}
+use Rattle.lnbd_conduct.specs.Pauses as tries
+use Rattle.lnbd_conduct.specs.Sides.{is_source}
 use Rattle.lnbd_memnet.specs.declared.link.Link.{Link}
 use Rattle.lnbd_memnet.specs.Laws.{WasWanted, reads_on, writes_on}
 use Rattle.lnbd_memnet.specs.Network.{Network, export_in, link_in}

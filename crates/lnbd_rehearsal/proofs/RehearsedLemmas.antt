@@ -17,8 +17,8 @@ use Rattle.lnbd_plan.specs.declared.options.CopyOptions.{CopyOptions}
 use Rattle.lnbd_plan.specs.declared.summary.Summary.{Summary}
 use Rattle.lnbd_course.specs.Asks.{GrewBy}
 use Rattle.lnbd_course.specs.Copied.{Copied, Copies}
-use Rattle.lnbd_copy.specs.Conduct.{Conducts}
-use Rattle.lnbd_copy.specs.Made.{IsMade}
+use Rattle.lnbd_conduct.specs.Conduct.{Conducts}
+use Rattle.lnbd_conduct.specs.Made.{IsMade}
 use Rattle.lnbd_served.specs.Served.{IsServable}
 use Rattle.lnbd_served.specs.Served as served
 use Rattle.lnbd_lively.specs.Lively.{AreServable}

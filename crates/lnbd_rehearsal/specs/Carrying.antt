@@ -5,7 +5,7 @@ use Rattle.lnbd_model.specs.declared.target.Place.{Place}
 use Rattle.lnbd_link.specs.Call.{Call, Connect, Listen, Accept, Read, Write, Pause, Shut, Moved, Unready, Ended, ReadFault, Sent, Full, WriteFault}
 use Rattle.lnbd_link.specs.declared.wires.Want.{Want}
 use Rattle.lnbd_plan.specs.declared.options.CopyOptions.{CopyOptions}
-use Rattle.lnbd_copy.specs.Conduct.{Conducts}
+use Rattle.lnbd_conduct.specs.Conduct.{Conducts}
 use Rattle.lnbd_memnet.specs.Network.{Network, export_in}
 use Rattle.lnbd_memnet.specs.Schedule.{Moves}
 use Rattle.lnbd_memnet.specs.Wires.{Came}

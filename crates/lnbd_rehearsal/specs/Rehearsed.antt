@@ -7,9 +7,9 @@ use Rattle.lnbd_link.specs.Contents.{Stored}
 use Rattle.lnbd_plan.specs.declared.options.CopyOptions.{CopyOptions}
 use Rattle.lnbd_plan.specs.declared.summary.Summary.{Summary}
 use Rattle.lnbd_course.specs.Copied.{Copied}
-use Rattle.lnbd_copy.specs.Made.{IsMade}
+use Rattle.lnbd_conduct.specs.Made.{IsMade}
 use Rattle.lnbd_export.specs.Export.{Export}
-use Rattle.lnbd_copy.specs.Conduct.{Conducts}
+use Rattle.lnbd_conduct.specs.Conduct.{Conducts}
 use Rattle.lnbd_export.specs.Generated.{IsGenerated, byte_at}
 use Rattle.lnbd_memnet.specs.Network.{Network, hosted_of}
 use Rattle.lnbd_memnet.specs.Wires.{Begins, Came, Played, Served, contents_of}

@@ -4,8 +4,8 @@ ghost use Rattle.std.specs.Prelude.{◌≡◌, ◌≤◌, IfOk, OnOk, false, len
 ghost use Rattle.lnbd_link.specs.Contents.{Keeps};
 ghost use Rattle.lnbd_course.specs.Asks.{GrewBy};
 ghost use Rattle.lnbd_course.specs.Copied.{Copies};
-ghost use Rattle.lnbd_copy.specs.Conduct.{Conducts};
-ghost use Rattle.lnbd_copy.specs.Made.{IsMade};
+ghost use Rattle.lnbd_conduct.specs.Conduct.{Conducts};
+ghost use Rattle.lnbd_conduct.specs.Made.{IsMade};
 ghost use Rattle.lnbd_memnet.specs.Wires.{contents_of, told_by};
 ghost use Rattle.lnbd_memnet.specs.declared.schedule.Schedule.TheVariants.{Seeded};
 ghost use Rattle.lnbd_rehearsal.specs.Rehearsed.{HasRehearsed, destination_name, place_of, source_name, usual};

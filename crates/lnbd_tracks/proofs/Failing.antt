@@ -37,8 +37,8 @@ use Rattle.lnbd_board.specs.Turns.{IsAnswered, Tells, TellAll}
 use Rattle.lnbd_board.proofs.Lists.{Each-append, Each-back, Each-front, Each-map, answers_wait}
 use Rattle.lnbd_board.proofs.Steps.{read_done, row_stands}
 use Rattle.lnbd_board.proofs.Turning.{calls_kept}
-use Rattle.lnbd_tracks.specs.Failing.{CameTo, DestinationFails, FailuresAreKnown, FailuresStay, SourceFails, failure_by}
-use Rattle.lnbd_tracks.specs.Tracks.{Adds, Happens, Histories, NoneFails, is_issue}
+use Rattle.lnbd_tracks.specs.Failing.{CameTo, DestinationFails, FailuresAreKnown, FailuresStay, SourceFails, failure_by, ToldBy}
+use Rattle.lnbd_tracks.specs.Tracks.{Adds, AllTrack, Happens, Histories, NoneFails, is_issue}
 use Rattle.lnbd_tracks.proofs.Calling.{IsQuiet, IsWell, destination_all, files_well, filing_completes, filing_quiet, frees_quiet, heard_well, hears_error, none_earlier, source_all}
 use Rattle.lnbd_tracks.proofs.Coming.{event_keeps}
 use Rattle.lnbd_tracks.proofs.Mapped.{asked_at, at}
@@ -472,16 +472,34 @@ module _ (link : ℕ) (event : Event Ticket) (histories histories2 : Histories) 
   suits how slices (Complete by error buf verdict) e = λ some. came_to error (e some)
   suits how slices (Free by) e = tt
 
-pub source_fails : SourceFails
-source_fails how slices link event sources sources2 destinations added before after source destination reads changes stands other happens adds files =
+-- What happens on the handles of one side, whatever the other side was asked.
+
+pub source_alone_fails : (how : How) (slices : List Slice) (link : ℕ) (event : Event Ticket) (sources sources2 : Histories) (added : List (Call Ticket)) (before after : Seen)
+    (source destination : List Request) →
+    AllTrack sources source → (before.error ≡ None → Stands how slices before.rows source destination) → is_issue event ≡ false → Happens link event sources sources2 →
+    Adds event (sources link) added → OneByOne Files before added after →
+    ToldBy sources2 before after
+source_alone_fails how slices link event sources sources2 added before after source destination reads stands other happens adds files =
     let w = files_well added before after files in
     let g = event_tracks link (sources link) event source (reads link) other added adds w in
     all_lead how slices (λ error. CameTo (failure_by error) sources2) added before after source destination g.new destination files (source_all added source g.new destination g.tells) stands
     (Each-map (suits link event sources sources2 happens other how slices) added (event_explains (sources link) event added (reads link).well adds w))
 
-pub destination_fails : DestinationFails
-destination_fails how slices link event sources destinations destinations2 added before after source destination reads changes stands other happens adds files =
+pub destination_alone_fails : (how : How) (slices : List Slice) (link : ℕ) (event : Event Ticket) (destinations destinations2 : Histories) (added : List (Call Ticket)) (before after : Seen)
+    (source destination : List Request) →
+    AllTrack destinations destination → (before.error ≡ None → Stands how slices before.rows source destination) → is_issue event ≡ false → Happens link event destinations destinations2 →
+    Adds event (destinations link) added → OneByOne Files before added after →
+    ToldBy destinations2 before after
+destination_alone_fails how slices link event destinations destinations2 added before after source destination changes stands other happens adds files =
     let w = files_well added before after files in
     let g = event_tracks link (destinations link) event destination (changes link) other added adds w in
     all_lead how slices (λ error. CameTo (failure_by error) destinations2) added before after source destination source g.new files (destination_all added destination g.new source g.tells) stands
     (Each-map (suits link event destinations destinations2 happens other how slices) added (event_explains (destinations link) event added (changes link).well adds w))
+
+pub source_fails : SourceFails
+source_fails how slices link event sources sources2 destinations added before after source destination reads changes stands other happens adds files =
+    source_alone_fails how slices link event sources sources2 added before after source destination reads stands other happens adds files
+
+pub destination_fails : DestinationFails
+destination_fails how slices link event sources destinations destinations2 added before after source destination reads changes stands other happens adds files =
+    destination_alone_fails how slices link event destinations destinations2 added before after source destination changes stands other happens adds files

@@ -18,19 +18,19 @@ use Rattle.lnbd_waits.specs.declared.waiting.Awaited.{Awaited}
 use Rattle.lnbd_waits.specs.declared.waiting.Awaited.TheVariants as awaited
 use Rattle.lnbd_waits.specs.Waits.{is_awaited, is_to_come, want}
 
-some_none : {A : Type 0} (n : ℕ) → Some n ≡ None → A
+pub some_none : {A : Type 0} (n : ℕ) → Some n ≡ None → A
 some_none n is = absurd (false≢true (sym (ap is_some is)))
 
-both_none : (a b : Option ℕ) → None ≡ together a b → (a ≡ None) × (b ≡ None)
+pub both_none : (a b : Option ℕ) → None ≡ together a b → (a ≡ None) × (b ≡ None)
 both_none None b is = (refl, sym is)
 both_none (Some n) None is = some_none n (sym is)
 both_none (Some n) (Some m) is = some_none _ (sym is)
 
 -- something was noticed
-noticed_some : {A : Type 0} (notice other : Noticed) (n : ℕ) → notice ≡ other → moved_by other ≡ Some n → moved_by notice ≡ None → A
+pub noticed_some : {A : Type 0} (notice other : Noticed) (n : ℕ) → notice ≡ other → moved_by other ≡ Some n → moved_by notice ≡ None → A
 noticed_some notice other n is some none = some_none n (sym some ∙ (sym (ap moved_by is) ∙ none))
 
-moved_some : {A : Type 0} (notice : Noticed) (rest : Option ℕ) → is_moved notice ≡ true → together (moved_by notice) rest ≡ None → A
+pub moved_some : {A : Type 0} (notice : Noticed) (rest : Option ℕ) → is_moved notice ≡ true → together (moved_by notice) rest ≡ None → A
 moved_some (noticed.Moved n) None some is = some_none n is
 moved_some (noticed.Moved n) (Some m) some is = some_none _ is
 moved_some noticed.NotReady rest some is = absurd (false≢true some)
@@ -56,7 +56,7 @@ module _ {K World : Type 0} (steps : World → List (Call K) → World → Type 
   writes_still link before world calls after world' moved (Stops _ _ _ _ _ _ notice w stop is) none = write_still (is_waiting before) link notice before w.middle after calls world world' w.writes w.told (sym is ∙ none)
   writes_still link before world calls after world' moved (Goes_on _ _ _ _ _ _ notice own middle half other rest w some more calls_are is) none = moved_some notice rest some (sym is ∙ none)
 
-  arrives_some : {A : Type 0} (bytes : List ℕ) (notice : Noticed) (before after : Seen K) (world world' : World) → Arrives steps bytes notice before after world world' → moved_by notice ≡ None → is_short notice ≡ false → A
+  pub arrives_some : {A : Type 0} (bytes : List ℕ) (notice : Noticed) (before after : Seen K) (world world' : World) → Arrives steps bytes notice before after world world' → moved_by notice ≡ None → is_short notice ≡ false → A
   arrives_some bytes (noticed.Moved n) before after world world' a none enough = some_none n none
   arrives_some bytes noticed.NoMemory before after world world' a none enough = absurd (false≢true (sym enough))
   arrives_some bytes noticed.NotReady before after world world' a none enough = absurd a
@@ -64,7 +64,7 @@ module _ {K World : Type 0} (steps : World → List (Call K) → World → Type 
   arrives_some bytes noticed.Ended before after world world' a none enough = absurd a
   arrives_some bytes noticed.LinkFailed before after world world' a none enough = absurd a
 
-  read_still : (b : Bool) (notice : Noticed) (before after : Seen K) (calls : List wire.Call) (world world' : World) → ReadsIf steps b notice before world calls after world' → moved_by notice ≡ None → is_short notice ≡ false → after ≡ before
+  pub read_still : (b : Bool) (notice : Noticed) (before after : Seen K) (calls : List wire.Call) (world world' : World) → ReadsIf steps b notice before world calls after world' → moved_by notice ≡ None → is_short notice ≡ false → after ≡ before
   read_still false notice before after calls world world' r none enough = r.2.0
   read_still true notice before after calls world world' r none enough = on before.unread r
     where

@@ -352,6 +352,7 @@ const NOT_COPIED: &str = "= a destination that is smaller
 > ASK_GO
 > DESTINATION_OPTIONS
 > ASK_GO
+> ASK_EXTENTS
 
 = a source that can't be had
 .unreachable

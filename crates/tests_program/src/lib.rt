@@ -25,6 +25,8 @@ mod copies_turned;
 #[cfg(test)]
 mod dumps;
 #[cfg(test)]
+mod duplicates;
+#[cfg(test)]
 mod failing;
 #[cfg(test)]
 mod information;

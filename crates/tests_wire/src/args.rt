@@ -1,7 +1,7 @@
 //! Lists of words by example. What each asks for was read off the tools' grammar by hand.
 
 use crate::told::{Told, parted, same, stretched};
-use lnbd_args::{ArgsFault, Asked, Content, Predicate, Serving, What, read_words};
+use lnbd_args::{ArgsFault, Asked, Content, Predicate, Serving, Side, What, read_words};
 use lnbd_model::{NoMemory, Place};
 use lnbd_plan::CopyOptions;
 use std::alloc::Global;
@@ -33,10 +33,25 @@ nbdcopy nbd://h/a nbd://h/b nbd://h/c→usage
 nbdcopy nbd://h/a→usage
 nbdcopy --help→usage
 nbdcopy nbd://h/a -→usage
-nbdcopy nbd://h/a -- -→uri Scheme
-nbdcopy nbds://h/a x→uri Tls
+nbdcopy nbd://h/a -- -→usage
+nbdcopy nbds://h/a x://h→uri Tls
 nbdcopy nbd://h/a nbd://h:0/b→uri Port
-nbdcopy  nbd://h/b→uri Scheme
+nbdcopy x://h nbd://h/b→uri Scheme
+nbdcopy nbd://h/a x://h→uri Scheme
+nbdcopy nbd://h/a nbd:/h→usage
+nbdcopy  nbd://h/b→usage
+nbdcopy a b→files 4 64 262144 4096 1 0 0 0 file a file b
+nbdcopy a b --flush -S 0→files 4 64 262144 0 1 0 0 1 file a file b
+nbdcopy --allocated dir/a ./nbd:/b→files 4 64 262144 4096 1 1 0 0 file dir/a file ./nbd:/b
+nbdcopy -- -a -→files 4 64 262144 4096 1 0 0 0 file -a file -
+nbdcopy a ./a→files 4 64 262144 4096 1 0 0 0 file a file ./a
+nbdcopy a a→usage
+nbdcopy a →usage
+nbdcopy  a→usage
+nbdcopy a nbd://h/b→usage
+nbdcopy nbds://h/a b→usage
+nbdcopy a b c→usage
+nbdcopy a→usage
 nbdcopy x nbd://h/b --flush=1→usage
 nbddump nbd://h/a→dump 0 all a
 nbddump --offset 49 --length 1 nbd://h/a→dump 49 1 a
@@ -133,8 +148,7 @@ fn words(alloc: Global, text: &str) -> Result<Vec<String>, NoMemory> {
     Ok(list)
 }
 
-fn push_copy(told: &mut Told, options: CopyOptions, from: &Place, to: &Place) {
-    told.push("copy");
+fn push_options(told: &mut Told, options: CopyOptions) {
     let CopyOptions {
         connections,
         requests,
@@ -150,8 +164,30 @@ fn push_copy(told: &mut Told, options: CopyOptions, from: &Place, to: &Place) {
     ]);
     told.numbers(&[yes(options.extents), yes(options.allocated)]);
     told.numbers(&[yes(options.destination_is_zero), yes(options.flush)]);
+}
+
+fn push_copy(told: &mut Told, options: CopyOptions, from: &Place, to: &Place) {
+    told.push("copy");
+    push_options(told, options);
     told.word(from.name.as_str());
     told.word(to.name.as_str());
+}
+
+fn push_side(told: &mut Told, side: &Side) {
+    match side {
+        Side::Nbd(place) => told.word(place.name.as_str()),
+        Side::File(path) => {
+            told.push(" file");
+            told.word(path.as_str());
+        }
+    }
+}
+
+fn push_files(told: &mut Told, options: CopyOptions, from: &Side, to: &Side) {
+    told.push("files");
+    push_options(told, options);
+    push_side(told, from);
+    push_side(told, to);
 }
 
 fn push_what(told: &mut Told, what: &What) {
@@ -218,6 +254,7 @@ fn push_asked(told: &mut Told, asked: Asked) {
     match asked {
         Asked::Calls => told.push("calls"),
         Asked::Copy { options, from, to } => push_copy(told, options, &from, &to),
+        Asked::FileCopy { options, from, to } => push_files(told, options, &from, &to),
         Asked::Info { what, json, place } => {
             push_what(told, &what);
             told.number(yes(json));
@@ -281,7 +318,19 @@ struct Long {
     is_read: bool,
 }
 
-static LONG: [Long; 11] = [
+static LONG: [Long; 13] = [
+    Long {
+        front: "nbdcopy a ",
+        letters: 4096,
+        back: "",
+        is_read: true,
+    },
+    Long {
+        front: "nbdcopy a ",
+        letters: 4097,
+        back: "",
+        is_read: false,
+    },
     Long {
         front: "nbdinfo nbd://h/a --map=",
         letters: 4096,

@@ -1,5 +1,6 @@
 use Rattle.lnbd_ask.specs.Lists.{begins_listing}
 use Rattle.lnbd_ask.specs.Quiet.{Passes}
+use Rattle.lnbd_ask.proofs.EndLemmas.{held_going}
 use Rattle.lnbd_ask.proofs.ListLemmas.{failure_rose, inquiry_lost}
 use Rattle.lnbd_waits.proofs.TurnLemmas.{held_one}
 use Rattle.lnbd_ask.proofs.listing.converse.Goals as goal
@@ -10,7 +11,7 @@ tell_entries-requires g c = let went = c.inquire-inquired.ensures.inquires _ c.r
 pub returns-clause-converses : goal.returns-clause-converses
 returns-clause-converses g c link at =
     let went = c.inquire-inquired.ensures.inquires (begins_listing link) at in
-    record { world = _; calls = went.calls; after = went.after; world' = _; end = c.inquire-inquired.result; grown = went.grown; inquires = went.leads.does; tells = c.tell_entries.ensures.told went.after went.at }
+    record { world = _; calls = went.calls; after = went.after; world' = _; end = c.inquire-inquired.result; grown = went.grown; inquires = went.leads.does; going = held_going _ went.after went.at; tells = c.tell_entries.ensures.told went.after went.at }
 
 pub returns-clause-link : goal.returns-clause-link
 returns-clause-link g c =

@@ -1,5 +1,5 @@
 use Rattle.std.proofs.Common.{refl}
-use Rattle.lnbd_copy.specs.Conduct.{Conducts}
+use Rattle.lnbd_conduct.specs.Conduct.{Conducts}
 use Rattle.lnbd_cli.specs.Copies.{Copied, Failed, HasParted, WasMade}
 use Rattle.lnbd_cli.proofs.CopyLemmas.{between_words, by_words, copied_by, decided_by, grounded_by, told_link, told_silent}
 use Rattle.lnbd_cli.proofs.copying.copy.Goals as goal

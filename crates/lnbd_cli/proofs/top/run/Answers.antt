@@ -1,11 +1,14 @@
 use Rattle.std.proofs.Common.{◌≡◌, ◌⊎◌, inr, ℕ, true, List, refl, sym, ap, subst, arith}
 use Rattle.lnbd_args.specs.declared.asked.Asked.TheVariants as asked
+use Rattle.lnbd_store.specs.declared.side.Side.TheVariants as side
 use Rattle.lnbd_cli.specs.Asks.{serving_of}
 use Rattle.lnbd_cli.specs.Beside.{FileServed, ProgramRan, is_all_done}
 use Rattle.lnbd_cli.specs.Ends.{Prints}
 use Rattle.lnbd_cli.specs.Runs.{Refused}
 use Rattle.lnbd_cli.proofs.DumpLemmas.{shown_front, shown_whole}
-use Rattle.lnbd_cli.proofs.EndLemmas.{beside_done, by_status, came_known, calls_done, copy_done, dump_done, ends_well, info_done, known, of_done, of_end, refused_known, rose_by_fault, serve_done, test_done}
+use Rattle.lnbd_cli.proofs.DuplicateLemmas.{changed_untold}
+use Rattle.lnbd_cli.proofs.EndLemmas.{beside_done, calls_done, copy_done, dump_done, duplicate_done, info_done, serve_done, test_done}
+use Rattle.lnbd_cli.proofs.EndLemmas.{by_status, came_known, ends_well, known, of_done, of_end, refused_known, rose_by_fault}
 use Rattle.lnbd_cli.proofs.ServingLemmas.{beside_known, beside_run}
 use Rattle.lnbd_cli.proofs.top.run.Goals as goal
 
@@ -33,6 +36,13 @@ returns-clause-beside g c s asks = (
 
 pub returns-clause-copy : goal.returns-clause-copy
 returns-clause-copy g c t asks = record { end = c.tool-end.result; ends = (c.tool-end.ensures.did (asked.Copy t.options t.from t.to) asks).does; tells = c.print_end.ensures.tells }
+
+pub returns-clause-duplicate : goal.returns-clause-duplicate
+returns-clause-duplicate g c d asks = record {
+  end = c.tool-end.result;
+  ends = (c.tool-end.ensures.did (asked.FileCopy d.options (side.File d.from) (side.File d.to)) asks).does;
+  tells = c.print_end.ensures.tells;
+}
 
 pub returns-clause-dump : goal.returns-clause-dump
 returns-clause-dump g c e asks = record { end = c.tool-end.result; ends = (c.tool-end.ensures.did (asked.Dump e.place e.offset e.length) asks).does; tells = c.print_end.ensures.tells }
@@ -103,6 +113,16 @@ returns-clause-copy_complete g c t asks quiet = copy_done c.print_end.result
     (known (asked.Copy t.options t.from t.to) (λ (t : List ℕ). Prints g.E.Sink.taken g.E.Sink.faults c.args.err.now c.print_end.new.err t) c.tool-end.result c.print_end.result
     (c.tool-end.ensures.did (asked.Copy t.options t.from t.to) asks).known c.print_end.ensures.tells) (λ e. quiet.sound (c.tool-end.ensures.link (c.print_end.ensures.link e)))
     (λ e. quiet.patient (c.tool-end.ensures.silent (c.print_end.ensures.silent e)))
+
+pub returns-clause-duplicate_complete : goal.returns-clause-duplicate_complete
+returns-clause-duplicate_complete g c d asks sound =
+    let asked_ = asked.FileCopy d.options (side.File d.from) (side.File d.to) in
+    let did = c.tool-end.ensures.did asked_ asks in
+    duplicate_done c.print_end.result _
+    (known asked_ (λ (t : List ℕ). Prints g.E.Sink.taken g.E.Sink.faults c.args.err.now c.print_end.new.err t) c.tool-end.result c.print_end.result did.known c.print_end.ensures.tells)
+    (λ e. changed_untold d _ _ _ _ _ _ _ _ _ c.tool-end.result did.does.0
+    (of_end (λ (t : List ℕ). Prints g.E.Sink.taken g.E.Sink.faults c.args.err.now c.print_end.new.err t) c.tool-end.result 6 c.print_end.result (λ n. omega (arith, n)) c.print_end.ensures.tells e))
+    (λ e. sound (c.tool-end.ensures.storing (c.print_end.ensures.store e)))
 
 pub returns-clause-dump_complete : goal.returns-clause-dump_complete
 returns-clause-dump_complete g c e asks quiet output = dump_done c.print_end.result

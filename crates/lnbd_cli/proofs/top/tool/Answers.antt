@@ -8,7 +8,7 @@ act-requires g c = room _ c.in-Ok.asked c.in-Ok.ensures.asks
 
 pub returns-in-Ok-clause-did : goal.returns-in-Ok-clause-did
 returns-in-Ok-clause-did g c a asks = as_asked (Did g.I.Source.left c.args.input.now c.act.new.input g.W.Wires.told c.args.wires.now c.act.new.wires g.O.Sink.taken c.args.out.now c.act.new.out
-    g.S.Store.told g.S.Store.shelf c.args.store.now c.act.new.store g.P.Spawner.told c.args.spawn.now c.act.new.spawn c.act.result)
+    g.S.Store.told g.S.Store.shelf g.S.Store.given g.S.Store.taken c.args.store.now c.act.new.store g.P.Spawner.told c.args.spawn.now c.act.new.spawn c.act.result)
     c.in-Ok.asked a (c.in-Ok.ensures.accepts a asks) c.act.ensures.did
 
 pub returns-in-Ok-clause-store : goal.returns-in-Ok-clause-store
@@ -28,7 +28,7 @@ returns-in-Ok-clause-patient g c other = c.act.ensures.patient (on_wires c.args.
 
 pub returns-in-Err-clause-did : goal.returns-in-Err-clause-did
 returns-in-Err-clause-did g c a asks = unread g.I.Source.left c.args.input.now g.W.Wires.told c.args.wires.now g.O.Sink.taken c.args.out.now
-    g.S.Store.told g.S.Store.shelf c.args.store.now g.P.Spawner.told c.args.spawn.now c.in-Err.fault a (c.in-Err.ensures.accepts a asks)
+    g.S.Store.told g.S.Store.shelf g.S.Store.given g.S.Store.taken c.args.store.now g.P.Spawner.told c.args.spawn.now c.in-Err.fault a (c.in-Err.ensures.accepts a asks)
 
 pub returns-in-Ok-clause-decided : goal.returns-in-Ok-clause-decided
 returns-in-Ok-clause-decided g c = inl (c.in-Ok.asked, c.in-Ok.ensures.asks)

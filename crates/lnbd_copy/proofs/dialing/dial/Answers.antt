@@ -8,6 +8,7 @@ use Rattle.lnbd_copy.proofs.ConnectedLemmas.{connected_adds, connected_same, con
 use Rattle.lnbd_copy.proofs.DrivingLemmas.{one_dials, one_idly, one_none}
 use Rattle.lnbd_copy.proofs.IdleLemmas.{idly_adds}
 use Rattle.lnbd_copy.proofs.DecidingLemmas.{decides_refused}
+use Rattle.lnbd_copy.proofs.PaceLemmas.{tires_none, untired_connects, untired_idly, untired_then}
 use Rattle.lnbd_copy.proofs.dialing.dial.Goals as goal
 
 pub returns-in_ok-hold-in-Ok-clause-dials : goal.returns-in_ok-hold-in-Ok-clause-dials
@@ -79,3 +80,18 @@ returns-in_err-check_calm-clause-unasked g c from to there = unasked_none from t
 
 pub returns-in_err-check_calm-clause-drives : goal.returns-in_err-check_calm-clause-drives
 returns-in_err-check_calm-clause-drives g c = one_none _ _ _ _ _
+
+pub returns-in_ok-hold-in-Ok-clause-untried : goal.returns-in_ok-hold-in-Ok-clause-untried
+returns-in_ok-hold-in-Ok-clause-untried g c = untired_then _ _ _ (untired_connects _ _ _ _ c.in-Ok.ensures.told) (untired_idly _ _ c.hold.ensures.idly)
+
+pub returns-in_err-hold-in-Ok-clause-untried : goal.returns-in_err-hold-in-Ok-clause-untried
+returns-in_err-hold-in-Ok-clause-untried g c = untired_then _ _ _ (untired_connects _ _ _ _ c.in-Ok.ensures.told) (untired_idly _ _ c.hold.ensures.idly)
+
+pub returns-in-Err-clause-untried : goal.returns-in-Err-clause-untried
+returns-in-Err-clause-untried g c = untired_connects _ _ _ _ c.in-Err.ensures.told
+
+pub returns-in_err-handle-clause-untried : goal.returns-in_err-handle-clause-untried
+returns-in_err-handle-clause-untried g c = tires_none 0 _
+
+pub returns-in_err-check_calm-clause-untried : goal.returns-in_err-check_calm-clause-untried
+returns-in_err-check_calm-clause-untried g c = tires_none 0 _

@@ -1,4 +1,4 @@
-use Rattle.std.proofs.Common.{false, refl, true}
+use Rattle.std.proofs.Common.{false, refl, true, arith}
 use Rattle.lnbd_copy.proofs.CauseLemmas.{goes_same, goes_then}
 use Rattle.lnbd_copy.proofs.FullLemmas.{cut_unpaused, turned_unpaused}
 use Rattle.lnbd_copy.proofs.DecidingLemmas.{decides_calm, decides_rests, decides_then}
@@ -9,6 +9,7 @@ use Rattle.lnbd_copy.proofs.TurnLemmas.{goes_none, goes_on, turned_goes}
 use Rattle.lnbd_copy.proofs.LinkLemmas.{links_cut, links_none, links_then, links_turned}
 use Rattle.lnbd_copy.proofs.LittleLemmas.{little_none, little_then, little_turn, little_unpaused}
 use Rattle.lnbd_copy.proofs.PatientLemmas.{patient_any, patient_gives, patient_looked, patient_none, patient_then, patient_unpaused}
+use Rattle.lnbd_copy.proofs.PaceTurns.{stays_cut, stays_fewer, stays_none, stays_rested, stays_then, stays_turned}
 use Rattle.lnbd_copy.proofs.UnaskedLemmas.{fresh_asks_none, fresh_none, fresh_on, fresh_rests, none_idly, none_then, cut_unasked, whole_fresh}
 use Rattle.lnbd_copy.proofs.TriedLemmas.{early_ends, early_none, early_rests, early_turned, tries_any, tries_anyhow, turned_heard}
 use Rattle.lnbd_copy.proofs.VainLemmas.{turned_vain}
@@ -27,6 +28,7 @@ turns-init g c = record {
   little = little_none _ _ _;
   patient = λ stand. patient_none true _ _ _;
   tries = λ stand. early_none _ _;
+  paced = stays_none 1 _ _ _ (omega arith);
 }
 
 pub turns-preserved : goal.turns-preserved
@@ -53,6 +55,7 @@ turns-preserved g c = record {
   patient = λ stand.
       patient_then true _ _ _ _ _ _ _ (patient_then false _ _ _ _ _ _ _ (patient_looked true _ _ _ _ _ c.in_ok-check_idles.ensures.well (c.turns.invariant.patient stand))
       (patient_unpaused _ _ _ _ _ (turned_unpaused _ _ _ _ c.in_ok-told.told _ _ _ _ c.in_ok-told.ensures.ok (c.turns.invariant.goes.stand stand)) c.turn.ensures.counts.idles)) c.rest.ensures.patient;
+  paced = stays_then 1 _ _ _ _ _ _ _ c.turns.invariant.goes c.turns.invariant.paced (stays_rested _ _ _ _ _ c.in_ok-told.told _ _ _ _ c.in_ok-told.ensures.ok c.in_ok-rest.ensures.rests c.in_ok-rest.ensures.paused);
   tries = λ stand.
       let here = c.turns.invariant.goes.stand stand in
       early_rests _ _ _ _ _ _ c.rest.ensures.same (λ still. turned_heard _ _ _ _ c.in_ok-told.told _ _ _ _ c.in_ok-told.ensures.ok still here) c.in_ok-rest.ensures.rests
@@ -196,3 +199,21 @@ returns-in_err-rest-clause-impatient g c =
     (patient_then false _ _ _ _ _ _ _
     (patient_unpaused _ _ _ _ _ (turned_unpaused _ _ _ _ c.in_ok-told.told _ _ _ _ c.in_ok-told.ensures.ok (c.turns.invariant.goes.stand stand)) c.turn.ensures.counts.idles)
     (patient_unpaused _ _ _ _ _ (unpaused_same _ _ c.in_err-rest.ensures.still) c.rest.ensures.counts.idles))))
+
+pub returns-then-are_quiet-clause-paces : goal.returns-then-are_quiet-clause-paces
+returns-then-are_quiet-clause-paces g c = stays_fewer _ _ _ _ c.turns.invariant.paced
+
+pub returns-clause-paces : goal.returns-clause-paces
+returns-clause-paces g c = stays_fewer _ _ _ _ c.turns.invariant.paced
+
+pub returns-in_err-check_calm-clause-paces : goal.returns-in_err-check_calm-clause-paces
+returns-in_err-check_calm-clause-paces g c = stays_fewer _ _ _ _ c.turns.invariant.paced
+
+pub returns-in_err-check_idles-clause-paces : goal.returns-in_err-check_idles-clause-paces
+returns-in_err-check_idles-clause-paces g c = stays_fewer _ _ _ _ c.turns.invariant.paced
+
+pub returns-in_err-told-clause-paces : goal.returns-in_err-told-clause-paces
+returns-in_err-told-clause-paces g c = stays_then 2 _ _ _ _ _ _ _ c.turns.invariant.goes c.turns.invariant.paced (stays_cut _ _ _ _ _ _ _ _ c.in_err-told.ensures.cut)
+
+pub returns-in_err-rest-clause-paces : goal.returns-in_err-rest-clause-paces
+returns-in_err-rest-clause-paces g c = stays_then 2 _ _ _ _ _ _ _ c.turns.invariant.goes c.turns.invariant.paced (stays_turned _ _ _ _ _ c.in_ok-told.told _ _ _ _ c.in_ok-told.ensures.ok c.in_err-rest.ensures.still)

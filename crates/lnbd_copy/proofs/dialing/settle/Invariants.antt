@@ -1,12 +1,13 @@
 use Rattle.std.proofs.Common.{[], true}
 use Rattle.lnbd_copy.specs.Causes.{GoesOn}
+use Rattle.lnbd_copy.specs.Pace.{StaysPaced}
 use Rattle.lnbd_copy.specs.Patient.{StaysPatient}
 use Rattle.lnbd_copy.specs.Pauses.{Pauses, WantsInVain}
 use Rattle.lnbd_copy.specs.Way.{Goes, Stand}
 use Rattle.lnbd_copy.specs.Tried.{IsLeftEarly, Tries}
 use Rattle.lnbd_copy.specs.Unready.{StaysUnready}
 use Rattle.lnbd_copy.specs.Little.{StaysLittle}
-use Rattle.lnbd_copy.specs.Wanted.{WantsSome}
+use Rattle.lnbd_conduct.specs.Pauses.{WantsSome}
 use Rattle.lnbd_copy.specs.Links.{LinksGo}
 use Rattle.lnbd_copy.specs.Faults.{StaysFresh}
 use Rattle.lnbd_copy.proofs.dialing.settle.Given as goal
@@ -22,5 +23,6 @@ invariant-turns g l = record {
   wanted : Stand l.fn.handles → Pauses WantsSome (g.W.Wires.told l.fn.wires) (g.W.Wires.told l.wires);
   little : StaysLittle l.fn.board l.fn.handles (g.W.Wires.told l.fn.wires) (g.W.Wires.told l.wires);
   patient : Stand l.fn.handles → StaysPatient true l.fn.start.idles (g.W.Wires.told l.fn.wires) (g.W.Wires.idles l.fn.wires) (g.W.Wires.told l.wires) (g.W.Wires.idles l.wires);
+  paced : StaysPaced 1 l.fn.board l.fn.handles (g.W.Wires.told l.fn.wires) (g.W.Wires.told l.wires);
   tries : Stand l.fn.handles → Tries (IsLeftEarly l.handles) (g.W.Wires.told l.fn.wires) (g.W.Wires.told l.wires);
 }

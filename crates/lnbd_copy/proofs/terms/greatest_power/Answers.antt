@@ -1,6 +1,7 @@
 use Rattle.std.proofs.Common.{◌≡◌, ◌∙◌, sym, subst, ℕ, ◌<◌, arith}
 use Rattle.std.proofs.lemmas.Nat.{shl_whole}
-use Rattle.lnbd_copy.specs.Terms.{IsGreatestPower, greatest_power}
+use Rattle.lnbd_copy.specs.Terms.{IsGreatestPower}
+use Rattle.lnbd_conduct.specs.Terms.{greatest_power}
 use Rattle.lnbd_copy.proofs.PowerLemmas.{power_fits, power_is_greatest, power_none, power_some, power_stays}
 use Rattle.lnbd_copy.proofs.terms.greatest_power.Goals.{then-next-most, else-next-most}
 use Rattle.lnbd_copy.proofs.terms.greatest_power.Goals as goal

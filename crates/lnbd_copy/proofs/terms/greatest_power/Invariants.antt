@@ -1,5 +1,5 @@
 use Rattle.std.proofs.Common.{◌≡◌}
-use Rattle.lnbd_copy.specs.Terms.{greatest_power}
+use Rattle.lnbd_conduct.specs.Terms.{greatest_power}
 use Rattle.lnbd_copy.proofs.terms.greatest_power.Given as goal
 
 abbrev pub invariant-powers : goal.invariant-powers

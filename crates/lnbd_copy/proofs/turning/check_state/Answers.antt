@@ -1,5 +1,5 @@
 use Rattle.std.proofs.Common.{ap, ◌∙◌}
-use Rattle.lnbd_copy.specs.Decided.{is_of_answer}
+use Rattle.lnbd_conduct.specs.Decided.{is_of_answer}
 use Rattle.lnbd_copy.proofs.DecidingLemmas.{death_other}
 use Rattle.lnbd_copy.proofs.GroundLemmas.{finds_dead}
 use Rattle.lnbd_copy.proofs.turning.check_state.Goals as goal

@@ -1,11 +1,12 @@
-use Rattle.std.proofs.Common.{arith, ◌≡◌, ◌+◌, ℕ, refl, subst, ◌∙◌}
+use Rattle.std.proofs.Common.{arith, ◌≡◌, ◌+◌, ℕ, refl, sym, subst, ◌∙◌}
 use Rattle.lnbd_touched.specs.Both.{Both}
 use Rattle.lnbd_touched.specs.Grown.{RoseBy}
 use Rattle.lnbd_touched.proofs.BothLemmas.{both_none}
 use Rattle.lnbd_touched.proofs.GrownLemmas.{grew_both, grew_none, rose_none, rose_then}
 use Rattle.lnbd_copyfile.specs.Calls.{Breaks, Moves}
-use Rattle.lnbd_copyfile.specs.Steps.{Moved}
+use Rattle.lnbd_copyfile.specs.Steps.{IsSlice, Moved}
 use Rattle.lnbd_copyfile.proofs.CallLemmas.{breaks_behind, moves_on}
+use Rattle.lnbd_copyfile.proofs.CountLemmas.{next_begins, slice_begins, zero_begins}
 use Rattle.lnbd_copyfile.proofs.FillLemmas.{moved_none}
 use Rattle.lnbd_copyfile.proofs.ShelfLemmas.{moves_follow, moves_lack}
 use Rattle.lnbd_copyfile.proofs.filling.move_slices.Goals as goal
@@ -14,10 +15,11 @@ pub slices-init : goal.slices-init
 slices-init g c = record {
   same = refl;
   at = omega arith;
+  begins = λ more. zero_begins c.args.way.cell;
   few = omega arith;
   all = λ none. refl;
-  moved = both_none c.args.way.from c.args.to (Moved c.args.way.size 0 0) _ (λ x y. moved_none c.args.way.size 0 x y);
-  moves = grew_none _ (Moves c.args.way.from c.args.to) tt;
+  moved = both_none c.args.way.from c.args.to (Moved c.args.way.cell c.args.way.block c.args.way.size 0 0 0) _ (λ x y. moved_none c.args.way.cell c.args.way.block c.args.way.size 0 x y);
+  moves = grew_none _ (Moves c.args.way.cell c.args.way.size c.args.way.from c.args.to) tt;
   later = omega arith;
   given = rose_none _;
   taken = rose_none _;
@@ -35,13 +37,16 @@ slices-preserved g c =
     let same = inv.same in
     let few = inv.few in
     let less = call.few in
+    let here = Moves way.cell way.size way.from c.args.to in
+    let slice = subst (λ (n : ℕ). IsSlice way.cell way.size at n) (sym least) (slice_begins way.cell way.size at _ (inv.begins more) more (inv.same ∙ c.requires.room)) in
     record {
       same = call.same ∙ inv.same;
       at = omega (arith, least, more);
+      begins = λ left. next_begins way.cell way.size at count c.requires.cell slice left;
       few = omega (arith, few, less);
       all = λ none. let a = inv.all none in let b = call.all none in omega (arith, a, b);
-      moved = moves_follow way.from c.args.to way.size 0 at (at + count) _ _ _ inv.moved call.moved;
-      moves = grew_both _ _ _ (Moves way.from c.args.to) (Moves way.from c.args.to) (Moves way.from c.args.to) (λ xs ys p q. moves_on way.from c.args.to xs ys p q) inv.moves call.moves;
+      moved = moves_follow way.cell way.block way.from c.args.to way.size 0 at (at + count) c.slices.written c.in-Ok.n _ _ _ (omega arith) (omega arith) inv.moved call.moved;
+      moves = grew_both _ _ _ here here here (λ xs ys p q. moves_on way.cell way.size way.from c.args.to xs ys p q) inv.moves call.moves;
       later = let a = inv.later in let b = call.later in omega (arith, a, b);
       given = rose_then at count _ _ _ inv.given call.given;
       taken = rose_then c.slices.written c.in-Ok.n _ _ _ inv.taken call.taken;
@@ -51,17 +56,19 @@ pub returns-in-Err-clause-breaks : goal.returns-in-Err-clause-breaks
 returns-in-Err-clause-breaks g c =
     let way = c.args.way in
     let why = c.in-Err.why in
-    grew_both _ _ _ (Moves way.from c.args.to) (Breaks way.from c.args.to way.size why) (Breaks way.from c.args.to way.size why)
-    (λ xs ys p q. breaks_behind way.from c.args.to way.size why xs ys p q) c.slices.invariant.moves c.in-Err.ensures.breaks
+    grew_both _ _ _ (Moves way.cell way.size way.from c.args.to) (Breaks way.cell way.size way.from c.args.to why) (Breaks way.cell way.size way.from c.args.to why)
+    (λ xs ys p q. breaks_behind way.cell way.size way.from c.args.to why xs ys p q) c.slices.invariant.moves c.in-Err.ensures.breaks
 
 pub returns-in-Err-clause-short : goal.returns-in-Err-clause-short
-returns-in-Err-clause-short g c = λ is. moves_lack c.args.way.from c.args.to c.args.way.size 0 c.slices.at _ _ _ c.slices.invariant.moved (c.in-Err.ensures.short is)
+returns-in-Err-clause-short g c = λ is.
+    moves_lack c.args.way.cell c.args.way.block c.args.way.from c.args.to c.args.way.size 0 c.slices.at c.slices.written _ _ _ c.slices.invariant.moved (c.in-Err.ensures.short is)
 
 pub returns-clause-moved : goal.returns-clause-moved
 returns-clause-moved g c =
     let way = c.args.way in
     let all : c.slices.at ≡ way.size = let i = c.slices.invariant.at in let t = c.slices-test.false in omega (arith, i, t) in
-    subst (λ (k : ℕ). Both way.from c.args.to (Moved way.size 0 k) (g.S.Store.shelf c.args.store.now) (g.S.Store.shelf c.slices.store)) all c.slices.invariant.moved
+    subst (λ (k : ℕ). Both way.from c.args.to (Moved way.cell way.block way.size 0 k c.slices.written)
+    (g.S.Store.shelf c.args.store.now) (g.S.Store.shelf c.slices.store)) all c.slices.invariant.moved
 
 pub returns-clause-given : goal.returns-clause-given
 returns-clause-given g c =

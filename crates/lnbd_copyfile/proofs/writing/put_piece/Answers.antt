@@ -10,7 +10,7 @@ pub returns-then-zero-clause-fills : goal.returns-then-zero-clause-fills
 returns-then-zero-clause-fills g c = touches_none c.args.file (Fills c.args.offset c.args.bytes.now) _ (λ x. zeros_fill c.args.offset c.args.bytes.now x (c.requires.zero c.if-zero.true))
 
 pub returns-then-zero-clause-moves : goal.returns-then-zero-clause-moves
-returns-then-zero-clause-moves g c = λ from. grew_none _ (Moves from c.args.file) tt
+returns-then-zero-clause-moves g c = λ cell size from few. grew_none _ (Moves cell size from c.args.file) tt
 
 pub returns-then-zero-clause-taken : goal.returns-then-zero-clause-taken
 returns-then-zero-clause-taken g c = rose_none _

@@ -9,7 +9,7 @@ use Rattle.lnbd_copyfile.specs.Calls.{Breaks, Moves}
 use Rattle.lnbd_copyfile.specs.Steps.{ArePieces, Fills, data_length}
 use Rattle.lnbd_copyfile.proofs.CallLemmas.{breaks_behind, moves_on}
 use Rattle.lnbd_copyfile.proofs.FillLemmas.{fills_none, fills_piece}
-use Rattle.lnbd_copyfile.proofs.PieceLemmas.{next_count, next_few, next_fits, next_left, no_data, none_left}
+use Rattle.lnbd_copyfile.proofs.PieceLemmas.{part_few, next_count, next_few, next_fits, next_left, no_data, none_left}
 use Rattle.lnbd_copyfile.proofs.writing.put_pieces.Goals as goal
 
 abbrev none : Slice
@@ -22,15 +22,18 @@ pieces-init g c = record {
   left = let e : c.args.offset ≡ c.args.offset + 0 = omega arith in subst (λ (k : ℕ). ArePieces k c.args.bytes.now c.args.pieces.now) e c.requires.pieces;
   count = omega arith;
   fills = touches_none c.args.file (Fills c.args.offset []) _ (λ x. fills_none c.args.offset x);
-  moves = λ from. grew_none _ (Moves from c.args.file) tt;
+  moves = λ cell size from few. grew_none _ (Moves cell size from c.args.file) tt;
   later = omega arith;
   given = refl;
   taken = rose_none _;
 }
 
 pub returns-in-Err-clause-breaks : goal.returns-in-Err-clause-breaks
-returns-in-Err-clause-breaks g c = λ from size. grew_both _ _ _ (Moves from c.args.file) (Breaks from c.args.file size stop.Failed) (Breaks from c.args.file size stop.Failed)
-    (λ calls more m b. breaks_behind from c.args.file size stop.Failed calls more m b) (c.pieces.invariant.moves from) (c.in-Err.ensures.breaks from size)
+returns-in-Err-clause-breaks g c = λ cell size from few.
+    let file = c.args.file in
+    let part = part_few c.pieces.at _ cell c.args.bytes.now few in
+    grew_both _ _ _ (Moves cell size from file) (Breaks cell size from file stop.Failed) (Breaks cell size from file stop.Failed)
+    (λ calls more m b. breaks_behind cell size from file stop.Failed calls more m b) (c.pieces.invariant.moves cell size from few) (c.in-Err.ensures.breaks cell size from part)
 
 pub overflow_add-to : goal.overflow_add-to
 overflow_add-to g c =
@@ -61,7 +64,9 @@ pieces-preserved g c =
       fills =
           touches_then file (Fills offset (take at bytes)) (Fills (offset + at) part) (Fills offset (take (at + n) bytes)) _ _ _
           (λ x y z f h. fills_piece offset at n bytes x y z inv.at f h) inv.fills call.fills;
-      moves = λ from. grew_both _ _ _ (Moves from file) (Moves from file) (Moves from file) (λ xs ys p q. moves_on from file xs ys p q) (inv.moves from) (call.moves from);
+      moves = λ cell size from few_.
+          grew_both _ _ _ (Moves cell size from file) (Moves cell size from file) (Moves cell size from file) (λ xs ys p q. moves_on cell size from file xs ys p q) (inv.moves cell size from few_)
+          (call.moves cell size from (part_few at (at + n - at) cell bytes few_));
       later = let a = inv.later in let b = call.later in omega (arith, a, b);
       given = call.given ∙ inv.given;
       taken = rose_then c.pieces.written c.in-Ok.n _ _ _ inv.taken call.taken;

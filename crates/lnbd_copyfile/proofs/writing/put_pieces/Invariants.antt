@@ -12,7 +12,7 @@ invariant-pieces g l = record {
   left : ArePieces (l.offset + l.at) (drop l.at l.bytes) (drop l.piece-index l.pieces);
   count : l.written + data_length (drop l.piece-index l.pieces) ≡ data_length l.pieces;
   fills : Touches l.file (Fills l.offset (take l.at l.bytes)) (g.S.Store.shelf l.fn.store) (g.S.Store.shelf l.store);
-  moves : (from : ℕ) → Grew (g.S.Store.told l.fn.store) (g.S.Store.told l.store) (Moves from l.file);
+  moves : (cell size from : ℕ) → length l.bytes ≤ cell → Grew (g.S.Store.told l.fn.store) (g.S.Store.told l.store) (Moves cell size from l.file);
   later : g.S.Store.faults l.fn.store ≤ g.S.Store.faults l.store;
   given : g.S.Store.given l.store ≡ g.S.Store.given l.fn.store;
   taken : RoseBy l.written (g.S.Store.taken l.fn.store) (g.S.Store.taken l.store);

@@ -65,4 +65,4 @@ pub returns-in-Err-clause-memory : goal.returns-in-Err-clause-memory
 returns-in-Err-clause-memory g c calm =
     let quiet = calm c.requires.brings.speaking in
     let simple = not_chunk c.args.connection.now c.args.pending.now.head.items c.args.announced c.requires.brings quiet.0.compact quiet.0.short in
-    absurd (first_none (value_at c.args.announced.cookie c.args.connection.now.commands.rows) c.args.connection.now.commands.rows c.args.announced.cookie refl quiet.1 (c.in-Err.ensures.needed simple))
+    absurd (first_none (value_at c.args.announced.cookie c.args.connection.now.commands.rows) c.args.connection.now.commands.rows c.args.announced.cookie refl quiet.1 (c.in-Err.ensures.read simple) (c.in-Err.ensures.needed simple))

@@ -57,7 +57,7 @@ returns-in-Ok-clause-sound g c =
 
 pub returns-in-Err-clause-memory : goal.returns-in-Err-clause-memory
 returns-in-Err-clause-memory g c quiet =
-    absurd (first_none (value_at c.in-Whole.cookie c.args.connection.now.commands.rows) c.args.connection.now.commands.rows c.in-Whole.cookie refl quiet.1 c.in-Err.ensures.needed)
+    absurd (first_none (value_at c.in-Whole.cookie c.args.connection.now.commands.rows) c.args.connection.now.commands.rows c.in-Whole.cookie refl quiet.1 c.in-Err.ensures.read c.in-Err.ensures.needed)
 
 pub returns-in-Chunk-clause-memory : goal.returns-in-Chunk-clause-memory
 returns-in-Chunk-clause-memory g c quiet =

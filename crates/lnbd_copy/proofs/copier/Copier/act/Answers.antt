@@ -6,6 +6,8 @@ use Rattle.lnbd_copy.proofs.EndLemmas.{after_acting, job_writes}
 use Rattle.lnbd_copy.proofs.MovingLemmas.{job_changed}
 use Rattle.lnbd_copy.proofs.SpreadLemmas.{on_ok_three}
 use Rattle.lnbd_copy.proofs.UnderWayLemmas.{busy_after}
+use Rattle.lnbd_copy.specs.Awaiting.{AwaitsAll}
+use Rattle.lnbd_copy.proofs.AwaitLemmas.{act_awaits}
 use Rattle.lnbd_copy.proofs.copier.Copier.act.Goals as goal
 
 pub returns-clause-on : goal.returns-clause-on
@@ -28,3 +30,12 @@ returns-clause-still c = if_ok_leads c.act.result (λ acted still none. still no
 
 pub returns-clause-acted : goal.returns-clause-acted
 returns-clause-acted c = if_ok_leads c.act.result (λ acted changed went same. job_changed c.in-Some.job c.act.new.self c.args.self.now.job (Some c.act.new.self) (ap (λ (s : Seen). s.job) (sym c.self.view_is) ∙ c.in-Some.is) refl (changed went (same ∙ sym (ap (λ (s : Seen). s.board) c.self.view_is)))) c.act.ensures.acted
+
+pub returns-clause-awaits : goal.returns-clause-awaits
+returns-clause-awaits c =
+    on_ok_weaker c.act.result
+    (λ waits start told on. act_awaits _ start told c.in-Some.job c.act.new.self c.act.new.board c.in-Some.is (ap (λ (s : Seen). s.board.error) c.self.view_is ∙ c.requires.well) waits (subst (λ (s : Seen). IsOnItsWay start told s) (sym c.self.view_is) on))
+    c.act.ensures.awaits
+
+pub returns-clause-idle : goal.returns-clause-idle
+returns-clause-idle c = if_ok_leads c.act.result (λ acted idle nothing. idle (subst (λ (s : Seen). AwaitsAll s.job s.board) (sym c.self.view_is) nothing c.in-Some.job c.in-Some.is)) c.act.ensures.idle

@@ -1,12 +1,12 @@
-use Rattle.std.proofs.Common.{[], ap, subst}
+use Rattle.std.proofs.Common.{[], ap, subst, arith}
 use Rattle.lnbd_copy.specs.Copier.{Seen}
 use Rattle.lnbd_copy.specs.declared.counts.Counts.{Counts}
 use Rattle.lnbd_copy.proofs.GroundLemmas.{grounded_as, grounded_later, if_err_leads}
 use Rattle.lnbd_copy.proofs.PauseLemmas.{pauses_begin, pauses_then, pauses_unpaused}
 use Rattle.lnbd_copy.specs.Connects.{LinksGoWithin}
-use Rattle.lnbd_copy.specs.DrivenAs.{AreDrivenBy}
+use Rattle.lnbd_conduct.specs.Connects.{AreDrivenBy}
 use Rattle.lnbd_copy.specs.Links.{LinksGo}
-use Rattle.lnbd_copy.specs.Way.{Told}
+use Rattle.lnbd_conduct.specs.Told.{Told}
 use Rattle.lnbd_copy.proofs.ConnectLemmas.{within_end}
 use Rattle.lnbd_copy.proofs.LeftOutLemmas.{early_wants, wants_as}
 use Rattle.lnbd_copy.proofs.UnaskedLemmas.{told_unasked, unasked_as}
@@ -14,10 +14,11 @@ use Rattle.lnbd_copy.proofs.PausedLemmas.{early_opening, early_waits, opening_as
 use Rattle.std.proofs.lemmas.Result.{on_ok_weaker}
 use Rattle.lnbd_copy.proofs.TriedLemmas.{left_stays, left_tried, tries_any, tries_begin}
 use Rattle.lnbd_copy.proofs.VainLemmas.{vain_empty, vain_full}
-use Rattle.lnbd_copy.specs.Decided.{IsDecided}
+use Rattle.lnbd_conduct.specs.Decided.{IsDecided}
 use Rattle.lnbd_copy.proofs.DecidingLemmas.{decided_shut}
 use Rattle.lnbd_copy.proofs.DrivenAsLemmas.{driven_idly}
 use Rattle.lnbd_copy.proofs.PatientLemmas.{patient_begins, waited_on}
+use Rattle.lnbd_copy.proofs.PaceLemmas.{pace_keeps, pace_untired, untired_idly}
 use Rattle.lnbd_copy.proofs.copier.Copier.begin.Goals as goal
 
 pub returns-then-is_err-clause-grounds : goal.returns-then-is_err-clause-grounds
@@ -109,3 +110,12 @@ returns-else-is_err-clause-patient g c = on_ok_weaker c.connect-told.result (λ 
 
 pub returns-else-is_err-clause-impatient : goal.returns-else-is_err-clause-impatient
 returns-else-is_err-clause-impatient g c = if_err_leads c.connect-told.result (λ why stays. patient_begins _ _ _ _ _ _ (ap (λ (counts : Counts). counts.idles) c.of-self-inside.ensures) stays) c.connect-told.ensures.impatient
+
+pub returns-then-is_err-clause-paces : goal.returns-then-is_err-clause-paces
+returns-then-is_err-clause-paces g c = pace_keeps 2 _ _ (pace_untired 2 _ _ _ (omega arith) (untired_idly _ _ c.shut_all.ensures.idly) c.connect-told.ensures.paces)
+
+pub returns-else-is_err-clause-paces : goal.returns-else-is_err-clause-paces
+returns-else-is_err-clause-paces g c = pace_keeps 2 _ _ c.connect-told.ensures.paces
+
+pub returns-then-is_err-clause-paced : goal.returns-then-is_err-clause-paced
+returns-then-is_err-clause-paced g c = on_ok_weaker c.connect-told.result (λ paced. pace_untired 1 _ _ _ (omega arith) (untired_idly _ _ c.shut_all.ensures.idly) paced) c.connect-told.ensures.paced

@@ -186,3 +186,23 @@ returns-in_err-set_up-clause-impatient g c = always_if_err c.from_residual-in_er
 
 pub returns-clause-patient : goal.returns-clause-patient
 returns-clause-patient g c = (patient_then _ _ _ _ _ _ _ _ c.in_ok-terms.ensures.patient (patient_at _ _ _ _ _ _ _ (ap (λ (s : Seen). s.start.idles) c.in_ok-terms.ensures.kept) (c.in_ok-dial_further.ensures.patient c.in_ok-terms.ensures.met.stand)))
+
+pub returns-clause-paces : goal.returns-clause-paces
+returns-clause-paces g c = c.dial_further.ensures.paces _ c.in_ok-terms.terms c.in_ok-terms.ensures.met refl c.in_ok-terms.ensures.two c.in_ok-terms.ensures.paced
+
+pub returns-in_err-dial_further-clause-paces : goal.returns-in_err-dial_further-clause-paces
+returns-in_err-dial_further-clause-paces g c = c.dial_further.ensures.paces _ c.in_ok-terms.terms c.in_ok-terms.ensures.met refl c.in_ok-terms.ensures.two c.in_ok-terms.ensures.paced
+
+pub returns-in_err-check_well-clause-paces : goal.returns-in_err-check_well-clause-paces
+returns-in_err-check_well-clause-paces g c = c.dial_further.ensures.paces _ c.in_ok-terms.terms c.in_ok-terms.ensures.met refl c.in_ok-terms.ensures.two c.in_ok-terms.ensures.paced
+
+pub returns-in_err-set_up-clause-paces : goal.returns-in_err-set_up-clause-paces
+returns-in_err-set_up-clause-paces g c = c.dial_further.ensures.paces _ c.in_ok-terms.terms c.in_ok-terms.ensures.met refl c.in_ok-terms.ensures.two c.in_ok-terms.ensures.paced
+
+pub returns-clause-paced : goal.returns-clause-paced
+returns-clause-paced g c = c.in_ok-dial_further.ensures.paced _ c.in_ok-terms.terms c.in_ok-terms.ensures.met refl c.in_ok-terms.ensures.two c.in_ok-terms.ensures.paced
+
+pub returns-clause-awaits : goal.returns-clause-awaits
+returns-clause-awaits g c =
+    c.in_ok-set_up.ensures.awaits (g.W.Wires.told c.args.wires.now) (g.W.Wires.told c.dial_further.new.wires)
+    (met_further c.meet.new.self c.dial_further.new.self _ _ _ c.in_ok-terms.terms c.in_ok-dial_further.ensures.kept c.in_ok-terms.ensures.met c.in_ok-terms.ensures.two c.in_ok-dial_further.ensures.further)

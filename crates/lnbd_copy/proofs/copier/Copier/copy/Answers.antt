@@ -2,8 +2,8 @@ use Rattle.std.proofs.Common.{◌<◌, ◌≤◌, true, false, List, Option, ari
 use Rattle.lnbd_poll.specs.Held.{wants_now}
 use Rattle.lnbd_link.specs.Call.{Call}
 use Rattle.lnbd_copy.specs.Copier.{IsOnItsWay, Seen}
-use Rattle.lnbd_copy.specs.Faults.{Behaves}
-use Rattle.lnbd_copy.specs.Way.{Told}
+use Rattle.lnbd_conduct.specs.Changes.{Behaves}
+use Rattle.lnbd_conduct.specs.Told.{Told}
 use Rattle.lnbd_copy.proofs.CauseLemmas.{goes_as, goes_then}
 use Rattle.lnbd_copy.proofs.EndedLemmas.{ends_well}
 use Rattle.lnbd_copy.proofs.EndLemmas.{all_then, finished_on, moved_on, rested, still_on}
@@ -27,6 +27,10 @@ use Rattle.std.proofs.lemmas.Bool.{false≢true}
 use Rattle.lnbd_link.specs.Count.{patience}
 use Rattle.lnbd_copy.specs.declared.counts.Counts.{Counts}
 use Rattle.lnbd_copy.proofs.PatientLemmas.{always_if_err, few_stay, looked_decided, patient_at, unrisen_at, waited_any, waited_as, waited_less, waited_looked, waited_on, waited_within}
+use Rattle.lnbd_copy.specs.Awaiting.{AwaitsAll}
+use Rattle.lnbd_copy.proofs.PaceLemmas.{pace_keeps, pace_moves, pace_rests, pace_tires}
+use Rattle.lnbd_copy.proofs.PaceMeets.{rest_awaits}
+use Rattle.lnbd_copy.proofs.PaceTurns.{way_taken}
 use Rattle.lnbd_copy.proofs.copier.Copier.copy.Goals as goal
 
 pub turns-preserved : goal.turns-preserved
@@ -56,6 +60,9 @@ turns-preserved g c =
         little = told_same _ start _ _ (ap g.W.Wires.told w.wires-is) (told_stays start _ _ turn.unpaused was.little);
         wants_all = told_same _ start _ _ (ap g.W.Wires.told w.wires-is) (told_stays start _ _ turn.unpaused was.wants_all);
         waited = waited_as true _ _ _ start _ _ (ap g.W.Wires.told w.wires-is) (ap g.W.Wires.idles w.wires-is) (waited_any true _ _ start _ waited);
+        paced = told_same _ start _ _ (ap g.W.Wires.told w.wires-is) (pace_moves start _ _ c.turns.self.held (turn.once start was.on) (turn.stirs _ w.in-Moved.is start was.awaits) (way_taken _ was.on.way c.turns.self.board c.turns.self.held start _ was.on.on) was.paced);
+        awaits = subst (λ (s : Seen). Told start (g.W.Wires.told c.match-branch-4.wires) (λ calls. AwaitsAll s.job s.board)) (sym w.self-is)
+            (told_same (λ calls. AwaitsAll c.turn.new.self.job c.turn.new.self.board) start _ _ (ap g.W.Wires.told w.wires-is) (turn.awaits start was.on));
         tried = told_same _ start _ _ (ap g.W.Wires.told w.wires-is) (left_none start _ (λ wanted since left. absurd left) turned);
       }
       | in-Still+in_ok-rest-in-Still w ↦
@@ -85,6 +92,9 @@ turns-preserved g c =
                 ((told_end _ _ _ _ _ _ _ _ _ was.connects turn.links).go.on start (links_begin _ start c.requires.held)) (told_stays start _ _ turn.unpaused was.wants_all));
             waited = waited_as true _ _ _ start _ _ (ap g.W.Wires.told w.wires-is) (ap g.W.Wires.idles w.wires-is)
                 ((patient_at true _ _ _ _ _ _ (ap (λ (s : Seen). s.start.idles) turn.kept ∙ ap (λ (counts : Counts). counts.idles) was.start) rest.patient).on start waited);
+            paced = told_same _ start _ _ (ap g.W.Wires.told w.wires-is) (pace_rests start _ _ _ rest.pauses (pace_tires start _ _ (turn.once start was.on) was.paced));
+            awaits = subst (λ (s : Seen). Told start (g.W.Wires.told c.match-branch-4.wires) (λ calls. AwaitsAll s.job s.board)) (sym w.self-is)
+                (told_same (λ calls. AwaitsAll w.rest.new.self.job w.rest.new.self.board) start _ _ (ap g.W.Wires.told w.wires-is) (rest_awaits c.turn.new.self w.rest.new.self start _ _ _ rest.kept rest.pauses (turn.awaits start was.on)));
             tried = told_same _ start _ _ (ap g.W.Wires.told w.wires-is)
                 (left_rests start _ _ (wants_now c.turn.new.self.held) (record { none = refl; wants = sym (ap (λ (s : Seen). wants_now s.held) w.self-is ∙ ap wants_now rest.same) }) rest.pauses turned);
           }
@@ -93,7 +103,7 @@ turns-preserved g c =
 pub turns-init : goal.turns-init
 turns-init g c =
     let begun = c.in_ok-begin.ensures in
-    record { start = begun.began; kept = begun.kept; on = begun.begins; pauses = fine_open c.args.self.now c.begin.new.self _ _ begun.kept begun.unready; writes = begun.writes; connects = begun.connects; fair = λ two. told_behaves _ _ _ _ _ c.begin.ensures.unasked; waits = begun.waits; counts = begun.counts; reads = begun.reads; wanted = begun.wanted; little = little_begins _ _ _ _ _ begun.little; wants_all = begun.wants_all; waited = waited_any true _ _ _ _ begun.patient; tried = left_none _ _ (λ wanted since left. absurd left) begun.tried }
+    record { start = begun.began; kept = begun.kept; on = begun.begins; pauses = fine_open c.args.self.now c.begin.new.self _ _ begun.kept begun.unready; writes = begun.writes; connects = begun.connects; fair = λ two. told_behaves _ _ _ _ _ c.begin.ensures.unasked; waits = begun.waits; counts = begun.counts; reads = begun.reads; wanted = begun.wanted; little = little_begins _ _ _ _ _ begun.little; wants_all = begun.wants_all; waited = waited_any true _ _ _ _ begun.patient; tried = left_none _ _ (λ wanted since left. absurd left) begun.tried; paced = begun.paced; awaits = begun.awaits }
 
 pub turn-requires-clause-going : goal.turn-requires-clause-going
 turn-requires-clause-going g c = record { start = g.W.Wires.told c.args.wires.now; on = c.turns.invariant.on }
@@ -321,3 +331,21 @@ pub returns-in_err-rest-in-Still-clause-less : goal.returns-in_err-rest-in-Still
 returns-in_err-rest-in-Still-clause-less g c =
     always_if_err c.from_residual-in_err-rest-in-Still.result
     (λ why other. told_same _ (g.W.Wires.told c.args.wires.now) _ _ c.in_err-rest-in-Still.ensures.still (few_stay (λ n. n < patience) _ _ _ c.turn.ensures.unpaused (waited_less false _ _ _ _ refl (waited_looked true _ _ (g.W.Wires.told c.args.wires.now) _ (unrisen_at _ _ _ (ap (λ (counts : Counts). counts.idles) c.turns.invariant.start) c.in_ok-check_patience.ensures.well) c.turns.invariant.waited))))
+
+pub returns-in_err-begin-clause-paces : goal.returns-in_err-begin-clause-paces
+returns-in_err-begin-clause-paces g c = c.begin.ensures.paces
+
+pub returns-in_err-check_patience-clause-paces : goal.returns-in_err-check_patience-clause-paces
+returns-in_err-check_patience-clause-paces g c = pace_keeps 1 _ _ c.turns.invariant.paced
+
+pub returns-in_err-turn-clause-paces : goal.returns-in_err-turn-clause-paces
+returns-in_err-turn-clause-paces g c = pace_keeps 2 _ _ (pace_tires (g.W.Wires.told c.args.wires.now) _ _ (c.turn.ensures.once (g.W.Wires.told c.args.wires.now) c.turns.invariant.on) c.turns.invariant.paced)
+
+pub returns-in_err-rest-in-Still-clause-paces : goal.returns-in_err-rest-in-Still-clause-paces
+returns-in_err-rest-in-Still-clause-paces g c = told_same _ (g.W.Wires.told c.args.wires.now) _ _ c.in_err-rest-in-Still.ensures.still (pace_keeps 2 _ _ (pace_tires (g.W.Wires.told c.args.wires.now) _ _ (c.turn.ensures.once (g.W.Wires.told c.args.wires.now) c.turns.invariant.on) c.turns.invariant.paced))
+
+pub returns-in-Finished-clause-paces : goal.returns-in-Finished-clause-paces
+returns-in-Finished-clause-paces g c = pace_keeps 2 _ _ (pace_tires (g.W.Wires.told c.args.wires.now) _ _ (c.turn.ensures.once (g.W.Wires.told c.args.wires.now) c.turns.invariant.on) c.turns.invariant.paced)
+
+pub returns-clause-paces : goal.returns-clause-paces
+returns-clause-paces g c = pace_keeps 1 _ _ c.turns.invariant.paced

@@ -1,18 +1,16 @@
 use Rattle.std.proofs.Common.{◌≡◌, ◌≢◌, true}
+use Rattle.lnbd_copy.specs.Awaiting.{AwaitsAll}
 use Rattle.lnbd_copy.specs.Causes.{GoesOn}
 use Rattle.lnbd_copy.specs.Copier.{IsOnItsWay}
-use Rattle.lnbd_copy.specs.LeftOut.{WantsAll}
-use Rattle.lnbd_copy.specs.Little.{WroteLittle}
+use Rattle.lnbd_conduct.specs.Waiting.{WantsAll, WroteLittle, PausesAreFull, WaitsWell}
+use Rattle.lnbd_copy.specs.Pace.{IsPaced}
 use Rattle.lnbd_copy.specs.Patient.{HasWaited}
-use Rattle.lnbd_copy.specs.Paused.{PausesAreFull}
-use Rattle.lnbd_copy.specs.Pauses.{AtEachPause, WantsOnlyFull}
+use Rattle.lnbd_conduct.specs.Pauses.{WantsOnlyFull, WantsOnlyEmpty, WantsSome}
+use Rattle.lnbd_usage.specs.Pauses.{AtEachPause}
 use Rattle.lnbd_copy.specs.Tried.{IsLeft, TriedBut}
-use Rattle.lnbd_copy.specs.Vain.{WantsOnlyEmpty}
-use Rattle.lnbd_copy.specs.Waits.{WaitsWell}
-use Rattle.lnbd_copy.specs.Wanted.{WantsSome}
-use Rattle.lnbd_copy.specs.Way.{Told}
+use Rattle.lnbd_conduct.specs.Told.{Told}
 use Rattle.lnbd_copy.specs.Connects.{LinksGoAsTold}
-use Rattle.lnbd_copy.specs.Faults.{Behaves}
+use Rattle.lnbd_conduct.specs.Changes.{Behaves}
 use Rattle.lnbd_copy.proofs.copier.Copier.copy.Given as goal
 
 abbrev pub invariant-turns : goal.invariant-turns
@@ -31,5 +29,7 @@ invariant-turns g l = record {
   little : Told (g.W.Wires.told l.fn.wires) (g.W.Wires.told l.wires) (AtEachPause (WroteLittle l.fn.self.options.extents l.fn.self.from l.fn.self.to));
   wants_all : Told (g.W.Wires.told l.fn.wires) (g.W.Wires.told l.wires) (AtEachPause (WantsAll l.fn.self.options.extents l.fn.self.from l.fn.self.to));
   waited : Told (g.W.Wires.told l.fn.wires) (g.W.Wires.told l.wires) (HasWaited true (g.W.Wires.idles l.fn.wires) (g.W.Wires.idles l.wires));
+  paced : Told (g.W.Wires.told l.fn.wires) (g.W.Wires.told l.wires) (IsPaced 1);
+  awaits : Told (g.W.Wires.told l.fn.wires) (g.W.Wires.told l.wires) (λ calls. AwaitsAll l.self.job l.self.board);
   tried : Told (g.W.Wires.told l.fn.wires) (g.W.Wires.told l.wires) (TriedBut (IsLeft l.self.held));
 }

@@ -10,6 +10,7 @@ use Rattle.lnbd_copy.proofs.ConnectedLemmas.{connected_then}
 use Rattle.lnbd_copy.proofs.DrivingLemmas.{destination_further, further_drives}
 use Rattle.lnbd_copy.proofs.GroundLemmas.{handed_on}
 use Rattle.lnbd_copy.proofs.MeetLemmas.{further_decides}
+use Rattle.lnbd_copy.proofs.PaceLemmas.{untired_then}
 use Rattle.lnbd_copy.proofs.copier.Copier.dial_destinations.Goals as goal
 
 pub further-preserved : goal.further-preserved
@@ -25,6 +26,7 @@ further-preserved g c = record {
   unasked = unasked_then _ _ _ _ _ c.further.invariant.unasked (stays_kept c.args.self.now c.further.self _ _ c.further.invariant.kept c.dial_destination.ensures.unasked);
   unissued = λ none. c.in_ok-dial_destination.ensures.unissued (c.further.invariant.unissued none);
   unpaused = unpaused_then _ _ _ c.further.invariant.unpaused c.dial_destination.ensures.unpaused;
+  untried = untired_then _ _ _ c.further.invariant.untried c.dial_destination.ensures.untried;
   connected = connected_then _ _ _ c.further.invariant.connected c.in_ok-dial_destination.ensures.connected;
   counts = goes_then _ _ _ _ _ _ _ _ _ c.further.invariant.counts c.dial_destination.ensures.counts;
 }
@@ -60,3 +62,6 @@ pub returns-in_err-dial_destination-clause-decides : goal.returns-in_err-dial_de
 returns-in_err-dial_destination-clause-decides g c =
     handed_on _ c.from_residual.result _ c.from_residual.ensures.1
     (further_decides c.args.self.now c.args.sides (c.args.sides.source + 1) _ _ _ _ _ _ c.further.invariant.further c.in_err-dial_destination.ensures.decides)
+
+pub returns-in_err-dial_destination-clause-untried : goal.returns-in_err-dial_destination-clause-untried
+returns-in_err-dial_destination-clause-untried g c = untired_then _ _ _ c.further.invariant.untried c.dial_destination.ensures.untried

@@ -1,6 +1,7 @@
 use Rattle.std.proofs.Common.{◌≡◌, ◌+◌, ◌-◌, ◌<◌, ◌≤◌, length, replicate}
 use Rattle.lnbd_copy.specs.Causes.{GoesOn}
 use Rattle.lnbd_copy.specs.Copier.{GoesFurther}
+use Rattle.lnbd_copy.specs.Pace.{TriesAtMost}
 use Rattle.lnbd_copy.specs.Pauses.{Unpaused}
 use Rattle.lnbd_copy.specs.Links.{LinksGo}
 use Rattle.lnbd_copy.specs.Faults.{AreUnissued, StaysUnasked}
@@ -12,6 +13,7 @@ invariant-further g l = record {
   kept : l.self ≡ record l.fn.self { held = l.self.held; board = l.self.board };
   more : length l.fn.self.held ≤ length l.self.held;
   further : GoesFurther l.fn.self l.fn.sides (l.fn.sides.source + 1) l.fn.self.board l.fn.self.held (g.W.Wires.told l.fn.wires) l.self.board l.self.held (g.W.Wires.told l.wires);
+  untried : TriesAtMost 0 (g.W.Wires.told l.fn.wires) (g.W.Wires.told l.wires);
   unpaused : Unpaused (g.W.Wires.told l.fn.wires) (g.W.Wires.told l.wires);
   some : 0 < l.connection;
   connects : LinksGo (replicate (l.connection - 1) l.fn.self.to.to) l.fn.self.held (g.W.Wires.told l.fn.wires) l.self.held (g.W.Wires.told l.wires);

@@ -1,4 +1,4 @@
-use Rattle.std.proofs.Common.{◌+◌, ◌-◌, ap, replicate, ◌∙◌}
+use Rattle.std.proofs.Common.{◌+◌, ◌-◌, ap, replicate, ◌∙◌, arith}
 use Rattle.std.proofs.lemmas.Result.{on_ok_weaker}
 use Rattle.lnbd_copy.proofs.CopierLemmas.{always_on_ok, further_goes, further_kept, further_then}
 use Rattle.lnbd_copy.proofs.DecidedLemmas.{decided_grounded}
@@ -16,6 +16,8 @@ use Rattle.lnbd_copy.proofs.DrivingLemmas.{further_behind, further_driven, furth
 use Rattle.lnbd_copy.proofs.MeetLemmas.{behind_decides, further_decided, further_decides}
 use Rattle.lnbd_copy.proofs.CauseLemmas.{goes_then}
 use Rattle.lnbd_copy.proofs.PatientLemmas.{always_if_err, patient_any, patient_settles, patient_unpaused}
+use Rattle.lnbd_copy.proofs.PaceLemmas.{pace_fewer, pace_untired, untired_then}
+use Rattle.lnbd_copy.proofs.PaceMeets.{further_paced}
 use Rattle.lnbd_copy.proofs.copier.Copier.dial_further.Goals as goal
 
 pub returns-clause-further : goal.returns-clause-further
@@ -193,3 +195,25 @@ returns-clause-impatient g c =
     (ap (λ (s : Seen). s.start.idles) c.in_ok-dial_destinations.ensures.kept ∙ ap (λ (s : Seen). s.start.idles) c.in_ok-dial_sources.ensures.kept)
     (stays (c.in_ok-dial_destinations.ensures.further.stand (c.in_ok-dial_sources.ensures.further.stand stand))))
     c.settle.ensures.impatient
+
+pub returns-clause-paces : goal.returns-clause-paces
+returns-clause-paces g c start terms met same count paced =
+    let one = c.in_ok-dial_sources.ensures.further in
+    let two = further_kept c.args.self.now c.dial_sources.new.self c.args.sides (c.args.sides.source + 1) _ _ _ _ _ _ c.in_ok-dial_sources.ensures.kept c.in_ok-dial_destinations.ensures.further in
+    let both = further_then c.args.self.now c.args.sides 2 (c.args.sides.source + 1) _ _ _ _ _ _ _ _ _ one two c.in_ok-dial_sources.ensures.many in
+    further_paced 2 c.args.self.now c.args.sides _ _ start _ _ _ _ terms both c.dial_sources.ensures.untried c.dial_destinations.ensures.untried c.settle.ensures.paces met same count paced
+
+pub returns-clause-paced : goal.returns-clause-paced
+returns-clause-paced g c =
+    let one = c.in_ok-dial_sources.ensures.further in
+    let two = further_kept c.args.self.now c.dial_sources.new.self c.args.sides (c.args.sides.source + 1) _ _ _ _ _ _ c.in_ok-dial_sources.ensures.kept c.in_ok-dial_destinations.ensures.further in
+    let both = further_then c.args.self.now c.args.sides 2 (c.args.sides.source + 1) _ _ _ _ _ _ _ _ _ one two c.in_ok-dial_sources.ensures.many in
+    on_ok_weaker c.settle.result
+    (λ stays start terms met same count paced. further_paced 1 c.args.self.now c.args.sides _ _ start _ _ _ _ terms both c.dial_sources.ensures.untried c.dial_destinations.ensures.untried stays met same count paced) c.settle.ensures.paced
+
+pub returns-in_err-dial_sources-clause-paces : goal.returns-in_err-dial_sources-clause-paces
+returns-in_err-dial_sources-clause-paces g c start terms met same count paced = pace_fewer 1 2 start _ (omega arith) (pace_untired 1 start _ _ (omega arith) c.dial_sources.ensures.untried paced)
+
+pub returns-in_err-dial_destinations-clause-paces : goal.returns-in_err-dial_destinations-clause-paces
+returns-in_err-dial_destinations-clause-paces g c start terms met same count paced =
+    pace_fewer 1 2 start _ (omega arith) (pace_untired 1 start _ _ (omega arith) (untired_then _ _ _ c.dial_sources.ensures.untried c.dial_destinations.ensures.untried) paced)

@@ -1,5 +1,5 @@
 use Rattle.std.proofs.Common.{◌+◌, ap, ◌∙◌, arith, ℕ}
-use Rattle.lnbd_copy.specs.Way.{is_source}
+use Rattle.lnbd_conduct.specs.Sides.{is_source}
 use Rattle.lnbd_copy.specs.Copier.{Seen}
 use Rattle.lnbd_copy.proofs.CauseLemmas.{goes_then}
 use Rattle.lnbd_copy.proofs.CopierLemmas.{kept_then, source_more}
@@ -11,6 +11,7 @@ use Rattle.lnbd_copy.proofs.ConnectedLemmas.{connected_then}
 use Rattle.lnbd_copy.proofs.DrivingLemmas.{further_drives, source_further}
 use Rattle.lnbd_copy.proofs.GroundLemmas.{handed_on}
 use Rattle.lnbd_copy.proofs.MeetLemmas.{further_decides}
+use Rattle.lnbd_copy.proofs.PaceLemmas.{untired_then}
 use Rattle.lnbd_copy.proofs.copier.Copier.dial_sources.Goals as goal
 
 pub further-preserved : goal.further-preserved
@@ -26,6 +27,7 @@ further-preserved g c = record {
   unasked = unasked_then _ _ _ _ _ c.further.invariant.unasked (stays_kept c.args.self.now c.further.self _ _ c.further.invariant.kept c.dial_source.ensures.unasked);
   unissued = λ none. c.in_ok-dial_source.ensures.unissued (c.further.invariant.unissued none);
   unpaused = unpaused_then _ _ _ c.further.invariant.unpaused c.dial_source.ensures.unpaused;
+  untried = untired_then _ _ _ c.further.invariant.untried c.dial_source.ensures.untried;
   connected = connected_then _ _ _ c.further.invariant.connected c.in_ok-dial_source.ensures.connected;
   counts = goes_then _ _ _ _ _ _ _ _ _ c.further.invariant.counts c.dial_source.ensures.counts;
 }
@@ -61,3 +63,6 @@ pub returns-in_err-dial_source-clause-decides : goal.returns-in_err-dial_source-
 returns-in_err-dial_source-clause-decides g c =
     handed_on _ c.from_residual.result _ c.from_residual.ensures.1
     (further_decides c.args.self.now c.args.sides 2 _ _ _ _ _ _ c.further.invariant.further c.in_err-dial_source.ensures.decides)
+
+pub returns-in_err-dial_source-clause-untried : goal.returns-in_err-dial_source-clause-untried
+returns-in_err-dial_source-clause-untried g c = untired_then _ _ _ c.further.invariant.untried c.dial_source.ensures.untried

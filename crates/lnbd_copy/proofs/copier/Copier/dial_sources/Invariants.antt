@@ -1,6 +1,7 @@
 use Rattle.std.proofs.Common.{◌≡◌, ◌+◌, ◌-◌, ◌<◌, ◌≤◌, length, replicate}
 use Rattle.lnbd_copy.specs.Causes.{GoesOn}
 use Rattle.lnbd_copy.specs.Copier.{GoesFurther}
+use Rattle.lnbd_copy.specs.Pace.{TriesAtMost}
 use Rattle.lnbd_copy.specs.Pauses.{Unpaused}
 use Rattle.lnbd_copy.specs.Links.{LinksGo}
 use Rattle.lnbd_copy.specs.Faults.{AreUnissued, StaysUnasked}
@@ -13,6 +14,7 @@ invariant-further g l = record {
   many : length l.fn.self.held ≡ 2 → length l.self.held ≡ l.connection + 1;
   some : 0 < l.connection;
   further : GoesFurther l.fn.self l.fn.sides 2 l.fn.self.board l.fn.self.held (g.W.Wires.told l.fn.wires) l.self.board l.self.held (g.W.Wires.told l.wires);
+  untried : TriesAtMost 0 (g.W.Wires.told l.fn.wires) (g.W.Wires.told l.wires);
   unpaused : Unpaused (g.W.Wires.told l.fn.wires) (g.W.Wires.told l.wires);
   connects : LinksGo (replicate (l.connection - 1) l.fn.self.from.to) l.fn.self.held (g.W.Wires.told l.fn.wires) l.self.held (g.W.Wires.told l.wires);
   most : l.connection - 1 ≤ l.fn.sides.source - 1;

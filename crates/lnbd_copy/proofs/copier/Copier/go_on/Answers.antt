@@ -3,7 +3,7 @@ use Rattle.std.proofs.lemmas.Bool.{eqb-true, false≢true, not-false}
 use Rattle.lnbd_poll.specs.declared.noticed.Turn.{Turn}
 use Rattle.lnbd_poll.specs.declared.noticed.Turn.TheVariants as turn
 use Rattle.lnbd_copy.specs.Copier.{Seen}
-use Rattle.lnbd_copy.specs.Moving.{HasMoved}
+use Rattle.lnbd_copy.specs.Moving.{HasMoved, Stirs}
 use Rattle.lnbd_copy.proofs.CauseLemmas.{goes_then}
 use Rattle.lnbd_copy.proofs.EndLemmas.{finished, has_job, way_answers, way_asks}
 use Rattle.lnbd_copy.proofs.FaultLemmas.{behaves_idly}
@@ -19,9 +19,11 @@ use Rattle.lnbd_copy.proofs.UnansweredLemmas.{way_all_asked}
 use Rattle.lnbd_copy.proofs.LinkLemmas.{links_same, links_then}
 use Rattle.lnbd_copy.proofs.LittleLemmas.{way_little}
 use Rattle.lnbd_copy.proofs.copier.Copier.go_on.Goals.{else-acted, then-acted}
-use Rattle.lnbd_copy.proofs.DecidingLemmas.{was_decided, was_shut}
-use Rattle.lnbd_copy.proofs.GroundLemmas.{handed_on}
+use Rattle.lnbd_copy.proofs.DecidingLemmas.{memory_decided, was_decided, was_shut}
+use Rattle.lnbd_copy.proofs.GroundLemmas.{handed_on, none_grounded}
 use Rattle.lnbd_copy.proofs.DrivenAsLemmas.{driven_idly}
+use Rattle.lnbd_copy.proofs.PaceLemmas.{tires_behind, untired_idly}
+use Rattle.lnbd_copy.proofs.PaceMeets.{happens_stirs, never_acts, stirs_behind, told_goes}
 use Rattle.lnbd_copy.proofs.copier.Copier.go_on.Goals as goal
 
 pub returns-then-is_finished-clause-turns : goal.returns-then-is_finished-clause-turns
@@ -253,3 +255,61 @@ returns-clause-tries g c start on = tries_behind _ _ _ _ c.part-parted.ensures.u
 
 pub returns-then-is_finished-clause-tries : goal.returns-then-is_finished-clause-tries
 returns-then-is_finished-clause-tries g c start on = tries_behind _ _ _ _ c.part-parted.ensures.unpaused (c.in_ok-moved.ensures.tries start on)
+
+pub returns-in_err-moved-clause-once : goal.returns-in_err-moved-clause-once
+returns-in_err-moved-clause-once g c start on = c.take_turn.ensures.once start on
+
+pub returns-in_err-acted-clause-once : goal.returns-in_err-acted-clause-once
+returns-in_err-acted-clause-once g c start on = c.take_turn.ensures.once start on
+
+pub returns-in_err-check_well-clause-once : goal.returns-in_err-check_well-clause-once
+returns-in_err-check_well-clause-once g c start on = tires_behind 1 _ _ _ (c.take_turn.ensures.once start on) (untired_idly _ _ c.part-parted.ensures.idly)
+
+pub returns-in_err-check_counts-clause-once : goal.returns-in_err-check_counts-clause-once
+returns-in_err-check_counts-clause-once g c start on = tires_behind 1 _ _ _ (c.take_turn.ensures.once start on) (untired_idly _ _ c.part-parted.ensures.idly)
+
+pub returns-then-is_finished-clause-once : goal.returns-then-is_finished-clause-once
+returns-then-is_finished-clause-once g c start on = tires_behind 1 _ _ _ (c.take_turn.ensures.once start on) (untired_idly _ _ c.part-parted.ensures.idly)
+
+pub returns-clause-once : goal.returns-clause-once
+returns-clause-once g c start on = tires_behind 1 _ _ _ (c.take_turn.ensures.once start on) (untired_idly _ _ c.part-parted.ensures.idly)
+
+pub returns-then-is_finished-clause-awaits : goal.returns-then-is_finished-clause-awaits
+returns-then-is_finished-clause-awaits g c start on = told_goes start _ _ c.part-parted.ensures.unpaused c.part-parted.ensures.awaits (c.in_ok-acted.ensures.awaits start _ (c.in_ok-moved.ensures.on start on))
+
+pub returns-clause-awaits : goal.returns-clause-awaits
+returns-clause-awaits g c start on = told_goes start _ _ c.part-parted.ensures.unpaused c.part-parted.ensures.awaits (c.in_ok-acted.ensures.awaits start _ (c.in_ok-moved.ensures.on start on))
+
+pub returns-clause-stirs : goal.returns-clause-stirs
+returns-clause-stirs g c count moves start nothing = go c.in_ok-moved.moved refl
+  where
+    Is : Type 0
+    Is = Stirs c.args.self.now.held (g.W.Wires.told c.args.wires.now) (g.W.Wires.told c.part-parted.new.wires)
+
+    acts : c.in_ok-moved.moved ≡ turn.Still → c.part-parted.result ≡ 0 → Is
+    acts is none =
+        let still = c.part-parted.ensures.still none in
+        elim c.if-acted.branch [
+          | then-acted w ↦ never_acts c.args.self.now c.take_turn.new.self start (g.W.Wires.told c.args.wires.now) (g.W.Wires.told c.take_turn.new.wires) (g.W.Wires.told c.part-parted.new.wires) c.in_ok-acted.acted
+              (c.in_ok-moved.ensures.still is c.requires.going.on.stand) (c.in_ok-moved.ensures.same is c.requires.going.on.stand) (ap (λ (s : Seen). s.job) c.take_turn.ensures.kept)
+              c.in_ok-acted.ensures.idle w.if-acted.true (ap g.W.Wires.told still.1) nothing
+          | else-acted w ↦ absurd (false≢true (sym (w.progress_of-is ∙ ap (λ (n : ℕ). not (n == 0)) none) ∙ c.progress_of.ensures.went count moves is))
+        ]
+
+    parts : (parted : ℕ) → c.part-parted.result ≡ parted → c.in_ok-moved.moved ≡ turn.Still → Is
+    parts zero same is = acts is same
+    parts (suc n) same is = happens_stirs c.args.self.now.held (g.W.Wires.told c.args.wires.now) (g.W.Wires.told c.part-parted.new.wires)
+        (happens_behind (g.W.Wires.told c.args.wires.now) (g.W.Wires.told c.take_turn.new.wires) (g.W.Wires.told c.part-parted.new.wires) (c.take_turn.ensures.unpaused c.requires.going.on.stand) (c.part-parted.ensures.happens (λ none. some_none (sym same ∙ none))))
+      where
+        some_none : suc n ≡ 0 → ⊥
+        some_none e = cc
+
+    go : (told : Turn) → c.in_ok-moved.moved ≡ told → Is
+    go (turn.Moved n) is = stirs_behind c.args.self.now.held (g.W.Wires.told c.args.wires.now) (g.W.Wires.told c.take_turn.new.wires) (g.W.Wires.told c.part-parted.new.wires) (c.in_ok-moved.ensures.moved n is c.requires.going.on.stand) c.part-parted.ensures.unpaused
+    go turn.Still is = parts c.part-parted.result refl is
+
+pub returns-in_err-check_well-clause-decides : goal.returns-in_err-check_well-clause-decides
+returns-in_err-check_well-clause-decides g c = handed_on _ c.from_residual-in_err-check_well.result _ c.from_residual-in_err-check_well.ensures.1 (λ start on. memory_decided _ _ _ _ start _ refl)
+
+pub returns-in_err-check_counts-clause-grounds : goal.returns-in_err-check_counts-clause-grounds
+returns-in_err-check_counts-clause-grounds g c = handed_on _ c.from_residual-in_err-check_counts.result _ c.from_residual-in_err-check_counts.ensures.1 (λ start on. none_grounded _ _ _ _ _ _ c.in_err-check_counts.ensures.free)

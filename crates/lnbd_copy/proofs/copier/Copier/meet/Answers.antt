@@ -21,6 +21,8 @@ use Rattle.lnbd_copy.proofs.ConnectedLemmas.{connected_links, connected_then}
 use Rattle.lnbd_copy.proofs.DrivingLemmas.{destination_dialed, destination_settled, one_as, source_dialed, source_settled}
 use Rattle.lnbd_copy.proofs.MeetLemmas.{begins_decided, destination_decided, second_decided, source_decided, terms_decided}
 use Rattle.lnbd_copy.proofs.PatientLemmas.{always_if_err, patient_any, patient_settles, patient_then, patient_unpaused}
+use Rattle.lnbd_copy.proofs.PaceLemmas.{pace_fewer, pace_untired}
+use Rattle.lnbd_copy.proofs.PaceMeets.{meet_paced, source_paced, source_tried}
 use Rattle.lnbd_copy.proofs.copier.Copier.meet.Goals as goal
 
 pub returns-clause-met : goal.returns-clause-met
@@ -396,3 +398,35 @@ returns-clause-impatient g c =
     (λ why. patient_any _ _ _ _ _ _
     (patient_then _ _ _ _ _ _ _ _ (patient_settles false _ _ _ _ _ _ _ _ c.dial_source.ensures.unpaused c.dial_source.ensures.counts.idles (ap (λ (s : Seen). s.start.idles) c.in_ok-dial_source.ensures.kept) (c.in_ok-settle.ensures.patient one))
     (patient_settles _ _ _ _ _ _ _ _ _ c.dial_destination.ensures.unpaused c.dial_destination.ensures.counts.idles (ap (λ (s : Seen). s.start.idles) c.in_ok-dial_destination.ensures.kept ∙ ap (λ (s : Seen). s.start.idles) c.in_ok-settle.ensures.kept ∙ ap (λ (s : Seen). s.start.idles) c.in_ok-dial_source.ensures.kept) (c.in_ok-settle-2.ensures.patient two))))
+
+pub returns-in_err-dial_source-clause-paces : goal.returns-in_err-dial_source-clause-paces
+returns-in_err-dial_source-clause-paces g c = source_tried _ _ c.dial_source.ensures.untried
+
+pub returns-in_err-settle-clause-paces : goal.returns-in_err-settle-clause-paces
+returns-in_err-settle-clause-paces g c = source_paced 2 c.args.self.now c.dial_source.new.self _ _ _ c.in_ok-dial_source.ensures.board (dials_as c.args.self.now.options _ _ _ _ _ _ _ (ap (λ (s : Seen). s.options.extents) c.self.view_is) c.in_ok-dial_source.ensures.dials) c.requires.begun c.dial_source.ensures.untried c.settle.ensures.paces
+
+pub returns-in_err-dial_destination-clause-paces : goal.returns-in_err-dial_destination-clause-paces
+returns-in_err-dial_destination-clause-paces g c =
+    pace_fewer 1 2 _ _ (omega arith) (pace_untired 1 _ _ _ (omega arith) c.dial_destination.ensures.untried (source_paced 1 c.args.self.now c.dial_source.new.self _ _ _ c.in_ok-dial_source.ensures.board (dials_as c.args.self.now.options _ _ _ _ _ _ _ (ap (λ (s : Seen). s.options.extents) c.self.view_is) c.in_ok-dial_source.ensures.dials) c.requires.begun c.dial_source.ensures.untried c.in_ok-settle.ensures.paced))
+
+pub returns-in_err-settle-2-clause-paces : goal.returns-in_err-settle-2-clause-paces
+returns-in_err-settle-2-clause-paces g c =
+    meet_paced 2 c.args.self.now c.dial_source.new.self c.settle.new.self c.dial_destination.new.self _ _ _ _ _
+    c.in_ok-dial_source.ensures.kept c.in_ok-settle.ensures.kept c.in_ok-dial_source.ensures.board c.in_ok-dial_destination.ensures.board
+    (dials_as c.args.self.now.options _ _ _ _ _ _ _ (ap (λ (s : Seen). s.options.extents) c.self.view_is) c.in_ok-dial_source.ensures.dials) c.in_ok-settle.ensures.goes c.in_ok-dial_destination.ensures.dials c.requires.begun
+    c.dial_source.ensures.untried c.in_ok-settle.ensures.paced c.dial_destination.ensures.untried c.settle-2.ensures.paces
+
+pub returns-clause-paces : goal.returns-clause-paces
+returns-clause-paces g c =
+    meet_paced 2 c.args.self.now c.dial_source.new.self c.settle.new.self c.dial_destination.new.self _ _ _ _ _
+    c.in_ok-dial_source.ensures.kept c.in_ok-settle.ensures.kept c.in_ok-dial_source.ensures.board c.in_ok-dial_destination.ensures.board
+    (dials_as c.args.self.now.options _ _ _ _ _ _ _ (ap (λ (s : Seen). s.options.extents) c.self.view_is) c.in_ok-dial_source.ensures.dials) c.in_ok-settle.ensures.goes c.in_ok-dial_destination.ensures.dials c.requires.begun
+    c.dial_source.ensures.untried c.in_ok-settle.ensures.paced c.dial_destination.ensures.untried c.settle-2.ensures.paces
+
+pub returns-clause-paced : goal.returns-clause-paced
+returns-clause-paced g c =
+    always_on_ok c.agree.result
+    (meet_paced 1 c.args.self.now c.dial_source.new.self c.settle.new.self c.dial_destination.new.self _ _ _ _ _
+    c.in_ok-dial_source.ensures.kept c.in_ok-settle.ensures.kept c.in_ok-dial_source.ensures.board c.in_ok-dial_destination.ensures.board
+    (dials_as c.args.self.now.options _ _ _ _ _ _ _ (ap (λ (s : Seen). s.options.extents) c.self.view_is) c.in_ok-dial_source.ensures.dials) c.in_ok-settle.ensures.goes c.in_ok-dial_destination.ensures.dials c.requires.begun
+    c.dial_source.ensures.untried c.in_ok-settle.ensures.paced c.dial_destination.ensures.untried c.in_ok-settle-2.ensures.paced)

@@ -2,6 +2,7 @@ use Rattle.std.proofs.Common.{refl, ap, sym, subst, ◌∙◌}
 use Rattle.lnbd_copy.specs.Copier.{IsOnItsWay, IsParting, Seen}
 use Rattle.lnbd_copy.proofs.EndLemmas.{after_leaving}
 use Rattle.lnbd_copy.proofs.UnderWayLemmas.{parting_busy}
+use Rattle.lnbd_copy.proofs.AwaitLemmas.{parting_awaits}
 use Rattle.lnbd_copy.proofs.copier.Copier.part.Goals as goal
 
 pub returns-clause-on : goal.returns-clause-on
@@ -15,3 +16,6 @@ returns-clause-busy g c busy = parting_busy _ c.shut_parted.new.board (subst IsP
 
 pub returns-clause-still : goal.returns-clause-still
 returns-clause-still g c none = let same = c.shut_parted.ensures.still none in (same.0 ∙ ap (λ (s : Seen). s.held) c.self.view_is, same.1, same.2 ∙ ap (λ (s : Seen). s.board) c.self.view_is)
+
+pub returns-clause-awaits : goal.returns-clause-awaits
+returns-clause-awaits g c nothing = parting_awaits _ c.shut_parted.new.board (subst IsParting (sym c.self.view_is) (c.if-not-is_parting.ensures refl))

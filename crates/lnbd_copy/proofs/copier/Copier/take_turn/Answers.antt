@@ -1,11 +1,12 @@
 use Rattle.std.proofs.Common.{[], ◌≢◌, ap, sym, subst, ◌∙◌}
 use Rattle.lnbd_copy.specs.Copier.{IsOnItsWay, Seen}
 use Rattle.lnbd_copy.proofs.EndLemmas.{after_turn}
-use Rattle.lnbd_copy.specs.Grounds.{IsGrounded}
-use Rattle.lnbd_copy.specs.Way.{Stand, Told}
+use Rattle.lnbd_conduct.specs.Grounds.{IsGrounded}
+use Rattle.lnbd_copy.specs.Way.{Stand}
+use Rattle.lnbd_conduct.specs.Told.{Told}
 use Rattle.lnbd_copy.proofs.DecidedLemmas.{decided_grounded, way_decided}
 use Rattle.lnbd_copy.proofs.FullLemmas.{turned_unpaused, cut_unpaused}
-use Rattle.lnbd_copy.specs.Faults.{Behaves}
+use Rattle.lnbd_conduct.specs.Changes.{Behaves}
 use Rattle.lnbd_copy.proofs.FaultLemmas.{cut_behaves, whole_behaves}
 use Rattle.lnbd_copy.proofs.GroundLemmas.{handed_on}
 use Rattle.lnbd_copy.proofs.TurnLemmas.{turned_goes}
@@ -17,11 +18,13 @@ use Rattle.lnbd_copy.specs.Tried.{TriesAll}
 use Rattle.lnbd_copy.proofs.TriedLemmas.{way_tries}
 use Rattle.lnbd_copy.proofs.VainLemmas.{turned_vain}
 use Rattle.lnbd_copy.proofs.DrivingLemmas.{drives_none, goes_drive, cut_drives}
-use Rattle.lnbd_copy.specs.Decided.{IsDecided}
+use Rattle.lnbd_conduct.specs.Decided.{IsDecided}
 use Rattle.lnbd_copy.specs.Deciding.{WasUntroubledAs}
 use Rattle.lnbd_copy.proofs.DecidingLemmas.{way_calm}
 use Rattle.lnbd_copy.proofs.DrivenAsLemmas.{way_driven}
-use Rattle.lnbd_copy.specs.DrivenAs.{AreDrivenBy}
+use Rattle.lnbd_conduct.specs.Connects.{AreDrivenBy}
+use Rattle.lnbd_copy.proofs.PaceLemmas.{tires_none}
+use Rattle.lnbd_copy.proofs.PaceTurns.{cut_tires, turned_tires}
 use Rattle.lnbd_copy.proofs.copier.Copier.take_turn.Goals as goal
 
 pub returns-clause-on : goal.returns-clause-on
@@ -104,3 +107,16 @@ pub returns-clause-tries : goal.returns-clause-tries
 returns-clause-tries g c start on =
     subst (λ (s : Seen). TriesAll s.held (g.W.Wires.told c.args.wires.now) (g.W.Wires.told c.turn.new.wires)) c.self.view_is
     (way_tries _ start _ _ _ _ c.in_ok-moved.moved c.turn.new.board c.turn.new.handles c.in_ok-moved.ensures.ok (subst (λ (s : Seen). IsOnItsWay start (g.W.Wires.told c.args.wires.now) s) (sym c.self.view_is) on))
+
+pub returns-clause-once : goal.returns-clause-once
+returns-clause-once g c start on =
+    let way = subst (λ (s : Seen). IsOnItsWay start (g.W.Wires.told c.args.wires.now) s) (sym c.self.view_is) on in
+    turned_tires _ way.way _ _ start _ way.on _ _ _ _ _ way.stand c.in_ok-moved.moved c.in_ok-moved.ensures.ok
+
+pub returns-in_err-moved-clause-once : goal.returns-in_err-moved-clause-once
+returns-in_err-moved-clause-once g c start on =
+    let way = subst (λ (s : Seen). IsOnItsWay start (g.W.Wires.told c.args.wires.now) s) (sym c.self.view_is) on in
+    cut_tires _ way.way _ _ start _ way.on _ _ _ _ _ way.stand c.in_err-moved.ensures.cut
+
+pub returns-in_err-check_calm-clause-once : goal.returns-in_err-check_calm-clause-once
+returns-in_err-check_calm-clause-once g c start on = tires_none 1 _

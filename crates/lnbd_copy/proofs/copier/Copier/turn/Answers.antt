@@ -7,6 +7,7 @@ use Rattle.lnbd_copy.proofs.LinkLemmas.{links_then}
 use Rattle.lnbd_copy.proofs.PauseLemmas.{unpaused_then}
 use Rattle.lnbd_copy.proofs.DecidingLemmas.{decided_shut}
 use Rattle.lnbd_copy.proofs.DrivenAsLemmas.{driven_idly}
+use Rattle.lnbd_copy.proofs.PaceLemmas.{tires_behind, untired_idly}
 use Rattle.lnbd_copy.proofs.copier.Copier.turn.Goals as goal
 
 pub returns-then-is_err-clause-grounds : goal.returns-then-is_err-clause-grounds
@@ -28,3 +29,6 @@ returns-then-is_err-clause-drives g c start on = driven_idly _ _ _ start _ _ c.s
 pub returns-then-is_err-clause-decides : goal.returns-then-is_err-clause-decides
 returns-then-is_err-clause-decides g c =
     if_err_leads c.go_on-told.result (λ why decides start on. decided_shut _ _ _ start _ _ c.shut_all.ensures.shuts why (decides start on)) c.go_on-told.ensures.decides
+
+pub returns-then-is_err-clause-once : goal.returns-then-is_err-clause-once
+returns-then-is_err-clause-once g c start on = tires_behind 1 _ _ _ (c.go_on-told.ensures.once start on) (untired_idly _ _ c.shut_all.ensures.idly)

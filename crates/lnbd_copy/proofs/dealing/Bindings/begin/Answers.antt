@@ -3,12 +3,12 @@ use Rattle.lnbd_copy.specs.Dealing.{Begins}
 use Rattle.lnbd_copy.proofs.DealingLemmas.{begins_none, begins_on, zeros_stay}
 use Rattle.lnbd_copy.proofs.MovingLemmas.{none_more}
 use Rattle.lnbd_copy.proofs.SpreadLemmas.{deals_none, deals_then}
-use Rattle.lnbd_copy.proofs.UnderWayLemmas.{begun_all, begun_count, fills_end, fills_stop}
+use Rattle.lnbd_copy.proofs.UnderWayLemmas.{begun_all, begun_count, fills_end, fills_stop, none_to_begin}
 use Rattle.lnbd_copy.proofs.LinkLemmas.{same_none, same_then}
 use Rattle.lnbd_copy.proofs.dealing.Bindings.begin.Goals as goal
 
 pub slices-init : goal.slices-init
-slices-init c = record { sides = refl; zeros = c.requires.zeros; windows = refl; count = sym c.count-under_way.ensures.count; all = refl; still = λ none. refl; most = λ few. few; least = omega (arith); none = λ same. refl; links = same_none c.args.handles.now; begins = begins_none c.args.board.now.how c.args.self.now.sides c.args.windows.now c.args.windows.now c.args.board.now c.args.handles.now refl refl; dealt = deals_none c.args.limit c.args.self.now.sides c.args.self.now.bound c.args.board.now.rows }
+slices-init c = record { sides = refl; zeros = c.requires.zeros; windows = refl; count = sym c.count-under_way.ensures.count; all = refl; still = λ none. refl; most = λ few. few; least = omega (arith); grows = omega (arith); stops = λ none. refl; none = λ same. refl; links = same_none c.args.handles.now; begins = begins_none c.args.board.now.how c.args.self.now.sides c.args.windows.now c.args.windows.now c.args.board.now c.args.handles.now refl refl; dealt = deals_none c.args.limit c.args.self.now.sides c.args.self.now.bound c.args.board.now.rows }
 
 pub slices-preserved : goal.slices-preserved
 slices-preserved c =
@@ -26,6 +26,8 @@ slices-preserved c =
       still = λ none. absurd (omega (arith, none));
       most = λ few. (let count = c.slices.invariant.count in let less = c.slices-test.true in omega (arith, more, count, less));
       least = (let least = c.slices.invariant.least in let one = c.in_ok-begin_next.ensures.begun went in omega (arith, least, one));
+      grows = (let grows = c.slices.invariant.grows in omega (arith, more, grows));
+      stops = λ stop. absurd (none_to_begin _ c.args.limit c.args.windows.now c.slices.windows c.begin_next.new.windows c.args.board.now c.slices.board c.begin_next.new.board went c.slices.invariant.grows (let count = c.slices.invariant.count in let less = c.slices-test.true in omega (arith, count, less)) c.slices.invariant.all stop c.in_ok-begin_next.ensures.next);
       none = λ same. absurd (let least = c.slices.invariant.least in let one = c.in_ok-begin_next.ensures.begun went in omega (arith, least, one, same));
       links = same_then _ _ _ c.slices.invariant.links c.begin_next.ensures.links;
       begins = all;
@@ -52,3 +54,9 @@ returns-then-not-branch-clause-dealt c =
 
 pub returns-then-not-branch-clause-begun : goal.returns-then-not-branch-clause-begun
 returns-then-not-branch-clause-begun c same = c.slices.invariant.none (sym (none_more _ c.slices.windows c.begin_next.new.windows c.slices.board c.begin_next.new.board c.if-not-branch.true c.in_ok-begin_next.ensures.next) ∙ same)
+
+pub returns-then-not-branch-clause-none : goal.returns-then-not-branch-clause-none
+returns-then-not-branch-clause-none c stop = c.slices.invariant.stops stop
+
+pub returns-clause-none : goal.returns-clause-none
+returns-clause-none c stop = c.slices.invariant.stops stop

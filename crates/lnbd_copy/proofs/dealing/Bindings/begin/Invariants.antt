@@ -1,4 +1,4 @@
-use Rattle.std.proofs.Common.{◌≡◌, ◌≤◌, length, not}
+use Rattle.std.proofs.Common.{◌≡◌, ◌≤◌, ◌<◌, length, not}
 use Rattle.lnbd_copy.specs.Dealt.{Deals}
 use Rattle.lnbd_copy.specs.Dealing.{Begins}
 use Rattle.lnbd_copy.specs.UnderWay.{unfinished}
@@ -15,6 +15,8 @@ invariant-slices l = record {
   still : l.done ≡ 0 → l.handles ≡ l.fn.handles;
   most : length l.fn.board.rows ≤ l.limit → length l.board.rows ≤ l.limit;
   least : l.fn.board.begun ≤ l.board.begun;
+  grows : length l.fn.board.rows ≤ length l.board.rows;
+  stops : (length l.fn.board.rows < l.limit → length l.fn.windows.plan.slices ≡ 0) → l.done ≡ 0;
   none : l.board.begun ≡ l.fn.board.begun → l.done ≡ 0;
   links : HaveSameLinks l.fn.handles l.handles;
   begins : Begins l.fn.board.how l.fn.self.sides l.fn.windows l.windows l.fn.board l.board l.fn.handles l.handles;

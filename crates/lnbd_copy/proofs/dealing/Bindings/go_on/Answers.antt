@@ -3,7 +3,7 @@ use Rattle.std.proofs.lemmas.Bool.{false≢true}
 use Rattle.lnbd_copy.proofs.DealingLemmas.{gone_then, keeps_on}
 use Rattle.lnbd_copy.proofs.LinkLemmas.{same_then}
 use Rattle.lnbd_copy.proofs.SpreadLemmas.{deals_then}
-use Rattle.lnbd_copy.proofs.UnderWayLemmas.{looked_more}
+use Rattle.lnbd_copy.proofs.UnderWayLemmas.{looked_more, looked_none}
 use Rattle.lnbd_copy.proofs.dealing.Bindings.go_on.Goals as goal
 
 pub slices-preserved : goal.slices-preserved
@@ -14,6 +14,7 @@ slices-preserved c =
       sides = went.sides ∙ was.sides;
       others = gone_then c.args.board.now c.slices.board c.go_on_once.new.board was.others went.others;
       still = λ none. absurd (omega (arith, none));
+      same = λ none. absurd (omega (arith, none));
       none = λ none. absurd (false≢true (sym (went.none (was.none none).1) ∙ c.if-not-branch.false));
       links = same_then _ _ _ was.links went.links;
       few = looked_more _ c.args.board.now c.slices.board c.go_on_once.new.board c.if-not-branch.false was.few went.looked;
@@ -27,3 +28,6 @@ returns-then-not-branch-clause-dealt c limit =
 
 pub returns-then-not-branch-clause-none : goal.returns-then-not-branch-clause-none
 returns-then-not-branch-clause-none c none = (c.slices.invariant.none none).0
+
+pub returns-then-not-branch-clause-same : goal.returns-then-not-branch-clause-same
+returns-then-not-branch-clause-same c none = looked_none _ c.slices.board c.go_on_once.new.board c.if-not-branch.true c.in_ok-go_on_once.ensures.looked ∙ c.slices.invariant.same none

@@ -11,6 +11,7 @@ invariant-slices l = record {
   others : HasGoneOn l.fn.board l.board;
   still : l.done ≡ 0 → l.handles ≡ l.fn.handles;
   few : length l.board.rows ≤ length l.fn.board.rows;
+  same : l.done ≡ 0 → l.board ≡ l.fn.board;
   none : l.fn.board.came ≡ [] → (l.done ≡ 0) × (l.board.came ≡ []);
   links : HaveSameLinks l.fn.handles l.handles;
   keeps : Keeps l.fn.board.how l.fn.self.sides [] l.fn.board l.board l.fn.handles l.handles;

@@ -1,5 +1,7 @@
-use Rattle.std.proofs.Common.{ap, ◌∙◌}
+use Rattle.std.proofs.Common.{ap, inl, inr, refl, sym, ◌∙◌}
+use Rattle.std.proofs.lemmas.Bool.{false≢true}
 use Rattle.lnbd_copy.specs.Job.{Seen}
+use Rattle.lnbd_copy.proofs.AwaitLemmas.{asks_no_more, board_unflushed, copying_waits, flushing_waits}
 use Rattle.lnbd_copy.proofs.JobLemmas.{acts_then}
 use Rattle.lnbd_copy.proofs.SpreadLemmas.{spreads_all, spreads_past}
 use Rattle.lnbd_copy.proofs.UnderWayLemmas.{past_refills, refilled}
@@ -41,3 +43,26 @@ returns-then-heard-clause-spread c = spreads_all _ _ _ _ _ _ _ _ _ c.in_ok-went.
 
 pub returns-else-heard-clause-spread : goal.returns-else-heard-clause-spread
 returns-else-heard-clause-spread c = spreads_all _ _ _ _ _ _ _ _ _ c.in_ok-went.ensures.spread c.hear.ensures.terms c.in_ok-heard.ensures.bound c.in_ok-asked.ensures.asks c.in_ok-begun.ensures.spread
+
+pub returns-then-is_copied-clause-awaits : goal.returns-then-is_copied-clause-awaits
+returns-then-is_copied-clause-awaits c unflushed =
+    flushing_waits _ _ c.in_ok-conclude.ensures.past.past (c.in_ok-conclude.ensures.flushed ∙ board_unflushed c.args.board.now c.go_on.new.board c.ask.new.board c.begin.new.board c.hear.new.self c.ask.new.self c.begin.new.self c.in_ok-went.ensures.others c.in_ok-asked.ensures.asks c.in_ok-begun.ensures.fills unflushed)
+
+pub returns-then-heard-clause-awaits : goal.returns-then-heard-clause-awaits
+returns-then-heard-clause-awaits c unflushed =
+    copying_waits _ _ _ _ _ _ _ c.in_ok-went.ensures.looked c.in_ok-went.ensures.others c.in_ok-heard.ensures.untold c.in_ok-asked.ensures.asks c.in_ok-asked.ensures.done c.in_ok-begun.ensures.fills (c.if-is_copied.ensures.left refl) unflushed
+
+pub returns-else-heard-clause-awaits : goal.returns-else-heard-clause-awaits
+returns-else-heard-clause-awaits c unflushed =
+    copying_waits _ _ _ _ _ _ _ c.in_ok-went.ensures.looked c.in_ok-went.ensures.others c.in_ok-heard.ensures.untold c.in_ok-asked.ensures.asks c.in_ok-asked.ensures.done c.in_ok-begun.ensures.fills (c.if-is_copied.ensures.left refl) unflushed
+
+pub returns-then-is_copied-clause-idle : goal.returns-then-is_copied-clause-idle
+returns-then-is_copied-clause-idle c nothing = absurd ((asks_no_more c.args.self.now c.go_on.new.self c.hear.new.self c.ask.new.self c.begin.new.self c.args.board.now c.go_on.new.board c.ask.new.board c.begin.new.board _ _ _ _ c.requires.copying c.go_on.ensures.job c.in_ok-went.ensures.none c.in_ok-went.ensures.same c.in_ok-heard.ensures.heard c.in_ok-asked.ensures.due c.in_ok-asked.ensures.asked c.in_ok-asked.ensures.asks c.in_ok-begun.ensures.fills c.in_ok-begun.ensures.none nothing).left (c.if-is_copied.ensures.over refl))
+
+pub returns-then-heard-clause-idle : goal.returns-then-heard-clause-idle
+returns-then-heard-clause-idle c nothing =
+    let more = (asks_no_more c.args.self.now c.go_on.new.self c.hear.new.self c.ask.new.self c.begin.new.self c.args.board.now c.go_on.new.board c.ask.new.board c.begin.new.board _ _ _ _ c.requires.copying c.go_on.ensures.job c.in_ok-went.ensures.none c.in_ok-went.ensures.same c.in_ok-heard.ensures.heard c.in_ok-asked.ensures.due c.in_ok-asked.ensures.asked c.in_ok-asked.ensures.asks c.in_ok-begun.ensures.fills c.in_ok-begun.ensures.none nothing) in
+    elim c.if-heard.either [ inl went ↦ absurd (went more.went) | inr (inl begun) ↦ absurd (begun.1 more.begun) | inr (inr heard) ↦ absurd (false≢true (sym more.heard ∙ heard.2)) ]
+
+pub returns-else-heard-clause-idle : goal.returns-else-heard-clause-idle
+returns-else-heard-clause-idle c nothing = (asks_no_more c.args.self.now c.go_on.new.self c.hear.new.self c.ask.new.self c.begin.new.self c.args.board.now c.go_on.new.board c.ask.new.board c.begin.new.board _ _ _ _ c.requires.copying c.go_on.ensures.job c.in_ok-went.ensures.none c.in_ok-went.ensures.same c.in_ok-heard.ensures.heard c.in_ok-asked.ensures.due c.in_ok-asked.ensures.asked c.in_ok-asked.ensures.asks c.in_ok-begun.ensures.fills c.in_ok-begun.ensures.none nothing).asked

@@ -1,4 +1,4 @@
-use Rattle.std.proofs.Common.{ℕ, ◌==◌, not, ap}
+use Rattle.std.proofs.Common.{ℕ, ◌==◌, ap}
 use Rattle.lnbd_handle.proofs.handle.Handle.is_waiting.Goals as goal
 
 pub returns-clause-told : goal.returns-clause-told

@@ -1,0 +1,6 @@
+pub mod Payloads
+pub mod Replies
+pub mod Talks
+pub mod Cuts
+pub mod Given
+pub mod Filed

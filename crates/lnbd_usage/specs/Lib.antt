@@ -1,0 +1,4 @@
+pub mod Links
+pub mod Vain
+pub mod Pauses
+pub mod OneLink
