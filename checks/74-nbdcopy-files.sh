@@ -74,8 +74,6 @@ fi
 head -c 5000 /dev/urandom >"$dir/from"
 cp "$dir/from" "$dir/before"
 ends 'one path twice' 1 'lnbd: usage' "$dir/from" "$dir/from"
-ends 'a file to an export' 1 'lnbd: usage' "$dir/from" "nbd+unix:///?socket=$dir/none"
-ends 'an export to a file' 1 'lnbd: usage' "nbd+unix:///?socket=$dir/none" "$dir/to"
 ends 'an empty path' 1 'lnbd: usage' "$dir/from" ''
 ends 'a path of 4,097 bytes' 1 'lnbd: usage' "$dir/from" "$(printf '%4097s' x)"
 ends 'one of 4,096, which the system refuses' 11 'lnbd: store fault' "$dir/from" "$(printf '%4096s' x)"

@@ -4,6 +4,7 @@ use Rattle.std.specs.Int.{is_power_of_two}
 use Rattle.std.specs.List.{All, starts_with}
 use Rattle.std.specs.Str.{all_ascii_digits, bytes_eq}
 use Rattle.std.specs.Str.Parse.{digits_value}
+use Rattle.lnbd_model.specs.Text.{text_limit}
 use Rattle.lnbd_model.specs.declared.target.Place.{Place}
 use Rattle.lnbd_uri.specs.Address.{IsAddress}
 use Rattle.lnbd_uri.specs.Fault.{HasFault}
@@ -96,9 +97,9 @@ abbrev pub is_path : Word → Bool
 is_path [] = true
 is_path (b ∷ word) = not (starts_with nat_eq (b ∷ word) (codes "://")) && is_path word
 
--- a path has a byte, and 4,096 at most
+-- a path has a byte, and no more than a text
 abbrev pub IsPath : Word → Type 0
-IsPath word = (0 < length word) × (length word ≤ 4096)
+IsPath word = (0 < length word) × (length word ≤ text_limit)
 
 -- the two sides of a copy
 pub record AreSides (from to : Word) : Type 0 where
@@ -106,8 +107,6 @@ pub record AreSides (from to : Word) : Type 0 where
   pub destination : is_path to ≡ true → IsPath to
   -- a file isn't copied to itself
   pub apart : is_path from ≡ true → from ≢ to
-  -- both are files, or none is
-  pub alike : is_path from ≡ is_path to
 
 -- the word stands for this side
 abbrev pub IsSideOf : Word → Side → Type 0
@@ -154,7 +153,7 @@ chosen = given_of (codes "list" ∷ codes "size" ∷ codes "map" ∷ codes "is" 
 -- the context of a map, 4,096 bytes at most
 abbrev pub IsContext : Option Word → Word → Type 0
 IsContext None context = context ≡ codes "base:allocation"
-IsContext (Some name) context = (context ≡ name) × (length name ≤ 4096)
+IsContext (Some name) context = (context ≡ name) × (length name ≤ text_limit)
 
 -- the names that `--is` takes, and those that `--can` takes
 abbrev pub IsNameOf : Predicate → Word → Word → Type 0
@@ -212,7 +211,7 @@ given_address (program ∷ words) address = address
 
 -- each has 4,096 bytes at most
 abbrev pub AreShort : List Word → Type 0
-AreShort words = All (λ word. length word ≤ 4096) words
+AreShort words = All (λ word. length word ≤ text_limit) words
 
 -- the size of what is made is always given
 abbrev pub IsSize : Option Word → ℕ → Type 0
@@ -223,7 +222,7 @@ IsSize (Some digits) n = IsNumber digits n × (n ≤ 1073741824)
 abbrev pub IsContent : List Part → Content → Type 0
 IsContent parts (Made seed size) = (value_of (codes "file") parts ≡ None) × IsSize (value_of (codes "size") parts) size × IsNumberOr 0 (value_of (codes "seed") parts) seed
 IsContent parts (File path) =
-    (value_of (codes "file") parts ≡ Some path) × (length path ≤ 4096) × (is_given (codes "size") parts ≡ false) × (is_given (codes "seed") parts ≡ false)
+    (value_of (codes "file") parts ≡ Some path) × (length path ≤ text_limit) × (is_given (codes "size") parts ≡ false) × (is_given (codes "seed") parts ≡ false)
 
 pub record IsServe (parts : List Part) (content : Content) (read_only : Bool) (sessions : ℕ) : Type 0 where
   pub content_is : IsContent parts content

@@ -3,6 +3,7 @@
 ghost use Rattle.std.specs.Prelude.{◌≡◌, ◌≤◌, ◌∷◌, ℕ, Bool, IfOk, IsErrOf, List, MatchOption, None, Some, codes, length, map, string_bytes, false};
 ghost use Rattle.clap.specs.Matches.{found_of};
 ghost use Rattle.clap.specs.Walk.{first_of, rows_of};
+ghost use Rattle.lnbd_model.specs.Text.{text_limit};
 ghost use Rattle.lnbd_args.specs.Clap.{Tells};
 ghost use Rattle.lnbd_args.specs.Tools.{Asks, Hosts, IsContent, IsMisplaced, IsServe, IsSize, Reads, Wanted, given_address, serve_rules};
 ghost use Rattle.lnbd_args.specs.Words.{Part, Word, value_of};
@@ -114,8 +115,8 @@ fn hosted<'a>(
 /// The address that the program is given, if one is run.
 fn given_address(alloc: Global, run: &Texts, address: &str) -> Result<Text, ArgsFault>
     ensures given { IfOk result (λ given. given ≡ given_address run.now address.now) }
-    ensures short { IfOk result (λ given. length (given_address run.now address.now) ≤ 4096) }
-    ensures usage { IsErrOf result ArgsFault.Usage → ¬ (length (given_address run.now address.now) ≤ 4096) }
+    ensures short { IfOk result (λ given. length (given_address run.now address.now) ≤ text_limit) }
+    ensures usage { IsErrOf result ArgsFault.Usage → ¬ (length (given_address run.now address.now) ≤ text_limit) }
     ensures no_address { (fault : UriFault) → ¬ IsErrOf result (ArgsFault.Uri fault) }
 {
     if run.as_slice().is_empty() {

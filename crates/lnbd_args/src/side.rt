@@ -6,6 +6,7 @@ ghost use Rattle.lnbd_args.specs.Tools.{AreSides, IsFaultOf, IsPath, IsSideOf, i
 use crate::address::place;
 use crate::fault::ArgsFault;
 use crate::text::text;
+use lnbd_model::Text;
 use lnbd_store::Side;
 use std::alloc::Global;
 
@@ -20,17 +21,13 @@ fn is_path(word: &str) -> bool
 fn is_side(word: &str) -> bool
     ensures { IsTrue result ↔ (is_path word.now ≡ true → IsPath word.now) }
 {
-    !is_path(word) || (!word.is_empty() && word.len() <= 4096)
+    !is_path(word) || (!word.is_empty() && word.len() <= Text::LIMIT as usize)
 }
 
 /// Whether the words can be the sides of a copy.
 pub(crate) fn are_sides(from: &str, to: &str) -> bool
     ensures { IsTrue result ↔ AreSides from.now to.now }
 {
-    // So far both are files, or both are exports.
-    if is_path(from) != is_path(to) {
-        return false;
-    }
     if is_path(from) && from == to {
         return false;
     }

@@ -1,6 +1,7 @@
 //! Words that are kept, as texts.
 
 ghost use Rattle.std.specs.Prelude.{◌≡◌, ◌≤◌, IfOk, IsErrOf, length, map, string_bytes};
+ghost use Rattle.lnbd_model.specs.Text.{text_limit};
 ghost use Rattle.lnbd_args.specs.Tools.{AreShort};
 ghost use Rattle.lnbd_uri.specs.declared.fault.UriFault.{UriFault};
 
@@ -11,8 +12,8 @@ use std::alloc::Global;
 /// The word, 4,096 bytes at most.
 pub(crate) fn text(alloc: Global, word: &str) -> Result<Text, ArgsFault>
     ensures text { IfOk result (λ text. text ≡ word.now) }
-    ensures short { IfOk result (λ text. length word.now ≤ 4096) }
-    ensures usage { IsErrOf result ArgsFault.Usage → ¬ (length word.now ≤ 4096) }
+    ensures short { IfOk result (λ text. length word.now ≤ text_limit) }
+    ensures usage { IsErrOf result ArgsFault.Usage → ¬ (length word.now ≤ text_limit) }
     ensures no_address { (fault : UriFault) → ¬ IsErrOf result (ArgsFault.Uri fault) }
 {
     match Text::from_bytes(alloc, word.as_bytes()) {

@@ -1,6 +1,4 @@
 -- What bytes show, magic by magic.
-use Rattle.std.specs.Option.{option_map}
-use Rattle.std.specs.Prelude.{IfSome}
 use Rattle.std.proofs.Common.{subst, ◌≡◌, ◌≢◌, ℕ, ◌+◌, ◌-◌, ◌<◌, ◌≤◌, Bool, true, false, ◌==◌, ◌||◌, ◌&&◌, List, ◌++◌, length, take, drop, Option, Some, None, refl, ap, sym, ◌∙◌, arith, length-append, if◌then◌else◌, inl, inr, nat_lt}
 use Rattle.std.proofs.lemmas.Grind.{common_steps}
 use Rattle.std.proofs.lemmas.Bool.{true≢false, eq-eqb, ne_eqb, ltb-true, ltb-false}
@@ -21,8 +19,6 @@ use Rattle.lnbd_chunks.specs.Reply.{content_size, simple_content, shows_simple, 
 use Rattle.lnbd_chunks.proofs.Steady.{at_more, stays_chunk}
 use Rattle.lnbd_history.specs.Arrivals.{Shown, Broken, reply, shows_frame}
 use Rattle.lnbd_commands.specs.Takes.{MayCome}
-use Rattle.lnbd_commands.specs.Seen.{seen_waiting}
-use Rattle.lnbd_commands.specs.declared.row.Waiting.{Waiting as Told}
 use Rattle.lnbd_structured.specs.Assembly.{head_of}
 use Rattle.lnbd_wire.specs.declared.extended_chunk.ExtHead.{ExtHead}
 use Rattle.lnbd_arrivals.specs.Frames.{Announces, IsChunk, IsDataFront, IsFront, IsReply, IsSuccess, announced_by, data_announced, front_size, is_extended, is_structured, shows_by}
@@ -193,7 +189,7 @@ head_more : (extended : Bool) (front more : List ℕ) → head_size extended ≤
 head_more false front more h = rw (at_more 4 2 front more (omega (arith, h)), at_more 6 2 front more (omega (arith, h)), at_more 16 4 front more (omega (arith, h))) refl
 head_more true front more h = rw (at_more 4 2 front more (omega (arith, h)), at_more 6 2 front more (omega (arith, h)), at_more 24 8 front more (omega (arith, h))) refl
 
-head_least : (extended : Bool) → 20 ≤ head_size extended
+pub head_least : (extended : Bool) → 20 ≤ head_size extended
 head_least false = omega arith
 head_least true = omega arith
 
@@ -203,7 +199,7 @@ module _ (replies : Replies) (waited : ℕ → Option Waiting) (bytes : List ℕ
     numbered : (place width : ℕ) → place + width ≤ 20 → number_at place width bytes ≡ number_at place width front
     numbered place width fits = ap (number_at place width) all ∙ at_more place width front more (omega (arith, fits, begun, head_least (is_extended replies)))
 
-    headed : IsHead (is_extended replies) front head
+    pub headed : IsHead (is_extended replies) front head
     headed = record {
       there = begun;
       magic = sym (numbered 0 4 (omega arith)) ∙ h.magic;
@@ -211,13 +207,13 @@ module _ (replies : Replies) (waited : ℕ → Option Waiting) (bytes : List ℕ
       cookie = h.cookie ∙ numbered 8 8 (omega arith);
     }
 
-    waits_front : waited (number_at 8 8 front) ≡ Some command
+    pub waits_front : waited (number_at 8 8 front) ≡ Some command
     waits_front = ap waited (sym (numbered 8 8 (omega arith))) ∙ waits
 
-    payload_is : drop (head_size (is_extended replies)) bytes ≡ drop (head_size (is_extended replies)) front ++ more
+    pub payload_is : drop (head_size (is_extended replies)) bytes ≡ drop (head_size (is_extended replies)) front ++ more
     payload_is = ap (drop (head_size (is_extended replies))) all ∙ drop-append-le (head_size (is_extended replies)) front more begun
 
-    fair_front : breach_of (is_extended replies) command (head_of head) (drop (head_size (is_extended replies)) front) ≡ None
+    pub fair_front : breach_of (is_extended replies) command (head_of head) (drop (head_size (is_extended replies)) front) ≡ None
     fair_front = front_fair (is_extended replies) command (head_of head) (drop (head_size (is_extended replies)) front) more
         (ap (breach_of (is_extended replies) command (head_of head)) (sym payload_is) ∙ fair)
 
@@ -514,44 +510,19 @@ module _ (replies : Replies) (waited : ℕ → Option Waiting) (front : List ℕ
     };
   }
 
--- Each front of a chunk of data is read as one.
-pub is_data_front : (replies : Replies) (command : Waiting) (front : List ℕ) → is_structured replies ≡ true → IsFront replies command front → IsDataFront (is_extended replies) command front
-is_data_front Simple command front agreed is = absurd (true≢false (sym agreed))
-is_data_front Structured command front agreed is = is
-is_data_front Extended command front agreed is = is
-
-pub front_uncut : (extended : Bool) (command : Waiting) (front : List ℕ) → IsDataFront extended command front → IsCut (magic_of extended) (head_size extended) front → ⊥
-front_uncut extended command front is cut = elim cut [
-  | inl short ↦ omega (arith, short, is.sized, head_least extended)
-  | inr begun ↦ omega (arith, begun.2, is.sized)
-]
-
--- Where no chunks come, simple replies alone do.
-pub simple_alone : (replies : Replies) → is_structured replies ≡ false → replies ≡ Simple
-simple_alone Simple e = refl
-simple_alone Structured e = absurd (true≢false e)
-simple_alone Extended e = absurd (true≢false e)
-
-least_front : (replies : Replies) → 16 ≤ front_size replies
-least_front Simple = omega arith
-least_front Structured = omega arith
-least_front Extended = omega arith
-
--- what is announced to the command that waits is announced to it
-pub announced_to : (replies : Replies) (front : List ℕ) (found : Option Announced) (waiting : Option Told) (command : Told) → waiting ≡ Some command → length front ≡ front_size replies →
-    IfSome found (λ announced. (waited : ℕ → Option Waiting) → waited (number_at 8 8 front) ≡ Some (seen_waiting command) → Announces replies waited front announced) →
-    IfSome found (λ announced. (waited : ℕ → Option Waiting) → (16 ≤ length front → waited (number_at 8 8 front) ≡ option_map seen_waiting waiting) → Announces replies waited front announced)
-announced_to replies front None waiting command is sized told = tt
-announced_to replies front (Some announced) waiting command is sized told = λ waited waits.
-    told waited (waits (omega (arith, sized, least_front replies)) ∙ ap (option_map seen_waiting) is)
+-- The front of a chunk of data, where chunks come.
+pub data_front : (replies : Replies) (command : Waiting) (front : List ℕ) → is_structured replies ≡ true → IsFront replies command front → IsDataFront (is_extended replies) command front
+data_front Simple command front agreed is = absurd (true≢false (sym agreed))
+data_front Structured command front agreed is = is
+data_front Extended command front agreed is = is
 
 -- What a front says of its data.
 
 -- the head of a chunk that these bytes begin
-abbrev head_at : (extended : Bool) → List ℕ → ExtHead
+abbrev pub head_at : (extended : Bool) → List ℕ → ExtHead
 head_at extended front = record { flags = (head_in extended front).flags; kind = (head_in extended front).type; cookie = number_at 8 8 front; offset = 0; length = (head_in extended front).length }
 
-head_there : (extended : Bool) (command : Waiting) (front : List ℕ) → IsDataFront extended command front → IsHead extended front (head_at extended front)
+pub head_there : (extended : Bool) (command : Waiting) (front : List ℕ) → IsDataFront extended command front → IsHead extended front (head_at extended front)
 head_there extended command front is = record { there = omega (arith, is.sized); magic = is.magic; says = refl; cookie = refl }
 
 -- Each front announces what it says.
@@ -582,13 +553,8 @@ module _ (command : Waiting) (front : List ℕ) (head : ExtHead) (is_data : head
   data_says Structured agreed h sized placed fair = front_says false h sized placed fair
   data_says Extended agreed h sized placed fair = front_says true h sized placed fair
 
--- what is said to the command that waits is said to it
-same_waiting : (one other : Waiting) → Some one ≡ Some other → one ≡ other
-same_waiting one other e = cc
-
-pub says_to : (replies : Replies) (front : List ℕ) (found : Option Announced) (waiting : Option Told) (command : Told) → waiting ≡ Some command →
-    IfSome found (λ announced. IsFront replies (seen_waiting command) front × (announced ≡ announced_by replies (seen_waiting command) front)) →
-    IfSome found (λ announced. (known : Waiting) → option_map seen_waiting waiting ≡ Some known → IsFront replies known front × (announced ≡ announced_by replies known front))
-says_to replies front None waiting command is said = tt
-says_to replies front (Some announced) waiting command is said = λ known asks.
-    subst (λ (w : Waiting). IsFront replies w front × (announced ≡ announced_by replies w front)) (same_waiting (seen_waiting command) known (sym (ap (option_map seen_waiting) is) ∙ asks)) said
+-- a whole front to a command that does not wait
+pub unknown_front : (replies : Replies) (waited : ℕ → Option Waiting) (command : Waiting) (front : List ℕ) → IsFront replies command front → waited (number_at 8 8 front) ≡ None → shows_by replies waited front ≡ Some (Broken UnknownCookie)
+unknown_front Simple waited command front is none = simple_unknown Simple waited front refl (omega (arith, is.1.sized)) is.1.magic none
+unknown_front Structured waited command front is none = chunk_unknown Structured waited front (head_at false front) refl (head_there false command front is) none
+unknown_front Extended waited command front is none = chunk_unknown Extended waited front (head_at true front) refl (head_there true command front is) none

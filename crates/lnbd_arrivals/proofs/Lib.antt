@@ -1,3 +1,4 @@
 pub mod Chunks
 pub mod Headed
 pub mod Frames
+pub mod Fronts

@@ -1,5 +1,5 @@
 -- What is seen at the front of some bytes, by how the server replies.
-use Rattle.std.specs.Prelude.{◌≡◌, ℕ, ◌+◌, ◌-◌, ◌<◌, ◌≤◌, Bool, true, false, List, ◌++◌, length, take, drop, Option, Some, None}
+use Rattle.std.specs.Prelude.{◌≡◌, ℕ, ◌+◌, ◌-◌, ◌<◌, ◌≤◌, ◌==◌, ◌&&◌, not, Bool, true, false, if◌then◌else◌, List, ◌++◌, length, take, drop, Option, Some, None, is_some}
 use Rattle.lnbd_records.specs.Numbers.{number_at}
 use Rattle.lnbd_chunks.specs.Chunk.{Waiting, is_done}
 use Rattle.lnbd_chunks.specs.Laws.{breach_of}
@@ -70,13 +70,6 @@ pub record IsChunk (replies : Replies) (waited : ℕ → Option Waiting) (bytes 
   pub shown : shows_by replies waited (take chunk.size bytes) ≡ Some (reply chunk.head.cookie (told_in chunk (payload_in chunk bytes)) (is_done (head_of chunk.head)))
   pub before : (front more : List ℕ) → bytes ≡ front ++ more → length front < chunk.size → shows_by replies waited front ≡ None
 
--- What was seen is what the bytes show.
-abbrev pub SeenAs : Replies → (ℕ → Option Waiting) → List ℕ → Seen → Type 0
-SeenAs replies waited bytes seen.Nothing = shows_by replies waited bytes ≡ None
-SeenAs replies waited bytes (seen.Broken breach) = shows_by replies waited bytes ≡ Some (Broken breach)
-SeenAs replies waited bytes (seen.Whole cookie error size) = IsReply replies waited bytes cookie error size
-SeenAs replies waited bytes (seen.Chunk chunk) = IsChunk replies waited bytes chunk
-
 -- the head of a simple reply without error, and nothing else
 pub record IsSuccess (head : List ℕ) : Type 0 where
   pub sized : length head ≡ 16
@@ -146,3 +139,42 @@ pub record Announces (replies : Replies) (waited : ℕ → Option Waiting) (fron
   pub carried : is_chunk announced.carrier ≡ is_structured replies
   pub partial : (content : List ℕ) → length content < announced.size → shows_by replies waited (front ++ content) ≡ None
   pub whole : (content : List ℕ) → length content ≡ announced.size → Carries replies waited (front ++ content) announced content
+
+-- Whether some bytes are such a front, as a test.
+
+abbrev pub is_success : List ℕ → Bool
+is_success front = (length front == simple_head_size) && ((number_at 0 4 front == simple_reply_magic) && (number_at 4 4 front == 0))
+
+abbrev pub is_data_front : (extended : Bool) → Waiting → List ℕ → Bool
+is_data_front extended command front =
+    (length front == head_size extended + 8)
+    && ((number_at 0 4 front == magic_of extended)
+    && (((head_in extended front).type == reply_type_offset_data) && not (is_some (breach_of extended command (head_in extended front) (drop (head_size extended) front)))))
+
+abbrev pub is_front : Replies → Waiting → List ℕ → Bool
+is_front Simple command front = is_read command.kind && is_success front
+is_front Structured command front = is_data_front false command front
+is_front Extended command front = is_data_front true command front
+
+-- the data that these bytes announce to a command, where they are such a front
+abbrev pub announced_to : Replies → Option Waiting → List ℕ → Option Announced
+announced_to replies None front = None
+announced_to replies (Some command) front = if is_front replies command front then Some (announced_by replies command front) else None
+
+-- the data that these bytes announce to the command that waits for their cookie
+abbrev pub announced_in : Replies → (ℕ → Option Waiting) → List ℕ → Option Announced
+announced_in replies waited front = announced_to replies (waited (number_at 8 8 front)) front
+
+-- The bytes show nothing yet, and begin with the front of a reply that brings data.
+pub record IsBegun (replies : Replies) (waited : ℕ → Option Waiting) (bytes : List ℕ) (announced : Announced) : Type 0 where
+  pub nothing : shows_by replies waited bytes ≡ None
+  pub says : announced_in replies waited (take (front_size replies) bytes) ≡ Some announced
+  pub announces : Announces replies waited (take (front_size replies) bytes) announced
+
+-- What was seen is what the bytes show, and what their front announces where they show nothing yet.
+abbrev pub SeenAs : Replies → (ℕ → Option Waiting) → List ℕ → Seen → Type 0
+SeenAs replies waited bytes seen.Nothing = (shows_by replies waited bytes ≡ None) × (announced_in replies waited (take (front_size replies) bytes) ≡ None)
+SeenAs replies waited bytes (seen.Begun announced) = IsBegun replies waited bytes announced
+SeenAs replies waited bytes (seen.Broken breach) = shows_by replies waited bytes ≡ Some (Broken breach)
+SeenAs replies waited bytes (seen.Whole cookie error size) = IsReply replies waited bytes cookie error size
+SeenAs replies waited bytes (seen.Chunk chunk) = IsChunk replies waited bytes chunk

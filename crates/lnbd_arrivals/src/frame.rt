@@ -14,24 +14,24 @@ ghost use Rattle.lnbd_arrivals.specs.Frames.{SeenAs, is_extended, is_structured}
 ghost use Rattle.lnbd_arrivals.specs.declared.replies.Replies.TheVariants.{Extended};
 ghost use Rattle.lnbd_arrivals.specs.Heads.{IsHead, IsOther, IsSimple, magic_breach};
 
+use crate::announced::{Announced, Carrier, data_begun};
 use crate::chunk::Chunk;
 use crate::heads::{chunk_head, head_size, simple_head};
 use crate::replies::Replies;
 use lnbd_commands::Waiting;
 use lnbd_model::{Breach, Kind};
+use lnbd_records::names::{SIMPLE_REPLY_MAGIC, STRUCTURED_REPLY_MAGIC};
 use lnbd_records::u64_at;
 use lnbd_structured::{Asked, breach_shown};
 use lnbd_wire::{ExtHead, Read, SimpleHead};
-
-const SIMPLE_MAGIC: u32 = 0x67446698;
-
-const STRUCTURED_MAGIC: u32 = 0x668e33ef;
 
 /// What the bytes at the front show.
 #[derive(Clone, Copy, Debug, PartialEq, Eq)]
 pub enum Seen {
     /// Nothing yet: more bytes are needed.
     Nothing,
+    /// Nothing yet, but they begin with all that stands before the data of a reply that brings data to a read; of these not all are there.
+    Begun(Announced),
     /// A whole simple reply of 16 bytes and `size` bytes of data.
     Whole {
         cookie: u64,
@@ -56,14 +56,14 @@ pub fn cookie_in(bytes: &[u8]) -> Option<u64>
     }
 }
 
-pub(crate) fn is_read(kind: Kind) -> bool
+fn is_read(kind: Kind) -> bool
     ensures { result ≡ is_read kind }
 {
     matches!(kind, Kind::Read)
 }
 
 /// How many bytes follow the head of a simple reply with this error.
-pub fn content_size(command: &Waiting, error: u32) -> u64
+fn content_size(command: &Waiting, error: u32) -> u64
     ensures { result ≡ content_size (seen_waiting command.now) error }
 {
     if error == 0 && is_read(command.kind) {
@@ -74,7 +74,7 @@ pub fn content_size(command: &Waiting, error: u32) -> u64
 }
 
 /// By what the chunks of a command are judged.
-pub(crate) fn asked(command: &Waiting) -> Asked
+fn asked(command: &Waiting) -> Asked
     ensures { waiting_in result ≡ seen_waiting command.now }
 {
     Asked {
@@ -106,13 +106,17 @@ fn look_simple(replies: Replies, waiting: Option<Waiting>, head: &SimpleHead, by
             }
             let size = content_size(&command, head.error);
             if ((bytes.len() - 16) as u64) < size {
-                Seen::Nothing
-            } else {
-                Seen::Whole {
+                return Seen::Begun(Announced {
                     cookie: head.cookie,
-                    error: head.error,
+                    offset: command.offset,
                     size: size as usize,
-                }
+                    carrier: Carrier::Reply,
+                });
+            }
+            Seen::Whole {
+                cookie: head.cookie,
+                error: head.error,
+                size: size as usize,
             }
         }
     }
@@ -133,7 +137,10 @@ fn look_chunk(replies: Replies, waiting: Option<Waiting>, head: &ExtHead, bytes:
                 return Seen::Broken(breach);
             }
             if (payload.len() as u64) < head.length {
-                return Seen::Nothing;
+                return match data_begun(head, payload) {
+                    Some(announced) => Seen::Begun(announced),
+                    None => Seen::Nothing,
+                };
             }
             Seen::Chunk(Chunk {
                 extended,
@@ -176,7 +183,7 @@ fn look_compact(replies: Replies, waiting: Option<Waiting>, bytes: &[u8]) -> See
 fn magic_breach(magic: u32) -> Breach
     ensures { result ≡ magic_breach magic }
 {
-    if magic == SIMPLE_MAGIC || magic == STRUCTURED_MAGIC {
+    if magic == SIMPLE_REPLY_MAGIC || magic == STRUCTURED_REPLY_MAGIC {
         Breach::MixedHeaders
     } else {
         Breach::BadReplyMagic

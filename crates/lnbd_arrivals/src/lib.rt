@@ -9,7 +9,7 @@ mod frame;
 mod heads;
 mod replies;
 
-pub use announced::{Announced, Carrier, look_front};
+pub use announced::{Announced, Carrier};
 pub use chunk::Chunk;
-pub use frame::{Seen, content_size, cookie_in, look_frame};
+pub use frame::{Seen, cookie_in, look_frame};
 pub use replies::Replies;

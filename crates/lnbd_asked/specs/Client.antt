@@ -5,6 +5,7 @@ use Rattle.lnbd_records.specs.Flags.{cmd_flag_payload_len}
 use Rattle.lnbd_records.specs.Numbers.{Field, number_at, row, AllFit, has_bit}
 use Rattle.lnbd_records.specs.Handshake.{option_magic, option_head, client_flags}
 use Rattle.lnbd_records.specs.Transmission.{request_magic, request, extended_request_magic, extended_request}
+pub use Rattle.lnbd_records.specs.Transmission.{type_write}
 use Rattle.lnbd_stream.specs.Grammar.{once, wants}
 
 -- an option request
@@ -39,9 +40,6 @@ says_option bytes =
     (Some (Wishes (record { option = number_at 8 4 bytes; body = take (number_at 12 4 bytes) (drop 16 bytes) }))))))
 
 -- Requests.
-
-abbrev pub type_write : ℕ
-type_write = 1
 
 -- how many bytes follow the head of a request: the data of a WRITE, and with extended headers of each request that has PAYLOAD_LEN
 abbrev pub data_size : (extended : Bool) (type flags length : ℕ) → ℕ

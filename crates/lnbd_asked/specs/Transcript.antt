@@ -8,6 +8,7 @@ use Rattle.lnbd_model.specs.declared.target.Place.{Place}
 use Rattle.lnbd_model.specs.declared.target.Target.{Target}
 use Rattle.lnbd_model.specs.declared.target.Target.TheVariants.{Tcp, Unix}
 use Rattle.lnbd_records.specs.Content.{Content, Data, Hole, Status, Error, ErrorAt, Nothing, Bare}
+pub use Rattle.lnbd_records.specs.Flags.{state_zero}
 use Rattle.lnbd_records.specs.Numbers.{has_bit}
 use Rattle.lnbd_records.specs.Options.{opt_export_name, opt_go}
 use Rattle.lnbd_records.specs.Requests.{Asked, Name, Info, Meta, Plain, asked_of}
@@ -134,10 +135,6 @@ abbrev pub answered : Link → ℕ → Outcome
 answered link cookie = outcome_of (request link.requests cookie) (own cookie link.heard.entries)
 
 -- Which positions a block status told as zero.
-
--- of the status of base:allocation, the bit ZERO
-abbrev pub state_zero : ℕ
-state_zero = 2
 
 abbrev pub is_allocation : Option MetaContext → Bool
 is_allocation None = false

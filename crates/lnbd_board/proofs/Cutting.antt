@@ -1,5 +1,5 @@
 -- The pieces of a slice that was read.
-use Rattle.std.proofs.Common.{◌≡◌, ℕ, ◌+◌, ◌-◌, ◌<◌, ◌≤◌, List, [], ◌∷◌, ◌++◌, Bool, true, false, ◌&&◌, refl, sym, subst, ◌∙◌, arith, length, Option, Some, None, slice_get, option_to_list, IfNone}
+use Rattle.std.proofs.Common.{◌≡◌, ℕ, ◌+◌, ◌-◌, ◌<◌, ◌≤◌, List, [], ◌∷◌, ◌++◌, Bool, true, false, not, ◌==◌, ◌&&◌, drop, ap, refl, sym, subst, ◌∙◌, arith, length, Option, Some, None, slice_get, option_to_list, IfNone, length-take, length-drop, ◌||◌}
 use Rattle.lnbd_plan.specs.declared.grid.Slice.{Slice}
 use Rattle.lnbd_plan.specs.Blocks.{in_zero_block}
 use Rattle.lnbd_plan.specs.Slices.{slices_of}
@@ -10,7 +10,7 @@ use Rattle.lnbd_board.specs.Pieces.{detects, is_told, AreLeft}
 use Rattle.lnbd_board.specs.declared.row.Stage.{Stage}
 use Rattle.lnbd_board.specs.declared.row.Stage.TheVariants.{Reading, Last, Came, Writing, Holding, Finished}
 use Rattle.lnbd_board.specs.Rows.{is_busy}
-use Rattle.lnbd_board.specs.Asks.{IsCut, IsFirst, IsReady, StartsKept, PassesFirst, bytes_of, cutting, is_cut, is_over}
+use Rattle.lnbd_board.specs.Asks.{IsCut, IsFirst, IsPartOf, IsReady, StartsKept, PassesFirst, bytes_of, cutting, is_cut, is_over}
 use Rattle.lnbd_board.proofs.Moves.{first_left}
 
 whole_same : (told told2 cut : ℕ → Bool) → ((p : ℕ) → told p ≡ told2 p) → (ss : List Slice) → AreWhole told cut ss → AreWhole told2 cut ss
@@ -141,3 +141,40 @@ cut_rest how s bytes piece left k =
     let size = k.size in
     let fits = f.fits in
     record { size = k.size; at = k.at + piece.length; fits = omega (arith, size, fits); rest = f.rest }
+
+-- The first piece lies in its slice.
+pub piece_inside : (how : How) (s : Slice) (bytes : List ℕ) (piece : Slice) (left : List Slice) → IsCut how s bytes (piece ∷ left) → IsPartOf s piece.start piece.length
+piece_inside how s bytes piece left k =
+    let f = first_left how s bytes k.at piece left k.rest in
+    let start = f.start in
+    let fits = f.fits in
+    record { some = λ whole. f.some; after = omega (arith, start); before = omega (arith, start, fits) }
+
+-- Where it is the whole slice, so do all of the bytes.
+pub whole_inside : (how : How) (s : Slice) (bytes : List ℕ) (piece : Slice) (left : List Slice) → IsCut how s bytes (piece ∷ left) → piece.length ≡ s.length → IsPartOf s piece.start (length bytes)
+whole_inside how s bytes piece left k whole = subst (λ (n : ℕ). IsPartOf s piece.start n) (whole ∙ sym k.size) (piece_inside how s bytes piece left k)
+
+-- Else so does the part of them that it is.
+pub part_inside : (how : How) (s : Slice) (bytes part : List ℕ) (piece : Slice) (left : List Slice) → IsCut how s bytes (piece ∷ left) → part ≡ bytes_of s bytes piece → IsPartOf s piece.start (length part)
+part_inside how s bytes part piece left k is =
+    let f = first_left how s bytes k.at piece left k.rest in
+    let start = f.start in
+    let fits = f.fits in
+    let size = k.size in
+    let taken = length-take piece.length (drop (piece.start - s.start) bytes) in
+    let dropped = length-drop (piece.start - s.start) bytes in
+    let many : length (bytes_of s bytes piece) ≡ piece.length = omega (arith, start, fits, size, taken, dropped) in
+    subst (λ (n : ℕ). IsPartOf s piece.start n) (sym (ap (λ (l : List ℕ). length l) is ∙ many)) (piece_inside how s bytes piece left k)
+
+taken_where : (looks zeroes skip found : Bool) → (looks && (zeroes || skip)) && found ≡ true → skip ≡ false → zeroes ≡ true
+taken_where true true skip found told none = refl
+taken_where true false true found told none = absurd (cc)
+taken_where true false false found told none = absurd (cc)
+taken_where false zeroes skip found told none = absurd (cc)
+
+-- A zero piece is asked to be zeroed only where the destination takes that.
+pub zeroes_taken : (how : How) (s : Slice) (bytes : List ℕ) (piece : Slice) (left : List Slice) → IsCut how s bytes (piece ∷ left) → piece.zero ≡ true → how.skip ≡ false → how.zeroes ≡ true
+zeroes_taken how s bytes piece left k zero none =
+    let f = first_left how s bytes k.at piece left k.rest in
+    let some = f.some in
+    taken_where (not (how.block == 0)) how.zeroes how.skip (in_zero_block how.block s.start bytes piece.start) (f.alike piece.start (omega arith) (omega (arith, some)) ∙ zero) none

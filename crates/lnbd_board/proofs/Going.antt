@@ -1,5 +1,5 @@
 -- What the calls of a board do to the invariant.
-use Rattle.std.proofs.Common.{◌≡◌, ℕ, List, [], ◌∷◌, ◌++◌, true, false, refl, ap, sym, subst, ◌∙◌, length, Option, Some, None, is_none}
+use Rattle.std.proofs.Common.{◌≡◌, ℕ, List, [], ◌∷◌, ◌++◌, true, false, refl, ap, sym, subst, ◌∙◌, length, Option, Some, None, IfSome, is_none}
 use Rattle.lnbd_keyed.specs.Keyed.{value_at, with_value, without}
 use Rattle.lnbd_keyed.proofs.KeyedLemmas.{value_at_with, without_with}
 use Rattle.lnbd_plan.specs.declared.grid.Slice.{Slice}
@@ -12,7 +12,7 @@ use Rattle.lnbd_board.specs.declared.row.Stage.{Stage}
 use Rattle.lnbd_board.specs.declared.row.Stage.TheVariants.{Reading, Last, Came, Writing, Holding, Finished}
 use Rattle.lnbd_board.specs.Requests.{Request, own}
 use Rattle.lnbd_board.specs.Rows.{is_busy, IsOver, StandsAt, slice_at}
-use Rattle.lnbd_board.specs.Asks.{Goes, Begins, is_over, IsFirstAsk, first_stage, read_at, written_by, zeroed_by}
+use Rattle.lnbd_board.specs.Asks.{Goes, Begins, IsChangeOf, is_over, IsFirstAsk, first_stage, read_at, written_by, zeroed_by}
 use Rattle.lnbd_board.specs.Board.{WentOn, IsOverAt, IsBoundTo, AsksOn, EndsRow, looked_at, risen}
 use Rattle.lnbd_board.specs.Files.{Seen}
 use Rattle.lnbd_board.proofs.Steps.{row_stands, ended, began_read, began_zero}
@@ -89,6 +89,7 @@ asks_on how n source destination asks one old rows2 came2 written2 zeroed2 is fi
       now = ap (λ (r : List (ℕ × Row)). looked_at old r came2 written2 zeroed2) here
           ∙ (ap (λ (m : ℕ). looked_at old there came2 m zeroed2) ew ∙ ap (λ (m : ℕ). looked_at old there came2 (risen old.written (written_by one)) m) ez);
       goes = subst (λ (o : Option Change). Goes how n o old.rows rows2) is (goes_of how n asks old.rows rows2 w);
+      inside = subst (λ (o : Option Change). IfSome o (λ one. IsChangeOf how w.row.slice one)) is w.inside;
     }
 
 pub ends_row : (how : How) (n source destination : ℕ) (asks : Option Change) (old : Seen) (rows2 rows3 : List (ℕ × Row)) (came2 : List ℕ) → asks ≡ None → old.came ≡ n ∷ came2 →

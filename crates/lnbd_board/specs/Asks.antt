@@ -1,5 +1,5 @@
 -- What a call of the board does to the invariant, for whatever slices, other rows and requests there are.
-use Rattle.std.specs.Prelude.{◌≡◌, ℕ, ◌-◌, ◌≤◌, Bool, true, false, take, drop, List, [], ◌∷◌, ◌++◌, length, replicate, Option, Some, None, if◌then◌else◌}
+use Rattle.std.specs.Prelude.{◌≡◌, ℕ, ◌+◌, ◌-◌, ◌<◌, ◌≤◌, Bool, true, false, take, drop, List, [], ◌∷◌, ◌++◌, length, replicate, Option, Some, None, if◌then◌else◌}
 use Rattle.lnbd_model.specs.declared.kind.Kind.TheVariants as kind
 use Rattle.lnbd_keyed.specs.Keyed.{value_at, with_value}
 use Rattle.lnbd_history.specs.Commands.{Command}
@@ -14,7 +14,7 @@ use Rattle.lnbd_board.specs.declared.row.Row.{Row}
 use Rattle.lnbd_board.specs.declared.row.Stage.{Stage}
 use Rattle.lnbd_board.specs.declared.row.Stage.TheVariants.{Reading, Last, Came, Writing, Holding, Finished}
 use Rattle.lnbd_board.specs.declared.ticket.Ticket.TheVariants as ticket
-use Rattle.lnbd_board.specs.Pieces.{Piece, spell1, ask_of, is_passed, kind_of, write_at, zeroing_kind, AreLeft, IsDense}
+use Rattle.lnbd_board.specs.Pieces.{Piece, spell1, ask_of, is_passed, kind_of, write_at, zero_flags, zeroing_kind, AreLeft, IsDense}
 use Rattle.lnbd_board.specs.Requests.{Request, asking}
 use Rattle.lnbd_board.specs.Rows.{IsChange, Stands}
 
@@ -40,6 +40,22 @@ destination_with (ask.Change one) n link cookie asked = asking link cookie (tick
 abbrev pub changed_with : Option Change → (n link cookie : ℕ) → List Request → List Request
 changed_with None n link cookie asked = asked
 changed_with (Some one) n link cookie asked = asking link cookie (ticket.Slice n) (change_of one) asked
+
+-- A range lies in a slice, and is not empty unless the slice is.
+pub record IsPartOf (s : Slice) (offset size : ℕ) : Type 0 where
+  pub some : 0 < s.length → 0 < size
+  pub after : s.start ≤ offset
+  pub before : offset + size ≤ s.start + s.length
+
+-- A change is one of a part of its slice. Zeroes are asked for, with the flags that are wished, only where the destination takes that.
+abbrev pub IsChangeOf : How → Slice → Change → Type 0
+IsChangeOf how s (change.Write offset bytes) = IsPartOf s offset (length bytes)
+IsChangeOf how s (change.Zero offset size flags) = IsPartOf s offset size × (flags ≡ zero_flags how.allocated) × (how.zeroes ≡ true)
+
+-- The first request of a slice is for its bytes.
+abbrev pub IsFirstOf : How → Slice → Ask → Type 0
+IsFirstOf how s (ask.Read offset buf) = (offset ≡ s.start) × (length buf ≡ s.length)
+IsFirstOf how s (ask.Change one) = IsChangeOf how s one
 
 -- how many bytes a change writes and zeroes
 abbrev pub written_by : Change → ℕ

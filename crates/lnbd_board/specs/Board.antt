@@ -1,5 +1,5 @@
 -- What a board's fields show and keep, and what its calls answer.
-use Rattle.std.specs.Prelude.{◌≡◌, ℕ, ◌+◌, ◌≤◌, ◌^◌, true, false, List, [], ◌∷◌, ◌++◌, length, Option, Some, None, min, is_some, is_none}
+use Rattle.std.specs.Prelude.{◌≡◌, ℕ, ◌+◌, ◌≤◌, ◌^◌, true, false, List, [], ◌∷◌, ◌++◌, length, Option, Some, None, IfSome, min, is_some, is_none}
 use Rattle.lnbd_keyed.specs.Keyed.{value_at, with_value, without, IsBelow, IsRising}
 use Rattle.lnbd_inflight.specs.Done.{is_done, IsOnce}
 use Rattle.lnbd_plan.specs.declared.grid.Slice.{Slice}
@@ -13,7 +13,7 @@ use Rattle.lnbd_board.specs.declared.row.Stage.{Stage}
 use Rattle.lnbd_board.specs.Files.{Seen}
 use Rattle.lnbd_board.specs.Requests.{Each}
 use Rattle.lnbd_board.specs.Rows.{is_busy, busy}
-use Rattle.lnbd_board.specs.Asks.{Goes, Advances, Sits, first_stage, is_over, written_by, zeroed_by, read_by, written_first, zeroed_first}
+use Rattle.lnbd_board.specs.Asks.{Goes, Advances, IsChangeOf, Sits, first_stage, is_over, written_by, zeroed_by, read_by, written_first, zeroed_first}
 
 -- a row of this number has nothing under way
 pub record IsIdle (rows : List (ℕ × Row)) (n : ℕ) : Type 0 where
@@ -64,6 +64,7 @@ pub record AsksOn (how : How) (n destination : ℕ) (one : Change) (old new : Se
   pub writes : destination ≡ row.destination
   pub now : new ≡ looked_at old (with_value n (record row { stage = stage }) old.rows) new.came (risen old.written (written_by one)) (risen old.zeroed (zeroed_by one))
   pub goes : Goes how n (Some one) old.rows new.rows
+  pub inside : IsChangeOf how row.slice one
 
 -- What comes next: the earliest row that something came for is over, or it asks for a change; or nothing came.
 abbrev pub IsNext : How → Next → Seen → Seen → Type 0
@@ -106,3 +107,4 @@ pub record WentOn (how : How) (n : ℕ) (asks : Option Change) (rows rows2 : Lis
   pub on : Advances how n row.slice row.stage new.stage asks
   pub busy : is_busy new.stage ≡ is_some asks
   pub sits : Sits how row.slice new.stage
+  pub inside : IfSome asks (λ one. IsChangeOf how row.slice one)

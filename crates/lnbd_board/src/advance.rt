@@ -1,9 +1,9 @@
 //! The next request of a row to which nothing is asked.
 
-ghost use Rattle.std.specs.Prelude.{◌≡◌, ℕ, ◌+◌, ◌≤◌, ◌^◌, [], ◌∷◌, true, false, length, IfOk, OnErr, is_some, is_none, None, Some, List};
+ghost use Rattle.std.specs.Prelude.{◌≡◌, ℕ, ◌+◌, ◌≤◌, ◌^◌, [], ◌∷◌, true, false, length, IfOk, IfSome, OnErr, is_some, is_none, None, Some, List};
 ghost use Rattle.lnbd_board.specs.Pieces.{detects, zero_flags, AreLeft};
 ghost use Rattle.lnbd_board.specs.Rows.{is_busy};
-ghost use Rattle.lnbd_board.specs.Asks.{Advances, Sits, IsCut, Cuts, Passes, cutting, is_over, is_cut, StartsKept, PassesFirst, bytes_of, IsReady, IsFirst, IsPart};
+ghost use Rattle.lnbd_board.specs.Asks.{Advances, IsChangeOf, Sits, IsCut, Cuts, Passes, cutting, is_over, is_cut, StartsKept, PassesFirst, bytes_of, IsReady, IsFirst, IsPart};
 ghost use Rattle.lnbd_board.specs.declared.row.Stage.TheVariants.{Holding};
 
 use crate::ask::Change;
@@ -12,11 +12,9 @@ use crate::pieces::Pieces;
 use crate::row::{Row, Stage};
 use lnbd_model::{Bytes, NoMemory};
 use lnbd_plan::{Slice, pieces};
+use lnbd_records::names::CMD_FLAG_NO_HOLE;
 use std::alloc::Global;
 use std::mem;
-
-/// The flag NO_HOLE of WRITE_ZEROES (NBD protocol, "Command flags").
-const NO_HOLE: u32 = 2;
 
 /// The next request of a row to which nothing is asked, or the row is over. It takes memory for the list of pieces
 /// and for the bytes of a piece that is not the whole slice.
@@ -27,6 +25,7 @@ pub(crate) fn advance(row: &mut Row, how: How, alloc: Global) -> Result<Option<C
     requires idle { is_busy row.old.stage ≡ false }
     requires room { row.old.slice.start + row.old.slice.length ≤ 2 ^ 63 }
     ensures ok { IfOk result (λ change. (n : ℕ) → Advances how n row.old.slice row.old.stage row.new.stage change) }
+    ensures inside { IfOk result (λ change. IfSome change (λ one. IsChangeOf how row.old.slice one)) }
     ensures busy { IfOk result (λ change. is_busy row.new.stage ≡ is_some change) }
     ensures over { IfOk result (λ change. is_over row.new.stage ≡ is_none change) }
     ensures err { OnErr result ((n : ℕ) → Advances how n row.old.slice row.old.stage row.new.stage None) }
@@ -168,6 +167,7 @@ fn ask(stage: Stage, part: Bytes, slice: Slice, how: How) -> (Stage, Option<Chan
     requires whole { is_cut stage ≡ true }
     requires sits { Sits how slice stage }
     ensures on { (n : ℕ) → Advances how n slice stage result.0 result.1 }
+    ensures inside { IfSome result.1 (λ one. IsChangeOf how slice one) }
     ensures sits { Sits how slice result.0 }
     ensures busy { is_busy result.0 ≡ is_some result.1 }
     ensures over { is_over result.0 ≡ is_none result.1 }
@@ -196,6 +196,7 @@ fn ask_piece(
     requires kept { how.skip ≡ true → piece.zero ≡ false }
     requires part { piece.zero ≡ false → (piece.length ≡ slice.length → ⊥) → part ≡ bytes_of slice bytes piece }
     ensures on { (n : ℕ) → Advances how n slice (Holding bytes (piece ∷ left)) result.0 (Some result.1) }
+    ensures inside { IsChangeOf how slice result.1 }
     ensures sits { Sits how slice result.0 }
     ensures busy { is_busy result.0 ≡ true }
     ensures over { is_over result.0 ≡ false }
@@ -226,5 +227,9 @@ fn ask_piece(
 pub(crate) fn zero_flags(allocated: bool) -> u32
     ensures { result ≡ zero_flags allocated }
 {
-    if allocated { NO_HOLE } else { 0 }
+    if allocated {
+        CMD_FLAG_NO_HOLE as u32
+    } else {
+        0
+    }
 }

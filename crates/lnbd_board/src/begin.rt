@@ -1,7 +1,7 @@
 //! The first request of a slice, and the buffers for it.
 
 ghost use Rattle.std.specs.Prelude.{◌≡◌, ℕ, ◌+◌, ◌≤◌, ◌^◌, [], true, false, length, IfOk, if◌then◌else◌};
-ghost use Rattle.lnbd_board.specs.Asks.{IsFirstAsk, first_stage};
+ghost use Rattle.lnbd_board.specs.Asks.{IsFirstAsk, IsFirstOf, first_stage};
 
 use crate::advance::zero_flags;
 use crate::ask::{Ask, Change};
@@ -21,7 +21,8 @@ pub(crate) fn first_ask(
 ) -> Result<Ask, NoMemory>
     requires room { slice.start + slice.length ≤ 2 ^ 63 }
     requires copied { slice.zero ≡ true → how.skip ≡ false }
-    ensures { IfOk result (λ one. IsFirstAsk how slice one) }
+    ensures first { IfOk result (λ one. IsFirstAsk how slice one) }
+    ensures inside { IfOk result (λ one. IsFirstOf how slice one) }
 {
     let offset = slice.start;
     let length = slice.length;

@@ -58,7 +58,7 @@ impl Model for Board {
 
 impl Board {
     ghost use Rattle.lnbd_board.specs.Files.{filed, Hears};
-    ghost use Rattle.lnbd_board.specs.Asks.{Begins, Goes};
+    ghost use Rattle.lnbd_board.specs.Asks.{Begins, Goes, IsFirstOf};
     ghost use Rattle.lnbd_board.specs.Board.{IsNext, begun_with, first_row};
 
     /// A board with no slices, of a copy that writes so. It takes no memory.
@@ -98,6 +98,7 @@ impl Board {
         requires room { slice.start + slice.length ≤ 2 ^ 63 }
         requires copied { slice.zero ≡ true → self.old.how.skip ≡ false }
         ensures ok { IfOk result (λ one. Begins self.old.how slice self.old.begun one self.old.rows self.new.rows) }
+        ensures inside { IfOk result (λ one. IsFirstOf self.old.how slice one) }
         ensures row { IfOk result (λ one. self.new ≡ begun_with self.old (first_row slice source destination) one) }
         ensures err { OnErr result (self.new ≡ self.old) }
     {

@@ -16,6 +16,9 @@ use Rattle.lnbd_cli.specs.Calls.{IsPlayDone, is_calls_status}
 use Rattle.lnbd_cli.specs.Copies.{IsCopyDone, is_copy_status}
 use Rattle.lnbd_cli.specs.Dumps.{IsDumpDone, is_dump_status}
 use Rattle.lnbd_cli.specs.Duplicates.{AreUntold, IsDuplicateDone, is_duplicate_status}
+use Rattle.lnbd_cli.specs.FileCopies.{is_files_status, is_mixed_status}
+use Rattle.lnbd_store.specs.declared.side.Side.{Side}
+use Rattle.lnbd_store.specs.declared.side.Side.TheVariants as side
 use Rattle.lnbd_cli.specs.Ends.{Came, End, IsReported, is_one_of, status_of}
 use Rattle.lnbd_cli.specs.Informs.{IsInfoDone, is_info_status}
 use Rattle.lnbd_cli.specs.Runs.{IsRefused, is_known, is_serving_known}
@@ -53,7 +56,9 @@ known_short (asked.Serve s) = serving_short s.content s.run
     serving_short (Made seed size) (program ∷ words) = refl
     serving_short (File path) run = refl
 known_short (asked.Copy options from to) = refl
-known_short (asked.FileCopy options from to) = refl
+known_short (asked.FileCopy options (side.Nbd from) to) = refl
+known_short (asked.FileCopy options (side.File from) (side.Nbd to)) = refl
+known_short (asked.FileCopy options (side.File from) (side.File to)) = refl
 known_short (asked.Dump place offset length) = refl
 known_short (asked.Selftest seed size) = refl
 
@@ -179,6 +184,41 @@ copy_done s is link silent = done (one_of (0 ∷ 3 ∷ 4 ∷ 5 ∷ 6 ∷ 7 ∷ 9
     done (inr (inr (inr (inr (inr (inl e)))))) = absurd (silent e)
     done (inr (inr (inr (inr (inr (inr (inl e))))))) = inr (inr (inr (inr e)))
     done (inr (inr (inr (inr (inr (inr (inr e))))))) = absurd e
+
+pub mixed_done : (s : ℕ) → is_mixed_status s ≡ true → (s ≡ 5 → ⊥) → (s ≡ 7 → ⊥) → (s ≡ 11 → ⊥) → IsCopyDone s
+mixed_done s is link silent store = done (one_of (0 ∷ 3 ∷ 4 ∷ 5 ∷ 6 ∷ 7 ∷ 9 ∷ 11 ∷ []) s is)
+  where
+    done : IsOneOf (0 ∷ 3 ∷ 4 ∷ 5 ∷ 6 ∷ 7 ∷ 9 ∷ 11 ∷ []) s → IsCopyDone s
+    done (inl e) = inl e
+    done (inr (inl e)) = inr (inl e)
+    done (inr (inr (inl e))) = inr (inr (inl e))
+    done (inr (inr (inr (inl e)))) = absurd (link e)
+    done (inr (inr (inr (inr (inl e))))) = inr (inr (inr (inl e)))
+    done (inr (inr (inr (inr (inr (inl e)))))) = absurd (silent e)
+    done (inr (inr (inr (inr (inr (inr (inl e))))))) = inr (inr (inr (inr e)))
+    done (inr (inr (inr (inr (inr (inr (inr (inl e)))))))) = absurd (store e)
+    done (inr (inr (inr (inr (inr (inr (inr (inr e)))))))) = absurd e
+
+-- no copy of which a side is a file ends with these statuses
+pub files_never : (from to : Side) (s : ℕ) → is_files_status from to s ≡ true → (s ≡ 8) ⊎ ((s ≡ 10) ⊎ (s ≡ 13)) → ⊥
+files_never from to s is (inl e) = by_sides from to (subst (λ (n : ℕ). is_files_status from to n ≡ true) e is)
+  where
+    by_sides : (from to : Side) → is_files_status from to 8 ≡ true → ⊥
+    by_sides (side.Nbd from) to is = cc is
+    by_sides (side.File from) (side.Nbd to) is = cc is
+    by_sides (side.File from) (side.File to) is = cc is
+files_never from to s is (inr (inl e)) = by_sides from to (subst (λ (n : ℕ). is_files_status from to n ≡ true) e is)
+  where
+    by_sides : (from to : Side) → is_files_status from to 10 ≡ true → ⊥
+    by_sides (side.Nbd from) to is = cc is
+    by_sides (side.File from) (side.Nbd to) is = cc is
+    by_sides (side.File from) (side.File to) is = cc is
+files_never from to s is (inr (inr e)) = by_sides from to (subst (λ (n : ℕ). is_files_status from to n ≡ true) e is)
+  where
+    by_sides : (from to : Side) → is_files_status from to 13 ≡ true → ⊥
+    by_sides (side.Nbd from) to is = cc is
+    by_sides (side.File from) (side.Nbd to) is = cc is
+    by_sides (side.File from) (side.File to) is = cc is
 
 pub duplicate_done : (s : ℕ) (now : Option Shelf) → is_duplicate_status s ≡ true → (s ≡ 6 → AreUntold now) → (s ≡ 11 → ⊥) → IsDuplicateDone now s
 duplicate_done s now is rule store = done (one_of (0 ∷ 6 ∷ 9 ∷ 11 ∷ []) s is)

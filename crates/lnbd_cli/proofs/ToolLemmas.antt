@@ -1,5 +1,5 @@
 -- What a run did is what its words asked.
-use Rattle.std.proofs.Common.{◌≡◌, ◌≢◌, ◌≤◌, ◌∷◌, ◌∙◌, ◌⊎◌, inl, inr, ℕ, true, true≢false, List, [], Option, Some, None, Result, Ok, Err, refl, sym, subst, arith, String}
+use Rattle.std.proofs.Common.{◌≡◌, ◌≢◌, ◌≤◌, ◌∷◌, ◌∙◌, ◌⊎◌, inl, inr, ℕ, true, List, [], Option, Some, None, Result, Ok, Err, refl, sym, subst, arith, String}
 use Rattle.std.specs.Prelude.{IsErrOf}
 use Rattle.std.specs.declared.alloc.Global.{Global}
 use Rattle.lnbd_args.specs.Tools.{Asks, IsContent, IsSize}
@@ -27,7 +27,8 @@ use Rattle.lnbd_cli.specs.Calls as calls
 use Rattle.lnbd_cli.specs.Copies as copies
 use Rattle.lnbd_cli.specs.Dumps as dumps
 use Rattle.lnbd_cli.specs.Duplicates as duplicates
-use Rattle.lnbd_cli.specs.Duplicates.{AreTwoFiles, FilesEnd}
+use Rattle.lnbd_cli.specs.FileCopies as files
+use Rattle.lnbd_cli.specs.FileCopies.{AreFileSides, FilesEnd, is_files_status}
 use Rattle.lnbd_cli.specs.Did.{AsksNoFile, AsksNoProgram, Did, HasRoom, IsOnWires, NeverReads}
 use Rattle.lnbd_cli.specs.Informs as informs
 use Rattle.lnbd_cli.specs.Serves as serves
@@ -57,11 +58,11 @@ few parts (Made seed size) is = omega (arith, (small _ size is.1))
 few parts (File path) is = tt
 
 -- what words may ask to be copied where a side is a file
-two_files : (words : List Word) (options : CopyOptions) (from to : Side) → Asks words (asked.FileCopy options from to) → AreTwoFiles options from to
-two_files words options (side.Nbd from) (side.Nbd to) asks = asks.5
-two_files words options (side.Nbd from) (side.File to) asks = let alike = asks.2.4.2.alike in absurd (true≢false (sym asks.4.0 ∙ sym alike ∙ asks.3.0))
-two_files words options (side.File from) (side.Nbd to) asks = let alike = asks.2.4.2.alike in absurd (true≢false (sym asks.3.0 ∙ alike ∙ asks.4.0))
-two_files words options (side.File from) (side.File to) asks =
+file_sides : (words : List Word) (options : CopyOptions) (from to : Side) → Asks words (asked.FileCopy options from to) → AreFileSides options from to
+file_sides words options (side.Nbd from) (side.Nbd to) asks = asks.5
+file_sides words options (side.Nbd from) (side.File to) asks = tt
+file_sides words options (side.File from) (side.Nbd to) asks = tt
+file_sides words options (side.File from) (side.File to) asks =
     let some = asks.2.4.1.request_size.0.at_least in
     ((λ e. asks.2.4.2.apart asks.3.0 (sym asks.3.1 ∙ e ∙ asks.4.1)), omega (arith, some))
 
@@ -70,7 +71,7 @@ room words asked.Calls asks = tt
 room words (asked.Info what json place) asks = tt
 room words (asked.Serve s) asks = few asks.1.2.hosts.parts s.content asks.1.2.hosts.serves.content_is
 room words (asked.Copy options from to) asks = tt
-room words (asked.FileCopy options from to) asks = two_files words options from to asks
+room words (asked.FileCopy options from to) asks = file_sides words options from to asks
 room words (asked.Dump place offset length) asks = tt
 room words (asked.Selftest seed size) asks = tt
 
@@ -88,7 +89,9 @@ on_wires words asked.Calls asks other = tt
 on_wires words (asked.Info what json place) asks other = tt
 on_wires words (asked.Serve s) asks other = tt
 on_wires words (asked.Copy options from to) asks other = tt
-on_wires words (asked.FileCopy options from to) asks other = other (inr (options, from, to, asks))
+on_wires words (asked.FileCopy options (side.Nbd from) to) asks other = tt
+on_wires words (asked.FileCopy options (side.File from) (side.Nbd to)) asks other = tt
+on_wires words (asked.FileCopy options (side.File from) (side.File to)) asks other = other (inr (record { options = options; from = from; to = to }, asks))
 on_wires words (asked.Dump place offset length) asks other = tt
 on_wires words (asked.Selftest seed size) asks other = other (inl (record { seed = seed; size = size }, asks))
 
@@ -139,10 +142,17 @@ module _ {I W O S P : Type 0} (left : I → Option (List ℕ)) (input : I) (told
   short (File path) run = refl
 
   filing : (options : CopyOptions) (from to : Side)
-      → FilesEnd options from to (moved store) (moved store) (shelf store) (shelf store) (gave store) (gave store) (took store) (took store) (store ≡ store) (Err fault.NoMemory)
-  filing options (side.File from) (side.File to) = duplicates.Unbegun refl refl
-  filing options (side.File from) (side.Nbd to) = (refl, refl)
-  filing options (side.Nbd from) to = (refl, refl)
+      → FilesEnd options from to (told wires) (told wires) (wires ≡ wires) (moved store) (moved store) (shelf store) (shelf store) (gave store) (gave store) (took store) (took store) (store ≡ store)
+      (Err fault.NoMemory)
+  filing options (side.File from) (side.File to) = (duplicates.Unbegun refl refl, refl)
+  filing options (side.File from) (side.Nbd to) = files.Unbegun refl (refl, refl)
+  filing options (side.Nbd from) (side.File to) = files.Unbegun refl (refl, refl)
+  filing options (side.Nbd from) (side.Nbd to) = (refl, refl, refl)
+
+  filed : (from to : Side) → is_files_status from to 9 ≡ true
+  filed (side.Nbd from) to = refl
+  filed (side.File from) (side.Nbd to) = refl
+  filed (side.File from) (side.File to) = refl
 
   unbegun : (a : Asked) → Unmade a
   unbegun asked.Calls = record { does = calls.NotRead (inr refl) (refl, refl); known = refl; accepts = λ held e. cc e; store_same = λ none. refl; spawn_same = λ none. refl; file = tt; child = tt }
@@ -158,8 +168,8 @@ module _ {I W O S P : Type 0} (left : I → Option (List ℕ)) (input : I) (told
   }
   unbegun (asked.Copy options from to) = record { does = (copies.Unbegun refl refl, refl); known = refl; accepts = tt; store_same = λ none. refl; spawn_same = λ none. refl; file = tt; child = tt }
   unbegun (asked.FileCopy options from to) = record {
-    does = (filing options from to, refl, refl);
-    known = refl;
+    does = (filing options from to, refl);
+    known = filed from to;
     accepts = tt;
     store_same = λ none. refl;
     spawn_same = λ none. refl;

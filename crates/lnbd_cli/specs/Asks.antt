@@ -9,6 +9,8 @@ use Rattle.lnbd_cli.specs.declared.ending.Fault.TheVariants as fault
 use Rattle.lnbd_cli.specs.declared.copying.Transfer.{Transfer}
 use Rattle.lnbd_cli.specs.declared.dumping.Excerpt.{Excerpt}
 use Rattle.lnbd_cli.specs.declared.duplicating.Duplication.{Duplication}
+use Rattle.lnbd_cli.specs.declared.filing.Download.{Download}
+use Rattle.lnbd_cli.specs.declared.filing.Upload.{Upload}
 use Rattle.lnbd_cli.specs.declared.hearing.Question.{Question}
 use Rattle.lnbd_cli.specs.declared.selftesting.Trial.{Trial}
 use Rattle.lnbd_cli.specs.declared.serving.Service.{Service}
@@ -76,6 +78,13 @@ IsCopy words t = Ask words (asked.Copy t.options t.from t.to)
 -- nbdcopy: this file is to be copied to that path
 abbrev pub IsDuplicate : List (String Global) → Duplication → Type 0
 IsDuplicate words d = Ask words (asked.FileCopy d.options (side.File d.from) (side.File d.to))
+
+-- nbdcopy: this export is to be copied to that file, or this file to that export
+abbrev pub IsDownload : List (String Global) → Download → Type 0
+IsDownload words d = Ask words (asked.FileCopy d.options (side.Nbd d.from) (side.File d.to))
+
+abbrev pub IsUpload : List (String Global) → Upload → Type 0
+IsUpload words u = Ask words (asked.FileCopy u.options (side.File u.from) (side.Nbd u.to))
 
 -- nbddump: these bytes are to be shown
 abbrev pub IsDump : List (String Global) → Excerpt → Type 0

@@ -12,7 +12,7 @@ use Rattle.lnbd_store.specs.declared.serving.Serving.{Serving}
 use Rattle.lnbd_cli.specs.Asks.{Ask, is_alone}
 use Rattle.lnbd_cli.specs.Beside.{FileServed, ProgramRan, is_all_done}
 use Rattle.lnbd_cli.specs.Calls.{HoldsScript}
-use Rattle.lnbd_cli.specs.Duplicates.{AreTwoFiles}
+use Rattle.lnbd_cli.specs.FileCopies.{AreFileSides, HasExport}
 use Rattle.lnbd_cli.specs.Ends.{End, status_of}
 use Rattle.lnbd_cli.specs.Hosts.{ServeDoes}
 use Rattle.lnbd_cli.specs.Runs.{RunsCalls, RunsCopy, RunsDump, RunsFiles, RunsInfo, RunsSelftest, is_known}
@@ -28,7 +28,7 @@ Does (asked.Serve s) left input input' told wires wires' taken out out' moved sh
 Does (asked.Copy options from to) left input input' told wires wires' taken out out' moved shelf gave took store store' deeds spawn spawn' end =
     RunsCopy (record { options = options; from = from; to = to }) told wires wires' out out' end
 Does (asked.FileCopy options from to) left input input' told wires wires' taken out out' moved shelf gave took store store' deeds spawn spawn' end =
-    RunsFiles options from to wires wires' out out' moved shelf gave took store store' end
+    RunsFiles options from to told wires wires' out out' moved shelf gave took store store' end
 Does (asked.Dump place offset length) left input input' told wires wires' taken out out' moved shelf gave took store store' deeds spawn spawn' end =
     RunsDump (record { place = place; offset = offset; length = length }) told wires wires' taken out out' end
 Does (asked.Selftest seed size) left input input' told wires wires' taken out out' moved shelf gave took store store' deeds spawn spawn' end =
@@ -90,13 +90,13 @@ abbrev pub DidAsked : {I W O S P : Type 0} → List (String Global) → (left : 
 DidAsked words left input input' told wires wires' taken out out' moved shelf gave took store store' deeds spawn spawn' end =
     (asked : Asked) → Ask words asked → Did left input input' told wires wires' taken out out' moved shelf gave took store store' deeds spawn spawn' end asked
 
--- What is to be served fits in memory, and two files that are to be copied are two.
+-- What is to be served fits in memory, and the sides of a copy are those that it can have.
 abbrev pub HasRoom : Asked → Type 0
 HasRoom asked.Calls = Unit {0}
 HasRoom (asked.Info what json place) = Unit {0}
 HasRoom (asked.Serve s) = IsFew s.content
 HasRoom (asked.Copy options from to) = Unit {0}
-HasRoom (asked.FileCopy options from to) = AreTwoFiles options from to
+HasRoom (asked.FileCopy options from to) = AreFileSides options from to
 HasRoom (asked.Dump place offset length) = Unit {0}
 HasRoom (asked.Selftest seed size) = Unit {0}
 
@@ -116,6 +116,6 @@ IsOnWires asked.Calls = Unit {0}
 IsOnWires (asked.Info what json place) = Unit {0}
 IsOnWires (asked.Serve s) = Unit {0}
 IsOnWires (asked.Copy options from to) = Unit {0}
-IsOnWires (asked.FileCopy options from to) = ⊥
+IsOnWires (asked.FileCopy options from to) = HasExport from to
 IsOnWires (asked.Dump place offset length) = Unit {0}
 IsOnWires (asked.Selftest seed size) = ⊥

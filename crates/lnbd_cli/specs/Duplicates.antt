@@ -1,11 +1,8 @@
 -- What a run of nbdcopy between two files is: what stands in the store, by which calls, and how the run ended.
 use Rattle.std.specs.Prelude.{◌≡◌, ◌≢◌, ◌⊎◌, ◌∷◌, ◌<◌, ℕ, Bool, true, List, [], Option, Some, Ok, Err}
-use Rattle.lnbd_plan.specs.declared.options.CopyOptions.{CopyOptions}
 use Rattle.lnbd_plan.specs.declared.summary.Summary.{Summary}
 use Rattle.lnbd_store.specs.Call.{Call as Move}
 use Rattle.lnbd_store.specs.Shelf.{Shelf}
-use Rattle.lnbd_store.specs.declared.side.Side.{Side}
-use Rattle.lnbd_store.specs.declared.side.Side.TheVariants as side
 use Rattle.lnbd_touched.specs.Grown.{Grew}
 use Rattle.lnbd_copyfile.specs.Between.{HasCopied, HasPassed, IsSummed}
 use Rattle.lnbd_copyfile.specs.Calls.{HasDone, NotDone}
@@ -15,12 +12,6 @@ use Rattle.lnbd_cli.specs.declared.duplicating.Duplication.{Duplication}
 use Rattle.lnbd_cli.specs.declared.ending.Fault.TheVariants as fault
 use Rattle.lnbd_cli.specs.declared.ending.Ruling.TheVariants as ruling
 use Rattle.lnbd_cli.specs.Ends.{End, is_one_of}
-
--- Two files are two, and a slice has bytes. (No words ask for a copy of which one side is a file and the other an export.)
-abbrev pub AreTwoFiles : CopyOptions → (from to : Side) → Type 0
-AreTwoFiles options (side.Nbd from) to = ⊥
-AreTwoFiles options (side.File from) (side.Nbd to) = ⊥
-AreTwoFiles options (side.File from) (side.File to) = (from ≢ to) × (0 < options.request_size)
 
 -- The file at the second path was made exactly the one at the first, and every other file is as it was. It was done by these calls, which the transcript grew by; so many bytes were read and written,
 -- and those that were passed over lie in zero pieces.
@@ -48,13 +39,6 @@ pub data DuplicateEnds (d : Duplication) (moved moved' : Option (List Move)) (sh
       → DuplicateEnds d moved moved' shelf shelf' given given' taken taken' Untouched end
   Lacked_memory : end ≡ Err fault.NoMemory → HasStopped d moved moved' stop.NoMemory → DuplicateEnds d moved moved' shelf shelf' given given' taken taken' Untouched end
   Unbegun : end ≡ Err fault.NoMemory → Untouched → DuplicateEnds d moved moved' shelf shelf' given given' taken taken' Untouched end
-
--- How a copy ends of which a side is a file: two files are copied so. (Another one is asked for by no words, and never begun.)
-abbrev pub FilesEnd : CopyOptions → (from to : Side) → (moved moved' : Option (List Move)) (shelf shelf' : Option Shelf) (given given' taken taken' : ℕ) (Untouched : Type 0) → End → Type 0
-FilesEnd options (side.File from) (side.File to) moved moved' shelf shelf' given given' taken taken' Untouched end =
-    DuplicateEnds (record { options = options; from = from; to = to }) moved moved' shelf shelf' given given' taken taken' Untouched end
-FilesEnd options (side.File from) (side.Nbd to) moved moved' shelf shelf' given given' taken taken' Untouched end = (end ≡ Err fault.NoMemory) × Untouched
-FilesEnd options (side.Nbd from) to moved moved' shelf shelf' given given' taken taken' Untouched end = (end ≡ Err fault.NoMemory) × Untouched
 
 -- the statuses of such a run, and those of one in which no count rose
 abbrev pub is_duplicate_status : (status : ℕ) → Bool

@@ -9,6 +9,7 @@ pub mod Serves
 pub mod Beside
 pub mod Copies
 pub mod Duplicates
+pub mod FileCopies
 pub mod Dumps
 pub mod Trials
 pub mod Runs

@@ -12,19 +12,21 @@ use Rattle.lnbd_store.specs.declared.serving.Content.{Content}
 use Rattle.lnbd_store.specs.declared.serving.Content.TheVariants.{Made, File}
 use Rattle.lnbd_store.specs.declared.serving.Serving.{Serving}
 use Rattle.lnbd_store.specs.declared.side.Side.{Side}
-use Rattle.lnbd_store.specs.declared.side.Side.TheVariants as side
 use Rattle.lnbd_cli.specs.declared.copying.Transfer.{Transfer}
 use Rattle.lnbd_cli.specs.declared.dumping.Excerpt.{Excerpt}
 use Rattle.lnbd_cli.specs.declared.duplicating.Duplication.{Duplication}
+use Rattle.lnbd_cli.specs.declared.filing.Download.{Download}
+use Rattle.lnbd_cli.specs.declared.filing.Upload.{Upload}
 use Rattle.lnbd_cli.specs.declared.hearing.Question.{Question}
 use Rattle.lnbd_cli.specs.declared.selftesting.Trial.{Trial}
 use Rattle.lnbd_cli.specs.declared.serving.Service.{Service}
-use Rattle.lnbd_cli.specs.Asks.{AskFileCopy, IsBeside, IsCalls, IsSelftest, Refuses}
+use Rattle.lnbd_cli.specs.Asks.{IsBeside, IsCalls, IsDuplicate, IsSelftest, Refuses}
 use Rattle.lnbd_cli.specs.Beside.{BesideEnds, is_beside_status}
 use Rattle.lnbd_cli.specs.Calls.{CallsEnds, HoldsScript, is_calls_status}
 use Rattle.lnbd_cli.specs.Copies.{CopyEnds, is_copy_status}
 use Rattle.lnbd_cli.specs.Dumps.{DumpEnds, is_dump_status}
-use Rattle.lnbd_cli.specs.Duplicates.{FilesEnd, is_duplicate_status}
+use Rattle.lnbd_cli.specs.Duplicates.{DuplicateEnds}
+use Rattle.lnbd_cli.specs.FileCopies.{DownloadEnds, FilesEnd, UploadEnds, is_files_status}
 use Rattle.lnbd_cli.specs.Ends.{End, IsPatient, IsReported, IsSound, Prints}
 use Rattle.lnbd_cli.specs.Informs.{InfoEnds, is_info_status}
 use Rattle.lnbd_cli.specs.Serves.{ServeEnds, is_serve_status}
@@ -66,16 +68,30 @@ Tells taken faults err err' status end = IsReported end (Prints taken faults err
 abbrev pub RunsCopy : {W O : Type 0} → Transfer → (told : W → Option (List Call)) (wires wires' : W) (out out' : O) → End → Type 0
 RunsCopy transfer told wires wires' out out' end = CopyEnds transfer (told wires) (told wires') (wires' ≡ wires) end × (out' ≡ out)
 
--- nbdcopy: where a side is a file this was copied, no call was made on the wires, and nothing printed on out
-abbrev pub RunsFiles : {W O S : Type 0} → CopyOptions → (from to : Side) → (wires wires' : W) (out out' : O)
+-- nbdcopy: where a side is a file this was copied, and nothing printed on out
+abbrev pub RunsFiles : {W O S : Type 0} → CopyOptions → (from to : Side) → (told : W → Option (List Call)) (wires wires' : W) (out out' : O)
     (moved : S → Option (List Move)) (shelf : S → Option Shelf) (gave took : S → ℕ) (store store' : S) → End → Type 0
-RunsFiles options from to wires wires' out out' moved shelf gave took store store' end =
-    FilesEnd options from to (moved store) (moved store') (shelf store) (shelf store') (gave store) (gave store') (took store) (took store') (store' ≡ store) end × (wires' ≡ wires) × (out' ≡ out)
+RunsFiles options from to told wires wires' out out' moved shelf gave took store store' end =
+    FilesEnd options from to (told wires) (told wires') (wires' ≡ wires) (moved store) (moved store') (shelf store) (shelf store') (gave store) (gave store') (took store) (took store') (store' ≡ store) end
+    × (out' ≡ out)
 
--- nbdcopy: this file was copied to that path
+-- nbdcopy: this file was copied to that path, and no call was made on the wires
 abbrev pub RunsDuplicate : {W O S : Type 0} → Duplication → (wires wires' : W) (out out' : O)
     (moved : S → Option (List Move)) (shelf : S → Option Shelf) (gave took : S → ℕ) (store store' : S) → End → Type 0
-RunsDuplicate d wires wires' out out' moved shelf gave took store store' end = RunsFiles d.options (side.File d.from) (side.File d.to) wires wires' out out' moved shelf gave took store store' end
+RunsDuplicate d wires wires' out out' moved shelf gave took store store' end =
+    DuplicateEnds d (moved store) (moved store') (shelf store) (shelf store') (gave store) (gave store') (took store) (took store') (store' ≡ store) end × (wires' ≡ wires) × (out' ≡ out)
+
+-- nbdcopy: this export was copied to that file
+abbrev pub RunsDownload : {W O S : Type 0} → Download → (told : W → Option (List Call)) (wires wires' : W) (out out' : O)
+    (moved : S → Option (List Move)) (shelf : S → Option Shelf) (took : S → ℕ) (store store' : S) → End → Type 0
+RunsDownload d told wires wires' out out' moved shelf took store store' end =
+    DownloadEnds d (told wires) (told wires') (moved store) (moved store') (shelf store) (shelf store') (took store) (took store') ((wires' ≡ wires) × (store' ≡ store)) end × (out' ≡ out)
+
+-- nbdcopy: this file was copied to that export
+abbrev pub RunsUpload : {W O S : Type 0} → Upload → (told : W → Option (List Call)) (wires wires' : W) (out out' : O)
+    (moved : S → Option (List Move)) (shelf : S → Option Shelf) (gave : S → ℕ) (store store' : S) → End → Type 0
+RunsUpload u told wires wires' out out' moved shelf gave store store' end =
+    UploadEnds u (told wires) (told wires') (moved store) (moved store') (shelf store) (shelf store') (gave store) (gave store') ((wires' ≡ wires) × (store' ≡ store)) end × (out' ≡ out)
 
 -- nbddump: these bytes were shown
 abbrev pub RunsDump : {W O : Type 0} → Excerpt → (told : W → Option (List Call)) (wires wires' : W) (taken : O → Option (List ℕ)) (out out' : O) → End → Type 0
@@ -121,9 +137,9 @@ pub record Still {W O S P : Type 0} (faults idles : W → ℕ) (wires wires' : W
   pub stores : IsSound stored store store'
   pub spawns : IsSound spawned spawn spawn'
 
--- They ask for what needs no wires: a copy in memory, or one of which a side is a file.
+-- They ask for what needs no wires: a copy in memory, or one between two files.
 abbrev pub AskOffWires : List (String Global) → Type 0
-AskOffWires words = ((trial : Trial) × IsSelftest words trial) ⊎ AskFileCopy words
+AskOffWires words = ((trial : Trial) × IsSelftest words trial) ⊎ ((d : Duplication) × IsDuplicate words d)
 
 -- The statuses that serve tells, by whether it serves made contents alone.
 abbrev pub is_serving_known : Content → (run : List (List ℕ)) → (status : ℕ) → Bool
@@ -137,6 +153,6 @@ is_known asked.Calls status = is_calls_status status
 is_known (asked.Info what json place) status = is_info_status status
 is_known (asked.Serve s) status = is_serving_known s.content s.run status
 is_known (asked.Copy options from to) status = is_copy_status status
-is_known (asked.FileCopy options from to) status = is_duplicate_status status
+is_known (asked.FileCopy options from to) status = is_files_status from to status
 is_known (asked.Dump place offset length) status = is_dump_status status
 is_known (asked.Selftest seed size) status = is_test_status status

@@ -23,7 +23,7 @@ pub(crate) struct Transfer {
 }
 
 /// What is told of a fault of copying.
-fn told(fault: CopyFault) -> Fault
+pub(crate) fn told(fault: CopyFault) -> Fault
     ensures told { TellsCopyFault fault result }
     ensures known { is_copy_status (status_of (Err result)) ≡ true }
 {

@@ -1,13 +1,14 @@
-//! nbdcopy between two files: one is copied to another path of the store, and how such a run ends (nbdcopy(1)). Copies between exports are in `copying`.
+//! nbdcopy between two files: one is copied to another path of the store, and how such a run ends (nbdcopy(1)). Where a side is an export, a copy
+//! is in `copying` or `filing`.
 
 ghost use Rattle.std.specs.Prelude.{◌≡◌, ◌≢◌, ◌<◌, Err, true};
 ghost use Rattle.lnbd_link.specs.Count.{Rises};
-ghost use Rattle.lnbd_cli.specs.Duplicates.{AreTwoFiles, DuplicateEnds, FilesEnd, is_duplicate_status};
+ghost use Rattle.lnbd_cli.specs.Duplicates.{DuplicateEnds, is_duplicate_status};
 ghost use Rattle.lnbd_cli.specs.Ends.{status_of};
 ghost use Rattle.lnbd_cli.specs.declared.ending.Fault.TheVariants as fault;
 
 use crate::ending::{End, Fault, Ruling};
-use lnbd_args::{CopyOptions, Side};
+use lnbd_args::CopyOptions;
 use lnbd_copyfile::{FileFault, copy_between};
 use lnbd_model::Text;
 use lnbd_store::Store;
@@ -22,7 +23,7 @@ pub(crate) struct Duplication {
 }
 
 /// Copies a file to another path.
-fn duplicate<S: Store>(alloc: Global, what: Duplication, store: &mut S) -> End
+pub(crate) fn duplicate<S: Store>(alloc: Global, what: Duplication, store: &mut S) -> End
     requires apart { what.from ≢ what.to }
     requires cell { 0 < what.options.request_size }
     ensures ends { DuplicateEnds what (S.told store.old) (S.told store.new) (S.shelf store.old) (S.shelf store.new)
@@ -38,27 +39,5 @@ fn duplicate<S: Store>(alloc: Global, what: Duplication, store: &mut S) -> End
         Err(FileFault::Changed { length, end }) => {
             Err(Fault::Rule(Ruling::Changed { length, end }))
         }
-    }
-}
-
-/// Copies where a side is a file.
-pub(crate) fn copy_files<S: Store>(
-    alloc: Global,
-    options: CopyOptions,
-    from: Side,
-    to: Side,
-    store: &mut S,
-) -> End
-    requires { AreTwoFiles options from to }
-    ensures ends { FilesEnd options from to (S.told store.old) (S.told store.new) (S.shelf store.old) (S.shelf store.new)
-        (S.given store.old) (S.given store.new) (S.taken store.old) (S.taken store.new) (store.new ≡ store.old) result }
-    ensures known { is_duplicate_status (status_of result) ≡ true }
-    ensures storing { result ≡ Err fault.Store → Rises 1 (S.faults store.old) (S.faults store.new) }
-{
-    match (from, to) {
-        (Side::File(from), Side::File(to)) => {
-            duplicate(alloc, Duplication { options, from, to }, store)
-        }
-        _ => unreachable!(),
     }
 }

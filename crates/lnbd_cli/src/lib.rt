@@ -9,6 +9,7 @@ mod counts;
 mod dumping;
 mod duplicating;
 mod ending;
+mod filing;
 mod hearing;
 mod informing;
 mod input;

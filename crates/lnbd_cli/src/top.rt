@@ -4,7 +4,7 @@ ghost use Rattle.std.specs.Prelude.{◌≡◌, ◌⊎◌, ◌<◌, ◌≤◌, Er
 ghost use Rattle.lnbd_args.specs.declared.asked.Asked.{Asked};
 ghost use Rattle.lnbd_link.specs.Count.{Rises, patience};
 ghost use Rattle.lnbd_store.specs.declared.serving.Serving.{Serving};
-ghost use Rattle.lnbd_cli.specs.Asks.{Ask, AskBeside, AskFile, AskNothing, AskProgram, IsBeside, IsCalls, IsCopy, IsDump, IsDuplicate, IsInfo, IsSelftest, IsServe};
+ghost use Rattle.lnbd_cli.specs.Asks.{Ask, AskBeside, AskFile, AskNothing, AskProgram, IsBeside, IsCalls, IsCopy, IsDownload, IsDump, IsDuplicate, IsInfo, IsSelftest, IsServe, IsUpload};
 ghost use Rattle.lnbd_cli.specs.Beside.{FileServed, IsBesideDone, ProgramRan, is_all_done};
 ghost use Rattle.lnbd_cli.specs.Calls.{IsPlayDone};
 ghost use Rattle.lnbd_cli.specs.Copies.{IsCopyDone};
@@ -15,13 +15,15 @@ ghost use Rattle.lnbd_cli.specs.Ends.{Came, IsPatient, IsSound, Prints, ShowsFau
 ghost use Rattle.lnbd_cli.specs.Informs.{IsInfoDone};
 ghost use Rattle.lnbd_cli.specs.Inputs.{ReadAtMost};
 ghost use Rattle.lnbd_cli.specs.Runs.{AreQuiet, AreSound, AskOffWires, Beside, IsPlay, IsRefused, Nothing, Refused, Still, Tells, is_known};
-ghost use Rattle.lnbd_cli.specs.Runs.{RunsCalls, RunsCopy, RunsDump, RunsDuplicate, RunsInfo, RunsSelftest, RunsServe};
+ghost use Rattle.lnbd_cli.specs.Runs.{RunsCalls, RunsCopy, RunsDownload, RunsDump, RunsDuplicate, RunsInfo, RunsSelftest, RunsServe, RunsUpload};
 ghost use Rattle.lnbd_cli.specs.Serves.{IsServeDone};
 ghost use Rattle.lnbd_cli.specs.Limits.{most_read, most_tested};
 ghost use Rattle.lnbd_cli.specs.declared.copying.Transfer.{Transfer};
 ghost use Rattle.lnbd_cli.specs.declared.dumping.Excerpt.{Excerpt};
 ghost use Rattle.lnbd_cli.specs.declared.duplicating.Duplication.{Duplication};
 ghost use Rattle.lnbd_cli.specs.declared.ending.Fault.TheVariants as fault;
+ghost use Rattle.lnbd_cli.specs.declared.filing.Download.{Download};
+ghost use Rattle.lnbd_cli.specs.declared.filing.Upload.{Upload};
 ghost use Rattle.lnbd_cli.specs.declared.hearing.Question.{Question};
 ghost use Rattle.lnbd_cli.specs.declared.selftesting.Trial.{Trial};
 ghost use Rattle.lnbd_cli.specs.declared.serving.Service.{Service};
@@ -30,8 +32,9 @@ use crate::calling::calls;
 use crate::copying::{Transfer, copy};
 use crate::counts::tally;
 use crate::dumping::{Excerpt, show};
-use crate::duplicating::{Duplication, copy_files};
+use crate::duplicating::Duplication;
 use crate::ending::{End, print_end};
+use crate::filing::{Download, Upload, copy_files};
 use crate::hearing::Question;
 use crate::informing::inform;
 use crate::reading::read;
@@ -67,6 +70,10 @@ pub fn run<W: Wires, I: Source, O: Sink, E: Sink, S: Store, P: Spawner>(
     ensures beside { Beside words.now W.told wires.old wires.new O.taken out.old out.new S.told store.old store.new P.told spawn.old spawn.new (Tells E.taken E.faults err.old err.new result) }
     ensures copy { (t : Transfer) → IsCopy words.now t → Came (RunsCopy t W.told wires.old wires.new out.old out.new) (Prints E.taken E.faults err.old err.new) result }
     ensures duplicate { (d : Duplication) → IsDuplicate words.now d → Came (RunsDuplicate d wires.old wires.new out.old out.new S.told S.shelf S.given S.taken store.old store.new)
+        (Prints E.taken E.faults err.old err.new) result }
+    ensures download { (d : Download) → IsDownload words.now d → Came (RunsDownload d W.told wires.old wires.new out.old out.new S.told S.shelf S.taken store.old store.new)
+        (Prints E.taken E.faults err.old err.new) result }
+    ensures upload { (u : Upload) → IsUpload words.now u → Came (RunsUpload u W.told wires.old wires.new out.old out.new S.told S.shelf S.given store.old store.new)
         (Prints E.taken E.faults err.old err.new) result }
     ensures dump { (e : Excerpt) → IsDump words.now e → Came (RunsDump e W.told wires.old wires.new O.taken out.old out.new) (Prints E.taken E.faults err.old err.new) result }
     ensures selftest { (t : Trial) → IsSelftest words.now t → Came (RunsSelftest t wires.old wires.new O.taken out.old out.new) (Prints E.taken E.faults err.old err.new) result }
@@ -119,6 +126,8 @@ pub fn run<W: Wires, I: Source, O: Sink, E: Sink, S: Store, P: Spawner>(
     ensures beside_done { AskBeside words.now → Still W.faults W.idles wires.old wires.new O.faults out.old out.new S.faults store.old store.new P.faults spawn.old spawn.new → IsBesideDone result }
     ensures copy_complete { (t : Transfer) → IsCopy words.now t → AreQuiet W.faults W.idles wires.old wires.new → IsCopyDone result }
     ensures duplicate_complete { (d : Duplication) → IsDuplicate words.now d → IsSound S.faults store.old store.new → IsDuplicateDone (S.shelf store.new) result }
+    ensures download_complete { (d : Download) → IsDownload words.now d → AreQuiet W.faults W.idles wires.old wires.new → IsSound S.faults store.old store.new → IsCopyDone result }
+    ensures upload_complete { (u : Upload) → IsUpload words.now u → AreQuiet W.faults W.idles wires.old wires.new → IsSound S.faults store.old store.new → IsCopyDone result }
     ensures dump_complete { (e : Excerpt) → IsDump words.now e → AreQuiet W.faults W.idles wires.old wires.new → IsSound O.faults out.old out.new → IsDumpDone result }
     ensures selftest_complete { (t : Trial) → IsSelftest words.now t → t.size ≤ most_tested → IsSound O.faults out.old out.new → (result ≡ 0) ⊎ (result ≡ 9) }
     ensures selftest_refuses { (t : Trial) → IsSelftest words.now t → most_tested < t.size → (result ≡ 6) ⊎ (result ≡ 9) }
@@ -163,7 +172,9 @@ fn act<W: Wires, I: Source, O: Sink, S: Store, P: Spawner>(
         }
         Asked::Serve(asked) => attend(alloc, asked, wires, out, store, spawn),
         Asked::Copy { options, from, to } => copy(alloc, Transfer { options, from, to }, wires),
-        Asked::FileCopy { options, from, to } => copy_files(alloc, options, from, to, store),
+        Asked::FileCopy { options, from, to } => {
+            copy_files(alloc, options, from, to, wires, store)
+        }
         Asked::Dump {
             place,
             offset,

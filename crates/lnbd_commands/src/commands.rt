@@ -2,7 +2,7 @@
 
 ghost use Rattle.std.specs.Prelude.{◌≡◌, ◌≤◌, ◌+◌, [], ◌∷◌, ℕ, List, true, false, Some, None, IsSome, IfOk, IfErr, OnOk, OnErr, is_some, length};
 ghost use Rattle.std.specs.Option.{option_map};
-ghost use Rattle.lnbd_keyed.specs.Keyed.{value_at, keys};
+ghost use Rattle.lnbd_keyed.specs.Keyed.{holds_key, value_at, keys};
 ghost use Rattle.lnbd_history.specs.Answers.{peeked_of};
 ghost use Rattle.lnbd_history.specs.Commands.{Command, callbacks, flight_of};
 ghost use Rattle.lnbd_history.specs.Entries.{Dropped, Framed, Lost};
@@ -96,6 +96,14 @@ impl<K> Commands<K> {
                 }
             }
         }
+    }
+
+    /// Whether a command is not retired. What is asked of it next, and of no other one between, searches for it no more.
+    pub fn find(&mut self, cookie: u64) -> bool
+        ensures held { result ≡ holds_key cookie self.old.rows }
+        ensures unchanged { self.new ≡ self.old }
+    {
+        self.table.find(cookie)
     }
 
     /// What is known of a command, while it is in flight.

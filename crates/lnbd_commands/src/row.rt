@@ -25,7 +25,7 @@ use std::marker::Model;
 use std::mem::replace;
 
 /// The status of data in a chunk callback (libnbd, LIBNBD_READ_DATA).
-const READ_DATA: u32 = 1;
+pub(crate) const READ_DATA: u32 = 1;
 
 /// What a caller asks for. A read's buffer is to be filled, a write's is to be sent; both have the
 /// asked length. Other commands have an empty one.

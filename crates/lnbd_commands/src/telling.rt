@@ -17,16 +17,14 @@ ghost use Rattle.lnbd_commands.specs.Told.{Fits, ZerosOf, query_by, told_bytes};
 
 use crate::content::Brought;
 use crate::flight::Hearing;
-use crate::row::{Row, hear, number_of};
+use crate::row::{READ_DATA, Row, hear, number_of};
 use lnbd_callbacks::{Caller, Desk, Heard};
 use lnbd_model::{Context, Contexts, Kind, NoMemory, told_error};
 use lnbd_structured::{Told, put_data, put_zeros};
 use std::alloc::Global;
 use std::mem::replace;
 
-// The statuses of chunks in a chunk callback (libnbd, nbd_aio_pread_structured).
-const READ_DATA: u32 = 1;
-
+// The other statuses of chunks in a chunk callback (libnbd, nbd_aio_pread_structured).
 const READ_HOLE: u32 = 2;
 
 const READ_ERROR: u32 = 3;

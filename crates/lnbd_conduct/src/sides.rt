@@ -1,6 +1,6 @@
 //! Which handle of a copy is which connection. What is asked on it is not known here.
 
-ghost use Rattle.std.specs.Prelude.{◌≡◌, ◌<◌, ◌≤◌, ◌-◌, ◌^◌, true, false};
+ghost use Rattle.std.specs.Prelude.{◌≡◌, ◌<◌, ◌≤◌, ◌+◌, ◌-◌, ◌^◌, true, false};
 ghost use Rattle.lnbd_conduct.specs.Sides.{first_of, connection_of, is_source};
 
 /// How many connections each side has. The first handle that is held is the source's first connection and the second the
@@ -28,6 +28,7 @@ impl Sides {
         requires { connection < self.source }
         ensures side { is_source self result ≡ true }
         ensures here { connection_of self result ≡ connection }
+        ensures few { result ≤ self.source }
     {
         if connection == 0 {
             return FIRST_SOURCE;
@@ -40,6 +41,7 @@ impl Sides {
         requires { 0 < self.source }
         ensures side { is_source self result ≡ false }
         ensures here { result < 2 ^ 64 - 1 → connection_of self result ≡ connection }
+        ensures few { connection < self.destination → result < self.source + self.destination }
     {
         if connection == 0 {
             return FIRST_DESTINATION;

@@ -44,6 +44,7 @@ use Rattle.lnbd_copy.specs.Firsts.{KnowBoth, Knows}
 use Rattle.lnbd_copy.specs.Giving.{GivesNone}
 use Rattle.lnbd_copy.specs.Grounds.{AllSame, Happened, Happens}
 use Rattle.lnbd_conduct.specs.Told.{AtSome, Told}
+use Rattle.lnbd_copy.specs.Ready.{IsReadyFor, told_on}
 use Rattle.lnbd_copy.specs.Settled.{FindsTerms, HasSettled}
 use Rattle.lnbd_copy.specs.Way.{IsOn, Stand, Way}
 use Rattle.lnbd_conduct.specs.Sides.{is_source}
@@ -105,27 +106,21 @@ none_some seen e = cc
 some_same : (one other : Seen Ticket) → Some one ≡ Some other → one ≡ other
 some_same one other e = cc
 
--- what was told by this history is the same as this
-record IsAlike (info : ExportInfo) (history : History Ticket) : Type 0 where
-  other : ExportInfo
-  shown : IsShown other history
-  same : AreSame info other
-
 -- A quiet handle that knows an export tells of it, whatever history it stands for.
 one_alike : (info : ExportInfo) (handle : Machine Ticket) (history history' : History Ticket) → StandsFor max_unretired history handle → StandsFor max_unretired history' handle → state_after history' ≡ state.Ready → export_known history ≡ Some (export_in info) →
-    IsAlike info history'
+    IsReadyFor info history'
 one_alike info handle history history' stands stands' ready known =
     let all = steps (reading history).known.turns in
     let tells : Tells info (info_after history) = known_tells (phase (reading history).known.turns) (export all) (contexts all) (structured all) (extended all) info known in
     let same : info_after history' ≡ info_after history = sym (stands_right max_unretired history' handle stands').info ∙ (stands_right max_unretired history handle stands).info in
     record { other = tells.other; shown = record { ready = ready; shown = same ∙ tells.is }; same = tells.same }
 
-first_alike : (index : ℕ) (info : ExportInfo) (held : List (Held Ticket)) (seens others : List (Seen Ticket)) (seen : Seen Ticket) → AreQuiet held → AreAt held seens → AreAt held others → Knows index info others → slice_get seens index ≡ Some seen → IsAlike info seen.history
+first_alike : (index : ℕ) (info : ExportInfo) (held : List (Held Ticket)) (seens others : List (Seen Ticket)) (seen : Seen Ticket) → AreQuiet held → AreAt held seens → AreAt held others → Knows index info others → slice_get seens index ≡ Some seen → IsReadyFor info seen.history
 first_alike index info held [] others seen quiet at at' knows there = absurd (none_some seen there)
 first_alike index info held (here ∷ seens) [] seen quiet at at' knows there = absurd (none_some knows.seen knows.there)
 first_alike index info [] (here ∷ seens) (last ∷ others) seen quiet at at' knows there = absurd at
 first_alike zero info (one ∷ held) (here ∷ seens) (last ∷ others) seen quiet at at' knows there =
-    subst (λ (s : Seen Ticket). IsAlike info s.history) (some_same here seen there)
+    subst (λ (s : Seen Ticket). IsReadyFor info s.history) (some_same here seen there)
     (one_alike info one.handle last.history here.history at'.0.stands at.0.stands ((quiet 0 one refl).ready here.history at.0.stands)
     (subst (λ (s : Seen Ticket). export_known s.history ≡ Some (export_in info)) (sym (some_same last knows.seen knows.there)) knows.known))
 first_alike (suc index) info (one ∷ held) (here ∷ seens) (last ∷ others) seen quiet at at' knows there =
@@ -146,17 +141,13 @@ shown_same one other history shown shown' = some_info (sym shown.shown ∙ shown
 same_then : (a b c : ExportInfo) → AreSame a b → AreSame b c → AreSame a c
 same_then a b c one two = record { size = one.size ∙ two.size; flags = one.flags ∙ two.flags; blocks = one.blocks ∙ two.blocks }
 
--- what the first of a side was told
-abbrev info_at : (source destination : ExportInfo) → Bool → ExportInfo
-info_at source destination b = if b then source else destination
-
 module _ (source destination : ExportInfo) (sides : Sides) (held : List (Held Ticket)) (seens : List (Seen Ticket)) (quiet : AreQuiet held) (at : AreAt held seens) (know : KnowBoth source destination held) where
   -- the first of the side that a handle is on
-  beside : (b : Bool) (h : Happened (λ history. Unit {0}) (if b then 0 else 1) seens) → IsAlike (info_at source destination b) h.seen.history
+  beside : (b : Bool) (h : Happened (λ history. Unit {0}) (if b then 0 else 1) seens) → IsReadyFor (told_on source destination b) h.seen.history
   beside true h = first_alike 0 source held seens know.seens h.seen quiet at know.at know.first h.there
   beside false h = first_alike 1 destination held seens know.seens h.seen quiet at know.at know.second h.there
 
-  further_alike : (index : ℕ) (seen : Seen Ticket) → AllSame sides (length held) held → 1 < index → slice_get seens index ≡ Some seen → IsAlike (info_at source destination (is_source sides index)) seen.history
+  further_alike : (index : ℕ) (seen : Seen Ticket) → AllSame sides (length held) held → 1 < index → slice_get seens index ≡ Some seen → IsReadyFor (told_on source destination (is_source sides index)) seen.history
   further_alike index seen same some there =
       let found = same.on index some (below_held index held seens seen at there) in
       let h = found.shown.on seens at in
@@ -167,10 +158,10 @@ module _ (source destination : ExportInfo) (sides : Sides) (held : List (Held Ti
       record {
         other = found.other;
         shown = subst (λ (s : Seen Ticket). IsShown found.other s.history) here h'.is;
-        same = same_then (info_at source destination (is_source sides index)) found.one found.other (subst (AreSame (info_at source destination (is_source sides index))) one first.same) found.is;
+        same = same_then (told_on source destination (is_source sides index)) found.one found.other (subst (AreSame (told_on source destination (is_source sides index))) one first.same) found.is;
       }
 
-  each_alike : (index : ℕ) (seen : Seen Ticket) → AllSame sides (length held) held → slice_get seens index ≡ Some seen → IsAlike (info_at source destination (is_source sides index)) seen.history
+  pub each_alike : (index : ℕ) (seen : Seen Ticket) → AllSame sides (length held) held → slice_get seens index ≡ Some seen → IsReadyFor (told_on source destination (is_source sides index)) seen.history
   each_alike zero seen same there = first_alike 0 source held seens know.seens seen quiet at know.at know.first there
   each_alike (suc zero) seen same there = first_alike 1 destination held seens know.seens seen quiet at know.at know.second there
   each_alike (suc (suc index)) seen same there = further_alike (suc (suc index)) seen same (omega arith) there
@@ -191,7 +182,7 @@ has_link link (seen ∷ others) near = elim (cases_eq seen.link link) [
   | inr differ ↦ (let rest = has_link link others (λ apart. near (differ, apart)) in record { index = suc rest.index; seen = rest.seen; there = rest.there; is = rest.is })
 ]
 
-by_side : (extents : Bool) (from to : Place) (source destination : ExportInfo) (link : ℕ) (calls : List wire.Call) (b : Bool) → ToldAs extents (place_of from to b) (info_at source destination b) link calls → AtSome (ToldAs extents from source link) calls ⊎ AtSome (ToldAs extents to destination link) calls
+by_side : (extents : Bool) (from to : Place) (source destination : ExportInfo) (link : ℕ) (calls : List wire.Call) (b : Bool) → ToldAs extents (place_of from to b) (told_on source destination b) link calls → AtSome (ToldAs extents from source link) calls ⊎ AtSome (ToldAs extents to destination link) calls
 by_side extents from to source destination link calls true told = inl (at_once calls told)
 by_side extents from to source destination link calls false told = inr (at_once calls told)
 
@@ -207,7 +198,7 @@ all_alike source destination way now calls held quiet know same on = λ link giv
     let given' : is_given seen.link calls ≡ true = ap (λ (n : ℕ). is_given n calls) h.is ∙ given in
     let side : on.has seen.link ≡ is_source way.sides h.index = on.sided h.index seen h.there in
     let alike = each_alike source destination way.sides held on.seens quiet on.at know h.index seen same h.there in
-    let told : ToldAs way.extents (place_of way.from way.to (is_source way.sides h.index)) (info_at source destination (is_source way.sides h.index)) seen.link calls = record {
+    let told : ToldAs way.extents (place_of way.from way.to (is_source way.sides h.index)) (told_on source destination (is_source way.sides h.index)) seen.link calls = record {
       history = seen.history;
       drives = driven_at calls h.index seen held on.seens h.there on.at course.drive.drive course.drive.plain;
       address = subst (λ (b : Bool). target_of seen.link calls ≡ Some (place_of way.from way.to b).to) side (between.placed.address seen.link given');
@@ -217,7 +208,7 @@ all_alike source destination way now calls held quiet know same on = λ link giv
       same = alike.same;
       began = subst (λ (b : Bool). WentOn (opened (place_of way.from way.to b).name (asks_extents_on seen.link way.extents calls)) seen.history) side (went_there (beginning_on way.extents way.from way.to on.has calls) on.seens h.index seen h.there on.drives.went);
     } in
-    by_side way.extents way.from way.to source destination link calls (is_source way.sides h.index) (subst (λ (n : ℕ). ToldAs way.extents (place_of way.from way.to (is_source way.sides h.index)) (info_at source destination (is_source way.sides h.index)) n calls) h.is told)
+    by_side way.extents way.from way.to source destination link calls (is_source way.sides h.index) (subst (λ (n : ℕ). ToldAs way.extents (place_of way.from way.to (is_source way.sides h.index)) (told_on source destination (is_source way.sides h.index)) n calls) h.is told)
 
 -- Where all connections stand that were made behind those that met.
 pub met_alike : (copy : copier.Seen) (start told : Option (List wire.Call)) (terms : Terms) → (met : HasMet copy start told terms) → AreQuiet copy.held → AllSame terms.sides (length copy.held) copy.held →

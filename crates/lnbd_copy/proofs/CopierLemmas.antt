@@ -24,6 +24,7 @@ use Rattle.lnbd_copy.specs.Opening.{Dials, place_of}
 use Rattle.lnbd_conduct.specs.Grounds.{AllAlike, Drove, IsShown}
 use Rattle.lnbd_copy.specs.Firsts.{KnowBoth}
 use Rattle.lnbd_conduct.specs.Told.{AtSome, Told}
+use Rattle.lnbd_copy.specs.Ready.{MayGoOn}
 use Rattle.lnbd_copy.specs.Settled.{HasTerms, HasSettled}
 use Rattle.lnbd_conduct.specs.Settled.{AreSettledBy}
 use Rattle.lnbd_conduct.specs.Answered.{FirstAgreedNone}
@@ -322,9 +323,9 @@ all_heard way extents flush now calls held silent unended on = record {
 pub begins_job : (copy : Seen) (start told : Option (List wire.Call)) (terms : Terms) (j : job.Seen) (now : board.Seen) (extents : Bool) → (met : HasMet copy start told terms) → copy.board.error ≡ None → now.rows ≡ [] → now.begun ≡ 0 → HasNotCounted now → now.how ≡ terms.how → j.terms ≡ terms → j.phase ≡ Copying → AreDealt terms.limit terms.sides j.bound [] →
     (extents ≡ false → (calls : List wire.Call) → IsOn (beginning copy (Some terms.size) terms.how terms.sides) copy.board calls copy.held → FirstAgreedNone copy.options.extents copy.from calls) →
     ((calls : List wire.Call) → IsOn (beginning copy (Some terms.size) terms.how terms.sides) copy.board calls copy.held → AllAlike copy.options.extents copy.from copy.to met.settled.source met.settled.destination calls) →
-    ((way : Way) (b : board.Seen) → way.size ≡ Some terms.size → b.how ≡ terms.how → way.how ≡ terms.how → way.sides ≡ terms.sides → way.slices ≡ [] → way.asked ≡ None → ((block p : ℕ) → way.whole block p ≡ false) → b.flushing ≡ false → (extents ≡ false → (grain p : ℕ) → way.heard grain p ≡ true) → ((p : ℕ) → way.reach p ≡ false) → way.ended ≡ false → way.flush ≡ terms.flush → way.queries ≡ 0 → job.IsJob j way b) →
+    ((way : Way) (b : board.Seen) → way.size ≡ Some terms.size → b.how ≡ terms.how → way.how ≡ terms.how → way.sides ≡ terms.sides → way.slices ≡ [] → way.asked ≡ None → ((block p : ℕ) → way.whole block p ≡ false) → b.flushing ≡ false → (extents ≡ false → (grain p : ℕ) → way.heard grain p ≡ true) → ((p : ℕ) → way.reach p ≡ false) → way.ended ≡ false → way.flush ≡ terms.flush → way.queries ≡ 0 → job.IsJob j way b) → MayGoOn j copy.held →
     IsOnItsWay start told (record copy { board = now; job = Some j })
-begins_job copy start told terms j now extents met well empty new uncounted writes same copying dealt silent alike is =
+begins_job copy start told terms j now extents met well empty new uncounted writes same copying dealt silent alike is may =
     let before = beginning copy (Some terms.size) terms.how terms.sides in
     let way : Way = record before { heard = λ grain p. not extents; flush = terms.flush } in
     record {
@@ -346,4 +347,5 @@ begins_job copy start told terms j now extents met well empty new uncounted writ
       settled = subst (HasSettled copy.options copy.from copy.to start told) (sym same) (record { first = met.settled; all = told_as start told alike met.on });
       spread = begins_dealt j terms now same empty dealt;
       connected = met.connected;
+      may = may;
     }

@@ -1,11 +1,10 @@
 -- Slices that go on and begin keep a copy on its way.
-use Rattle.std.proofs.Common.{◌≡◌, ◌<◌, ℕ, ◌+◌, ◌-◌, ◌^◌, Bool, true, false, List, [], ◌∷◌, ◌++◌, length, Option, Some, None, not, refl, ap, sym, subst, ◌∙◌, arith, Result, Ok, Err, OnOk, option_to_list}
+use Rattle.std.proofs.Common.{◌≡◌, ℕ, ◌+◌, Bool, true, false, List, [], ◌∷◌, ◌++◌, length, Option, Some, None, not, refl, ap, sym, subst, ◌∙◌, arith, Result, Ok, Err, OnOk, option_to_list}
 use Rattle.std.proofs.lemmas.Bool.{false≢true}
 use Rattle.std.proofs.lemmas.List.{append-nil, append_assoc}
 use Rattle.std.proofs.lemmas.Result.{on_ok_weaker}
 use Rattle.lnbd_model.specs.Kind.{is_status}
 use Rattle.lnbd_handle.specs.Issues.{read_of}
-use Rattle.lnbd_history.specs.Commands.{Command}
 use Rattle.lnbd_history.specs.Events.{Issue}
 use Rattle.lnbd_plan.specs.declared.grid.Slice.{Slice}
 use Rattle.lnbd_poll.specs.Held.{Held}
@@ -44,11 +43,6 @@ on_ok_both (Err fault) f a b = tt
 
 -- What was asked on success, of a side.
 module _ {X Y : Type 0} (r : Result X Y) (sides : Sides) (index : ℕ) (old new : List (Held Ticket)) where
-  pub asked_of : (source : Bool) (connection : ℕ) (command : Command Ticket) → is_source sides index ≡ source → (index < 2 ^ 64 - 1 → connection_of sides index ≡ connection) → OnOk r (IsAsked index command old new) → OnOk r (index < 2 ^ 64 - 1) → OnOk r (IsAskedOf sides source connection command old new)
-  asked_of source connection command side here asked few =
-      let of : IsAsked index command old new → index < 2 ^ 64 - 1 → IsAskedOf sides source connection command old new = λ a less. record { index = index; side = side; here = here less; asked = a } in
-      on_ok_both r of asked few
-
   pub asked_to_read : (bytes buf : List ℕ) (connection offset n : ℕ) → is_source sides index ≡ true → connection_of sides index ≡ connection → length bytes ≡ length buf → OnOk r (IsAsked index (read_of bytes offset (ticket.Slice n) 0) old new) →
       OnOk r (IsAskedToRead sides connection n offset (length buf) old new)
   asked_to_read bytes buf connection offset n side here count asked =

@@ -113,7 +113,7 @@ last_or (first ∷ others) last (suc index) seen is = go (last_or others last in
     go (inl there) = inl there
     go (inr here) = inr (ap suc here.0, here.1)
 
-last_at : (held : List (Held Ticket)) (seens : List (Seen Ticket)) (link : ℕ) (handle : Machine Ticket) (history : History Ticket) → AreAt held seens → StandsFor max_unretired history handle
+pub last_at : (held : List (Held Ticket)) (seens : List (Seen Ticket)) (link : ℕ) (handle : Machine Ticket) (history : History Ticket) → AreAt held seens → StandsFor max_unretired history handle
     → AreAt (held ++ record { link = link; handle = handle; inbox = [] } ∷ []) (seens ++ record { link = link; history = history; unread = [] } ∷ [])
 last_at [] [] link handle history at stands = (record { link = refl; stands = stands; unread = refl }, tt)
 last_at [] (seen ∷ all) link handle history at stands = absurd at
@@ -170,12 +170,12 @@ context_set true = (
 )
 context_set false = ((tt, setting [] (Set (Extended true)) refl refl refl tt refl), setting (Set (Extended true) ∷ []) (Set (Structured true)) refl refl refl tt refl)
 
-opened_set : (name : List ℕ) (extents : Bool) → length name ≤ max_text → AreSettings (opened name extents)
+pub opened_set : (name : List ℕ) (extents : Bool) → length name ≤ max_text → AreSettings (opened name extents)
 opened_set name extents short =
     let before = with_context (context_of extents) (Set (Structured true) ∷ Set (Extended true) ∷ []) in
     ((context_set extents, setting before (Set (Name name)) refl refl refl short refl), setting (Set (Name name) ∷ before) Start refl refl refl tt refl)
 
-opened_name : (name : List ℕ) (extents : Bool) → name_set (opened name extents) ≡ name
+pub opened_name : (name : List ℕ) (extents : Bool) → name_set (opened name extents) ≡ name
 opened_name name true = refl
 opened_name name false = refl
 
@@ -236,7 +236,7 @@ last_free link before calls free = second (is_given link before) (is_given link 
     second true b e = absurd (false≢true (sym e))
     second false b e = e
 
-count_more : (held : List (Held Ticket)) (one : Held Ticket) → length (held ++ one ∷ []) ≡ length held + 1
+pub count_more : (held : List (Held Ticket)) (one : Held Ticket) → length (held ++ one ∷ []) ≡ length held + 1
 count_more [] one = refl
 count_more (first ∷ others) one = let rest = count_more others one in omega (arith, rest)
 

@@ -52,6 +52,7 @@ use Rattle.lnbd_conduct.specs.Driven.{AreLeft}
 use Rattle.lnbd_conduct.specs.Connects.{AreLeftBy}
 use Rattle.lnbd_copy.specs.Job as job
 use Rattle.lnbd_copy.specs.Leaving.{Leaves}
+use Rattle.lnbd_copy.specs.Ready.{MayGoOn}
 use Rattle.lnbd_conduct.specs.Terms.{IsLimited}
 use Rattle.lnbd_copy.specs.Settled.{HasSettled}
 use Rattle.lnbd_conduct.specs.Settled.{FlushesWanted, SparesFound, SparesTold}
@@ -108,10 +109,15 @@ past_copying Copying parts = absurd (false≢true parts)
 past_copying Flushing parts = absurd (false≢true parts)
 past_copying Parting parts = λ e. cc
 
+is_past : (phase : Phase) → job.is_parting phase ≡ true → phase ≡ Parting
+is_past Copying parts = absurd (false≢true parts)
+is_past Flushing parts = absurd (false≢true parts)
+is_past Parting parts = refl
+
 module _ (copy : Seen) (start : Option (List wire.Call)) where
   -- A turn of the handles.
-  pub after_turn : (now : board.Seen) (held : List (Held Ticket)) (a b : Option (List wire.Call)) → Goes copy.board copy.held a now held b → IsOnItsWay start a copy → IsOnItsWay start b (record copy { held = held; board = now })
-  after_turn now held a b goes on = record {
+  pub after_turn : (now : board.Seen) (held : List (Held Ticket)) (a b : Option (List wire.Call)) → ((j : job.Seen) → MayGoOn j copy.held → MayGoOn j held) → Goes copy.board copy.held a now held b → IsOnItsWay start a copy → IsOnItsWay start b (record copy { held = held; board = now })
+  after_turn now held a b still goes on = record {
     stand = goes.stand on.stand;
     job = on.job;
     there = on.there;
@@ -127,12 +133,13 @@ module _ (copy : Seen) (start : Option (List wire.Call)) where
     settled = settled_later copy.options copy.from copy.to start a b on.job.terms (goes.gives on.stand) on.settled;
     spread = dealt_filed on.job copy.board now (goes.filed on.stand) on.spread;
     connected = (goes_connected copy.board now copy.held held a b goes on.stand).on start on.connected;
+    may = still on.job on.may;
   }
 
   -- The job goes on.
-  pub after_act : (j j' : job.Seen) (now : board.Seen) (held : List (Held Ticket)) (told : Option (List wire.Call)) → copy.job ≡ Some j → j'.terms ≡ j.terms → (length copy.board.rows ≤ j.terms.limit → length now.rows ≤ j.terms.limit) → job.is_parting j.phase ≡ false → job.Acts j j' copy.board now copy.held held → Spreads j j' copy.board now →
+  pub after_act : (j j' : job.Seen) (now : board.Seen) (held : List (Held Ticket)) (told : Option (List wire.Call)) → copy.job ≡ Some j → j'.terms ≡ j.terms → (length copy.board.rows ≤ j.terms.limit → length now.rows ≤ j.terms.limit) → job.is_parting j.phase ≡ false → job.Acts j j' copy.board now copy.held held → Spreads j j' copy.board now → MayGoOn j' held →
       IsOnItsWay start told copy → IsOnItsWay start told (record copy { held = held; board = now; job = Some j' })
-  after_act j j' now held told there terms few going acts spreads on =
+  after_act j j' now held told there terms few going acts spreads may on =
       let same : on.job ≡ j = some_same on.job j (sym on.there ∙ there) in
       let acted = acts.on on.way (subst (λ (x : job.Seen). job.IsJob x on.way copy.board) same on.is) in
       record {
@@ -153,6 +160,7 @@ module _ (copy : Seen) (start : Option (List wire.Call)) where
         settled = subst (HasSettled copy.options copy.from copy.to start told) (ap (λ (x : job.Seen). x.terms) same ∙ sym terms) on.settled;
         spread = spreads.on (subst (λ (x : job.Seen). HasDealt x copy.board) same on.spread);
         connected = on.connected;
+        may = may;
       }
 
   -- Connections part.
@@ -179,6 +187,7 @@ module _ (copy : Seen) (start : Option (List wire.Call)) where
         settled = settled_later copy.options copy.from copy.to start a b on.job.terms leaves.gives on.settled;
         spread = dealt_filed on.job copy.board now leaves.filed on.spread;
         connected = (gives_connected a b leaves.gives).on start on.connected;
+        may = λ other. absurd (other (is_past on.job.phase parting));
       }
 
 -- The job goes on, whatever it is at.
@@ -186,22 +195,17 @@ cases_bool : (b : Bool) → (b ≡ true) ⊎ (b ≡ false)
 cases_bool true = inl refl
 cases_bool false = inr refl
 
-is_past : (phase : Phase) → job.is_parting phase ≡ true → phase ≡ Parting
-is_past Copying parts = absurd (false≢true parts)
-is_past Flushing parts = absurd (false≢true parts)
-is_past Parting parts = refl
-
 same_way : (copy : Seen) (start told : Option (List wire.Call)) (j j' : job.Seen) (now : board.Seen) (held : List (Held Ticket)) → copy.job ≡ Some j → j' ≡ j → now ≡ copy.board → held ≡ copy.held → IsOnItsWay start told copy → IsOnItsWay start told (record copy { held = held; board = now; job = Some j' })
 same_way copy start told j j' now held there one two three on =
     subst (λ (h : List (Held Ticket)). IsOnItsWay start told (record copy { held = h; board = now; job = Some j' })) (sym three)
     (subst (λ (b : board.Seen). IsOnItsWay start told (record copy { board = b; job = Some j' })) (sym two)
     (subst (λ (o : Option job.Seen). IsOnItsWay start told (record copy { job = o })) (there ∙ ap (λ (x : job.Seen). Some x) (sym one)) on))
 
-pub after_acting : (copy : Seen) (start told : Option (List wire.Call)) (j j' : job.Seen) (now : board.Seen) (held : List (Held Ticket)) → copy.job ≡ Some j → j'.terms ≡ j.terms → (length copy.board.rows ≤ j.terms.limit → length now.rows ≤ j.terms.limit) → job.Acts j j' copy.board now copy.held held → Spreads j j' copy.board now →
+pub after_acting : (copy : Seen) (start told : Option (List wire.Call)) (j j' : job.Seen) (now : board.Seen) (held : List (Held Ticket)) → copy.job ≡ Some j → j'.terms ≡ j.terms → (length copy.board.rows ≤ j.terms.limit → length now.rows ≤ j.terms.limit) → job.Acts j j' copy.board now copy.held held → Spreads j j' copy.board now → MayGoOn j' held →
     (j.phase ≡ Parting → (j' ≡ j) × (now ≡ copy.board) × (held ≡ copy.held)) → IsOnItsWay start told copy → IsOnItsWay start told (record copy { held = held; board = now; job = Some j' })
-after_acting copy start told j j' now held there terms few acts spreads parted on = elim (cases_bool (job.is_parting j.phase)) [
+after_acting copy start told j j' now held there terms few acts spreads may parted on = elim (cases_bool (job.is_parting j.phase)) [
   | inl parts ↦ (let same = parted (is_past j.phase parts) in same_way copy start told j j' now held there same.0 same.1 same.2 on)
-  | inr going ↦ after_act copy start j j' now held told there terms few going acts spreads on
+  | inr going ↦ after_act copy start j j' now held told there terms few going acts spreads may on
 ]
 
 -- From turn to turn.
@@ -264,7 +268,13 @@ planned_whole j way now calls is over has s two =
 -- What is under way is settled.
 
 pub has_job : (start told : Option (List wire.Call)) (copy : Seen) → IsOnItsWay start told copy → HasJob copy
-has_job start told copy on = record { job = on.job; there = on.there; writes = on.is.writes }
+has_job start told copy on = record { job = on.job; there = on.there; writes = on.is.writes; may = on.may; spread = on.spread }
+
+pub job_dealt : (copy : Seen) (j : job.Seen) → HasJob copy → copy.job ≡ Some j → HasDealt j copy.board
+job_dealt copy j has there = subst (λ (x : job.Seen). HasDealt x copy.board) (some_same has.job j (sym has.there ∙ there)) has.spread
+
+pub job_may : (copy : Seen) (j : job.Seen) → HasJob copy → copy.job ≡ Some j → MayGoOn j copy.held
+job_may copy j has there = subst (λ (x : job.Seen). MayGoOn x copy.held) (some_same has.job j (sym has.there ∙ there)) has.may
 
 pub job_writes : (copy : Seen) (j : job.Seen) → HasJob copy → copy.job ≡ Some j → copy.board.how ≡ j.terms.how
 job_writes copy j has there = has.writes ∙ ap (λ (x : job.Seen). x.terms.how) (some_same has.job j (sym has.there ∙ there))

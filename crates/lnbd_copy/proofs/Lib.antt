@@ -93,3 +93,5 @@ pub mod AwaitLemmas
 pub mod PaceLemmas
 pub mod PaceTurns
 pub mod PaceMeets
+pub mod ReadyLemmas
+pub mod LawfulLemmas

@@ -1,5 +1,5 @@
 -- Where a turn of a copy says that it moved, something happened on a link, or bytes that had been read arrived, or else it went on in another way.
-use Rattle.std.proofs.Common.{◌≡◌, ◌≢◌, ◌||◌, ◌+◌, ℕ, Bool, true, false, List, [], ◌∷◌, ◌++◌, length, Option, Some, None, refl, ap, sym, subst, ◌∙◌, append_assoc}
+use Rattle.std.proofs.Common.{◌≡◌, ◌≢◌, ◌<◌, ◌||◌, ◌+◌, arith, ℕ, Bool, true, false, List, [], ◌∷◌, ◌++◌, length, Option, Some, None, refl, ap, sym, subst, ◌∙◌, append_assoc}
 use Rattle.std.proofs.lemmas.Bool.{false≢true}
 use Rattle.std.proofs.lemmas.List.Folds.{list_any-append}
 use Rattle.std.specs.List.{list_any}
@@ -267,6 +267,16 @@ pub on_came : (how : How) (n destination : ℕ) (one : Change) (told : Next) (ol
 on_came how n destination one told old new is goes none =
     let on : AsksOn how n destination one old new = subst (λ (x : Next). IsNext how x old new) is goes in
     absurd (cons_none n new.came (sym on.first ∙ none))
+
+pub over_fewer : (how : How) (n source destination : ℕ) (told : Next) (old new : board.Seen) → told ≡ next.Over n source destination → IsNext how told old new → length new.came < length old.came
+over_fewer how n source destination told old new is ends =
+    let over : EndsRow how n source destination old new = subst (λ (x : Next). IsNext how x old new) is ends in
+    subst (λ (l : List ℕ). length new.came < length l) (sym over.first) (omega arith)
+
+pub on_fewer : (how : How) (n destination : ℕ) (one : Change) (told : Next) (old mid new : board.Seen) → told ≡ next.Asks n destination one → IsNext how told old mid → new ≡ mid → length new.came < length old.came
+on_fewer how n destination one told old mid new is goes same =
+    let on : AsksOn how n destination one old mid = subst (λ (x : Next). IsNext how x old mid) is goes in
+    subst (λ (s : board.Seen). length s.came < length old.came) (sym same) (subst (λ (l : List ℕ). length mid.came < length l) (sym on.first) (omega arith))
 
 -- Slices begin.
 

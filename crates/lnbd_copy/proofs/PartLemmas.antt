@@ -172,16 +172,16 @@ joined_at [] held2 (seen ∷ all) seens2 at more = absurd at
 joined_at (one ∷ others) held2 [] seens2 at more = absurd at
 joined_at (one ∷ others) held2 (seen ∷ all) seens2 at more = (at.0, joined_at others held2 all seens2 at.1 more)
 
-without_at : (index : ℕ) (held : List (Held Ticket)) (seens : List (Seen Ticket)) → AreAt held seens → AreAt (take index held ++ drop (index + 1) held) (take index seens ++ drop (index + 1) seens)
+pub without_at : (index : ℕ) (held : List (Held Ticket)) (seens : List (Seen Ticket)) → AreAt held seens → AreAt (take index held ++ drop (index + 1) held) (take index seens ++ drop (index + 1) seens)
 without_at index held seens at = joined_at (take index held) (drop (index + 1) held) (take index seens) (drop (index + 1) seens) (taken_at index held seens at) (dropped_at (index + 1) held seens at)
 
 -- where the handle stands that was taken out
-record Stood (index : ℕ) (seens : List (Seen Ticket)) (handle : Machine Ticket) : Type 0 where
-  seen : Seen Ticket
-  there : slice_get seens index ≡ Some seen
-  stands : StandsFor max_unretired seen.history handle
+pub record Stood (index : ℕ) (seens : List (Seen Ticket)) (handle : Machine Ticket) : Type 0 where
+  pub seen : Seen Ticket
+  pub there : slice_get seens index ≡ Some seen
+  pub stands : StandsFor max_unretired seen.history handle
 
-stood : (index : ℕ) (held : List (Held Ticket)) (seens : List (Seen Ticket)) (taken : ℕ × Machine Ticket) → option_map {U = ℕ × Machine Ticket} (λ held. (held.link, held.handle)) (slice_get held index) ≡ Some taken → AreAt held seens → Stood index seens taken.1
+pub stood : (index : ℕ) (held : List (Held Ticket)) (seens : List (Seen Ticket)) (taken : ℕ × Machine Ticket) → option_map {U = ℕ × Machine Ticket} (λ held. (held.link, held.handle)) (slice_get held index) ≡ Some taken → AreAt held seens → Stood index seens taken.1
 stood index [] seens taken is at = absurd (none_some taken is)
 stood index (one ∷ others) [] taken is at = absurd at
 stood zero (one ∷ others) (seen ∷ all) taken is at =

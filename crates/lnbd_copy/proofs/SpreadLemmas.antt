@@ -17,7 +17,7 @@ use Rattle.lnbd_conduct.specs.declared.sides.Sides.{Sides}
 use Rattle.lnbd_conduct.specs.declared.terms.Terms.{Terms}
 use Rattle.lnbd_copy.specs.Bound.{Bound, on_destination, on_source}
 use Rattle.lnbd_copy.specs.Copier.{IsOnItsWay, Seen}
-use Rattle.lnbd_copy.specs.Dealt.{AreDealt, Deals, HasDealt, IsDealt, Spreads}
+use Rattle.lnbd_copy.specs.Dealt.{AreDealt, Deals, HasDealt, HaveDealt, IsDealt, Spreads}
 use Rattle.lnbd_copy.specs.Job as work
 use Rattle.lnbd_copy.specs.Spread.{AreSpread, AreSpreadBy}
 use Rattle.lnbd_copy.specs.UnderWay.{HasAsked, IsPast}
@@ -66,18 +66,15 @@ module _ (limit : ℕ) (sides : Sides) where
 
   -- A slice is over.
   pub deals_over : (how : How) (n source destination : ℕ) (told : Next) (old new : board.Seen) (a b : Bound) → told ≡ next.Over n source destination → IsNext how told old new →
-      (source < sides.source → destination < sides.destination → b.source ≡ slice_set a.source source (slice_index a.source source - 1)) →
-      (source < sides.source → destination < sides.destination → b.destination ≡ slice_set a.destination destination (slice_index a.destination destination - 1)) → Deals limit sides a b old.rows new.rows
+      b.source ≡ slice_set a.source source (slice_index a.source source - 1) → b.destination ≡ slice_set a.destination destination (slice_index a.destination destination - 1) → Deals limit sides a b old.rows new.rows
   deals_over how n source destination told old new a b is ends source_is destination_is =
       let over : EndsRow how n source destination old new = subst (λ (x : Next). IsNext how x old new) is ends in
       let rows : new.rows ≡ without n old.rows = ap (λ (s : board.Seen). s.rows) over.now in
       record {
         on = λ dealt.
-            let s : source < sides.source = bound_within (λ r. r.source) limit sides.source n source over.row old.rows a.source over.reads over.held dealt.source in
-            let d : destination < sides.destination = bound_within (λ r. r.destination) limit sides.destination n destination over.row old.rows a.destination over.writes over.held dealt.destination in
             record {
-              source = side_ends (λ r. r.source) limit sides.source n source over.row old.rows new.rows a.source b.source over.reads over.held rows (source_is s d) dealt.source;
-              destination = side_ends (λ r. r.destination) limit sides.destination n destination over.row old.rows new.rows a.destination b.destination over.writes over.held rows (destination_is s d) dealt.destination;
+              source = side_ends (λ r. r.source) limit sides.source n source over.row old.rows new.rows a.source b.source over.reads over.held rows source_is dealt.source;
+              destination = side_ends (λ r. r.destination) limit sides.destination n destination over.row old.rows new.rows a.destination b.destination over.writes over.held rows destination_is dealt.destination;
             };
       }
 
@@ -114,6 +111,26 @@ pub spreads_deals : (j j' : work.Seen) (sides : Sides) (now now' : board.Seen) �
 spreads_deals j j' sides now now' terms same deals =
     let deals' : Deals j.terms.limit j.terms.sides j.bound j'.bound now.rows now'.rows = subst (λ (s : Sides). Deals j.terms.limit s j.bound j'.bound now.rows now'.rows) same deals in
     record { on = λ dealt. subst (λ (t : Terms). AreDealt t.limit t.sides j'.bound now'.rows) (sym terms) (deals'.on dealt) }
+
+pub job_deals : (j : work.Seen) (sides : Sides) (now : board.Seen) → sides ≡ j.terms.sides → HasDealt j now → HaveDealt sides j.bound now.rows
+job_deals j sides now same dealt = record { limit = j.terms.limit; dealt = subst (λ (s : Sides). AreDealt j.terms.limit s j.bound now.rows) (sym same) dealt }
+
+-- Bindings go on.
+pub deals_here : (sides sides' : Sides) (a b : Bound) (rows rows' : List (ℕ × Row)) → sides' ≡ sides → ((limit : ℕ) → Deals limit sides a b rows rows') → HaveDealt sides a rows → HaveDealt sides' b rows'
+deals_here sides sides' a b rows rows' same deals have = record { limit = have.limit; dealt = subst (λ (s : Sides). AreDealt have.limit s b rows') (sym same) ((deals have.limit).on have.dealt) }
+
+-- Each slice that goes on, or is over, is bound to connections that there are.
+pub asked_within : (how : How) (sides : Sides) (bound : Bound) (n destination : ℕ) (one : Change) (told : Next) (old mid : board.Seen) → told ≡ next.Asks n destination one → IsNext how told old mid → HaveDealt sides bound old.rows → destination < sides.destination
+asked_within how sides bound n destination one told old mid is goes have =
+    let asks : AsksOn how n destination one old mid = subst (λ (x : Next). IsNext how x old mid) is goes in
+    bound_within (λ r. r.destination) have.limit sides.destination n destination asks.row old.rows bound.destination asks.writes asks.held have.dealt.destination
+
+pub over_within : (how : How) (sides : Sides) (bound : Bound) (n source destination : ℕ) (told : Next) (old mid : board.Seen) → told ≡ next.Over n source destination → IsNext how told old mid → HaveDealt sides bound old.rows → (source < sides.source) × (destination < sides.destination)
+over_within how sides bound n source destination told old mid is goes have =
+    let over : EndsRow how n source destination old mid = subst (λ (x : Next). IsNext how x old mid) is goes in (
+      bound_within (λ r. r.source) have.limit sides.source n source over.row old.rows bound.source over.reads over.held have.dealt.source,
+      bound_within (λ r. r.destination) have.limit sides.destination n destination over.row old.rows bound.destination over.writes over.held have.dealt.destination,
+    )
 
 -- Slices go on, extents are heard and asked for, and slices are begun.
 pub spreads_all : (j0 j1 j2 j3 j4 : work.Seen) (b0 b1 b3 b4 : board.Seen) → Spreads j0 j1 b0 b1 → j2.terms ≡ j1.terms → j2.bound ≡ j1.bound → HasAsked j2 j3 b1 b3 → Spreads j3 j4 b3 b4 → Spreads j0 j4 b0 b4
@@ -161,6 +178,10 @@ acts_bound j j' bound now now' held held' acts = record {
 pub on_ok_three : {X Y A B C D : Type 0} (r : Result X Y) → (A → B → C → D) → OnOk r A → OnOk r B → OnOk r C → OnOk r D
 on_ok_three (Ok value) f a b c = f a b c
 on_ok_three (Err fault) f a b c = tt
+
+pub on_ok_four : {X Y A B C D E : Type 0} (r : Result X Y) → (A → B → C → D → E) → OnOk r A → OnOk r B → OnOk r C → OnOk r D → OnOk r E
+on_ok_four (Ok value) f a b c d = f a b c d
+on_ok_four (Err fault) f a b c d = tt
 
 -- The copy goes on.
 

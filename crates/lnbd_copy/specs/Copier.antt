@@ -27,6 +27,7 @@ use Rattle.lnbd_copy.specs.Job as work
 use Rattle.lnbd_conduct.specs.Connects.{AreLeftBy}
 use Rattle.lnbd_copy.specs.Firsts.{KnowBoth}
 use Rattle.lnbd_copy.specs.Lasting.{Lasts}
+use Rattle.lnbd_copy.specs.Ready.{MayGoOn}
 use Rattle.lnbd_conduct.specs.Terms.{IsLimited}
 use Rattle.lnbd_copy.specs.Settled.{HasSettled, HasTerms}
 use Rattle.lnbd_conduct.specs.Settled.{FlushesWanted, SparesFound, SparesTold}
@@ -77,6 +78,12 @@ pub record HasMet (copy : Seen) (start told : Option (List wire.Call)) (terms : 
   pub know : KnowBoth settled.source settled.destination copy.held
   pub connected : Told start told AllConnected
 
+-- So it is by the calls since some transcript.
+pub record HasMetOnce (copy : Seen) (terms : Terms) : Type 0 where
+  pub start : Option (List wire.Call)
+  pub told : Option (List wire.Call)
+  pub met : HasMet copy start told terms
+
 -- Further connections are made, each to the side that its place says, where so many were made before.
 pub record GoesFurther (copy : Seen) (sides : Sides) (first : ℕ) (now : board.Seen) (held : List (Held Ticket)) (told : Option (List wire.Call)) (now' : board.Seen) (held' : List (Held Ticket)) (told' : Option (List wire.Call)) : Type 0 where
   pub stand : Stand held → Stand held'
@@ -110,17 +117,21 @@ pub record IsOnItsWay (start told : Option (List wire.Call)) (copy : Seen) : Typ
   pub spread : HasDealt job copy.board
   -- each connect gave a link
   pub connected : Told start told AllConnected
+  -- until its connections part no rule refuses what is asked, but those on how many commands there are, and on the range of one
+  pub may : MayGoOn job copy.held
 
 -- It has begun and goes on, where this transcript is told now.
 pub record IsGoing (told : Option (List wire.Call)) (copy : Seen) : Type 0 where
   pub start : Option (List wire.Call)
   pub on : IsOnItsWay start told copy
 
--- What is under way is settled, and its board writes so.
+-- What is under way is settled, its board writes so, its slices are spread over its connections, and what it asks may be asked.
 pub record HasJob (copy : Seen) : Type 0 where
   pub job : work.Seen
   pub there : copy.job ≡ Some job
   pub writes : copy.board.how ≡ job.terms.how
+  pub may : MayGoOn job copy.held
+  pub spread : HasDealt job copy.board
 
 -- Its connections part.
 pub record IsParting (copy : Seen) : Type 0 where

@@ -29,3 +29,8 @@ HasDealt job now = AreDealt job.terms.limit job.terms.sides job.bound now.rows
 -- A step of a job leaves it so.
 pub record Spreads (old new : work.Seen) (now now' : board.Seen) : Type 0 where
   pub on : HasDealt old now → HasDealt new now'
+
+-- So it is of these rows, whatever the limit.
+pub record HaveDealt (sides : Sides) (bound : Bound) (rows : List (ℕ × Row)) : Type 0 where
+  pub limit : ℕ
+  pub dealt : AreDealt limit sides bound rows

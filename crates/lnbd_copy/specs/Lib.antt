@@ -21,6 +21,7 @@ pub mod Spread
 pub mod Dealt
 pub mod Opening
 pub mod Leaving
+pub mod Ready
 pub mod Agreed
 pub mod Grounds
 pub mod ToldAlike

@@ -1,5 +1,5 @@
 -- How often a copy tries its links in vain before anything happens: twice at most.
-use Rattle.std.specs.Prelude.{◌≡◌, ◌+◌, ℕ, false, List, ◌++◌, Option, Some}
+use Rattle.std.specs.Prelude.{◌≡◌, ℕ, false, List, ◌++◌, Option, Some}
 use Rattle.std.specs.List.{list_any}
 use Rattle.lnbd_link.specs.Call as wire
 use Rattle.lnbd_poll.specs.Held.{Held}

@@ -10,6 +10,7 @@ ghost use Rattle.lnbd_copy.specs.Causes.{tells_no_count};
 ghost use Rattle.lnbd_conduct.specs.Decided.{is_of_answer};
 ghost use Rattle.lnbd_copy.specs.Grounds.{Answers, FindsOther, Happens, IsRefused};
 ghost use Rattle.lnbd_conduct.specs.Grounds.{AreSame, IsShown};
+ghost use Rattle.lnbd_copy.specs.Ready.{HasContext};
 ghost use Rattle.lnbd_copy.specs.Settled.{FindsTerms};
 ghost use Rattle.lnbd_conduct.specs.Answered.{HasNoContext};
 ghost use Rattle.lnbd_copy.specs.ToldAlike.{AreAlike, AreFitting, FindsUnfit, IsAlikeAt, IsUntold};
@@ -28,7 +29,7 @@ const SIZE_END: u64 = 1 << 63;
 
 /// What a connection tells of its export, once all have negotiated. That it tells nothing, or a size that no export has, would count
 /// as want of memory: none does that may make requests.
-fn info_of(handles: &Handles<Ticket>, index: usize) -> Result<&ExportInfo, NoMemory>
+pub fn info_of(handles: &Handles<Ticket>, index: usize) -> Result<&ExportInfo, NoMemory>
     requires held { index < length handles.now }
     requires quiet { AreQuiet handles.now }
     ensures size { IfOk result (λ info. info.now.size < 2 ^ 63) }
@@ -56,7 +57,7 @@ fn is_quiet(handle: &Handle<Ticket>) -> bool
 
 /// Whether all connections may make requests, and have nothing to write.
 #[tactic(auto, using(crate::proofs::AgreeLemmas::all_quiet, crate::proofs::AgreeLemmas::none_quiet))]
-pub(crate) fn are_quiet(handles: &Handles<Ticket>) -> bool
+pub fn are_quiet(handles: &Handles<Ticket>) -> bool
     ensures { result ≡ true → AreQuiet handles.now }
 {
     'handles: for index in 0..handles.len() {
@@ -87,19 +88,18 @@ pub(crate) fn agree(handles: &Handles<Ticket>, options: CopyOptions) -> Result<T
 }
 
 /// Whether the source's extents can be asked for: of its first connection, where it agreed a meta context.
-pub(crate) fn tells_extents(handles: &Handles<Ticket>) -> Result<bool, NoMemory>
-    requires { AreQuiet handles.now }
-    ensures { IfOk result (λ tells. tells ≡ false → Happens HasNoContext 0 handles.now) }
+pub fn tells_extents(handles: &Handles<Ticket>) -> Result<bool, NoMemory>
+    requires held { 0 < length handles.now }
+    requires quiet { AreQuiet handles.now }
+    ensures none { IfOk result (λ tells. tells ≡ false → Happens HasNoContext 0 handles.now) }
+    ensures some { IfOk result (λ tells. tells ≡ true → Happens HasContext 0 handles.now) }
 {
-    if FIRST_SOURCE >= handles.len() {
-        return Err(NoMemory);
-    }
     let info = info_of(handles, FIRST_SOURCE)?;
     Ok(info.contexts.len() != 0)
 }
 
 /// Whether two connections of a side tell the same export.
-fn is_same(one: &ExportInfo, other: &ExportInfo) -> bool
+pub fn is_same(one: &ExportInfo, other: &ExportInfo) -> bool
     ensures same { result ≡ true → AreSame one.now other.now }
     ensures differ { result ≡ false → AreSame one.now other.now → ⊥ }
 {
@@ -230,7 +230,7 @@ pub(crate) fn check_answers(board: &Board) -> Result<(), CopyFault>
 }
 
 /// No command came to an error so far. One that did would count as want of memory: the turn that told it has ended the copy.
-pub(crate) fn check_well(board: &Board) -> Result<(), NoMemory>
+pub fn check_well(board: &Board) -> Result<(), NoMemory>
     ensures { OnOk result (board.now.error ≡ None) }
 {
     if board.is_short() {

@@ -13,9 +13,9 @@ ghost use Rattle.lnbd_copy.specs.Causes.{GoesOn, HasCause};
 ghost use Rattle.lnbd_copy.specs.Connects.{LinksGoAsTold, LinksGoWithin, StaysConnected};
 ghost use Rattle.lnbd_conduct.specs.Connects.{one_each, AreDrivenBy};
 ghost use Rattle.lnbd_copy.specs.declared.copier.Progress.TheVariants as progress;
-ghost use Rattle.lnbd_copy.specs.Copier.{GoesFurther, HasJob, HasMet, HasNotBegun, HasTurned, IsGoing, IsOnItsWay, IsParting, Seen};
+ghost use Rattle.lnbd_copy.specs.Copier.{GoesFurther, HasJob, HasMet, HasMetOnce, HasNotBegun, HasTurned, IsGoing, IsOnItsWay, IsParting, Seen};
 ghost use Rattle.lnbd_conduct.specs.Decided.{IsDecided, is_of_memory};
-ghost use Rattle.lnbd_copy.specs.Deciding.{DecidesFurther, DecidesOn, GoesShut, IsCalm, WasUntroubledAs};
+ghost use Rattle.lnbd_copy.specs.Deciding.{AreAlive, DecidesFurther, DecidesOn, GoesShut, IsCalm, WasUntroubledAs};
 ghost use Rattle.lnbd_conduct.specs.Driven.{AreDrivenTo};
 ghost use Rattle.lnbd_copy.specs.Ended.{EndsWell};
 ghost use Rattle.lnbd_copy.specs.Driving.{DrivesFurther, DrivesOn, DrivesOneMore};
@@ -55,7 +55,7 @@ use crate::job::Job;
 use crate::parting::{shut_all, shut_parted};
 use crate::telling::progress_of;
 use crate::terms::UNKNOWN;
-use crate::turning::{check_calm, turn};
+use crate::turning::{check_alive, check_calm, turn};
 use lnbd_board::{Board, Ticket};
 use lnbd_conduct::{ONE_EACH, Sides, Terms};
 use lnbd_link::Wires;
@@ -277,6 +277,8 @@ impl Copier {
         requires well { self.old.board.error ≡ None }
         requires quiet { AreQuiet self.old.held }
         requires same { AllSame terms.sides (length self.old.held) self.old.held }
+        requires met { HasMetOnce self.old terms }
+        requires many { length self.old.held ≡ terms.sides.source + terms.sides.destination }
         ensures kept { self.new ≡ record self.old { held = self.new.held; board = self.new.board; job = self.new.job } }
         ensures begins { (start told : Option (List Call)) → HasMet self.old start told terms → OnOk result (IsOnItsWay start told self.new) }
         ensures awaits { (start told : Option (List Call)) → HasMet self.old start told terms → OnOk result (Told start told (λ calls. AwaitsAll self.new.job self.new.board)) }
@@ -394,6 +396,7 @@ impl Copier {
         ensures kept { self.new ≡ record self.old { held = self.new.held; board = self.new.board } }
         ensures further { OnOk result (GoesFurther self.old sides 2 self.old.board self.old.held (W.told wires.old) self.new.board self.new.held (W.told wires.new)) }
         ensures quiet { OnOk result (AreQuiet self.new.held) }
+        ensures many { OnOk result (Stand self.old.held → length self.old.held ≡ 2 → 0 < sides.destination → length self.new.held ≡ sides.source + sides.destination) }
         ensures unasked { (start : Option (List Call)) (terms : Settled) → HasMet self.old start (W.told wires.old) terms → sides ≡ terms.sides → Told start (W.told wires.old) (λ calls. AreUnissued self.old.held) → length self.old.held ≡ 2 → Told start (W.told wires.new) (AsksNothing self.old.from self.old.to) }
         ensures unready { (start : Option (List Call)) (terms : Settled) → HasMet self.old start (W.told wires.old) terms → sides ≡ terms.sides → length self.old.held ≡ 2 → Told start (W.told wires.old) (LinksStand self.old.held) → Told start (W.told wires.old) (AtEachPause (IsEarlyPause self.old.options.extents self.old.from self.old.to)) → Told start (W.told wires.new) (AtEachPause (IsEarlyPause self.old.options.extents self.old.from self.old.to)) }
         ensures vain { Stand self.old.held → Pauses WantsInVain (W.told wires.old) (W.told wires.new) }
@@ -451,6 +454,7 @@ impl Copier {
         requires faults { self.old.start.faults ≤ W.faults wires.old }
         ensures kept { self.new ≡ record self.old { held = self.new.held; board = self.new.board } }
         ensures further { OnOk result (GoesFurther self.old sides (sides.source + 1) self.old.board self.old.held (W.told wires.old) self.new.board self.new.held (W.told wires.new)) }
+        ensures many { OnOk result (0 < sides.destination → length self.new.held + 1 ≡ length self.old.held + sides.destination) }
         ensures unasked { StaysUnasked self.old.from self.old.to (W.told wires.old) (W.told wires.new) }
         ensures unissued { OnOk result (AreUnissued self.old.held → AreUnissued self.new.held) }
         ensures unpaused { Unpaused (W.told wires.old) (W.told wires.new) }
@@ -594,6 +598,7 @@ impl Copier {
     #[tactic(auto, using(crate::proofs::CauseLemmas::goes_same, crate::proofs::CauseLemmas::goes_then, crate::proofs::CauseLemmas::cause_later, crate::proofs::CauseLemmas::cause_free, crate::proofs::GroundLemmas::none_grounded, crate::proofs::LinkLemmas::links_none, crate::proofs::LinkLemmas::links_then, crate::proofs::DecidingLemmas::memory_decided))]
     fn take_turn<W: Wires>(&mut self, wires: &mut W) -> Result<Turn, CopyFault>
         requires faults { self.old.start.faults ≤ W.faults wires.old }
+        requires job { HasJob self.old }
         ensures kept { self.new ≡ record self.old { held = self.new.held; board = self.new.board } }
         ensures on { OnOk result ((start : Option (List Call)) → IsOnItsWay start (W.told wires.old) self.old → IsOnItsWay start (W.told wires.new) self.new) }
         ensures well { OnOk result (self.new.board.error ≡ None) }
@@ -612,9 +617,27 @@ impl Copier {
         ensures decides { IfErr result (λ told. (start : Option (List Call)) → IsOnItsWay start (W.told wires.old) self.old → IsDecided start (W.told wires.new) self.old.options self.old.from self.old.to told) }
         ensures untroubled { OnOk result ((start : Option (List Call)) → IsOnItsWay start (W.told wires.old) self.old → Told start (W.told wires.new) (WasUntroubledAs self.old.options self.old.from self.old.to)) }
     {
-        check_calm(&self.handles, &self.board, None)?;
+        check_well(&self.board)?;
+        self.check_parting()?;
         let moved = turn(&mut self.handles, &mut self.board, wires, self.start, None)?;
         Ok(moved)
+    }
+
+    /// No connection is dead. Until they part each may make requests, and none is looked at. One that is dead then would count as want of
+    /// memory: the turn in which it died has ended the copy.
+    fn check_parting(&self) -> Result<(), NoMemory>
+        requires job { HasJob self.now }
+        ensures alive { OnOk result (AreAlive self.now.held) }
+    {
+        match &self.job {
+            Some(job) => {
+                if job.is_parting() {
+                    return check_alive(&self.handles);
+                }
+                Ok(())
+            }
+            None => unreachable!(),
+        }
     }
 
     /// Asks for whatever can be asked for now. Whether anything was, or the copy went on in another way.

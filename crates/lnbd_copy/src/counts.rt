@@ -14,15 +14,15 @@ use lnbd_plan::CopyFault;
 
 /// What the wires had counted when a copy began.
 #[derive(Clone, Copy, Debug, PartialEq, Eq)]
-pub(crate) struct Counts {
+pub struct Counts {
     /// How often a call failed.
-    pub(crate) faults: u64,
+    pub faults: u64,
     /// How long they waited.
-    pub(crate) idles: u64,
+    pub idles: u64,
 }
 
 impl Counts {
-    pub(crate) fn of<W: Wires>(wires: &W) -> Counts
+    pub fn of<W: Wires>(wires: &W) -> Counts
         ensures { result ≡ record { faults = W.faults wires.now; idles = W.idles wires.now } }
     {
         Counts {
@@ -51,7 +51,7 @@ pub(crate) fn check_faults<W: Wires>(wires: &W, start: Counts) -> Result<(), Cop
 }
 
 /// The wires waited for as long as is borne, if so. Else their count of waiting does not stand at its end.
-pub(crate) fn check_idles<W: Wires>(wires: &W, start: Counts) -> Result<(), CopyFault>
+pub fn check_idles<W: Wires>(wires: &W, start: Counts) -> Result<(), CopyFault>
     requires counted { start.idles ≤ W.idles wires.now }
     ensures open_ { OnOk result (W.idles wires.now < 18446744073709551615) }
     ensures well { OnOk result (¬ Rises patience start.idles (W.idles wires.now)) }
@@ -67,7 +67,7 @@ pub(crate) fn check_idles<W: Wires>(wires: &W, start: Counts) -> Result<(), Copy
 }
 
 /// The last look at what the wires counted: a call of theirs failed, or else they waited for as long as is borne, if so.
-pub(crate) fn check_counts<W: Wires>(wires: &W, start: Counts) -> Result<(), CopyFault>
+pub fn check_counts<W: Wires>(wires: &W, start: Counts) -> Result<(), CopyFault>
     requires faults { start.faults ≤ W.faults wires.now }
     requires idles { start.idles ≤ W.idles wires.now }
     ensures well { OnOk result (AreWell start (W.faults wires.now) (W.idles wires.now)) }

@@ -8,9 +8,11 @@ ghost use Rattle.lnbd_board.specs.Bound.{IsFewest};
 ghost use Rattle.lnbd_board.specs.declared.ticket.Ticket.TheVariants as ticket;
 ghost use Rattle.lnbd_course.specs.Orders.{command_of};
 ghost use Rattle.lnbd_copy.specs.Asked.{IsAsked};
-ghost use Rattle.lnbd_copy.specs.Dealt.{Deals};
+ghost use Rattle.lnbd_copy.specs.Dealt.{Deals, HaveDealt};
 ghost use Rattle.lnbd_copy.specs.Dealing.{Begins, HasBegun, HasGoneOn, IsAskedFirst, IsAskedOf};
 ghost use Rattle.lnbd_copy.specs.Links.{HaveSameLinks};
+ghost use Rattle.lnbd_copy.specs.Ready.{IsExpected, MayAsk, MayTake, MayTakeFirst, StaysReady, is_measured};
+ghost use Rattle.lnbd_conduct.specs.Sides.{is_source};
 ghost use Rattle.lnbd_copy.specs.UnderWay.{Fills, HasBegunOne, HasLooked, HaveLooked};
 ghost use Rattle.lnbd_copy.specs.Way.{Keeps};
 
@@ -18,7 +20,7 @@ use crate::windows::Windows;
 use lnbd_board::{Ask, Board, Bound, Change, Next, Ticket};
 use lnbd_conduct::{FIRST_DESTINATION, FIRST_SOURCE, Sides, Terms};
 use lnbd_handle::IssueFault;
-use lnbd_model::NoMemory;
+use lnbd_model::{NoMemory, Why};
 use lnbd_plan::Slice;
 use lnbd_poll::Handles;
 use std::alloc::Global;
@@ -44,16 +46,31 @@ impl Model for Bindings {
     ghost invariant = { λ b. (length b.source ≡ b.sides.source) × (length b.destination ≡ b.sides.destination) × (0 < b.sides.source) × (0 < b.sides.destination) };
 }
 
-/// A command that is refused counts as one for which memory ran out: none is made that breaks the rules, but no clause says
-/// that none is refused.
-fn refused(fault: IssueFault<Ticket>) -> NoMemory {
+/// Why a command was not issued that its handle may be asked: memory ran out, or too many are not retired, or its range breaks a rule, which
+/// counts as that. No clause says yet that these don't come.
+fn of_memory(fault: IssueFault<Ticket>) -> NoMemory
+    requires { IsExpected fault }
+{
     match fault {
-        IssueFault::Refused { why: _, buf: _ } => NoMemory,
         IssueFault::NoMemory {
             buf: _,
             first: _,
             done: _,
         } => NoMemory,
+        IssueFault::Refused { why, buf: _ } => by_measure(why),
+    }
+}
+
+/// A command that is refused by how many there are, or by its range.
+fn by_measure(why: Why) -> NoMemory
+    requires { is_measured why ≡ true }
+{
+    match why {
+        Why::TooMany(_) | Why::ZeroSize | Why::TooBig(_) | Why::Bounds(_) | Why::Align(_) => {
+            NoMemory
+        }
+        Why::NotReady(_) | Why::Dead(_) | Why::Closing | Why::Unsupported(_) | Why::BadFlags(_) =>
+            unreachable!(),
     }
 }
 
@@ -72,9 +89,10 @@ fn ask_change(
     number: u64,
     change: Change,
 ) -> Result<(), NoMemory>
+    requires held { index < length handles.old }
+    requires may { MayTake index (command_of number change) handles.old }
     ensures asked { OnOk result (IsAsked index (command_of number change) handles.old handles.new) }
     ensures board { OnOk result (board.new ≡ board.old) }
-    ensures few { OnOk result (index < 2 ^ 64 - 1) }
     ensures links { HaveSameLinks handles.old handles.new }
 {
     match change {
@@ -99,20 +117,18 @@ fn ask_write(
     offset: u64,
     buf: Vec<u8>,
 ) -> Result<(), NoMemory>
+    requires held { index < length handles.old }
+    requires may { MayTake index (write_of buf.items offset (ticket.Slice number) 0) handles.old }
     ensures asked { OnOk result (IsAsked index (write_of buf.items offset (ticket.Slice number) 0) handles.old handles.new) }
     ensures board { OnOk result (board.new ≡ board.old) }
-    ensures few { OnOk result (index < 2 ^ 64 - 1) }
     ensures links { HaveSameLinks handles.old handles.new }
 {
-    if index >= handles.len() {
-        return Err(NoMemory);
-    }
     let answer = handles
         .get_mut(index)
         .aio_pwrite(buf, offset, Ticket::Slice(number), 0, board);
     match answer {
         Ok(cookie) => Ok(told(cookie)),
-        Err(fault) => Err(refused(fault)),
+        Err(fault) => Err(of_memory(fault)),
     }
 }
 
@@ -124,23 +140,21 @@ fn ask_zero(
     index: usize,
     number: u64,
     offset: u64,
-    length: u64,
+    count: u64,
     flags: u32,
 ) -> Result<(), NoMemory>
-    ensures asked { OnOk result (IsAsked index (zero_of length offset (ticket.Slice number) flags) handles.old handles.new) }
+    requires held { index < length handles.old }
+    requires may { MayTake index (zero_of count offset (ticket.Slice number) flags) handles.old }
+    ensures asked { OnOk result (IsAsked index (zero_of count offset (ticket.Slice number) flags) handles.old handles.new) }
     ensures board { OnOk result (board.new ≡ board.old) }
-    ensures few { OnOk result (index < 2 ^ 64 - 1) }
     ensures links { HaveSameLinks handles.old handles.new }
 {
-    if index >= handles.len() {
-        return Err(NoMemory);
-    }
     let answer = handles
         .get_mut(index)
-        .aio_zero(length, offset, Ticket::Slice(number), flags, board);
+        .aio_zero(count, offset, Ticket::Slice(number), flags, board);
     match answer {
         Ok(cookie) => Ok(told(cookie)),
-        Err(fault) => Err(refused(fault)),
+        Err(fault) => Err(of_memory(fault)),
     }
 }
 
@@ -154,19 +168,18 @@ fn ask_read(
     offset: u64,
     buf: Vec<u8>,
 ) -> Result<(), NoMemory>
+    requires held { index < length handles.old }
+    requires may { MayTake index (read_of buf.items offset (ticket.Slice number) 0) handles.old }
     ensures asked { OnOk result (IsAsked index (read_of buf.items offset (ticket.Slice number) 0) handles.old handles.new) }
     ensures board { OnOk result (board.new ≡ board.old) }
     ensures links { HaveSameLinks handles.old handles.new }
 {
-    if index >= handles.len() {
-        return Err(NoMemory);
-    }
     let answer = handles
         .get_mut(index)
         .aio_pread(buf, offset, Ticket::Slice(number), 0, board);
     match answer {
         Ok(cookie) => Ok(told(cookie)),
-        Err(fault) => Err(refused(fault)),
+        Err(fault) => Err(of_memory(fault)),
     }
 }
 
@@ -176,42 +189,40 @@ pub(crate) fn ask_extents(
     handles: &mut Handles<Ticket>,
     board: &mut Board,
     offset: u64,
-    length: u64,
+    count: u64,
 ) -> Result<(), NoMemory>
-    ensures asked { OnOk result (IsAsked 0 (block_status_of length offset ticket.Extents ticket.Extents 0) handles.old handles.new) }
+    requires held { 0 < length handles.old }
+    requires may { MayTake 0 (block_status_of count offset ticket.Extents ticket.Extents 0) handles.old }
+    ensures asked { OnOk result (IsAsked 0 (block_status_of count offset ticket.Extents ticket.Extents 0) handles.old handles.new) }
     ensures board { OnOk result (board.new ≡ record board.old { told = []; mapped = false }) }
     ensures links { HaveSameLinks handles.old handles.new }
 {
-    if FIRST_SOURCE >= handles.len() {
-        return Err(NoMemory);
-    }
     board.forget_map();
     let answer = handles
         .get_mut(FIRST_SOURCE)
-        .aio_block_status(length, offset, Ticket::Extents, Ticket::Extents, 0, board);
+        .aio_block_status(count, offset, Ticket::Extents, Ticket::Extents, 0, board);
     match answer {
         Ok(cookie) => Ok(told(cookie)),
-        Err(fault) => Err(refused(fault)),
+        Err(fault) => Err(of_memory(fault)),
     }
 }
 
 /// Asks the destination's first connection to flush.
 #[tactic(auto, using(crate::proofs::LinkLemmas::same_none, crate::proofs::LinkLemmas::same_with))]
 pub(crate) fn ask_flush(handles: &mut Handles<Ticket>, board: &mut Board) -> Result<(), NoMemory>
+    requires held { 1 < length handles.old }
+    requires may { MayTake 1 (flush_of ticket.Flush 0) handles.old }
     ensures asked { OnOk result (IsAsked 1 (flush_of ticket.Flush 0) handles.old handles.new) }
     ensures board { OnOk result (board.new ≡ record board.old { flushing = true }) }
     ensures links { HaveSameLinks handles.old handles.new }
 {
-    if FIRST_DESTINATION >= handles.len() {
-        return Err(NoMemory);
-    }
     board.begin_flush();
     let answer = handles
         .get_mut(FIRST_DESTINATION)
         .aio_flush(Ticket::Flush, 0, board);
     match answer {
         Ok(cookie) => Ok(told(cookie)),
-        Err(fault) => Err(refused(fault)),
+        Err(fault) => Err(of_memory(fault)),
     }
 }
 
@@ -224,7 +235,10 @@ fn change_destination(
     number: u64,
     change: Change,
 ) -> Result<(), NoMemory>
+    requires here { connection < sides.destination }
+    requires many { length handles.old ≡ sides.source + sides.destination }
     requires held { 0 < sides.source }
+    requires may { (index : ℕ) → is_source sides index ≡ false → MayTake index (command_of number change) handles.old }
     ensures asked { OnOk result (IsAskedOf sides false connection (command_of number change) handles.old handles.new) }
     ensures board { OnOk result (board.new ≡ board.old) }
     ensures links { HaveSameLinks handles.old handles.new }
@@ -243,7 +257,10 @@ fn ask_first(
     number: u64,
     first: Ask,
 ) -> Result<(), NoMemory>
+    requires here { destination < sides.destination }
+    requires many { length handles.old ≡ sides.source + sides.destination }
     requires held { source < sides.source }
+    requires may { MayTakeFirst sides number first handles.old }
     ensures asked { OnOk result (IsAskedFirst sides source destination number first handles.old handles.new) }
     ensures board { OnOk result (board.new ≡ board.old) }
     ensures links { HaveSameLinks handles.old handles.new }
@@ -260,16 +277,14 @@ fn ask_first(
 }
 
 impl Bindings {
-    /// No slice is bound to any of these connections. A side that has none counts as one for which memory ran out.
+    /// No slice is bound to any of these connections.
     pub(crate) fn new(alloc: Global, terms: Terms) -> Result<Bindings, NoMemory>
+        requires some { (0 < terms.sides.source) × (0 < terms.sides.destination) }
         ensures sides { IfOk result (λ bindings. bindings.sides ≡ terms.sides) }
         ensures source { IfOk result (λ bindings. bindings.bound.source ≡ replicate terms.sides.source 0) }
         ensures destination { IfOk result (λ bindings. bindings.bound.destination ≡ replicate terms.sides.destination 0) }
     {
         let sides = terms.sides;
-        if sides.source == 0 || sides.destination == 0 {
-            return Err(NoMemory);
-        }
         Ok(Bindings {
             sides,
             source: Bound::new(alloc, sides.source as usize)?,
@@ -277,8 +292,7 @@ impl Bindings {
         })
     }
 
-    /// Asks what comes next of all slices that something came for. How many requests were made, and slices came to their end. If that
-    /// came to no end it would count as want of memory.
+    /// Asks what comes next of all slices that something came for. How many requests were made, and slices came to their end.
     #[tactic(auto, using(crate::proofs::LinkLemmas::same_none, crate::proofs::LinkLemmas::same_then))]
     pub(crate) fn go_on(
         &mut self,
@@ -286,6 +300,8 @@ impl Bindings {
         handles: &mut Handles<Ticket>,
         board: &mut Board,
     ) -> Result<usize, NoMemory>
+        requires may { MayAsk self.old.sides board.old.how.zeroes false false handles.old }
+        requires dealt { HaveDealt self.old.sides self.old.bound board.old.rows }
         ensures sides { self.new.sides ≡ self.old.sides }
         ensures others { OnOk result (HasGoneOn board.old board.new) }
         ensures keeps { OnOk result (Keeps board.old.how self.old.sides [] board.old board.new handles.old handles.new) }
@@ -294,16 +310,14 @@ impl Bindings {
         ensures same { IfOk result (λ done. done ≡ 0 → board.new ≡ board.old) }
         ensures still { IfOk result (λ done. done ≡ 0 → handles.new ≡ handles.old) }
         ensures dealt { OnOk result ((limit : ℕ) → Deals limit self.old.sides self.old.bound self.new.bound board.old.rows board.new.rows) }
+        ensures ready { OnOk result (StaysReady handles.old handles.new) }
         ensures links { HaveSameLinks handles.old handles.new }
     {
         let mut done: usize = 0;
-        'slices: for _ in 0..u64::MAX {
-            if !self.go_on_once(alloc, handles, board)? {
-                return Ok(done);
-            }
+        'slices: while self.go_on_once(alloc, handles, board)? {
             done = done.saturating_add(1);
         }
-        Err(NoMemory)
+        Ok(done)
     }
 
     /// Asks what comes next of the slice that something came for first. Whether there was one.
@@ -314,13 +328,17 @@ impl Bindings {
         handles: &mut Handles<Ticket>,
         board: &mut Board,
     ) -> Result<bool, NoMemory>
+        requires may { MayAsk self.old.sides board.old.how.zeroes false false handles.old }
+        requires dealt { HaveDealt self.old.sides self.old.bound board.old.rows }
         ensures sides { self.new.sides ≡ self.old.sides }
         ensures others { OnOk result (HasGoneOn board.old board.new) }
         ensures keeps { OnOk result (Keeps board.old.how self.old.sides [] board.old board.new handles.old handles.new) }
         ensures looked { IfOk result (λ went. HasLooked went board.old board.new) }
         ensures none { IfOk result (λ went. board.old.came ≡ [] → went ≡ false) }
+        ensures fewer { IfOk result (λ went. went ≡ true → length board.new.came < length board.old.came) }
         ensures still { IfOk result (λ went. went ≡ false → handles.new ≡ handles.old) }
         ensures dealt { OnOk result ((limit : ℕ) → Deals limit self.old.sides self.old.bound self.new.bound board.old.rows board.new.rows) }
+        ensures ready { OnOk result (StaysReady handles.old handles.new) }
         ensures links { HaveSameLinks handles.old handles.new }
     {
         let next = board.next(alloc)?;
@@ -375,16 +393,16 @@ impl Bindings {
         self.destination.bind(destination);
     }
 
-    /// A slice is over that was bound to these connections. They are looked at, since a board does not know how many there are.
+    /// A slice is over that was bound to these connections.
     fn release(&mut self, source: usize, destination: usize)
+        requires source { source < self.old.sides.source }
+        requires destination { destination < self.old.sides.destination }
         ensures sides { self.new.sides ≡ self.old.sides }
-        ensures source { source < self.old.sides.source → destination < self.old.sides.destination → self.new.bound.source ≡ slice_set self.old.bound.source source (slice_index self.old.bound.source source - 1) }
-        ensures destination { source < self.old.sides.source → destination < self.old.sides.destination → self.new.bound.destination ≡ slice_set self.old.bound.destination destination (slice_index self.old.bound.destination destination - 1) }
+        ensures source { self.new.bound.source ≡ slice_set self.old.bound.source source (slice_index self.old.bound.source source - 1) }
+        ensures destination { self.new.bound.destination ≡ slice_set self.old.bound.destination destination (slice_index self.old.bound.destination destination - 1) }
     {
-        if source < self.sides.source as usize && destination < self.sides.destination as usize {
-            self.source.release(source);
-            self.destination.release(destination);
-        }
+        self.source.release(source);
+        self.destination.release(destination);
     }
 
     /// Begins planned slices, each on the connections to which the fewest are bound, up to as many as may be under way. How
@@ -399,6 +417,7 @@ impl Bindings {
         limit: u64,
     ) -> Result<usize, NoMemory>
         requires zeros { windows.old.plan.cells.zeros ≡ not board.old.how.skip }
+        requires may { MayAsk self.old.sides board.old.how.zeroes false false handles.old }
         ensures sides { self.new.sides ≡ self.old.sides }
         ensures windows { windows.new ≡ record windows.old { plan = record windows.old.plan { slices = windows.new.plan.slices } } }
         ensures begins { OnOk result (Begins board.old.how self.old.sides windows.old windows.new board.old board.new handles.old handles.new) }
@@ -407,6 +426,7 @@ impl Bindings {
         ensures none { IfOk result (λ done. (length board.old.rows < limit → length windows.old.plan.slices ≡ 0) → done ≡ 0) }
         ensures still { IfOk result (λ done. done ≡ 0 → handles.new ≡ handles.old) }
         ensures dealt { OnOk result (Deals limit self.old.sides self.old.bound self.new.bound board.old.rows board.new.rows) }
+        ensures ready { OnOk result (StaysReady handles.old handles.new) }
         ensures links { HaveSameLinks handles.old handles.new }
     {
         let mut done: usize = 0;
@@ -429,6 +449,7 @@ impl Bindings {
         windows: &mut Windows,
     ) -> Result<bool, NoMemory>
         requires zeros { windows.old.plan.cells.zeros ≡ not board.old.how.skip }
+        requires may { MayAsk self.old.sides board.old.how.zeroes false false handles.old }
         ensures sides { self.new.sides ≡ self.old.sides }
         ensures windows { windows.new ≡ record windows.old { plan = record windows.old.plan { slices = windows.new.plan.slices } } }
         ensures begins { OnOk result (Begins board.old.how self.old.sides windows.old windows.new board.old board.new handles.old handles.new) }
@@ -436,6 +457,7 @@ impl Bindings {
         ensures begun { IfOk result (λ begun. begun ≡ true → board.new.begun ≡ board.old.begun + 1) }
         ensures still { IfOk result (λ begun. begun ≡ false → handles.new ≡ handles.old) }
         ensures dealt { OnOk result ((limit : ℕ) → limit < 2 ^ 64 → length board.old.rows < limit → Deals limit self.old.sides self.old.bound self.new.bound board.old.rows board.new.rows) }
+        ensures ready { OnOk result (StaysReady handles.old handles.new) }
         ensures links { HaveSameLinks handles.old handles.new }
     {
         match windows.next() {
@@ -458,12 +480,14 @@ impl Bindings {
     ) -> Result<(), NoMemory>
         requires room { slice.start + slice.length ≤ 2 ^ 63 }
         requires copied { slice.zero ≡ true → board.old.how.skip ≡ false }
+        requires may { MayAsk self.old.sides board.old.how.zeroes false false handles.old }
         ensures sides { self.new.sides ≡ self.old.sides }
         ensures others { OnOk result (HasBegun board.old board.new) }
         ensures keeps { OnOk result (Keeps board.old.how self.old.sides (slice ∷ []) board.old board.new handles.old handles.new) }
         ensures more { OnOk result (length board.new.rows ≡ length board.old.rows + 1) }
         ensures begun { OnOk result (board.new.begun ≡ board.old.begun + 1) }
         ensures dealt { OnOk result ((limit : ℕ) → limit < 2 ^ 64 → length board.old.rows < limit → Deals limit self.old.sides self.old.bound self.new.bound board.old.rows board.new.rows) }
+        ensures ready { OnOk result (StaysReady handles.old handles.new) }
         ensures links { HaveSameLinks handles.old handles.new }
     {
         let number = board.begun();

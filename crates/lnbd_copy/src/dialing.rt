@@ -45,11 +45,11 @@ use std::alloc::Global;
 const MAX_CONNECTIONS: usize = 64;
 
 /// After so many turns a copy is given up, as for want of memory. None comes near.
-pub(crate) const MAX_TURNS: u64 = u64::MAX;
+pub const MAX_TURNS: u64 = u64::MAX;
 
 /// Holds a handle with its link, behind the others.
 #[tactic(auto, using(crate::proofs::IdleLemmas::idly_none, crate::proofs::IdleLemmas::idly_shut, crate::proofs::PauseLemmas::unpaused_none, crate::proofs::PauseLemmas::unpaused_shut))]
-fn hold<W: Wires>(
+pub fn hold<W: Wires>(
     handles: &mut Handles<Ticket>,
     board: &mut Board,
     wires: &mut W,
@@ -123,7 +123,7 @@ pub(crate) fn dial<W: Wires>(
 
 /// Waits, unless that was borne for as long as it is.
 #[tactic(auto, using(crate::proofs::LinkLemmas::links_none, crate::proofs::LinkLemmas::links_then, crate::proofs::IdleLemmas::idly_none, crate::proofs::IdleLemmas::idly_paused, crate::proofs::PauseLemmas::pauses_none, crate::proofs::PatientLemmas::patient_none))]
-pub(crate) fn wait<W: Wires>(
+pub fn wait<W: Wires>(
     handles: &mut Handles<Ticket>,
     wires: &mut W,
     start: Counts,

@@ -1,30 +1,29 @@
 //! What a copy does once both sides are known: slices are begun and go on, extents are asked for, and in the end the
 //! destination is flushed and all connections part. How bytes move is not known here.
 
-ghost use Rattle.std.specs.Prelude.{◌≡◌, ◌≢◌, ◌⊎◌, ◌<◌, ◌≤◌, ◌^◌, ℕ, true, false, not, List, [], length, Bool, Some, None, IfOk, OnErr, OnOk};
+ghost use Rattle.std.specs.Prelude.{◌≡◌, ◌≢◌, ◌⊎◌, ◌<◌, ◌≤◌, ◌^◌, ℕ, true, false, not, List, [], length, Bool, Some, None, is_some, IfOk, OnErr, OnOk};
 ghost use Rattle.lnbd_poll.specs.Held.{Held};
 ghost use Rattle.lnbd_board.specs.declared.ticket.Ticket.{Ticket as Tag};
 ghost use Rattle.lnbd_board.specs.Files.{Seen as Kept};
 ghost use Rattle.lnbd_board.specs.Rows.{busy};
 ghost use Rattle.lnbd_copy.specs.Awaiting.{AreToAsk, HasNothingToAsk};
-ghost use Rattle.lnbd_copy.specs.Dealt.{AreDealt, Spreads};
+ghost use Rattle.lnbd_copy.specs.Dealt.{AreDealt, HasDealt, Spreads};
 ghost use Rattle.lnbd_copy.specs.Heard.{IsHeardTo};
 ghost use Rattle.lnbd_copy.specs.Reached.{IsToldTo};
 ghost use Rattle.lnbd_conduct.specs.Slices.{cells_of};
 ghost use Rattle.lnbd_copy.specs.UnderWay.{HasAsked, HasFilled, HaveLooked, IsPast, IsWantedOf, Refills, unfinished};
 ghost use Rattle.lnbd_copy.specs.Dealing.{HasGoneOn};
-ghost use Rattle.lnbd_copy.specs.Deciding.{AreAlive};
 ghost use Rattle.lnbd_copy.specs.Leaving.{Parts};
 ghost use Rattle.lnbd_copy.specs.Links.{HaveSameLinks};
 ghost use Rattle.lnbd_copy.specs.Forgetting.{NoneKeepNotes};
 ghost use Rattle.lnbd_copy.specs.Moving.{AsksFor, HasChanged, HasHeard};
+ghost use Rattle.lnbd_copy.specs.Ready.{MayAct, MayGoOn, StaysReady};
 ghost use Rattle.lnbd_copy.specs.Way.{Way};
-ghost use Rattle.lnbd_copy.specs.Windows.{IsPlanned};
+ghost use Rattle.lnbd_copy.specs.Windows.{IsPlanned, wanted};
 
 use crate::dealing::{Bindings, ask_extents, ask_flush};
 use crate::forgetting::forget;
 use crate::parting::part;
-use crate::turning::check_alive;
 use crate::windows::Windows;
 use lnbd_board::{Board, Ticket};
 use lnbd_conduct::Terms;
@@ -74,9 +73,11 @@ impl Job {
     pub(crate) fn new(alloc: Global, terms: Terms, extents: bool) -> Result<Job, NoMemory>
         requires cells { (0 < terms.cell) × (0 < terms.zero_cell) × (0 < terms.grain) }
         requires size { terms.size ≤ 2 ^ 63 }
+        requires some { (0 < terms.sides.source) × (0 < terms.sides.destination) }
         ensures terms { IfOk result (λ job. job.terms ≡ terms) }
         ensures begins { IfOk result (λ job. job.phase ≡ phase.Copying) }
         ensures dealt { IfOk result (λ job. AreDealt terms.limit terms.sides job.bound []) }
+        ensures wanted { IfOk result (λ job. is_some (wanted job.windows) ≡ true → extents ≡ true) }
         ensures job { IfOk result (λ job. (way : Way) (now : Kept) → way.size ≡ Some terms.size → now.how ≡ terms.how → way.how ≡ terms.how → way.sides ≡ terms.sides → way.slices ≡ [] → way.asked ≡ None → ((block p : ℕ) → way.whole block p ≡ false) → now.flushing ≡ false → (extents ≡ false → (grain p : ℕ) → way.heard grain p ≡ true) → ((p : ℕ) → way.reach p ≡ false) → way.ended ≡ false → way.flush ≡ terms.flush → way.queries ≡ 0 → IsJob job way now) }
     {
         let bindings = Bindings::new(alloc, terms)?;
@@ -118,6 +119,8 @@ impl Job {
     ) -> Result<bool, NoMemory>
         requires how { board.old.how ≡ self.old.terms.how }
         requires well { board.old.error ≡ None }
+        requires dealt { HasDealt self.old board.old }
+        requires may { MayGoOn self.old handles.old }
         ensures acts { OnOk result (Acts self.old self.new board.old board.new handles.old handles.new) }
         ensures terms { self.new.terms ≡ self.old.terms }
         ensures onward { self.old.phase ≢ phase.Copying → self.new.phase ≢ phase.Copying }
@@ -129,6 +132,7 @@ impl Job {
         ensures still { IfOk result (λ acted. acted ≡ false → handles.new ≡ handles.old) }
         ensures forgets { IfOk result (λ acted. acted ≡ true → NoneKeepNotes handles.new) }
         ensures spread { OnOk result (Spreads self.old self.new board.old board.new) }
+        ensures may { OnOk result (MayGoOn self.new handles.new) }
         ensures links { HaveSameLinks handles.old handles.new }
     {
         if !self.proceed(alloc, handles, board)? {
@@ -149,6 +153,8 @@ impl Job {
     ) -> Result<bool, NoMemory>
         requires how { board.old.how ≡ self.old.terms.how }
         requires well { board.old.error ≡ None }
+        requires dealt { HasDealt self.old board.old }
+        requires may { MayGoOn self.old handles.old }
         ensures acts { OnOk result (Acts self.old self.new board.old board.new handles.old handles.new) }
         ensures terms { self.new.terms ≡ self.old.terms }
         ensures onward { self.old.phase ≢ phase.Copying → self.new.phase ≢ phase.Copying }
@@ -159,6 +165,7 @@ impl Job {
         ensures full { OnOk result (Refills self.old self.new board.old board.new) }
         ensures still { IfOk result (λ acted. acted ≡ false → handles.new ≡ handles.old) }
         ensures spread { OnOk result (Spreads self.old self.new board.old board.new) }
+        ensures may { OnOk result (MayGoOn self.new handles.new) }
         ensures links { HaveSameLinks handles.old handles.new }
     {
         match self.phase {
@@ -179,6 +186,8 @@ impl Job {
         requires how { board.old.how ≡ self.old.terms.how }
         requires well { board.old.error ≡ None }
         requires copying { self.old.phase ≡ phase.Copying }
+        requires dealt { HasDealt self.old board.old }
+        requires may { MayAct self.old handles.old }
         ensures acts { OnOk result (Acts self.old self.new board.old board.new handles.old handles.new) }
         ensures terms { self.new.terms ≡ self.old.terms }
         ensures acted { IfOk result (λ acted. acted ≡ true → HasChanged self.old self.new board.old board.new) }
@@ -187,6 +196,7 @@ impl Job {
         ensures full { OnOk result (Refills self.old self.new board.old board.new) }
         ensures still { IfOk result (λ acted. acted ≡ false → handles.new ≡ handles.old) }
         ensures spread { OnOk result (Spreads self.old self.new board.old board.new) }
+        ensures may { OnOk result (MayGoOn self.new handles.new) }
         ensures links { HaveSameLinks handles.old handles.new }
     {
         let went = self.go_on(alloc, handles, board)?;
@@ -209,6 +219,8 @@ impl Job {
     ) -> Result<usize, NoMemory>
         requires how { board.old.how ≡ self.old.terms.how }
         requires copying { self.old.phase ≡ phase.Copying }
+        requires dealt { HasDealt self.old board.old }
+        requires may { MayAct self.old handles.old }
         ensures acts { OnOk result (Acts self.old self.new board.old board.new handles.old handles.new) }
         ensures how { OnOk result (board.new.how ≡ board.old.how) }
         ensures others { OnOk result (HasGoneOn board.old board.new) }
@@ -218,6 +230,7 @@ impl Job {
         ensures still { IfOk result (λ done. done ≡ 0 → handles.new ≡ handles.old) }
         ensures job { self.new ≡ record self.old { bound = self.new.bound } }
         ensures spread { OnOk result (Spreads self.old self.new board.old board.new) }
+        ensures may { OnOk result (MayAct self.new handles.new) }
         ensures links { HaveSameLinks handles.old handles.new }
     {
         let went = self.bindings.go_on(alloc, handles, board)?;
@@ -233,6 +246,7 @@ impl Job {
         ensures phase { self.new.phase ≡ self.old.phase }
         ensures untold { OnOk result (self.new.asked ≡ true → board.now.mapped ≡ false) }
         ensures heard { IfOk result (λ heard. HasHeard heard self.old self.new board.now) }
+        ensures may { OnOk result ((held : List (Held Tag)) → MayAct self.old held → MayAct self.new held) }
         ensures bound { self.new.bound ≡ self.old.bound }
     {
         if !self.has_come(board) {
@@ -258,7 +272,8 @@ impl Job {
     /// Asks for extents, if they may be asked for and windows are left.
     #[tactic(auto, using(crate::proofs::JobLemmas::acts_none, crate::proofs::LinkLemmas::same_none))]
     fn ask(&mut self, handles: &mut Handles<Ticket>, board: &mut Board) -> Result<bool, NoMemory>
-        requires { self.old.phase ≡ phase.Copying }
+        requires copying { self.old.phase ≡ phase.Copying }
+        requires may { MayAct self.old handles.old }
         ensures acts { OnOk result (Acts self.old self.new board.old board.new handles.old handles.new) }
         ensures how { OnOk result (board.new.how ≡ board.old.how) }
         ensures terms { self.new.terms ≡ self.old.terms }
@@ -269,6 +284,7 @@ impl Job {
         ensures due { IfOk result (λ asked. asked ≡ true → AreToAsk self.old board.old) }
         ensures done { OnOk result (¬ AreToAsk self.new board.new) }
         ensures still { IfOk result (λ asked. asked ≡ false → handles.new ≡ handles.old) }
+        ensures may { OnOk result (MayAct self.new handles.new) }
         ensures links { HaveSameLinks handles.old handles.new }
     {
         if !self.may_ask(board) {
@@ -306,6 +322,7 @@ impl Job {
     ) -> Result<usize, NoMemory>
         requires how { board.old.how ≡ self.old.terms.how }
         requires copying { self.old.phase ≡ phase.Copying }
+        requires may { MayAct self.old handles.old }
         ensures acts { OnOk result (Acts self.old self.new board.old board.new handles.old handles.new) }
         ensures terms { self.new.terms ≡ self.old.terms }
         ensures well { OnOk result (board.new.error ≡ board.old.error) }
@@ -315,6 +332,7 @@ impl Job {
         ensures still { IfOk result (λ done. done ≡ 0 → handles.new ≡ handles.old) }
         ensures phase { self.new.phase ≡ self.old.phase }
         ensures spread { OnOk result (Spreads self.old self.new board.old board.new) }
+        ensures may { OnOk result (MayAct self.new handles.new) }
         ensures links { HaveSameLinks handles.old handles.new }
     {
         let begun = self
@@ -339,11 +357,13 @@ impl Job {
         requires over { IsOver self.old board.old }
         requires well { board.old.error ≡ None }
         requires copying { self.old.phase ≡ phase.Copying }
+        requires may { MayAct self.old handles.old }
         ensures acts { OnOk result (Acts self.old self.new board.old board.new handles.old handles.new) }
         ensures terms { self.new.terms ≡ self.old.terms }
         ensures past { OnOk result (IsPast self.new board.old board.new) }
         ensures flushed { OnOk result (board.new.flushed ≡ board.old.flushed) }
         ensures bound { self.new.bound ≡ self.old.bound }
+        ensures may { OnOk result (MayGoOn self.new handles.new) }
         ensures links { HaveSameLinks handles.old handles.new }
     {
         if self.terms.flush {
@@ -351,7 +371,8 @@ impl Job {
             self.phase = Phase::Flushing;
             return Ok(());
         }
-        self.leave(handles)
+        self.leave(handles);
+        Ok(())
     }
 
     /// Asks for the end, where the flush was answered.
@@ -359,6 +380,7 @@ impl Job {
     fn flushed(&mut self, handles: &mut Handles<Ticket>, board: &Board) -> Result<bool, NoMemory>
         requires flushing { self.old.phase ≡ phase.Flushing }
         requires well { board.now.error ≡ None }
+        requires may { MayGoOn self.old handles.old }
         ensures acts { OnOk result (Acts self.old self.new board.now board.now handles.old handles.new) }
         ensures terms { self.new.terms ≡ self.old.terms }
         ensures phase { self.new.phase ≢ phase.Copying }
@@ -367,28 +389,24 @@ impl Job {
         ensures still { IfOk result (λ acted. acted ≡ false → handles.new ≡ handles.old) }
         ensures acted { IfOk result (λ acted. acted ≡ true → self.new.phase ≢ self.old.phase) }
         ensures bound { self.new.bound ≡ self.old.bound }
+        ensures may { OnOk result (MayGoOn self.new handles.new) }
         ensures links { HaveSameLinks handles.old handles.new }
     {
         if board.is_flushed() {
-            self.leave(handles)?;
+            self.leave(handles);
             return Ok(true);
         }
         Ok(false)
     }
 
-    /// Asks for the end. No connection is dead by then: the turn in which one died has ended the copy.
-    #[tactic(auto, using(crate::proofs::LinkLemmas::same_none))]
-    fn leave(&mut self, handles: &mut Handles<Ticket>) -> Result<(), NoMemory>
-        ensures alive { OnOk result (AreAlive handles.old) }
-        ensures parts { OnOk result ((now : Kept) → Parts now handles.old handles.new) }
-        ensures others { OnOk result (self.new ≡ record self.old { phase = phase.Parting }) }
-        ensures stays { OnErr result (self.new ≡ self.old) }
+    /// Asks for the end. No connection is dead by then: each may make requests.
+    fn leave(&mut self, handles: &mut Handles<Ticket>)
+        ensures parts { (now : Kept) → Parts now handles.old handles.new }
+        ensures others { self.new ≡ record self.old { phase = phase.Parting } }
         ensures links { HaveSameLinks handles.old handles.new }
     {
-        check_alive(handles)?;
         part(handles);
         self.phase = Phase::Parting;
-        Ok(())
     }
 }
 
@@ -403,6 +421,7 @@ fn first_windows(alloc: Global, terms: Terms, extents: bool) -> Result<Windows, 
     ensures heard { IfOk result (λ windows. (heard : ℕ → Bool) → (extents ≡ false → (p : ℕ) → heard p ≡ true) → IsHeardTo windows heard) }
     ensures reached { IfOk result (λ windows. (reach : ℕ → Bool) → ((p : ℕ) → reach p ≡ false) → IsToldTo windows reach) }
     ensures inside { IfOk result (λ windows. windows.at ≤ windows.size) }
+    ensures wanted { IfOk result (λ windows. is_some (wanted windows) ≡ true → extents ≡ true) }
 {
     let mut windows = Windows::new(alloc, terms);
     if extents {

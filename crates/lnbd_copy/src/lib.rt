@@ -1,6 +1,6 @@
 //! A copy from one export to another: its connections, what is asked on them and when, and why it does not end well.
 //! The slices that are begun and not over stand on the board of `lnbd_board`, which is the world of all callbacks.
-//! Nothing is read or written but through the traits of the outside.
+//! Nothing is read or written but through the traits of the outside. What a copy of which one side is a file does as this one does is public too.
 #![tactic(auto)]
 
 mod agreeing;
@@ -20,5 +20,13 @@ mod turning;
 mod wanting;
 mod windows;
 
+pub use agreeing::{are_quiet, check_well, info_of, is_same, tells_extents};
 pub use copier::{Copier, Progress};
+pub use counts::{Counts, check_counts, check_idles};
+pub use dialing::{MAX_TURNS, hold, wait};
 pub use laws::vain_writes_are_last;
+pub use opening::open;
+pub use parting::has_parted;
+pub use terms::{CAN_MULTI_CONN, SEND_FLUSH, SEND_WRITE_ZEROES, UNKNOWN, broken_rule, settled};
+pub use turning::{check_calm, turn};
+pub use windows::{Wanted, Windows};

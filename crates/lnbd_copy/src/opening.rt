@@ -65,7 +65,7 @@ fn copied(alloc: Global, name: &Text) -> Result<Text, NoMemory>
 }
 
 /// A handle that is to ask for the export of this name, and for base:allocation where extents are wanted.
-pub(crate) fn open(
+pub fn open(
     alloc: Global,
     name: &Text,
     extents: bool,

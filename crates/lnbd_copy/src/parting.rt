@@ -29,7 +29,7 @@ pub(crate) fn part(handles: &mut Handles<Ticket>)
 }
 
 /// Whether a connection has written that it ends, or has ended.
-fn has_parted(handles: &Handles<Ticket>, index: usize) -> bool
+pub fn has_parted(handles: &Handles<Ticket>, index: usize) -> bool
     requires { index < length handles.now }
     ensures { result ≡ true → Happens HasParted index handles.now }
 {

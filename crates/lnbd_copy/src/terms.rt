@@ -15,7 +15,7 @@ use lnbd_model::{Blocks, ExportInfo};
 use lnbd_plan::{CopyOptions, Rule};
 
 /// How a copy writes while nothing is known of the destination.
-pub(crate) const UNKNOWN: How = How {
+pub const UNKNOWN: How = How {
     block: 0,
     skip: false,
     zeroes: false,
@@ -25,11 +25,11 @@ pub(crate) const UNKNOWN: How = How {
 /// Flags of an export (NBD protocol, "Transmission flags").
 const READ_ONLY: u16 = 2;
 
-const SEND_FLUSH: u16 = 4;
+pub const SEND_FLUSH: u16 = 4;
 
-const SEND_WRITE_ZEROES: u16 = 64;
+pub const SEND_WRITE_ZEROES: u16 = 64;
 
-const CAN_MULTI_CONN: u16 = 256;
+pub const CAN_MULTI_CONN: u16 = 256;
 
 /// The largest least block (NBD protocol, "Block size constraints").
 const MAX_MINIMUM_BLOCK: u32 = 65_536;
@@ -80,7 +80,7 @@ fn most_bytes(told: Option<Blocks>) -> u32
 }
 
 /// The first rule between the sides that does not hold, if one doesn't.
-pub(crate) fn broken_rule(source: &ExportInfo, destination: &ExportInfo) -> Option<Rule>
+pub fn broken_rule(source: &ExportInfo, destination: &ExportInfo) -> Option<Rule>
     ensures { result ≡ broken_rule source.now destination.now }
 {
     let minimum = least_block(source.blocks).max(least_block(destination.blocks));
@@ -156,7 +156,7 @@ fn sparse_block(options: CopyOptions, destination: &ExportInfo, cell: u32) -> u3
 }
 
 /// What is settled, where the rules hold.
-pub(crate) fn settled(options: CopyOptions, source: &ExportInfo, destination: &ExportInfo) -> Terms
+pub fn settled(options: CopyOptions, source: &ExportInfo, destination: &ExportInfo) -> Terms
     ensures cells { (0 < result.cell) × (0 < result.zero_cell) × (0 < result.grain) }
     ensures settles { AreSettledBy options source.now destination.now result }
     ensures size { result.size ≡ source.now.size }

@@ -68,7 +68,7 @@ fn check_told(handles: &Handles<Ticket>, sides: Option<Sides>) -> Result<(), Cop
 }
 
 /// Nothing came so far for which the copy ends. If anything had, it would count as want of memory: it has ended the copy.
-pub(crate) fn check_calm(
+pub fn check_calm(
     handles: &Handles<Ticket>,
     board: &Board,
     sides: Option<Sides>,
@@ -122,7 +122,7 @@ fn judge<W: Wires>(
 /// connection or told another export than on the first one, `Rule` where the two exports don't fit, `Peer` where it refused the export or
 /// answered a command by an error. `NoMemory` may come in place of every other.
 #[tactic(auto, using(crate::proofs::CauseLemmas::goes_same, crate::proofs::CauseLemmas::goes_then, crate::proofs::CauseLemmas::cause_later, crate::proofs::CauseLemmas::cause_free, crate::proofs::DecidingLemmas::decides_memory))]
-pub(crate) fn turn<W: Wires>(
+pub fn turn<W: Wires>(
     handles: &mut Handles<Ticket>,
     board: &mut Board,
     wires: &mut W,

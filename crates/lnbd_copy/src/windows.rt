@@ -25,14 +25,14 @@ const ZERO: u64 = 2;
 
 /// A range of the source whose extents are to be asked for.
 #[derive(Clone, Copy, Debug, PartialEq, Eq)]
-pub(crate) struct Wanted {
-    pub(crate) offset: u64,
-    pub(crate) length: u64,
+pub struct Wanted {
+    pub offset: u64,
+    pub length: u64,
 }
 
 /// The slices that are planned, and how far they are.
 #[derive(Drop)]
-pub(crate) struct Windows {
+pub struct Windows {
     alloc: Global,
     plan: Plan,
     size: u64,
@@ -61,7 +61,7 @@ impl Windows {
     ghost use Rattle.lnbd_copy.specs.Windows.{wanted, zero_heard, IsPlanned};
 
     /// No window yet.
-    pub(crate) fn new(alloc: Global, terms: Terms) -> Windows
+    pub fn new(alloc: Global, terms: Terms) -> Windows
         requires cells { (0 < terms.cell) × (0 < terms.zero_cell) × (0 < terms.grain) }
         requires size { terms.size ≤ 2 ^ 63 }
         ensures value { result ≡ record { plan = record { end = 0; slices = []; cells = record { cell = terms.cell; zero_cell = terms.zero_cell; zeros = not terms.how.skip } }; size = terms.size; grain = terms.grain; at = 0; zero = [] } }
@@ -81,11 +81,12 @@ impl Windows {
     }
 
     /// Plans all that is left as bytes of which nothing more is told.
-    pub(crate) fn plan_rest(&mut self) -> Result<(), NoMemory>
+    pub fn plan_rest(&mut self) -> Result<(), NoMemory>
         ensures planned { OnOk result ((zero : ℕ → Bool) (slices : List Slice) → IsPlanned self.old zero slices → IsPlanned self.new zero slices) }
         ensures heard { OnOk result ((heard : ℕ → Bool) → ((p : ℕ) → heard p ≡ true) → IsHeardTo self.new heard) }
         ensures reached { OnOk result ((reach : ℕ → Bool) → ((p : ℕ) → reach p ≡ false) → IsToldTo self.new reach) }
         ensures whole { OnOk result (self.new.plan.end ≡ self.old.size) }
+        ensures unwanted { OnOk result (¬ (is_some (wanted self.new) ≡ true)) }
         ensures inside { OnOk result (self.new.at ≤ self.new.size) }
         ensures cells { self.new.plan.cells ≡ self.old.plan.cells }
         ensures size { self.new.size ≡ self.old.size }
@@ -99,7 +100,7 @@ impl Windows {
     }
 
     /// The range whose extents are to be asked for next, if windows are left.
-    pub(crate) fn wanted(&self) -> Option<Wanted>
+    pub fn wanted(&self) -> Option<Wanted>
         ensures { option_map (λ range. (range.offset, range.length)) result ≡ wanted self.now }
     {
         let end = end_of(self.start, self.size);
@@ -113,7 +114,7 @@ impl Windows {
     }
 
     /// Takes the extents that were told of the range that was wanted. A window that is told whole is planned.
-    pub(crate) fn hear(&mut self, told: &[Extent]) -> Result<(), NoMemory>
+    pub fn hear(&mut self, told: &[Extent]) -> Result<(), NoMemory>
         ensures planned { OnOk result ((zero : ℕ → Bool) (slices : List Slice) → IsPlanned self.old zero slices
             → IsPlanned self.new (λ p. zero p || zero_heard (wanted self.old) told.now p) slices) }
         ensures spared { OnOk result ((whole : ℕ → Bool) (slices : List Slice) → IsSpared self.old whole slices
@@ -147,21 +148,21 @@ impl Windows {
     }
 
     /// Whether a part of a window was told, and not all of it.
-    pub(crate) fn is_under_way(&self) -> bool
+    pub fn is_under_way(&self) -> bool
         ensures { result ≡ nat_lt self.now.plan.end self.now.at }
     {
         self.start < self.at
     }
 
     /// Whether all windows are planned.
-    pub(crate) fn are_planned(&self) -> bool
+    pub fn are_planned(&self) -> bool
         ensures { result ≡ (self.now.plan.end == self.now.size) }
     {
         self.start == self.size
     }
 
     /// The next slice, if one is planned.
-    pub(crate) fn next(&mut self) -> Option<Slice>
+    pub fn next(&mut self) -> Option<Slice>
         ensures slices { self.old.plan.slices ≡ option_to_list result ++ self.new.plan.slices }
         ensures some { IsSome result ↔ (0 < length self.old.plan.slices) }
         ensures others { self.new ≡ record self.old { plan = record self.old.plan { slices = self.new.plan.slices } } }
@@ -172,7 +173,7 @@ impl Windows {
     }
 
     /// How many slices are planned and still to come.
-    pub(crate) fn left(&self) -> u64
+    pub fn left(&self) -> u64
         ensures left { result ≡ length self.now.plan.slices }
         ensures wanted { self.now.plan.end < self.now.size → is_some (wanted self.now) ≡ true }
     {

@@ -1,5 +1,5 @@
 -- What stands of a copy of which one side is a file, step by step and in the end.
-use Rattle.std.proofs.Common.{◌≡◌, ℕ, ◌≤◌, true, false, List, [], ◌∷◌, ◌++◌, length, replicate, Some, refl, ap, sym, subst, ◌∙◌, arith, append-nil, inl, inr}
+use Rattle.std.proofs.Common.{◌≡◌, ℕ, ◌+◌, ◌≤◌, true, false, List, [], ◌∷◌, ◌++◌, length, replicate, Option, Some, refl, ap, sym, subst, ◌∙◌, arith, append-nil, inl, inr}
 use Rattle.std.proofs.lemmas.Bool.{cases_lt}
 use Rattle.std.proofs.lemmas.List.{length-replicate}
 use Rattle.lnbd_plan.specs.declared.cells.Cells.{Cells}
@@ -20,8 +20,15 @@ use Rattle.lnbd_board.proofs.Once.{once}
 use Rattle.lnbd_onesided.specs.Desk.{Completes, done_more}
 use Rattle.lnbd_onesided.specs.Honest.{Begins, IsRead, Made}
 use Rattle.lnbd_tracks.specs.Mapping.{ToldAlike}
-use Rattle.lnbd_course.specs.Counted.{CountsFirst, CountsNext, CountsSame}
-use Rattle.lnbd_course.specs.Far.{ToFile}
+use Rattle.lnbd_board.specs.declared.ticket.Ticket.{Ticket}
+use Rattle.lnbd_course.specs.Counted.{CountsFirst, CountsNext, CountsSame, bytes_of}
+use Rattle.lnbd_course.specs.Far.{FromFile, ToFile}
+use Rattle.lnbd_course.specs.Told.{Known}
+use Rattle.lnbd_link.specs.Call as wire
+use Rattle.lnbd_model.specs.declared.target.Place.{Place}
+use Rattle.lnbd_poll.specs.Seen.{Seen}
+use Rattle.lnbd_store.specs.Shelf.{Shelf}
+use Rattle.lnbd_copyfile.specs.Loading.{HasLoaded}
 use Rattle.lnbd_course.specs.FarCourse.{FarCourse}
 use Rattle.lnbd_course.specs.FarLaws.{ComesAtOnce, IsReadWhole}
 use Rattle.lnbd_course.proofs.Ending.{planned_once}
@@ -34,7 +41,7 @@ use Rattle.lnbd_copyfile.proofs.MadeLemmas.{bytes_joined}
 
 -- What a step of the board leaves of the rest of it.
 
-row_counts : (how : How) (n source destination : ℕ) (now mid : board.Seen) → EndsRow how n source destination now mid → CountsSame now mid
+pub row_counts : (how : How) (n source destination : ℕ) (now mid : board.Seen) → EndsRow how n source destination now mid → CountsSame now mid
 row_counts how n source destination now mid ends = record {
   read = ap (λ (s : board.Seen). s.read) ends.now;
   written = ap (λ (s : board.Seen). s.written) ends.now;
@@ -43,14 +50,14 @@ row_counts how n source destination now mid ends = record {
   flushed = ap (λ (s : board.Seen). s.flushed) ends.now;
 }
 
-row_alike : (how : How) (n source destination : ℕ) (now mid : board.Seen) → EndsRow how n source destination now mid → ToldAlike now mid
+pub row_alike : (how : How) (n source destination : ℕ) (now mid : board.Seen) → EndsRow how n source destination now mid → ToldAlike now mid
 row_alike how n source destination now mid ends = record {
   told = ap (λ (s : board.Seen). s.told) ends.now;
   mapped = ap (λ (s : board.Seen). s.mapped) ends.now;
   short = ap (λ (s : board.Seen). s.short) ends.now;
 }
 
-change_counts : (how : How) (n destination : ℕ) (one : Change) (now mid : board.Seen) → AsksOn how n destination one now mid → CountsNext one now mid
+pub change_counts : (how : How) (n destination : ℕ) (one : Change) (now mid : board.Seen) → AsksOn how n destination one now mid → CountsNext one now mid
 change_counts how n destination one now mid asks = record {
   read = ap (λ (s : board.Seen). s.read) asks.now;
   written = ap (λ (s : board.Seen). s.written) asks.now;
@@ -71,7 +78,7 @@ change_comes how n destination one bytes now mid back asks came = record {
   completes = came;
 }
 
-first_counts : (slice : Slice) (source destination : ℕ) (one : Ask) (now mid : board.Seen) → IsBegun slice source destination one now mid → CountsFirst one now mid
+pub first_counts : (slice : Slice) (source destination : ℕ) (one : Ask) (now mid : board.Seen) → IsBegun slice source destination one now mid → CountsFirst one now mid
 first_counts slice source destination one now mid begun = record {
   read = ap (λ (s : board.Seen). s.read) begun.row;
   written = ap (λ (s : board.Seen). s.written) begun.row;
@@ -115,20 +122,36 @@ beginning_keeps file slice source destination made at size slices now now2 calls
     (first_counts slice source destination (ask.Change one) now first.mid first.begun)
     (first_comes slice source destination (ask.Change one) now.begun (change_of one).payload now first.mid now2 first.begun first.came))
 
+-- A slice was read.
+module _ (file : ℕ) (slice : Slice) (source destination : ℕ) (read : List Request) (now now2 : board.Seen) (old new : Option Shelf) (given given2 : ℕ)
+    (loaded : HasLoaded file slice source destination read now now2 old new given given2) where
+  -- all reads, with that one
+  abbrev pub loaded_with : List Request
+  loaded_with = done_more (length read) now.begun (read_at loaded.offset (length loaded.buf)) loaded.bytes read
+
+  pub loading_stands : (at : Place) (size : Option ℕ) (slices : List Slice) (calls : List wire.Call) (seens : List (Seen Ticket)) (wanted : Option (ℕ × ℕ)) (known : Known) →
+      length slices ≡ now.begun → FarCourse (FromFile read) at size now.how slices now calls seens wanted known →
+      FarCourse (FromFile loaded_with) at size now.how (slices ++ slice ∷ []) now2 calls seens wanted known
+  loading_stands at size slices calls seens wanted known count course =
+      let one = ask.Read loaded.offset loaded.buf in
+      let begun : IsBegun slice source destination one now loaded.next = record { begins = loaded.begins; row = loaded.begun } in
+      reads_keep_far read at size now.how slices now loaded.next now2 calls seens wanted known slice now.begun loaded.offset loaded.buf loaded.bytes course count loaded.begins
+      (first_counts slice source destination one now loaded.next begun) loaded.size (first_comes slice source destination one now.begun loaded.bytes now loaded.next now2 begun loaded.came)
+
+  pub loading_reads : bytes_of is_read loaded_with ≡ bytes_of is_read read + length loaded.bytes
+  loading_reads = bytes_joined is_read read _ ∙ (let n = loaded.size in omega (arith, n))
+
 pub loading_keeps : LoadingKeeps
-loading_keeps file slice source destination read at size slices now now2 calls seens wanted known old new given given2 loaded count course =
-    let one = ask.Read loaded.offset loaded.buf in
-    let begun : IsBegun slice source destination one now loaded.next = record { begins = loaded.begins; row = loaded.begun } in (
-      done_more (length read) now.begun (read_at loaded.offset (length loaded.buf)) loaded.bytes read,
-      record {
-        stands = reads_keep_far read at size now.how slices now loaded.next now2 calls seens wanted known slice now.begun loaded.offset loaded.buf loaded.bytes course count loaded.begins
-            (first_counts slice source destination one now loaded.next begun) loaded.size (first_comes slice source destination one now.begun loaded.bytes now loaded.next now2 begun loaded.came);
-        touched = loaded.touched;
-        count = length loaded.bytes;
-        more = bytes_joined is_read read _ ∙ (let n = loaded.size in omega (arith, n));
-        gave = loaded.gave;
-      },
-    )
+loading_keeps file slice source destination read at size slices now now2 calls seens wanted known old new given given2 loaded count course = (
+  loaded_with file slice source destination read now now2 old new given given2 loaded,
+  record {
+    stands = loading_stands file slice source destination read now now2 old new given given2 loaded at size slices calls seens wanted known count course;
+    touched = loaded.touched;
+    count = length loaded.bytes;
+    more = loading_reads file slice source destination read now now2 old new given given2 loaded;
+    gave = loaded.gave;
+  },
+)
 
 -- The end.
 
@@ -169,7 +192,8 @@ to_file_is_copied path n size made from how slices now calls wanted known cells 
         one.0,
         one.1,
         record {
-          file = λ source honest. file.1 ∙ ap (λ (xs : List ℕ). Some xs) (to_file_ends made from size how slices now calls wanted known cells windows file.0 course over well planned all source honest);
+          file = λ source honest. file.1 ∙ ap (λ (xs : List ℕ). Some xs) (to_file_ends made from size how slices now calls wanted known cells windows file.0
+              course over well planned all source honest);
           rest = λ other d. two.2.rest path other one.2.opened.path_ d ∙ one.2.rest other d;
         },
       );

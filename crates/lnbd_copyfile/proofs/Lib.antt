@@ -14,3 +14,13 @@ pub mod WentLemmas
 pub mod LoadLemmas
 pub mod FarLemmas
 pub mod SumsLemmas
+pub mod ToFileRunLemmas
+pub mod ForgettingLemmas
+pub mod SpreadLemmas
+pub mod ToFileJobLemmas
+pub mod WaitLemmas
+pub mod SendingLemmas
+pub mod FromFileJobLemmas
+pub mod FromFileLemmas
+pub mod CopiedLemmas
+pub mod HaltLemmas

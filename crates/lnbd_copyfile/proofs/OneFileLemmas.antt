@@ -1,8 +1,8 @@
 -- Calls on one file, one behind another.
-use Rattle.std.proofs.Common.{◌≡◌, ℕ, List, [], ◌∷◌, ◌++◌, ap, sym, ◌∙◌, append_assoc}
-use Rattle.lnbd_store.specs.Call.{Call, WriteAt, WriteFault}
+use Rattle.std.proofs.Common.{ℕ, List, [], ◌∷◌, ◌++◌, ap, sym, ◌∙◌, append_assoc}
+use Rattle.lnbd_store.specs.Call.{Call, Ended, ReadAt, ReadFault, WriteAt, WriteFault}
 use Rattle.lnbd_copyfile.specs.declared.fault.Stop.{Stop}
-use Rattle.lnbd_copyfile.specs.OneFile.{BreaksWriting, IsReadFrom, IsWriteTo, Reads, Write_breaks, Write_lacks_memory, Writes}
+use Rattle.lnbd_copyfile.specs.OneFile.{BreaksReading, BreaksWriting, IsReadFrom, IsWriteTo, Read_breaks, Read_falls_short, Read_lacks_memory, Reads, Write_breaks, Write_lacks_memory, Writes}
 
 module _ (file : ℕ) where
   pub writes_on : (calls more : List Call) → Writes file calls → Writes file more → Writes file (calls ++ more)
@@ -22,3 +22,15 @@ module _ (file : ℕ) where
   breaks_writing_behind why calls more f (Write_breaks own offset offered g are e) =
       Write_breaks (calls ++ own) offset offered (writes_on calls own f g)
       (ap (λ (xs : List Call). calls ++ xs) are ∙ sym (append_assoc calls own (WriteAt file offset offered WriteFault ∷ []))) e
+
+  pub reads_on : (calls more : List Call) → Reads file calls → Reads file more → Reads file (calls ++ more)
+  reads_on [] more f g = g
+  reads_on (call ∷ calls) more f g = (f.0, reads_on calls more f.1 g)
+
+  -- it broke behind earlier reads
+  pub breaks_reading_behind : (size : ℕ) (why : Stop) (calls more : List Call) → Reads file calls → BreaksReading file size why more → BreaksReading file size why (calls ++ more)
+  breaks_reading_behind size why calls more f (Read_lacks_memory g e) = Read_lacks_memory (reads_on calls more f g) e
+  breaks_reading_behind size why calls more f (Read_breaks own offset room g are e) =
+      Read_breaks (calls ++ own) offset room (reads_on calls own f g) (ap (λ (xs : List Call). calls ++ xs) are ∙ sym (append_assoc calls own (ReadAt file offset room ReadFault ∷ []))) e
+  breaks_reading_behind size why calls more f (Read_falls_short own end room g low are e) =
+      Read_falls_short (calls ++ own) end room (reads_on calls own f g) low (ap (λ (xs : List Call). calls ++ xs) are ∙ sym (append_assoc calls own (ReadAt file end room Ended ∷ []))) e

@@ -1,5 +1,6 @@
 -- The board goes on, and a file makes the changes that it asks for.
-use Rattle.std.proofs.Common.{◌≡◌, ℕ, List, [], ◌∷◌, ◌++◌, length, Option, refl, sym, subst, append_assoc, append-nil}
+use Rattle.std.proofs.Common.{◌≡◌, ◌≢◌, ℕ, Bool, true, false, List, [], ◌∷◌, ◌++◌, length, Option, if◌then◌else◌, refl, ap, sym, subst, ◌∙◌, append_assoc, append-nil}
+use Rattle.lnbd_keyed.specs.Keyed.{value_at}
 use Rattle.lnbd_plan.specs.declared.grid.Slice.{Slice}
 use Rattle.lnbd_asked.specs.Honest.{changes}
 use Rattle.lnbd_board.specs.declared.ask.Ask.{Ask}
@@ -10,11 +11,13 @@ use Rattle.lnbd_board.specs.declared.next.Next.{Next}
 use Rattle.lnbd_board.specs.declared.next.Next.TheVariants as told
 use Rattle.lnbd_board.specs.declared.ticket.Ticket.TheVariants as ticket
 use Rattle.lnbd_board.specs.Asks.{Begins, change_of}
-use Rattle.lnbd_board.specs.Board.{IsNext, begun_with, first_row}
-use Rattle.lnbd_board.specs.Files.{Seen}
+use Rattle.lnbd_board.specs.Board.{AsksOn, IsNext, begun_with, first_row}
+use Rattle.lnbd_board.specs.Files.{Seen, came_with, is_unfit, or_error, rows_with}
 use Rattle.lnbd_board.specs.Requests.{Request, done_with, request}
 use Rattle.lnbd_onesided.specs.Desk.{Completes, done_more, no_link}
 use Rattle.lnbd_course.specs.Counted.{bytes_of}
+use Rattle.lnbd_copy.specs.Bound.{on_source}
+use Rattle.lnbd_copy.proofs.BoundLemmas.{bound_with, rows_bound}
 use Rattle.lnbd_store.specs.Shelf.{Shelf}
 use Rattle.lnbd_touched.specs.Grown.{RoseBy}
 use Rattle.lnbd_touched.specs.Touches.{Touches}
@@ -99,14 +102,49 @@ pub makes_last : (how : How) (file : ℕ) (a b c : Seen) (x y z : Option Shelf) 
     MakesChanges how file a c x z t v
 makes_last how file a b c x y z t u v same f g = makes_then how file a b c x y z t u v f (subst (λ (h : How). MakesChanges h file b c y z u v) same g)
 
+-- To which connections rows are bound.
+
+pub completed_sources : (n : ℕ) (bytes : List ℕ) (next after : Seen) → Completes n bytes next after → on_source after.rows ≡ on_source next.rows
+completed_sources n bytes next after c = ap (λ (s : Seen). on_source s.rows) (c.1.1 ∙ c.1.0.1) ∙ go (is_unfit (value_at n next.rows) bytes)
+  where
+    go : (b : Bool) → on_source (if b then record next { error = or_error next.error 71 } else record next {
+      rows = rows_with (value_at n next.rows) n bytes next.rows;
+      came = came_with (value_at n next.rows) n next.came;
+    }).rows ≡ on_source next.rows
+    go true = refl
+    go false = rows_bound (λ row. row.source) (λ row stage. refl) n bytes next.rows
+
+asked_sources : (how : How) (n destination : ℕ) (one : Change) (now mid : Seen) → AsksOn how n destination one now mid → on_source mid.rows ≡ on_source now.rows
+asked_sources how n destination one now mid asks =
+    ap (λ (s : Seen). on_source s.rows) asks.now ∙ bound_with (λ row. row.source) n asks.row (record asks.row { stage = asks.stage }) now.rows refl asks.held
+
+some_came : (came more : List ℕ) (n : ℕ) → came ≡ n ∷ more → came ≢ []
+some_came came more n first none = let e = sym first ∙ none in absurd (cc e)
+
 -- What is looked at first.
 
 pub looks_over : (how : How) (now mid : Seen) (n source destination : ℕ) (next : Next) → next ≡ told.Over n source destination → IsNext how next now mid → EndsFirst how source now mid
 looks_over how now mid n source destination next e is = record { n = n; destination = destination; ends = subst (λ (x : Next). IsNext how x now mid) e is }
 
-pub ended_last : (how how2 : How) (source : ℕ) (one : Step) (before now : Seen) → how2 ≡ how → one ≡ step.Over source → HasStepped how2 one before now → HasEnded how source now
-ended_last how how2 source one before now same is stepped = record {
+pub looks_made : (how : How) (now mid back : Seen) (n destination : ℕ) (one : Change) (bytes : List ℕ) (next : Next) → next ≡ told.Asks n destination one → IsNext how next now mid
+    → Completes n bytes mid back
+    → HasStepped how step.Made now back
+looks_made how now mid back n destination one bytes next e is came =
+    let asks : AsksOn how n destination one now mid = subst (λ (x : Next). IsNext how x now mid) e is in
+    (some_came now.came mid.came n asks.first, completed_sources n bytes mid back came ∙ asked_sources how n destination one now mid asks)
+
+pub made_sources : (how : How) (one : Step) (now now2 : Seen) → one ≡ step.Made → HasStepped how one now now2 → on_source now2.rows ≡ on_source now.rows
+made_sources how one now now2 is stepped = (subst (λ (x : Step). HasStepped how x now now2) is stepped).1
+
+pub nothing_sources : (how : How) (one : Step) (now now2 : Seen) → one ≡ step.Nothing → HasStepped how one now now2 → on_source now2.rows ≡ on_source now.rows
+nothing_sources how one now now2 is stepped = ap (λ (s : Seen). on_source s.rows) (subst (λ (x : Step). HasStepped how x now now2) is stepped).1
+
+pub ended_last : (how how2 : How) (source : ℕ) (one : Step) (start before now : Seen) → how2 ≡ how → one ≡ step.Over source → on_source before.rows ≡ on_source start.rows
+    → HasStepped how2 one before now
+    → HasEnded how source start now
+ended_last how how2 source one start before now same is bound stepped = record {
   before = before;
+  same = bound;
   ends = subst (λ (h : How). EndsFirst h source before now) same (subst (λ (x : Step). HasStepped how2 x before now) is stepped);
 }
 

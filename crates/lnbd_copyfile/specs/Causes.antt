@@ -5,6 +5,8 @@ use Rattle.lnbd_plan.specs.declared.fault.CopyFault.{CopyFault}
 use Rattle.lnbd_plan.specs.declared.fault.CopyFault.TheVariants as copy
 use Rattle.lnbd_copyfile.specs.declared.fault.FileFault.{FileFault}
 use Rattle.lnbd_copyfile.specs.declared.fault.FileFault.TheVariants as fault
+use Rattle.lnbd_copyfile.specs.declared.fault.Halt.{Halt}
+use Rattle.lnbd_copyfile.specs.declared.fault.Halt.TheVariants as halt
 use Rattle.lnbd_copyfile.specs.declared.fault.Stop.{Stop}
 use Rattle.lnbd_copyfile.specs.declared.fault.Stop.TheVariants as stop
 
@@ -13,6 +15,11 @@ abbrev pub Answers : (before after : ℕ) → Stop → FileFault → Type 0
 Answers before after stop.NoMemory why = why ≡ fault.Copy copy.NoMemory
 Answers before after stop.Failed why = why ≡ fault.Store before after
 Answers before after (stop.Changed n end) why = why ≡ fault.Changed n end
+
+-- the fault says what halted it
+abbrev pub AnswersHalt : (before after : ℕ) → Halt → FileFault → Type 0
+AnswersHalt before after (halt.Copy told) why = why ≡ fault.Copy told
+AnswersHalt before after (halt.File stopped) why = Answers before after stopped why
 
 -- it ended before as many bytes came as it told
 abbrev pub IsChanged : Stop → Type 0

@@ -7,3 +7,9 @@ pub mod Steps
 pub mod Making
 pub mod Loading
 pub mod OneSide
+pub mod Jobs
+pub mod ToFileJob
+pub mod FromFileJob
+pub mod ToFile
+pub mod Sending
+pub mod FromFile

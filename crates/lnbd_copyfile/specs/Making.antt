@@ -16,6 +16,7 @@ use Rattle.lnbd_board.specs.Requests.{Request, Each}
 use Rattle.lnbd_onesided.specs.Desk.{Completes, done_more}
 use Rattle.lnbd_onesided.specs.Honest.{Made, Makes}
 use Rattle.lnbd_course.specs.Counted.{bytes_of}
+use Rattle.lnbd_copy.specs.Bound.{on_source}
 use Rattle.lnbd_store.specs.Shelf.{Shelf}
 use Rattle.lnbd_touched.specs.Grown.{RoseBy}
 use Rattle.lnbd_touched.specs.Touches.{Touches}
@@ -87,13 +88,14 @@ pub record EndsFirst (how : How) (source : ℕ) (now now2 : Seen) : Type 0 where
   pub destination : ℕ
   pub ends : EndsRow how n source destination now now2
 
--- What a step came to: nothing came that was not looked at; or the row that it came for first has the change that it asked for, or is over.
+-- What a step came to: nothing came that was not looked at; or the row that it came for first has the change that it asked for, and each is bound to the connection that it was; or it is over.
 abbrev pub HasStepped : How → Step → (now now2 : Seen) → Type 0
 HasStepped how step.Nothing now now2 = (now.came ≡ []) × (now2 ≡ now)
-HasStepped how step.Made now now2 = now.came ≢ []
+HasStepped how step.Made now now2 = (now.came ≢ []) × (on_source now2.rows ≡ on_source now.rows)
 HasStepped how (step.Over source) now now2 = EndsFirst how source now now2
 
--- The last row that went on is over, which was bound to this connection of the source.
-pub record HasEnded (how : How) (source : ℕ) (now : Seen) : Type 0 where
+-- The last row that went on is over, which was bound to this connection of the source. Until then each was bound to the one that it was.
+pub record HasEnded (how : How) (source : ℕ) (now now2 : Seen) : Type 0 where
   pub before : Seen
-  pub ends : EndsFirst how source before now
+  pub same : on_source before.rows ≡ on_source now.rows
+  pub ends : EndsFirst how source before now2

@@ -19,13 +19,13 @@ use std::alloc::Global;
 
 /// A file that is open for reading, and its length.
 #[derive(Clone, Copy)]
-struct Source {
-    file: u32,
-    size: u64,
+pub(crate) struct Source {
+    pub(crate) file: u32,
+    pub(crate) size: u64,
 }
 
 /// Opens the file at a path for reading, and asks for its length.
-fn open_source<S: Store>(store: &mut S, path: &Text) -> Result<Source, StoreFailed>
+pub(crate) fn open_source<S: Store>(store: &mut S, path: &Text) -> Result<Source, StoreFailed>
     ensures source { IfOk result (λ source. Goes (S.shelf store.old) (S.shelf store.new) (IsSource path.now source.file source.size)) }
     ensures opening { IfOk result (λ source. Grew (S.told store.old) (S.told store.new) (IsOpening path.now source.file source.size)) }
     ensures unopened { OnErr result (Grew (S.told store.old) (S.told store.new) (NotOpened path.now)) }

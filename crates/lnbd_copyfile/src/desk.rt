@@ -2,6 +2,7 @@
 
 ghost use Rattle.std.specs.Prelude.{◌≡◌, ◌+◌, ◌≤◌, ◌^◌, ℕ, Err, IfErr, IfOk, IfSome, OnOk, [], false, true, is_none};
 ghost use Rattle.lnbd_link.specs.Count.{Rises};
+ghost use Rattle.lnbd_copy.specs.Bound.{on_source};
 ghost use Rattle.lnbd_touched.specs.Grown.{Grew};
 ghost use Rattle.lnbd_copyfile.specs.Making.{HasBegun, HasEnded, HasStepped, MakesChanges};
 ghost use Rattle.lnbd_copyfile.specs.OneFile.{BreaksWriting, Writes};
@@ -80,7 +81,8 @@ pub fn go_on<S: Store>(
     ensures writes { OnOk result (Grew (S.told store.old) (S.told store.new) (Writes file)) }
     ensures breaks { IfErr result (λ why. Grew (S.told store.old) (S.told store.new) (BreaksWriting file why)) }
     ensures how { OnOk result (board.new.how ≡ board.old.how) }
-    ensures over { IfOk result (λ over. IfSome over (λ source. HasEnded board.old.how source board.new)) }
+    ensures over { IfOk result (λ over. IfSome over (λ source. HasEnded board.old.how source board.old board.new)) }
+    ensures bound { IfOk result (λ over. is_none over ≡ true → on_source board.new.rows ≡ on_source board.old.rows) }
     ensures none { IfOk result (λ over. is_none over ≡ true → board.new.came ≡ []) }
     ensures unchanged { (n end : ℕ) → result ≡ Err (Stop.Changed n end) → ⊥ }
     ensures failed { result ≡ Err Stop.Failed → Rises 1 (S.faults store.old) (S.faults store.new) }

@@ -101,7 +101,7 @@ fn move_slices<S: Store>(
 }
 
 /// The file at a path is opened, cut to nothing, and cut to a size: it is so many zeros then, whatever was there.
-fn make<S: Store>(store: &mut S, path: &Text, size: u64) -> Result<u32, StoreFailed>
+pub(crate) fn make<S: Store>(store: &mut S, path: &Text, size: u64) -> Result<u32, StoreFailed>
     ensures blank { IfOk result (λ n. Goes (S.shelf store.old) (S.shelf store.new) (IsBlank path.now n size)) }
     ensures made { IfOk result (λ n. Grew (S.told store.old) (S.told store.new) (IsMaking path.now n size)) }
     ensures unmade { OnErr result (Grew (S.told store.old) (S.told store.new) (NotMade path.now size)) }
@@ -117,7 +117,7 @@ fn make<S: Store>(store: &mut S, path: &Text, size: u64) -> Result<u32, StoreFai
 }
 
 /// Syncs the file, where that is wished.
-fn finish<S: Store>(store: &mut S, to: u32, flush: bool) -> Result<(), StoreFailed>
+pub(crate) fn finish<S: Store>(store: &mut S, to: u32, flush: bool) -> Result<(), StoreFailed>
     ensures kept { OnOk result (Touches to Kept (S.shelf store.old) (S.shelf store.new)) }
     ensures closed { OnOk result (Grew (S.told store.old) (S.told store.new) (IsClosing to flush)) }
     ensures unclosed { OnErr result (Grew (S.told store.old) (S.told store.new) (NotClosed to flush)) }

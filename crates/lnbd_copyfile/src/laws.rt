@@ -2,6 +2,7 @@
 //! nothing.
 
 ghost use Rattle.lnbd_copyfile.specs.OneSide.{BeginningKeeps, FromFileIsCopied, FromFileIsSummed, GoingKeeps, LoadingKeeps, ToFileIsCopied, ToFileIsSummed, ToldFilesLast};
+ghost use Rattle.lnbd_copyfile.specs.ToFileJob.{NothingHangs};
 
 /// What stands of a copy to a file goes on where rows of the board do, and where a slice begins with a change.
 pub fn making_keeps()
@@ -26,4 +27,9 @@ pub fn all_is_summed()
     ensures to_file { ToFileIsSummed }
     ensures from_file { FromFileIsSummed }
     ensures lasts { ToldFilesLast }
+{}
+
+/// What is under way in a copy to a file awaits something of the export, where it has nothing to do.
+pub fn nothing_hangs()
+    ensures { NothingHangs }
 {}

@@ -1,11 +1,12 @@
 -- The status of positions, as descriptors: the protocol's "base:allocation metadata context".
 use Rattle.std.specs.Prelude.{◌≡◌, ℕ, ◌+◌, ◌<◌, Bool, false, List, [], ◌∷◌, length, get_or, Some, if◌then◌else◌, ◌==◌}
 use Rattle.lnbd_model.specs.declared.export.Extent.{Extent}
+use Rattle.lnbd_records.specs.Flags.{state_hole, state_zero}
 use Rattle.lnbd_extents.specs.Lists.{span, flags_at, AreJoined}
 
--- HOLE (1) and ZERO (2) where the position is told as zero, and else neither
+-- HOLE and ZERO where the position is told as zero, and else neither
 abbrev pub status_of : Bool → ℕ
-status_of told = if told then 3 else 0
+status_of told = if told then state_hole + state_zero else 0
 
 -- one position more in front of these
 abbrev pub longer : ℕ → List Extent → List Extent

@@ -6,23 +6,9 @@ ghost use Rattle.lnbd_export.specs.Requests.{is_structured, is_extended, flag_if
 
 use crate::request::{Agreed, Replies};
 use lnbd_model::{EINVAL, ENOSPC, Kind};
-
-// The command flags (NBD protocol, "Command flags").
-
-const FUA: u16 = 1;
-
-const NO_HOLE: u16 = 2;
-
-const DF: u16 = 4;
-
-/// Only one descriptor is asked for.
-pub(crate) const REQ_ONE: u16 = 8;
-
-/// The data of a request follows it.
-const PAYLOAD_LEN: u16 = 32;
-
-/// The most bytes of a read or a write.
-pub(crate) const MAX_DATA: u64 = 33_554_432;
+use lnbd_records::names::{
+    CMD_FLAG_DF, CMD_FLAG_FUA, CMD_FLAG_NO_HOLE, CMD_FLAG_PAYLOAD_LEN, CMD_FLAG_REQ_ONE, MAX_DATA,
+};
 
 impl Replies {
     /// Whether structured replies are on, which come with extended headers too.
@@ -56,12 +42,12 @@ fn allowed(replies: Replies, kind: Kind) -> u16
     ensures { result ≡ allowed replies kind }
 {
     match kind {
-        Kind::Read => flag_if(replies.is_structured(), DF),
-        Kind::Write => FUA | flag_if(replies.is_extended(), PAYLOAD_LEN),
+        Kind::Read => flag_if(replies.is_structured(), CMD_FLAG_DF),
+        Kind::Write => CMD_FLAG_FUA | flag_if(replies.is_extended(), CMD_FLAG_PAYLOAD_LEN),
         Kind::Flush | Kind::Cache => 0,
-        Kind::Trim => FUA,
-        Kind::Zero => FUA | NO_HOLE,
-        Kind::BlockStatus => REQ_ONE,
+        Kind::Trim => CMD_FLAG_FUA,
+        Kind::Zero => CMD_FLAG_FUA | CMD_FLAG_NO_HOLE,
+        Kind::BlockStatus => CMD_FLAG_REQ_ONE,
     }
 }
 
@@ -77,7 +63,7 @@ pub(crate) fn is_unfit(agreed: Agreed, kind: Kind, length: u64) -> bool
     ensures { result ≡ is_unfit agreed kind length }
 {
     match kind {
-        Kind::Read => length > MAX_DATA,
+        Kind::Read => length > MAX_DATA as u64,
         Kind::BlockStatus => length == 0 || !agreed.allocation,
         _ => false,
     }

@@ -13,10 +13,11 @@ use crate::spans::Spans;
 use crate::zeros::Zeros;
 use lnbd_extents::Ranges;
 use lnbd_model::{Extent, NoMemory};
+use lnbd_records::names::{STATE_HOLE, STATE_ZERO};
 use std::alloc::Global;
 
 /// HOLE and ZERO of base:allocation.
-const HOLE_AND_ZERO: u64 = 3;
+const HOLE_AND_ZERO: u64 = STATE_HOLE | STATE_ZERO;
 
 /// So many positions that are told alike.
 #[derive(Clone, Copy, Debug, PartialEq, Eq)]

@@ -1,9 +1,8 @@
 -- Where simple replies alone come: what is shown then, and that it stays so while bytes arrive.
-use Rattle.std.proofs.Common.{◌≡◌, ◌⊎◌, inl, inr, ℕ, ◌+◌, ◌<◌, ◌≤◌, Bool, true, false, ◌||◌, ◌==◌, nat_lt, nat_le, if◌then◌else◌, List, [], ◌∷◌, ◌++◌, length, replicate, Option, Some, None, refl, ap, sym, ◌∙◌, subst, arith}
-use Rattle.std.specs.Prelude.{is_some, IfNone, IfSome, IsSome}
-use Rattle.std.specs.Option.{IsSomeAnd, option_map}
-use Rattle.std.proofs.lemmas.Bool.{and_parts, cases_lt, eqb-true, false≢true, leb-true, ltb-true}
-use Rattle.std.proofs.lemmas.List.{length-append, length-replicate, length-take}
+use Rattle.std.proofs.Common.{◌≡◌, ℕ, ◌+◌, ◌<◌, ◌≤◌, Bool, true, false, ◌||◌, ◌==◌, nat_lt, nat_le, if◌then◌else◌, List, [], ◌∷◌, ◌++◌, length, replicate, Option, Some, None, refl, ap, sym, ◌∙◌, subst, arith}
+use Rattle.std.specs.Prelude.{is_some}
+use Rattle.std.proofs.lemmas.Bool.{and_parts, eqb-true, false≢true, leb-true, ltb-true}
+use Rattle.std.proofs.lemmas.List.{length-replicate}
 use Rattle.lnbd_keyed.specs.Keyed.{value_at}
 use Rattle.lnbd_model.specs.Kind.{is_read}
 use Rattle.lnbd_model.specs.declared.breach.Breach.TheVariants.{BadReplyMagic, TooManyReplies, UnknownCookie}
@@ -24,22 +23,16 @@ use Rattle.lnbd_history.specs.Arrivals.{Shown, Hello, OptionReply, ExportReply, 
 use Rattle.lnbd_history.specs.Commands.{Flight}
 use Rattle.lnbd_history.specs.Entries.{Framed}
 use Rattle.lnbd_machine.specs.Machine.{Row, Machine, State, Doing, enter, file_in, kill, sight, table_rules, waited, waited_of, waiting_row}
-use Rattle.lnbd_chunks.proofs.Steady.{at_more}
 use Rattle.lnbd_commands.specs.Flights.{has_first}
 use Rattle.lnbd_commands.specs.Rows.{flight_of_row, is_read_row}
-use Rattle.lnbd_commands.specs.Seen.{seen_waiting}
-use Rattle.lnbd_commands.specs.declared.row.Waiting.{Waiting as Told}
-use Rattle.lnbd_arrivals.specs.Frames.{Announces, IsFront, IsSuccess, front_size, is_structured}
+use Rattle.lnbd_arrivals.specs.Frames.{Announces}
+use Rattle.lnbd_arrivals.proofs.Fronts.{sized}
 use Rattle.lnbd_arrivals.specs.declared.announced.Announced.{Announced}
 use Rattle.lnbd_arrivals.specs.declared.replies.Replies.{Replies}
-use Rattle.lnbd_arrivals.specs.declared.replies.Replies.TheVariants.{Simple}
-use Rattle.lnbd_handle.specs.declared.connection.Connection.{Connection}
-use Rattle.lnbd_handle.specs.declared.pending.Pending.{Pending}
-use Rattle.lnbd_handle.specs.Held.{data_in}
 use Rattle.lnbd_handle.specs.Runs.{Runs, under}
-use Rattle.lnbd_handle.specs.Seen.{state_of}
-use Rattle.lnbd_handle.specs.Turns.{Brings, ShowsNothing, arriving, is_speaking}
-use Rattle.lnbd_handle.specs.Room.{AreWithin, IfFlies, IsCalm, IsKept, NoneHears, ReadsFit, RepliesSimply}
+use Rattle.lnbd_handle.specs.Announcing.{is_speaking}
+use Rattle.lnbd_handle.specs.Turns.{arriving}
+use Rattle.lnbd_handle.specs.Room.{IfFlies, IsCalm, NoneHears, ReadsFit, RepliesSimply}
 use Rattle.lnbd_handle.proofs.RoomLemmas.{each_at, file_each, killed_stage, seen_in}
 
 -- what shows where no more is negotiated
@@ -71,14 +64,6 @@ once_none n bytes shown e = go (nat_lt (length bytes) n) refl e
     go : (b : Bool) → nat_lt (length bytes) n ≡ b → (if b then None else Some shown) ≡ None → length bytes < n
     go true w e = ltb-true (length bytes) n w
     go false w e = let c : Some shown ≡ None = e in cc
-
-pub sized : (command : Waiting) (error size : ℕ) → content_size command error ≡ size → 0 < size → (error ≡ 0) × (is_read command.kind ≡ true) × (command.length ≡ size)
-sized command error size e some = go (error == 0) (is_read command.kind) refl refl e
-  where
-    go : (a b : Bool) → (error == 0) ≡ a → is_read command.kind ≡ b → (if a then if b then command.length else 0 else 0) ≡ size → (error ≡ 0) × (is_read command.kind ≡ true) × (command.length ≡ size)
-    go true true x y e = (eqb-true error 0 x, y, e)
-    go true false x y e = absurd (omega (arith, some, e))
-    go false b x y e = absurd (omega (arith, some, e))
 
 module _ (waits : ℕ → Option Waiting) (bytes : List ℕ) where
   simple_late : (command : Option Waiting) (found : Shown) → shows_simple Broken reply false command bytes ≡ Some found → IsLate found
@@ -165,13 +150,6 @@ late_at Aborting seen waits bytes found s e = passed_late seen.passed bytes foun
 late_at Closed seen waits bytes found s e = ignored_late bytes found e
 late_at (Dead cause) seen waits bytes found s e = ignored_late bytes found e
 
--- What was found is announced to the command that waits.
-abbrev pub AreAnnounced : Replies → List ℕ → Option Told → Option Announced → Type 0
-AreAnnounced replies front waiting found = IfSome found (λ announced. (waits : ℕ → Option Waiting) → (16 ≤ length front → waits (number_at 8 8 front) ≡ option_map seen_waiting waiting) → Announces replies waits front announced)
-
-same_length : (one other : Waiting) → Some one ≡ Some other → one.length ≡ other.length
-same_length one other e = let same : one ≡ other = cc in ap (λ (w : Waiting). w.length) same
-
 module _ {K : Type 0} where
   -- It lasts.
 
@@ -239,36 +217,6 @@ module _ {K : Type 0} where
       let most = waited_fits size state announced.cookie r.command fits r.waits inside.0 in
       omega (arith, low, high, most, long)
 
-  -- A reply that is announced to a command that waits.
-  pub announced_fits : (size : ℕ) (state : State K) (replies : Replies) (front : List ℕ) (found : Option Announced) (waiting : Option Told) → (16 ≤ length front → waited state (number_at 8 8 front) ≡ option_map seen_waiting waiting) →
-      AreAnnounced replies front waiting found → ReadsFit size state.rows → IfSome found (λ announced. announced.size ≤ size)
-  announced_fits size state replies front None waiting waits announces fits = tt
-  announced_fits size state replies front (Some announced) waiting waits announces fits = announces_fit size state replies front announced (announces (waited state) waits) fits
-
-  -- A whole head of a read's reply, where its data are not all there, is told.
-  pub announced_all : (c : Connection K) (replies : Replies) (head rest : List ℕ) (found : Option Announced) (waiting : Option Told) → (16 ≤ length head → waited (state_of c) (number_at 8 8 head) ≡ option_map seen_waiting waiting) →
-      ((command : Waiting) → option_map seen_waiting waiting ≡ Some command → IsFront replies command head → IsSome found) → AreAnnounced replies head waiting found →
-      (c.talk.structured ≡ false → c.talk.extended ≡ false → replies ≡ Simple) →
-      RepliesSimply c.stage c.talk.phase c.talk.structured c.talk.extended → length head ≡ simple_head_size → ShowsNothing (state_of c) (head ++ rest) → IsSomeAnd found (λ announced. length rest < announced.size)
-  announced_all c replies head rest found waiting waits all announces simple simply whole shown =
-      let l = frame_lacks (waited (state_of c)) (head ++ rest) (omega (arith, whole, length-append head rest)) (sym (simple_shows c.stage (sight (state_of c)) (waited (state_of c)) (head ++ rest) simply) ∙ shown) in
-      let cookie = at_more 8 8 head rest (omega (arith, whole)) in
-      let there : waited (state_of c) (number_at 8 8 head) ≡ Some l.command = ap (waited (state_of c)) (sym cookie) ∙ l.there in
-      let at : option_map seen_waiting waiting ≡ Some l.command = sym (waits (omega (arith, whole))) ∙ there in
-      let is = simple simply.compact simply.short in
-      let success : IsSuccess head = record { sized = whole; magic = sym (at_more 0 4 head rest (omega (arith, whole))) ∙ l.magic; error = sym (at_more 4 4 head rest (omega (arith, whole))) ∙ l.error } in
-      go found is (all l.command at (subst (λ (r : Replies). IsFront r l.command head) (sym is) (l.read, success))) announces l.command there (omega (arith, l.short, whole, length-append head rest))
-    where
-      go : (f : Option Announced) → replies ≡ Simple → IsSome f → AreAnnounced replies head waiting f →
-          (command : Waiting) → waited (state_of c) (number_at 8 8 head) ≡ Some command → length rest < command.length → IsSomeAnd f (λ announced. length rest < announced.size)
-      go None is some announces command there short = absurd (false≢true some)
-      go (Some announced) is some announces command there short =
-          let a = announces (waited (state_of c)) waits in
-          let r = a.whole (replicate announced.size 0) (length-replicate announced.size 0) in
-          let sized = (r.all (a.carried ∙ ap is_structured is)).1 in
-          let same = same_length r.command command (sym r.waits ∙ ap (waited (state_of c)) a.cookie_is ∙ there) in
-          omega (arith, sized, same, short)
-
   -- Where no command in flight has a chunk callback, the read of no cookie has one.
   pub first_none : (row : Option (Row K)) (rows : List (ℕ × Row K)) (cookie : ℕ) → value_at cookie rows ≡ row → NoneHears rows → is_read_row row ≡ true → has_first (flight_of_row row) ≡ true → ⊥
   first_none None rows cookie at none read has = false≢true has
@@ -277,25 +225,3 @@ module _ {K : Type 0} where
       go : (f : Option (Flight K)) → IfFlies (λ kind length flight. is_read kind ≡ true → flight.first ≡ None) row.kind row.length f → has_first f ≡ true → ⊥
       go None here has = false≢true has
       go (Some flight) here has = false≢true (sym (ap is_some (here read)) ∙ has)
-
-  -- What a record lacks is data that its head announced, or of the head of a simple reply.
-  pub within_lacks : (c : Connection K) (p : Pending) (announced : Option Announced) (head front : List ℕ) (lack : ℕ) → head ≡ p.head.items → RepliesSimply c.stage c.talk.phase c.talk.structured c.talk.extended → IsKept p → length p.head.items ≤ simple_head_size →
-      IfSome announced (λ some. Brings c head some) → (length head ≡ simple_head_size → IsSomeAnd announced (λ some. length (data_in p) < some.size)) →
-      IfSome announced (λ some. p.came < some.size → p.came + lack ≤ some.size) → IfNone announced (c.talk.phase ≡ phase.Ready → length p.head.items < simple_head_size → length p.head.items + lack ≤ simple_head_size) →
-      length front ≤ lack → AreWithin announced p front
-  within_lacks c p None head front lack is simply kept short brings all more rest fits =
-      let low : length p.head.items < simple_head_size = go (cases_lt (length p.head.items) simple_head_size) in
-      record { none = none (cases_lt 0 p.came) low; head = let h = rest simply.ready low in omega (arith, h, fits) }
-    where
-      go : (length p.head.items < simple_head_size) ⊎ (simple_head_size ≤ length p.head.items) → length p.head.items < simple_head_size
-      go (inl less) = less
-      go (inr most) = absurd (all (omega (arith, ap length is, most, short)))
-
-      none : (0 < p.came) ⊎ (p.came ≤ 0) → length p.head.items < simple_head_size → p.came ≡ 0
-      none (inl some) low = let e = kept.apart some in absurd (omega (arith, e, low))
-      none (inr low0) low = omega (arith, low0)
-  within_lacks c p (Some some) head front lack is simply kept short brings all more rest fits =
-      let less = all (brings.announces.sized ∙ ap front_size (brings.simple simply.compact simply.short)) in
-      let came : p.came < some.size = omega (arith, less, length-take p.came p.content.items, kept.within, p.content.ok.0) in
-      let enough = more came in
-      omega (arith, enough, fits)

@@ -1,5 +1,5 @@
 -- A buffer is taken record by record.
-use Rattle.std.proofs.Common.{◌≡◌, ◌⊎◌, ℕ, ◌+◌, ◌-◌, ◌<◌, ◌≤◌, true, false, List, [], ◌++◌, length, take, drop, None, refl, ap, sym, ◌∙◌, subst, arith, inl, inr}
+use Rattle.std.proofs.Common.{◌≡◌, ◌⊎◌, ℕ, ◌+◌, ◌-◌, ◌<◌, ◌≤◌, true, false, List, [], ◌++◌, length, take, drop, Option, None, refl, ap, sym, ◌∙◌, subst, arith, inl, inr}
 use Rattle.std.proofs.lemmas.Bool.{false≢true, cases_lt}
 use Rattle.std.proofs.lemmas.List.{take-append-drop, take_all, drop_all, length-take-le, length-take, take-append-le, length-append, length-drop, drop-drop}
 use Rattle.std.proofs.Math.Seq.{take-append-add}
@@ -14,9 +14,14 @@ use Rattle.lnbd_machine.proofs.Partial.{table_steady}
 use Rattle.lnbd_handle.proofs.FrontLemmas.{shows}
 use Rattle.lnbd_handle.specs.declared.connection.Connection.{Connection}
 use Rattle.lnbd_handle.specs.declared.kinds.Taken.{Taken}
+use Rattle.lnbd_arrivals.specs.Frames.{front_size}
+use Rattle.lnbd_arrivals.specs.declared.announced.Announced.{Announced}
+use Rattle.lnbd_arrivals.proofs.Fronts.{least_front}
+use Rattle.lnbd_handle.specs.Announcing.{announced_by_front, replies_in}
 use Rattle.lnbd_handle.specs.Runs.{doing, under, Runs}
 use Rattle.lnbd_handle.specs.Seen.{state_of, machine_of}
 use Rattle.lnbd_handle.specs.Turns.{arriving, ShowsNothing, Drained}
+use Rattle.lnbd_handle.proofs.AnnouncedLemmas.{short_none}
 use Rattle.lnbd_handle.proofs.RunLemmas.{runs_none, runs_join, runs_as}
 
 module _ {K World : Type 0} (steps : World → List (Call K) → World → Type 0) (none : (w : World) → steps w [] w) (join : (a b c : World) (first second : List (Call K)) → steps a first b → steps b second c → steps a (first ++ second) c) where
@@ -34,14 +39,21 @@ module _ {K World : Type 0} (steps : World → List (Call K) → World → Type 
     pub walk_more : (n : ℕ) → Runs steps (arriving (take n (drop used buffer))) (machine_of now []) (machine_of new []) half end → Runs steps (arriving (take (used + n) buffer)) (machine_of old []) (machine_of new []) first end
     walk_more n one = walk_on (machine_of old []) (machine_of now []) (machine_of new []) first half end buffer used n so_far one
 
-    pub drained_nothing : new ≡ now → end ≡ half → ShowsNothing (state_of new) (drop used buffer) → Drained steps old first buffer (record { used = used; short = false }) new end
-    drained_nothing same idle shown = record {
+    pub drained_nothing : (announced : Option Announced) → new ≡ now → end ≡ half → ShowsNothing (state_of new) (drop used buffer) → announced ≡ announced_by_front (state_of new) (drop used buffer) → Drained steps old first buffer (record { used = used; short = false; announced = announced }) new end
+    drained_nothing announced same idle shown says = record {
       within = within;
       so_far = subst (λ n. Runs steps (arriving (take used buffer)) (machine_of old []) (machine_of n []) first end) (sym same) (subst (λ w. Runs steps (arriving (take used buffer)) (machine_of old []) (machine_of now []) first w) (sym idle) so_far);
       rest = λ _. shown;
+      announces = λ _. says;
     }
 
-    pub drained_all : Runs steps (arriving (drop used buffer)) (machine_of now []) (machine_of new []) half end → Drained steps old first buffer (record { used = length buffer; short = false }) new end
+    pub drained_end : new ≡ now → end ≡ half → length buffer ≤ used → Drained steps old first buffer (record { used = used; short = false; announced = None }) new end
+    drained_end same idle over =
+        let low = least_front (replies_in (state_of new)) in
+        drained_nothing None same idle (subst (ShowsNothing (state_of new)) (sym (drop_all used buffer over)) (none_at new.stage (sight (state_of new)) (waited (state_of new))))
+        (sym (short_none (state_of new) _ (omega (arith, low, over, length-take (front_size (replies_in (state_of new))) (drop used buffer), length-drop used buffer))))
+
+    pub drained_all : Runs steps (arriving (drop used buffer)) (machine_of now []) (machine_of new []) half end → Drained steps old first buffer (record { used = length buffer; short = false; announced = None }) new end
     drained_all one = record {
       within = omega arith;
       so_far = runs_as steps (λ h. arriving (drop used buffer) (arriving (take used buffer) h)) (arriving (take (length buffer) buffer)) (machine_of old []) (machine_of new []) first end
@@ -49,13 +61,15 @@ module _ {K World : Type 0} (steps : World → List (Call K) → World → Type 
           ∙ feed-append (table_rules {K = K}) (under (machine_of old []) more made) (take used buffer) (drop used buffer))
           (runs_join steps join (arriving (take used buffer)) (arriving (drop used buffer)) (machine_of old []) (machine_of now []) (machine_of new []) first half end so_far one);
       rest = λ _. subst (ShowsNothing (state_of new)) (sym (drop_all (length buffer) buffer (omega arith))) (none_at new.stage (sight (state_of new)) (waited (state_of new)));
+      announces = λ _. sym (short_none (state_of new) _ (let low = least_front (replies_in (state_of new)) in omega (arith, low, length-take (front_size (replies_in (state_of new))) (drop (length buffer) buffer), length-drop (length buffer) buffer)));
     }
 
-    pub drained_short : state_of new ≡ state_of now → end ≡ half → Drained steps old first buffer (record { used = used; short = true }) new end
+    pub drained_short : state_of new ≡ state_of now → end ≡ half → Drained steps old first buffer (record { used = used; short = true; announced = None }) new end
     drained_short same idle = record {
       within = within;
       so_far = subst (λ s. Runs steps (arriving (take used buffer)) (machine_of old []) (record { known = s; pending = [] }) first end) (sym same) (subst (λ w. Runs steps (arriving (take used buffer)) (machine_of old []) (machine_of now []) first w) (sym idle) so_far);
       rest = λ e. absurd (false≢true (sym e));
+      announces = λ e. absurd (false≢true (sym e));
     }
 
   -- What was drained, over plain values.

@@ -1,11 +1,8 @@
 -- Data behind the head of a reply.
-use Rattle.std.proofs.Common.{◌≡◌, ℕ, ◌<◌, ◌≤◌, true, false, Option, Some, None, IfSome, List, [], ◌++◌, length, take, nat_le, Result, Ok, Err, OnOk, refl, ap, sym, ◌∙◌, subst, arith, append_assoc}
+use Rattle.std.proofs.Common.{◌≡◌, ℕ, ◌<◌, true, false, Some, List, [], ◌++◌, length, take, nat_le, Result, Ok, Err, OnOk, refl, ap, sym, ◌∙◌, subst, arith, append_assoc}
 use Rattle.std.specs.Result.{IsOk, is_err}
-use Rattle.std.specs.Option.{option_map}
 use Rattle.std.proofs.lemmas.List.{take_all}
 use Rattle.lnbd_callbacks.specs.Calls.{Call}
-use Rattle.lnbd_records.specs.Numbers.{number_at}
-use Rattle.lnbd_history.specs.declared.kinds.Phase.TheVariants as phase
 use Rattle.lnbd_machine.specs.Machine.{waited}
 use Rattle.lnbd_machine.specs.Laws.{IsPartial}
 use Rattle.lnbd_commands.specs.Commands.{Commands, waiting_at}
@@ -13,21 +10,14 @@ use Rattle.lnbd_keyed.specs.Keyed.{value_at}
 use Rattle.lnbd_records.specs.Content.{Data}
 use Rattle.lnbd_history.specs.Arrivals.{Frame}
 use Rattle.lnbd_handle.specs.Filing.{MayFile, TakesData}
-use Rattle.lnbd_commands.specs.Seen.{seen_waiting}
-use Rattle.lnbd_commands.specs.declared.row.Waiting.{Waiting}
-use Rattle.lnbd_arrivals.specs.Frames.{front_size, is_chunk, is_last, is_structured, replies_by, shows_by}
+use Rattle.lnbd_arrivals.specs.Frames.{is_chunk, is_last, is_structured, shows_by}
 use Rattle.lnbd_arrivals.specs.declared.announced.Announced.{Announced}
-use Rattle.lnbd_arrivals.specs.declared.replies.Replies.{Replies}
-use Rattle.lnbd_arrivals.specs.declared.replies.Replies.TheVariants.{Simple}
 use Rattle.lnbd_handle.specs.declared.connection.Connection.{Connection}
-use Rattle.lnbd_handle.specs.declared.pending.Pending.{Pending}
-use Rattle.lnbd_handle.specs.Room.{IsBehindFront}
 use Rattle.lnbd_handle.specs.Runs.{Runs}
 use Rattle.lnbd_handle.specs.Seen.{IsSound, state_of, machine_of}
-use Rattle.lnbd_handle.specs.Turns.{AreAgreed, arriving, ShowsNothing, Brings, is_speaking}
+use Rattle.lnbd_handle.specs.Turns.{arriving, ShowsNothing, Brings}
 use Rattle.lnbd_handle.proofs.DrainLemmas.{all_runs, held_runs}
 use Rattle.lnbd_handle.proofs.QueuedLemmas.{KeepsUnwritten}
-use Rattle.lnbd_handle.proofs.CalmLemmas.{AreAnnounced}
 use Rattle.lnbd_handle.proofs.TurnLemmas.{shown_frame, turn_filed, waited_row}
 
 -- what holds of an answer that is no error
@@ -67,24 +57,6 @@ module _ {K World : Type 0} (steps : World → List (Call K) → World → Type 
         )
 
 module _ {K : Type 0} where
-  -- what is announced to the command that waits is announced here
-  pub brings_some : (c : Connection K) (replies : Replies) (front : List ℕ) (found : Option Announced) → is_speaking c.stage ≡ true → c.talk.phase ≡ phase.Ready → AreAgreed c replies →
-      (c.talk.structured ≡ false → c.talk.extended ≡ false → replies ≡ Simple) → replies ≡ replies_by c.talk.structured c.talk.extended → (waiting : Option Waiting) → (16 ≤ length front → waited (state_of c) (number_at 8 8 front) ≡ option_map seen_waiting waiting) →
-      AreAnnounced replies front waiting found → IfSome found (λ announced. Brings c front announced)
-  brings_some c replies front None speaking ready agreed simple is waiting waits announces = tt
-  brings_some c replies front (Some announced) speaking ready agreed simple is waiting waits announces =
-      record { speaking = speaking; ready = ready; replies = replies; agreed = agreed; is = is; simple = simple; announces = announces (waited (state_of c)) waits }
-
-  -- such data are held behind all that stands before them
-  pub brings_behind : (c : Connection K) (head : List ℕ) (announced : Announced) → Brings c head announced → front_size (replies_by c.talk.structured c.talk.extended) ≤ length head
-  brings_behind c head announced b = omega (arith, b.announces.sized ∙ ap front_size b.is)
-
-  pub head_behind : (c : Connection K) (head : List ℕ) (announced : Announced) (pending : Pending) → Brings c head announced → pending.head.items ≡ head → IsBehindFront c.talk.structured c.talk.extended pending
-  head_behind c head announced pending b is some = subst (λ (h : List ℕ). front_size (replies_by c.talk.structured c.talk.extended) ≤ length h) (sym is) (brings_behind c head announced b)
-
-  pub put_behind : (c : Connection K) (announced : Announced) (old new : Pending) → Brings c old.head.items announced → new.head ≡ old.head → IsBehindFront c.talk.structured c.talk.extended new
-  put_behind c announced old new b is = head_behind c old.head.items announced new b (ap (λ h. h.items) is)
-
   -- the data that are all there may be filed
   pub may_file_data : (c : Connection K) (head got : List ℕ) (announced : Announced) → Brings c head announced → length got ≡ announced.size → MayFile (waiting_at announced.cookie c.commands) announced got
   may_file_data c head got announced brings long =

@@ -1,7 +1,9 @@
 pub mod QueuedLemmas
 pub mod RoomLemmas
 pub mod CalmLemmas
+pub mod AnnouncedLemmas
 pub mod PlacesLemmas
+pub mod HoldLemmas
 pub mod RunLemmas
 pub mod FrontLemmas
 pub mod TurnLemmas

@@ -1,10 +1,13 @@
 -- What lies ready for bytes that come in pieces, call by call.
-use Rattle.std.proofs.Common.{◌≡◌, ◌⊎◌, inl, inr, ℕ, ◌+◌, ◌<◌, ◌≤◌, Bool, true, false, if◌then◌else◌, nat_lt, List, [], ◌∷◌, ◌++◌, length, take, Option, Some, None, Result, Ok, Err, refl, ap, sym, ◌∙◌, subst, arith, length-append}
+use Rattle.std.proofs.Common.{◌≡◌, ◌⊎◌, inl, inr, ℕ, ◌+◌, ◌<◌, ◌≤◌, Bool, true, false, if◌then◌else◌, nat_lt, List, [], ◌∷◌, ◌++◌, length, take, Option, Some, None, Result, Ok, Err, refl, ap, sym, ◌∙◌, subst, arith}
 use Rattle.std.proofs.lemmas.Bool.{false≢true, true≢false}
 use Rattle.std.specs.Prelude.{vec_len}
-use Rattle.std.proofs.lemmas.List.{length-take}
+use Rattle.lnbd_keyed.specs.Keyed.{value_at, IsRising}
 use Rattle.lnbd_model.specs.Kind.{is_read}
-use Rattle.lnbd_records.specs.Transmission.{simple_head_size}
+use Rattle.lnbd_model.specs.declared.breach.Breach.TheVariants.{TooManyReplies}
+use Rattle.lnbd_model.specs.declared.state.State.{State as Standing}
+use Rattle.lnbd_model.specs.declared.state.State.TheVariants as standing
+use Rattle.lnbd_records.specs.Limits.{max_passed}
 use Rattle.lnbd_callbacks.specs.Calls.{Call}
 use Rattle.lnbd_history.specs.declared.kinds.Completed.{Completed}
 use Rattle.lnbd_history.specs.declared.kinds.Completed.TheVariants.{Done, Failed, NotYet, NoSuchCookie}
@@ -15,28 +18,25 @@ use Rattle.lnbd_history.specs.declared.kinds.Stage.TheVariants.{Created, Open, D
 use Rattle.lnbd_history.specs.Agreement.{Opted}
 use Rattle.lnbd_history.specs.Answers.{state_at, state_in}
 use Rattle.lnbd_history.specs.Arrivals.{Broken, Passed, Sight, Waiting, shows_at, shows_ignored, shows_passed}
-use Rattle.lnbd_machine.specs.Laws.{IsPartial}
-use Rattle.lnbd_model.specs.declared.breach.Breach.TheVariants.{TooManyReplies}
-use Rattle.lnbd_model.specs.declared.state.State.{State as Standing}
-use Rattle.lnbd_model.specs.declared.state.State.TheVariants as standing
-use Rattle.lnbd_records.specs.Limits.{max_passed}
 use Rattle.lnbd_history.specs.Commands.{Command, Flight, request_of}
-use Rattle.lnbd_machine.specs.Machine.{Row, State, Machine, Doing, issued, new_row, sight, turned, waited}
+use Rattle.lnbd_machine.specs.Laws.{IsPartial}
+use Rattle.lnbd_machine.specs.Machine.{Row, State, Machine, Doing, issued, new_row, retired, sight, turned, waited, writing}
 use Rattle.lnbd_commands.specs.Asks.{taking as taking_result}
-use Rattle.lnbd_commands.specs.Commands.{Commands}
+use Rattle.lnbd_commands.specs.Commands.{Commands, retiring}
+use Rattle.lnbd_arrivals.specs.Frames.{front_size}
 use Rattle.lnbd_handle.specs.declared.connection.Connection.{Connection}
 use Rattle.lnbd_handle.specs.declared.issue.IssueFault.{IssueFault}
 use Rattle.lnbd_handle.specs.declared.issue.IssueFault.TheVariants.{NoMemory, Refused}
+use Rattle.lnbd_handle.specs.declared.kinds.Short.{Short}
 use Rattle.lnbd_handle.specs.declared.pending.Pending.{Pending}
-use Rattle.lnbd_handle.specs.Held.{data_in, held_in}
+use Rattle.lnbd_handle.specs.Announcing.{announced_at, is_speaking, replies_in, takes_replies}
+use Rattle.lnbd_handle.specs.Held.{held_in}
 use Rattle.lnbd_handle.specs.Issues.{Faults}
-use Rattle.lnbd_handle.specs.Room.{AreOrdered, HasPlaces, IfFlies, IsBehindFront, IsCalm, IsKept, IsPlain, ReadsFit, RepliesSimply}
-use Rattle.lnbd_arrivals.specs.Frames.{front_size, replies_by}
-use Rattle.lnbd_handle.specs.Placing.{replies_in}
+use Rattle.lnbd_handle.specs.Room.{AreOrdered, HasPlacesAt, IfFlies, IsCalm, IsKept, IsPlain, KeepsFrontAt, ReadsFit}
 use Rattle.lnbd_handle.specs.Runs.{Acts, doing}
 use Rattle.lnbd_handle.specs.Seen.{IsSound, Stands, state_of, machine_of}
-use Rattle.lnbd_handle.specs.Turns.{Arrives, is_speaking}
-use Rattle.lnbd_handle.specs.declared.kinds.Short.{Short}
+use Rattle.lnbd_handle.specs.Turns.{Arrives, ShowsNothing}
+use Rattle.lnbd_handle.proofs.AnnouncedLemmas.{issued_grows, not_ready, retired_grows, said_as, said_empty, said_none, said_same, said_stays, wrote_grows}
 use Rattle.lnbd_handle.proofs.RoomLemmas.{Lasting, each_append, each_without, runs_lasting}
 
 ignored_none : (bytes : List ℕ) → shows_ignored bytes ≡ None → bytes ≡ []
@@ -46,34 +46,13 @@ ignored_none (b ∷ bytes) e = cc
 created_none : (s : Stage) (seen : Sight) (w : ℕ → Option Waiting) (bytes : List ℕ) → s ≡ Created → shows_at s seen w bytes ≡ None → bytes ≡ []
 created_none s seen w bytes is e = ignored_none bytes (sym (ap (λ t. shows_at t seen w bytes) is) ∙ e)
 
--- what holds nothing has no head
-no_head : (head rest : List ℕ) → head ++ rest ≡ [] → length head ≤ simple_head_size
-no_head head rest e = let n = ap length e in omega (arith, n, length-append head rest)
-
--- nor data
-pub not_some : (pending : Pending) → IsKept pending → held_in pending ≡ [] → 0 < pending.came → ⊥
-not_some pending kept none some =
-    let l = ap length none in
-    omega (arith, l, some, length-append pending.head.items (data_in pending), length-take pending.came pending.content.items, kept.within, pending.content.ok.0)
-
--- Where no data are held none stand before their front.
-pub none_behind : (structured extended : Bool) (pending : Pending) → pending.came ≡ 0 → IsBehindFront structured extended pending
-none_behind structured extended pending none some = absurd (omega (arith, none, some))
-
-pub empty_behind : (structured extended : Bool) (pending : Pending) → IsKept pending → held_in pending ≡ [] → IsBehindFront structured extended pending
-empty_behind structured extended pending kept none some = absurd (not_some pending kept none some)
-
-pub held_behind : (structured extended : Bool) (old new : Pending) → IsKept old → held_in old ≡ [] → new.came ≡ old.came → IsBehindFront structured extended new
-held_behind structured extended old new kept none came some = absurd (not_some old kept none (subst (λ (n : ℕ). 0 < n) came some))
-
-pub same_behind : (structured extended : Bool) (old new : Pending) → new.came ≡ old.came → new.head.items ≡ old.head.items → IsBehindFront structured extended old → IsBehindFront structured extended new
-same_behind structured extended old new came head behind some =
-    let l = behind (subst (λ (n : ℕ). 0 < n) came some) in subst (λ (h : List ℕ). front_size (replies_by structured extended) ≤ length h) (sym head) l
-
 module _ {K : Type 0} where
-  -- the same of a state
-  abbrev pub PlacesAt : State K → Pending → Type 0
-  PlacesAt state pending = HasPlaces state.stage state.talk.phase state.talk.structured state.talk.extended state.rows pending
+  -- of a command that is retired: it is not in flight any more
+  abbrev pub IsIdle : Completed → ℕ → Commands K → Type 0
+  IsIdle (Done bytes) cookie commands = (row : Row K) → value_at cookie commands.rows ≡ Some row → row.flight ≡ None
+  IsIdle (Failed error bytes) cookie commands = (row : Row K) → value_at cookie commands.rows ≡ Some row → row.flight ≡ None
+  IsIdle NotYet cookie commands = Unit {0}
+  IsIdle NoSuchCookie cookie commands = Unit {0}
 
   fits_more : (size more : ℕ) (rows : List (ℕ × Row K)) → size ≤ more → ReadsFit size rows → ReadsFit more rows
   fits_more size more [] low all = tt
@@ -84,59 +63,88 @@ module _ {K : Type 0} where
       one (Some flight) here = λ read. let short = here read in omega (arith, short, low)
 
   -- Nothing is held.
-  pub places_empty : (stage : Stage) (phase : Phase) (structured extended : Bool) (rows : List (ℕ × Row K)) (pending : Pending) → IsKept pending → held_in pending ≡ [] → ReadsFit (vec_len pending.content) rows → AreOrdered structured extended →
-      HasPlaces stage phase structured extended rows pending
-  places_empty stage phase structured extended rows pending kept empty fits ordered = record { kept = kept; fits = fits; split = λ simply. no_head pending.head.items _ empty; ordered = ordered; front = λ some. absurd (not_some pending kept empty some) }
+  pub places_empty : (state : State K) (pending : Pending) → IsKept pending → held_in pending ≡ [] → pending.announced ≡ None → ReadsFit (vec_len pending.content) state.rows → AreOrdered state.talk.structured state.talk.extended → HasPlacesAt state pending
+  places_empty state pending kept empty unannounced fits ordered = record { kept = kept; fits = fits; ordered = ordered; said = said_empty state pending kept empty unannounced }
 
   -- A buffer that has grown, and another read for which it has room.
-  pub places_grown : (state : State K) (old new : Pending) → vec_len old.content ≤ vec_len new.content → new.head ≡ old.head → new.came ≡ old.came → IsKept new → PlacesAt state old → PlacesAt state new
-  places_grown state old new grows head came kept p =
-      record { kept = kept; fits = fits_more (vec_len old.content) (vec_len new.content) state.rows grows p.fits; split = λ simply. let l = p.split simply in subst (λ h. length h.items ≤ simple_head_size) (sym head) l; ordered = p.ordered; front = λ some. let l = p.front (subst (λ (n : ℕ). 0 < n) came some) in subst (λ h. front_size (replies_in state) ≤ length h.items) (sym head) l }
+  pub places_grown : (state : State K) (old new : Pending) → vec_len old.content ≤ vec_len new.content → new.head ≡ old.head → new.announced ≡ old.announced → new.came ≡ old.came → IsKept new → HasPlacesAt state old → HasPlacesAt state new
+  places_grown state old new grows head announced came kept p = record {
+    kept = kept;
+    fits = fits_more (vec_len old.content) (vec_len new.content) state.rows grows p.fits;
+    ordered = p.ordered;
+    said = said_same (front_size (replies_in state)) (announced_at state) old new announced (ap (λ h. h.items) head) came p.said;
+  }
 
-  pub places_issued : (command : Command K) (old new : State K) (pending : Pending) → new ≡ issued command old → (is_read command.kind ≡ true → command.length ≤ vec_len pending.content) → PlacesAt old pending → PlacesAt new pending
-  places_issued command old new pending is fits p = subst (λ s. PlacesAt s pending) (sym is)
-      (record { kept = p.kept; fits = each_append (λ kind length flight. is_read kind ≡ true → length ≤ vec_len pending.content) old.rows ((old.issued + 1, new_row (request_of old.admitted command)) ∷ []) p.fits (fits, tt); split = p.split; ordered = p.ordered; front = p.front })
+  pub places_issued : (command : Command K) (old new : State K) (pending : Pending) → new ≡ issued command old → (is_read command.kind ≡ true → command.length ≤ vec_len pending.content) → ShowsNothing old (held_in pending) → HasPlacesAt old pending → HasPlacesAt new pending
+  places_issued command old new pending is fits partial p = subst (λ s. HasPlacesAt s pending) (sym is) (record {
+    kept = p.kept;
+    fits = each_append (λ kind length flight. is_read kind ≡ true → length ≤ vec_len pending.content) old.rows ((old.issued + 1, new_row (request_of old.admitted command)) ∷ []) p.fits (fits, tt);
+    ordered = p.ordered;
+    said = said_stays old (waited (issued command old)) pending p.ordered (issued_grows command old) partial p.said;
+  })
 
-  pub places_as : (old new : State K) (pending : Pending) → new ≡ old → PlacesAt old pending → PlacesAt new pending
-  places_as old new pending same p = subst (λ s. PlacesAt s pending) (sym same) p
+  pub places_wrote : (n : ℕ) (old new : State K) (pending : Pending) → new ≡ writing n old → ShowsNothing old (held_in pending) → HasPlacesAt old pending → HasPlacesAt new pending
+  places_wrote n old new pending is partial p = subst (λ s. HasPlacesAt s pending) (sym is) (record {
+    kept = p.kept;
+    fits = p.fits;
+    ordered = p.ordered;
+    said = said_stays old (waited (writing n old)) pending p.ordered (wrote_grows n old) partial p.said;
+  })
+
+  pub places_as : (old new : State K) (pending : Pending) → new ≡ old → HasPlacesAt old pending → HasPlacesAt new pending
+  places_as old new pending same p = subst (λ s. HasPlacesAt s pending) (sym same) p
 
   pub places_fault : {World : Type 0} (steps : World → List (Call K) → World → Type 0) (command : Command K) (fault : IssueFault K) (old new : Machine K) (pending : Pending) (before after : World) →
-      Faults steps command fault old new before after → PlacesAt old.known pending → PlacesAt new.known pending
-  places_fault steps command (NoMemory buf first done) old new pending before after f p = subst (λ (m : Machine K). PlacesAt m.known pending) (sym f.3) p
-  places_fault steps command (Refused reason buf) old new pending before after f p = subst (λ (m : Machine K). PlacesAt m.known pending) (sym f.2.machine) p
+      Faults steps command fault old new before after → HasPlacesAt old.known pending → HasPlacesAt new.known pending
+  places_fault steps command (NoMemory buf first done) old new pending before after f p = subst (λ (m : Machine K). HasPlacesAt m.known pending) (sym f.3) p
+  places_fault steps command (Refused reason buf) old new pending before after f p = subst (λ (m : Machine K). HasPlacesAt m.known pending) (sym f.2.machine) p
 
-  pub places_retired : (result : Completed) (cookie : ℕ) (old : Connection K) (commands : Commands K) (pending : Pending) → commands ≡ taking_result result cookie old.commands → PlacesAt (state_of old) pending → PlacesAt (state_of (record old { commands = commands })) pending
-  places_retired (Done bytes) cookie old commands pending is p = subst (λ c. PlacesAt (state_of (record old { commands = c })) pending) (sym is) (record { kept = p.kept; fits = each_without (λ kind length flight. is_read kind ≡ true → length ≤ vec_len pending.content) cookie old.commands.rows p.fits; split = p.split; ordered = p.ordered; front = p.front })
-  places_retired (Failed error bytes) cookie old commands pending is p = subst (λ c. PlacesAt (state_of (record old { commands = c })) pending) (sym is) (record { kept = p.kept; fits = each_without (λ kind length flight. is_read kind ≡ true → length ≤ vec_len pending.content) cookie old.commands.rows p.fits; split = p.split; ordered = p.ordered; front = p.front })
-  places_retired NotYet cookie old commands pending is p = subst (λ c. PlacesAt (state_of (record old { commands = c })) pending) (sym is) p
-  places_retired NoSuchCookie cookie old commands pending is p = subst (λ c. PlacesAt (state_of (record old { commands = c })) pending) (sym is) p
+  -- A command that is completed is retired: those that wait stay.
+  pub places_retired : (result : Completed) (cookie : ℕ) (old : Connection K) (commands : Commands K) (pending : Pending) → commands ≡ taking_result result cookie old.commands → IsRising old.commands.rows → IsIdle result cookie old.commands →
+      ShowsNothing (state_of old) (held_in pending) → HasPlacesAt (state_of old) pending → HasPlacesAt (state_of (record old { commands = commands })) pending
+  places_retired result cookie old commands pending is rising idle partial p = subst (λ c. HasPlacesAt (state_of (record old { commands = c })) pending) (sym is) (go result idle)
+    where
+      gone : ((row : Row K) → value_at cookie old.commands.rows ≡ Some row → row.flight ≡ None) → HasPlacesAt (state_of (record old { commands = retiring cookie old.commands })) pending
+      gone landed = record {
+        kept = p.kept;
+        fits = each_without (λ kind length flight. is_read kind ≡ true → length ≤ vec_len pending.content) cookie old.commands.rows p.fits;
+        ordered = p.ordered;
+        said = said_stays (state_of old) (waited (retired cookie (state_of old))) pending p.ordered (retired_grows cookie (state_of old) rising landed) partial p.said;
+      }
+
+      go : (r : Completed) → IsIdle r cookie old.commands → HasPlacesAt (state_of (record old { commands = taking_result r cookie old.commands })) pending
+      go (Done bytes) landed = gone landed
+      go (Failed error bytes) landed = gone landed
+      go NotYet landed = p
+      go NoSuchCookie landed = p
 
   -- The start: what is held before it is nothing.
-  pub places_started : (old : Connection K) (pending : Pending) → old.stage ≡ Created → IsPartial (machine_of old (held_in pending)) → PlacesAt (state_of old) pending → PlacesAt (record (state_of old) { stage = Open }) pending
+  pub places_started : (old : Connection K) (pending : Pending) → old.stage ≡ Created → IsPartial (machine_of old (held_in pending)) → HasPlacesAt (state_of old) pending → HasPlacesAt (record (state_of old) { stage = Open }) pending
   places_started old pending is partial p =
       let none : held_in pending ≡ [] = created_none old.stage (sight (state_of old)) (waited (state_of old)) (held_in pending) is partial in
-      places_empty Open old.talk.phase old.talk.structured old.talk.extended old.commands.rows pending p.kept none p.fits p.ordered
+      places_empty (record (state_of old) { stage = Open }) pending p.kept none (said_none (state_of old) pending p.kept p.said none) p.fits p.ordered
 
   -- An option is asked, so no command is.
-  pub places_asked : (option : ℕ) (old new : State K) (pending : Pending) → new ≡ turned (Opted option) old → PlacesAt old pending → PlacesAt new pending
-  places_asked option old new pending is p = subst (λ s. PlacesAt s pending) (sym is)
-      (record { kept = p.kept; fits = p.fits; split = λ simply. let c : phase.Asked option ≡ phase.Ready = simply.ready in absurd (other c); ordered = p.ordered; front = p.front })
-    where
-      other : phase.Asked option ≡ phase.Ready → ⊥
-      other e = cc
+  pub places_asked : (option : ℕ) (old new : State K) (pending : Pending) → new ≡ turned (Opted option) old → old.talk.phase ≡ phase.OptMode → HasPlacesAt old pending → HasPlacesAt new pending
+  places_asked option old new pending is asked p = subst (λ s. HasPlacesAt s pending) (sym is) (record {
+    kept = p.kept;
+    fits = p.fits;
+    ordered = p.ordered;
+    said = said_as (front_size (replies_in old)) (announced_at old) (announced_at (turned (Opted option) old)) pending
+        (not_ready (turned (Opted option) old) (take (front_size (replies_in old)) pending.head.items) refl ∙ sym (not_ready old (take (front_size (replies_in old)) pending.head.items) (ap takes_replies asked))) p.said;
+  })
 
   -- What is held is dropped.
-  pub places_cleared : (known new : State K) (old pending : Pending) → new ≡ known → IsKept pending → held_in pending ≡ [] → pending.content ≡ old.content → ReadsFit (vec_len old.content) known.rows → AreOrdered known.talk.structured known.talk.extended → PlacesAt new pending
-  places_cleared known new old pending is kept none room fits ordered = subst (λ s. PlacesAt s pending) (sym is)
-      (places_empty known.stage known.talk.phase known.talk.structured known.talk.extended known.rows pending kept none (subst (λ v. ReadsFit (vec_len v) known.rows) (sym room) fits) ordered)
+  pub places_cleared : (known new : State K) (old pending : Pending) → new ≡ known → IsKept pending → held_in pending ≡ [] → pending.announced ≡ None → pending.content ≡ old.content → ReadsFit (vec_len old.content) known.rows → AreOrdered known.talk.structured known.talk.extended → HasPlacesAt new pending
+  places_cleared known new old pending is kept none unannounced room fits ordered = subst (λ s. HasPlacesAt s pending) (sym is)
+      (places_empty known pending kept none unannounced (subst (λ v. ReadsFit (vec_len v) known.rows) (sym room) fits) ordered)
 
   -- Bytes arrived.
   pub places_arrived : {World : Type 0} (steps : World → List (Call K) → World → Type 0) (old new : Connection K) (pending now : Pending) (bytes : List ℕ) (before after : World) (result : Result (Unit {0}) Short) →
-      Arrives steps old (held_in pending) before bytes result new (held_in now) after → IsKept now → vec_len now.content ≡ vec_len pending.content →
-      (RepliesSimply new.stage new.talk.phase new.talk.structured new.talk.extended → length now.head.items ≤ simple_head_size) → IsBehindFront new.talk.structured new.talk.extended now → PlacesAt (state_of old) pending → PlacesAt (state_of new) now
-  places_arrived steps old new pending now bytes before after result a kept room split front p =
+      Arrives steps old (held_in pending) before bytes result new (held_in now) after → IsKept now → vec_len now.content ≡ vec_len pending.content → KeepsFrontAt (state_of new) now → HasPlacesAt (state_of old) pending → HasPlacesAt (state_of new) now
+  places_arrived steps old new pending now bytes before after result a kept room said p =
       let l = lasts result a in
-      record { kept = kept; fits = subst (λ n. ReadsFit n new.commands.rows) (sym room) l.0; split = split; ordered = l.1; front = front }
+      record { kept = kept; fits = subst (λ n. ReadsFit n new.commands.rows) (sym room) l.0; ordered = l.1; said = said }
     where
       lasts : (r : Result (Unit {0}) Short) → Arrives steps old (held_in pending) before bytes r new (held_in now) after → ReadsFit (vec_len pending.content) new.commands.rows × AreOrdered new.talk.structured new.talk.extended
       lasts (Ok done) a = runs_lasting (λ kind length flight. is_read kind ≡ true → length ≤ vec_len pending.content) steps bytes (machine_of old (held_in pending)) (machine_of new (held_in now)) before after a (p.fits, p.ordered)
@@ -144,10 +152,10 @@ module _ {K : Type 0} where
 
   -- The connection ended: by a part of an event in which commands are filed and no more is asked.
   pub places_ended : {World : Type 0} (steps : World → List (Call K) → World → Type 0) (act : Doing K → Doing K) (old new : Connection K) (pending now : Pending) (before after : World) → ((d : Doing K) → Lasting (λ kind length flight. is_read kind ≡ true → length ≤ vec_len pending.content) d.state → Lasting (λ kind length flight. is_read kind ≡ true → length ≤ vec_len pending.content) (act d).state) →
-      Acts steps act (state_of old) (state_of new) before after → IsKept now → held_in now ≡ [] → now.content ≡ pending.content → PlacesAt (state_of old) pending → PlacesAt (state_of new) now
-  places_ended steps act old new pending now before after lasts a kept none room p =
+      Acts steps act (state_of old) (state_of new) before after → IsKept now → held_in now ≡ [] → now.announced ≡ None → now.content ≡ pending.content → HasPlacesAt (state_of old) pending → HasPlacesAt (state_of new) now
+  places_ended steps act old new pending now before after lasts a kept none unannounced room p =
       let l = subst (λ d. Lasting (λ kind length flight. is_read kind ≡ true → length ≤ vec_len pending.content) d.state) (a.does [] []) (lasts (doing (state_of old) (a.answers ++ []) []) (p.fits, p.ordered)) in
-      places_cleared (state_of new) (state_of new) pending now refl kept none room l.0 l.1
+      places_cleared (state_of new) (state_of new) pending now refl kept none unannounced room l.0 l.1
 
 -- Where replies are simple and no command has a chunk callback, nothing that arrives wants memory.
 
@@ -186,7 +194,7 @@ plain_phase Closed p ended at s speaking = absurd (false≢true speaking)
 plain_phase (Dead cause) p ended at s speaking = absurd (false≢true speaking)
 
 module _ {K : Type 0} where
-  pub plain_calm : (c : Connection K) (pending : Pending) → IsSound c → PlacesAt (state_of c) pending → IsPlain (state_of c) → IsCalm (state_of c)
+  pub plain_calm : (c : Connection K) (pending : Pending) → IsSound c → HasPlacesAt (state_of c) pending → IsPlain (state_of c) → IsCalm (state_of c)
   plain_calm c pending sound p plain speaking = (
     record { speaking = speaking; ready = plain_phase c.stage c.talk.phase c.queue.ended sound.stands plain.stands speaking; compact = plain.simple; short = off c.talk.structured c.talk.extended p.ordered plain.simple },
     plain.unheard,

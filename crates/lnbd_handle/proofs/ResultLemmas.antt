@@ -17,6 +17,7 @@ use Rattle.lnbd_commands.proofs.ResultLemmas.{kept_landed}
 use Rattle.lnbd_handle.specs.declared.connection.Connection.{Connection}
 use Rattle.lnbd_handle.specs.Seen.{IsSound, machine_of}
 use Rattle.lnbd_handle.specs.Completing.{completing}
+use Rattle.lnbd_handle.proofs.PlacesLemmas.{IsIdle}
 use Rattle.lnbd_handle.proofs.QueuedLemmas.{KeepsUnwritten, kept_state, kept_sound, retired_keeps}
 
 -- what is done or failed was kept
@@ -65,3 +66,10 @@ module _ {K : Type 0} where
       let t = retires cookie old held commands sound (λ row at. failed_kept row.kept error bytes (is ∙ ap (λ (o : Option (Row K)). completed_row o) at)) e w in (t.step, t.whole)
   took_result NotYet cookie old held commands sound is e w = subst (λ (c : Commands K). Results NotYet cookie old held c) (sym e) (refl, w)
   took_result NoSuchCookie cookie old held commands sound is e w = subst (λ (c : Commands K). Results NoSuchCookie cookie old held c) (sym e) (refl, w)
+
+  -- a command whose result is taken is not in flight
+  pub idle_result : (result : Completed) (cookie : ℕ) (commands : Commands K) → AreSound commands → result ≡ completed_row (value_at cookie commands.rows) → IsIdle result cookie commands
+  idle_result (Done bytes) cookie commands sound is = λ row at. kept_landed cookie row commands.done commands.rows sound.rows at (done_kept row.kept bytes (is ∙ ap (λ (o : Option (Row K)). completed_row o) at))
+  idle_result (Failed error bytes) cookie commands sound is = λ row at. kept_landed cookie row commands.done commands.rows sound.rows at (failed_kept row.kept error bytes (is ∙ ap (λ (o : Option (Row K)). completed_row o) at))
+  idle_result NotYet cookie commands sound is = tt
+  idle_result NoSuchCookie cookie commands sound is = tt

@@ -1,5 +1,6 @@
 -- Bytes that went out, and the commands that end with them.
-use Rattle.std.proofs.Common.{◌≡◌, ℕ, ◌+◌, Bool, true, false, List, [], ◌∷◌, length, drop, if◌then◌else◌, ◌==◌, nat_lt, refl, arith}
+use Rattle.std.proofs.Common.{◌≡◌, ℕ, zero, suc, ◌+◌, ◌↔◌, IsTrue, Bool, true, false, not, List, [], ◌∷◌, length, drop, if◌then◌else◌, ◌==◌, nat_lt, refl, ap, sym, arith}
+use Rattle.std.proofs.lemmas.Bool.{false≢true, lt-ltb}
 use Rattle.lnbd_history.specs.Outgoing.{Part, one_if, wrote, ended}
 use Rattle.lnbd_handle.specs.Seen.{ends_in}
 
@@ -11,3 +12,10 @@ ends_wrote (part ∷ parts) n = go (n == 0) (nat_lt n (length part.bytes))
     go true b = omega arith
     go false true = omega arith
     go false false = refl
+
+-- Whether bytes are offered.
+
+pub offers : (empty : Bool) (n : ℕ) → (IsTrue empty ↔ (n ≡ 0)) → not empty ≡ nat_lt 0 n
+offers true n is = sym (ap (nat_lt 0) (is.0 refl))
+offers false zero is = absurd (false≢true (is.1 refl))
+offers false (suc n) is = sym (lt-ltb 0 (suc n) (omega arith))

@@ -40,7 +40,8 @@ use Rattle.lnbd_handle.proofs.FrontLemmas.{shows, Ignores, feed_ignored, broke, 
 use Rattle.lnbd_handle.specs.declared.connection.Connection.{Connection}
 use Rattle.lnbd_handle.specs.Runs.{doing, under, Acts, Runs}
 use Rattle.lnbd_handle.specs.Seen.{state_of, machine_of}
-use Rattle.lnbd_handle.specs.Turns.{AreAgreed, arriving, is_speaking, takes_options}
+use Rattle.lnbd_handle.specs.Announcing.{is_speaking}
+use Rattle.lnbd_handle.specs.Turns.{AreAgreed, arriving, takes_options}
 use Rattle.lnbd_handle.specs.Greets.{Greets, Replies, goes_on}
 use Rattle.lnbd_handle.specs.Seen.{Stands, AreAhead, IsSound, writes_in, flies_in, waits_in, ends_in}
 use Rattle.lnbd_handle.proofs.QueuedLemmas.{KeepsUnwritten, filed_keeps, kept_state}

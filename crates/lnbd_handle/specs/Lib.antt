@@ -12,3 +12,4 @@ pub mod Histories
 pub mod Settings
 pub mod Placing
 pub mod Lends
+pub mod Announcing

@@ -1,9 +1,8 @@
 -- What lies ready for bytes that come in pieces, so that they take no memory.
-use Rattle.std.specs.Prelude.{◌≡◌, ◌⊎◌, ℕ, ◌+◌, ◌<◌, ◌≤◌, Bool, true, false, List, [], ◌∷◌, length, Option, Some, None, vec_len, vec_capacity}
+use Rattle.std.specs.Prelude.{◌≡◌, ◌⊎◌, ℕ, ◌+◌, ◌<◌, ◌≤◌, Bool, true, false, List, [], ◌∷◌, length, take, Option, Some, None, IfSome, vec_len, vec_capacity}
 use Rattle.lnbd_model.specs.declared.kind.Kind.{Kind}
 use Rattle.lnbd_model.specs.declared.state.State.TheVariants as standing
 use Rattle.lnbd_model.specs.Kind.{is_read}
-use Rattle.lnbd_records.specs.Transmission.{simple_head_size}
 use Rattle.lnbd_history.specs.declared.kinds.Phase.{Phase}
 use Rattle.lnbd_history.specs.declared.kinds.Phase.TheVariants.{Ready}
 use Rattle.lnbd_history.specs.declared.kinds.Stage.{Stage}
@@ -14,7 +13,7 @@ use Rattle.lnbd_arrivals.specs.Frames.{front_size, replies_by}
 use Rattle.lnbd_arrivals.specs.declared.announced.Announced.{Announced}
 use Rattle.lnbd_arrivals.specs.declared.replies.Replies.TheVariants.{Extended}
 use Rattle.lnbd_handle.specs.declared.pending.Pending.{Pending}
-use Rattle.lnbd_handle.specs.Turns.{is_speaking}
+use Rattle.lnbd_handle.specs.Announcing.{announced_at, is_speaking, replies_in}
 
 -- Where both sides speak of commands, simple replies alone come.
 pub record RepliesSimply (stage : Stage) (phase : Phase) (structured extended : Bool) : Type 0 where
@@ -31,25 +30,21 @@ AreOrdered structured extended = extended ≡ true → structured ≡ true
 abbrev pub longest_front : ℕ
 longest_front = front_size Extended
 
--- The data that are held stand in front of the buffer; all that stands before the data of a reply has room, and data are held behind a whole head.
+-- The data that are held stand in front of the buffer, and all that stands before the data of a reply has room.
 pub record IsKept (pending : Pending) : Type 0 where
   pub within : pending.came ≤ vec_len pending.content
   pub room : longest_front ≤ vec_capacity pending.head
-  pub apart : 0 < pending.came → simple_head_size ≤ length pending.head.items
 
--- These bytes and those that are held are at most the head of a simple reply.
-pub record IsHeadWithin (pending : Pending) (front : List ℕ) : Type 0 where
-  pub none : pending.came ≡ 0
-  pub head : length pending.head.items + length front ≤ simple_head_size
+-- What the front of the bytes that are held announces is kept with them: what is held as one is then that front alone, and else no data are held apart.
+pub record KeepsFront (size : ℕ) (announces : List ℕ → Option Announced) (pending : Pending) : Type 0 where
+  pub says : pending.announced ≡ announces (take size pending.head.items)
+  pub alone : IfSome pending.announced (λ announced. length pending.head.items ≡ size)
+  pub none : pending.announced ≡ None → pending.came ≡ 0
 
--- These bytes are data that a reply announced, or of the head of a simple reply.
-abbrev pub AreWithin : Option Announced → Pending → List ℕ → Type 0
-AreWithin None pending front = IsHeadWithin pending front
-AreWithin (Some announced) pending front = pending.came + length front ≤ announced.size
-
--- Data are held behind all that stands before them.
-abbrev pub IsBehindFront : (structured extended : Bool) → Pending → Type 0
-IsBehindFront structured extended pending = 0 < pending.came → front_size (replies_by structured extended) ≤ length pending.head.items
+-- So many bytes are data that were announced, or they and a front that is held, and is not all there, are no more than the front.
+abbrev pub AreWithin : (size : ℕ) → Option Announced → Pending → ℕ → Type 0
+AreWithin size None pending n = length pending.head.items < size → length pending.head.items + n ≤ size
+AreWithin size (Some announced) pending n = pending.came + n ≤ announced.size
 
 module _ {K : Type 0} where
   abbrev pub IfFlies : (Kind → ℕ → Flight K → Type 0) → Kind → ℕ → Option (Flight K) → Type 0
@@ -69,13 +64,23 @@ module _ {K : Type 0} where
   abbrev pub NoneHears : List (ℕ × Row K) → Type 0
   NoneHears rows = EachFlies (λ kind length flight. is_read kind ≡ true → flight.first ≡ None) rows
 
-  -- The buffer of data has room for each read in flight, and of a simple reply no more than its head is held as one.
-  pub record HasPlaces (stage : Stage) (phase : Phase) (structured extended : Bool) (rows : List (ℕ × Row K)) (pending : Pending) : Type 0 where
+  -- The buffer of data has room for each read in flight, and what a front announces is kept with it.
+  pub record HasPlaces (structured extended : Bool) (rows : List (ℕ × Row K)) (announces : List ℕ → Option Announced) (pending : Pending) : Type 0 where
     pub kept : IsKept pending
     pub fits : ReadsFit (vec_len pending.content) rows
-    pub split : RepliesSimply stage phase structured extended → length pending.head.items ≤ simple_head_size
     pub ordered : AreOrdered structured extended
-    pub front : IsBehindFront structured extended pending
+    pub said : KeepsFront (front_size (replies_by structured extended)) announces pending
+
+  -- the same by the machine's state
+  abbrev pub KeepsFrontAt : State K → Pending → Type 0
+  KeepsFrontAt state pending = KeepsFront (front_size (replies_in state)) (announced_at state) pending
+
+  abbrev pub HasPlacesAt : State K → Pending → Type 0
+  HasPlacesAt state pending = HasPlaces state.talk.structured state.talk.extended state.rows (announced_at state) pending
+
+  -- Where both sides speak, simple replies alone come.
+  abbrev pub ComeSimply : State K → Type 0
+  ComeSimply state = is_speaking state.stage ≡ true → RepliesSimply state.stage state.talk.phase state.talk.structured state.talk.extended
 
   -- Simple replies alone come, and no chunk callback makes a note.
   abbrev pub IsQuiet : State K → Type 0

@@ -3,6 +3,7 @@ use Rattle.std.specs.Prelude.{◌≡◌, ◌≢◌, ◌<◌, ℕ, Bool, true, fa
 use Rattle.lnbd_model.specs.declared.state.State.TheVariants as state
 use Rattle.lnbd_records.specs.Limits.{max_contexts}
 use Rattle.lnbd_records.specs.Options.{opt_set_meta_context}
+use Rattle.lnbd_history.specs.declared.kinds.Stage.TheVariants.{Created}
 use Rattle.lnbd_history.specs.Laws.{may_name}
 use Rattle.lnbd_machine.specs.Machine.{State}
 use Rattle.lnbd_machine.specs.Now.{state_now}
@@ -21,6 +22,10 @@ module _ {K : Type 0} where
   RefusesContext old set.NoMemory = MayAdd old
   RefusesContext old (set.State now) = (may_name (state_now old) ≡ false) × (now ≡ state_now old)
   RefusesContext old (set.TooMany most) = (may_name (state_now old) ≡ true) × (length old.talk.wanted ≡ max_contexts) × (most ≡ max_contexts)
+
+  -- What may be set before the start is refused exactly in the other states, and then nothing has changed.
+  abbrev pub RefusesStarted : State K → SetFault → Type 0
+  RefusesStarted old fault = (old.stage ≢ Created) × (fault ≡ set.State (state_now old))
 
   -- SET_META_CONTEXT needs structured replies, and they are off.
   abbrev pub lacks_structured : ℕ → State K → Bool

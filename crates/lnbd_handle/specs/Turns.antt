@@ -2,8 +2,6 @@
 use Rattle.std.specs.Prelude.{◌≡◌, ℕ, ◌<◌, ◌≤◌, Bool, true, false, List, [], length, take, drop, Option, None, Result, Ok, Err}
 use Rattle.lnbd_callbacks.specs.Calls.{Call}
 use Rattle.lnbd_stream.specs.Stream.{Held, feed}
-use Rattle.lnbd_history.specs.declared.kinds.Stage.{Stage}
-use Rattle.lnbd_history.specs.declared.kinds.Stage.TheVariants.{Created, Open, Disconnecting, Aborting, Closed, Dead}
 use Rattle.lnbd_history.specs.Arrivals.{Waiting, shows_at, shows_frame}
 use Rattle.lnbd_machine.specs.Machine.{State, Doing, table_rules, sight, waited}
 use Rattle.lnbd_arrivals.specs.declared.announced.Announced.{Announced}
@@ -19,17 +17,9 @@ use Rattle.lnbd_handle.specs.declared.kinds.Taken.{Taken}
 use Rattle.lnbd_handle.specs.declared.kinds.Short.{Short}
 use Rattle.lnbd_history.specs.declared.kinds.Phase.{Phase}
 use Rattle.lnbd_history.specs.declared.kinds.Phase.TheVariants as phase
+use Rattle.lnbd_handle.specs.Announcing.{announced_by_front, is_speaking}
 use Rattle.lnbd_handle.specs.Runs.{Runs}
 use Rattle.lnbd_handle.specs.Seen.{state_of, machine_of}
-
--- the two sides speak
-abbrev pub is_speaking : Stage → Bool
-is_speaking Created = false
-is_speaking Open = true
-is_speaking Disconnecting = true
-is_speaking Aborting = false
-is_speaking Closed = false
-is_speaking (Dead cause) = false
 
 -- an option reply may come
 abbrev pub takes_options : Phase → Bool
@@ -63,10 +53,10 @@ module _ {K : Type 0} where
     pub simple : c.talk.structured ≡ false → c.talk.extended ≡ false → replies ≡ Simple
     pub announces : Announces replies (waited (state_of c)) front announced
 
-  -- What one turn does with the bytes in front of it: they show nothing yet; so many are a record, which is taken; all are
+  -- What one turn does with the bytes in front of it: they show nothing yet, and it is told what their front announces; so many are a record, which is taken; all are
   -- taken, since nothing counts any more; or nothing is done, for want of memory.
   abbrev pub TurnMeans : {World : Type 0} → (World → List (Call K) → World → Type 0) → Connection K → World → List ℕ → Turn → Connection K → World → Type 0
-  TurnMeans steps old before rest turn.Nothing new after = (new ≡ old) × (after ≡ before) × ShowsNothing (state_of new) rest
+  TurnMeans steps old before rest (turn.Nothing announced) new after = (new ≡ old) × (after ≡ before) × ShowsNothing (state_of new) rest × (announced ≡ announced_by_front (state_of new) rest)
   TurnMeans steps old before rest (turn.Took n) new after = (0 < n) × (n ≤ length rest) × Runs steps (arriving (take n rest)) (machine_of old []) (machine_of new []) before after
   TurnMeans steps old before rest turn.All new after = Runs steps (arriving rest) (machine_of old []) (machine_of new []) before after
   TurnMeans steps old before rest turn.Short new after = (state_of new ≡ state_of old) × (after ≡ before)
@@ -76,6 +66,7 @@ module _ {K : Type 0} where
     pub within : taken.used ≤ length buffer
     pub so_far : Runs steps (arriving (take taken.used buffer)) (machine_of old []) (machine_of new []) before after
     pub rest : taken.short ≡ false → ShowsNothing (state_of new) (drop taken.used buffer)
+    pub announces : taken.short ≡ false → taken.announced ≡ announced_by_front (state_of new) (drop taken.used buffer)
 
   -- What is done with bytes behind those that are held: all are held and show nothing yet; so many are taken, with the end of a
   -- record, and none are held; or nothing is done, for want of memory.

@@ -17,9 +17,7 @@ use lnbd_history::Stage;
 use lnbd_model::{Breach, Cause};
 use lnbd_negotiate::abort_request;
 use lnbd_outgoing::Piece;
-
-/// How many bytes are passed over.
-const MAX_PASSED: usize = 65536;
+use lnbd_records::names::MAX_PASSED;
 
 /// Queues ABORT, for which there is always room.
 pub(crate) fn abort<K>(connection: &mut Connection<K>)
@@ -46,9 +44,9 @@ pub(crate) fn turn_aborting<K: Caller>(
 {
     let count = rest.len();
     if count == 0 {
-        return Turn::Nothing;
+        return Turn::Nothing(None);
     }
-    let left = MAX_PASSED.saturating_sub(connection.passed);
+    let left = (MAX_PASSED as usize).saturating_sub(connection.passed);
     if count <= left {
         connection.passed += count;
         return Turn::Took(count);

@@ -21,7 +21,7 @@ use crate::drain::take_fresh;
 use crate::kinds::{SetFault, Short};
 use crate::pending::Pending;
 use crate::pieces::take_behind;
-use crate::sending::{count_written, offered, say_goodbye};
+use crate::sending::{count_written, is_offering, offered, say_goodbye};
 use crate::standing::{by_state, direction_of, may_name, state_at};
 use crate::strict;
 use lnbd_callbacks::Caller;
@@ -44,14 +44,14 @@ impl<K> Model for Handle<K> {
     ghost use Rattle.lnbd_machine.specs.Laws.{IsPartial};
     ghost use Rattle.lnbd_handle.specs.Held.{held_in};
     ghost use Rattle.lnbd_handle.specs.Placing.{Handled, handled_of};
-    ghost use Rattle.lnbd_handle.specs.Room.{HasPlaces};
-    ghost use Rattle.lnbd_handle.specs.Seen.{machine_of, IsSound};
+    ghost use Rattle.lnbd_handle.specs.Room.{HasPlacesAt};
+    ghost use Rattle.lnbd_handle.specs.Seen.{machine_of, state_of, IsSound};
 
     ghost Value = { Handled K };
 
     ghost view = { λ h. handled_of h.connection h.pending };
 
-    ghost invariant = { λ h. IsSound h.connection × IsPartial (machine_of h.connection (held_in h.pending)) × HasPlaces h.connection.stage h.connection.talk.phase h.connection.talk.structured h.connection.talk.extended h.connection.commands.rows h.pending };
+    ghost invariant = { λ h. IsSound h.connection × IsPartial (machine_of h.connection (held_in h.pending)) × HasPlacesAt (state_of h.connection) h.pending };
 }
 
 impl<K> Handle<K> {
@@ -159,7 +159,7 @@ impl<K> Handle<K> {
         ensures value { result ≡ direction_now self.now.machine.known }
         ensures told { ForEach self.now.machine (λ history. result ≡ direction_after history) }
     {
-        direction_of(self.connection.stage, self.out())
+        direction_of(self.connection.stage, is_offering(&self.connection))
     }
 
     /// Whether bytes may be read: the connection is open.

@@ -22,10 +22,8 @@ use lnbd_callbacks::Caller;
 use lnbd_commands::Asked;
 use lnbd_model::{Bytes, Kind, Why};
 use lnbd_outgoing::{Piece, Queue, RequestBytes};
+use lnbd_records::names::CMD_FLAG_PAYLOAD_LEN;
 use lnbd_wire::{put_request, put_request_ext};
-
-/// PAYLOAD_LEN: the length of an extended request is that of the data behind it (NBD protocol, "Command flags").
-const PAYLOAD_LEN: u32 = 32;
 
 /// Why a command was not issued. What was handed over comes back.
 #[derive(Drop)]
@@ -100,14 +98,14 @@ pub(crate) fn refuse<K: Caller>(
     }
 }
 
-/// The flags of an extended request: a write says how long its data is.
+/// The flags of an extended request: a write says that its length is that of the data behind it.
 fn sent_flags(kind: Kind, flags: u32) -> u32
     requires { flags ≤ sendable_flags }
     ensures value { result ≡ sent.sent_flags kind flags }
     ensures fits { result < 2 ^ 16 }
 {
     match kind {
-        Kind::Write => flags + PAYLOAD_LEN,
+        Kind::Write => flags + CMD_FLAG_PAYLOAD_LEN as u32,
         _ => flags,
     }
 }

@@ -49,6 +49,7 @@ fn room_for<K>(pending: &mut Pending, asked: &Asked<K>) -> Result<(), NoMemory>
     requires { IsKept pending.old }
     ensures held { held_in pending.new ≡ held_in pending.old }
     ensures head { pending.new.head ≡ pending.old.head }
+    ensures announced { pending.new.announced ≡ pending.old.announced }
     ensures came { pending.new.came ≡ pending.old.came }
     ensures kept { IsKept pending.new }
     ensures ok { OnOk result (is_read asked.now.kind ≡ true → vec_len asked.now.buf ≤ vec_len pending.new.content) }

@@ -4,6 +4,7 @@ ghost use Rattle.std.specs.Prelude.{◌≡◌};
 ghost use Rattle.lnbd_handle.specs.declared.kinds.OptFault.TheVariants as opt;
 ghost use Rattle.lnbd_handle.specs.declared.kinds.SetFault.TheVariants as set;
 
+use lnbd_arrivals::Announced;
 use lnbd_model::State;
 use thiserror::Error;
 
@@ -61,8 +62,8 @@ pub struct Short {
 /// What one turn did with the bytes in front of it.
 #[derive(Clone, Copy, Debug, PartialEq, Eq)]
 pub(crate) enum Turn {
-    /// They show nothing yet.
-    Nothing,
+    /// They show nothing yet. Their front may announce data.
+    Nothing(Option<Announced>),
     /// So many were a record, which was taken.
     Took(usize),
     /// All were taken: nothing counts any more.
@@ -78,6 +79,8 @@ pub(crate) struct Taken {
     pub(crate) used: usize,
     /// Memory ran out at the next record.
     pub(crate) short: bool,
+    /// What the front of the rest announces, where that shows nothing yet.
+    pub(crate) announced: Option<Announced>,
 }
 
 /// What was done with bytes behind those that are held.

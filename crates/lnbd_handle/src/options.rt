@@ -21,9 +21,9 @@ use crate::connection::Connection;
 use crate::greet::push_request;
 use crate::handle::Handle;
 use crate::kinds::OptFault;
-use lnbd_history::OptAnswer;
 use lnbd_model::{Listing, NoMemory, State};
-use lnbd_negotiate::{GO, INFO, LIST, SET_META_CONTEXT};
+use lnbd_negotiate::OptAnswer;
+use lnbd_records::names::{OPT_GO, OPT_INFO, OPT_LIST, OPT_SET_META_CONTEXT};
 
 /// Asks an option, whose request goes out behind what waits.
 fn ask<K>(connection: &mut Connection<K>, option: u32) -> Result<(), NoMemory>
@@ -49,7 +49,7 @@ impl<K> Handle<K> {
     {
         match self.state() {
             State::OptMode => {
-                if option == SET_META_CONTEXT && !self.connection.talk.structured() {
+                if option == OPT_SET_META_CONTEXT && !self.connection.talk.structured() {
                     Err(OptFault::NotStructured)
                 } else {
                     Ok(())
@@ -81,7 +81,7 @@ impl<K> Handle<K> {
         ensures err { OnErr result (self.new.machine ≡ self.old.machine) }
         ensures stands { ForEach self.old.machine (AddsOnOk result (Opt opt_list) self.new.machine) }
     {
-        self.opt(LIST)
+        self.opt(OPT_LIST)
     }
 
     /// Asks what the export of this name is, which `info` then tells (libnbd, nbd_opt_info).
@@ -92,7 +92,7 @@ impl<K> Handle<K> {
         ensures err { OnErr result (self.new.machine ≡ self.old.machine) }
         ensures stands { ForEach self.old.machine (AddsOnOk result (Opt opt_info) self.new.machine) }
     {
-        self.opt(INFO)
+        self.opt(OPT_INFO)
     }
 
     /// Asks for the meta contexts that were added. The answer replaces those that are agreed (libnbd, nbd_opt_set_meta_context).
@@ -103,7 +103,7 @@ impl<K> Handle<K> {
         ensures err { OnErr result (self.new.machine ≡ self.old.machine) }
         ensures stands { ForEach self.old.machine (AddsOnOk result (Opt opt_set_meta_context) self.new.machine) }
     {
-        self.opt(SET_META_CONTEXT)
+        self.opt(OPT_SET_META_CONTEXT)
     }
 
     /// Asks for the export of this name: where the server acknowledges, commands may be issued (libnbd, nbd_opt_go).
@@ -114,7 +114,7 @@ impl<K> Handle<K> {
         ensures err { OnErr result (self.new.machine ≡ self.old.machine) }
         ensures stands { ForEach self.old.machine (AddsOnOk result (Opt opt_go) self.new.machine) }
     {
-        self.opt(GO)
+        self.opt(OPT_GO)
     }
 
     /// Gives negotiation up: ABORT is queued, and of what arrives from then on 65,536 bytes are passed over (libnbd,

@@ -1,13 +1,14 @@
-//! The bytes that arrived and are no whole record yet. Of a reply that brings data to a read all that stands before the data is held, and
-//! apart from it the data that came so far, in a buffer with room for each read in flight: once it is full it becomes the command's own. So
-//! they are copied once, and holding them takes no memory. What the bytes mean is not known here.
+//! The bytes that arrived and are no whole record yet. Of a reply that brings data to a read all that stands before the data is held, with what
+//! it announces, so that it is judged once, and apart from it the data that came so far, in a buffer with room for each read in flight: once it is
+//! full it becomes the command's own. So they are copied once, and holding them takes no memory. What the bytes mean is not known here.
 
-ghost use Rattle.std.specs.Prelude.{◌≡◌, ◌≤◌, ◌<◌, ◌+◌, ◌++◌, [], true, false, length, take, vec_len, IfOk, IsOk, OnOk, OnErr};
+ghost use Rattle.std.specs.Prelude.{◌≡◌, ◌≤◌, ◌<◌, ◌+◌, ◌++◌, [], true, false, Some, None, length, take, vec_len, IfOk, IsOk, OnOk, OnErr};
 ghost use Rattle.lnbd_records.specs.Transmission.{simple_head_size};
 ghost use Rattle.lnbd_structured.specs.Placed.{written};
 ghost use Rattle.lnbd_handle.specs.Held.{data_in, held_in};
 ghost use Rattle.lnbd_handle.specs.Room.{IsKept, longest_front};
 
+use lnbd_arrivals::Announced;
 use lnbd_model::NoMemory;
 use std::alloc::Global;
 
@@ -20,6 +21,8 @@ const LONGEST_FRONT: usize = 40;
 pub(crate) struct Pending {
     /// The front of a record.
     pub(crate) head: Vec<u8>,
+    /// What it announces, where it is all that stands before the data of a reply. These are held apart from it.
+    pub(crate) announced: Option<Announced>,
     /// A buffer that begins with data of a reply.
     pub(crate) content: Vec<u8>,
     /// How many data came, in bytes.
@@ -31,10 +34,12 @@ impl Pending {
     pub(crate) fn new(alloc: Global) -> Result<Pending, NoMemory>
         ensures empty { IfOk result (λ pending. held_in pending ≡ []) }
         ensures head { IfOk result (λ pending. pending.head.items ≡ []) }
+        ensures none { IfOk result (λ pending. pending.announced ≡ None) }
         ensures kept { IfOk result IsKept }
     {
         Ok(Pending {
             head: Vec::with_capacity(alloc, LONGEST_FRONT)?,
+            announced: None,
             content: Vec::new(alloc),
             came: 0,
         })
@@ -54,35 +59,17 @@ impl Pending {
         ensures empty { held_in self.new ≡ [] }
         ensures head { self.new.head.items ≡ [] }
         ensures none { self.new.came ≡ 0 }
+        ensures unannounced { self.new.announced ≡ None }
         ensures kept { IsKept self.new }
         ensures room { self.new.content ≡ self.old.content }
     {
         self.head.clear();
+        self.announced = None;
         self.came = 0;
     }
 
-    /// Puts all into the first part. It takes no memory where they are there.
-    pub(crate) fn join(&mut self) -> Result<(), NoMemory>
-        requires { IsKept self.old }
-        ensures ok { OnOk result (self.new.came ≡ 0) }
-        ensures err { OnErr result ((self.new.came ≡ self.old.came) × (self.new.head.items ≡ self.old.head.items)) }
-        ensures same { held_in self.new ≡ held_in self.old }
-        ensures kept { IsKept self.new }
-        ensures room { self.new.content ≡ self.old.content }
-        ensures memory { self.old.came ≡ 0 → IsOk result }
-        ensures there { self.old.came ≡ 0 → self.new ≡ self.old }
-    {
-        if self.came == 0 {
-            return Ok(());
-        }
-        let (data, _) = self.content.split_at(self.came);
-        self.head.extend_from_slice(data)?;
-        self.came = 0;
-        Ok(())
-    }
-
-    /// Holds the front of a record, where nothing is held. For want of memory still nothing is, but there is room for the head of
-    /// a simple reply.
+    /// Holds the front of a record that announces nothing, where nothing is held. For want of memory still nothing is, but there is room for the
+    /// head of a simple reply.
     pub(crate) fn hold(&mut self, front: &[u8]) -> Result<(), NoMemory>
         requires empty { held_in self.old ≡ [] }
         requires kept { IsKept self.old }
@@ -92,18 +79,20 @@ impl Pending {
         ensures room { self.new.content ≡ self.old.content }
         ensures head { length self.new.head.items ≤ length front.now }
         ensures came { self.new.came ≡ self.old.came }
+        ensures unannounced { self.new.announced ≡ None }
         ensures memory { length front.now ≤ simple_head_size → IsOk result }
     {
+        self.announced = None;
         self.head.extend_from_slice(front)?;
         Ok(())
     }
 
     /// Holds more data, for which there is room.
     pub(crate) fn put(&mut self, more: &[u8])
-        requires whole { simple_head_size ≤ length self.old.head.items }
         requires fits { self.old.came + length more.now ≤ vec_len self.old.content }
         requires kept { IsKept self.old }
         ensures head { self.new.head ≡ self.old.head }
+        ensures announced { self.new.announced ≡ self.old.announced }
         ensures came { self.new.came ≡ self.old.came + length more.now }
         ensures data { data_in self.new ≡ data_in self.old ++ more.now }
         ensures before { take self.old.came self.new.content.items ≡ data_in self.old }
@@ -114,19 +103,26 @@ impl Pending {
         self.came += more.len();
     }
 
-    /// Holds what stands before the data of a reply, and apart from it some of the data, where nothing is held. It takes no memory.
-    pub(crate) fn hold_apart(&mut self, head: &[u8], more: &[u8]) -> Result<(), NoMemory>
+    /// Holds what stands before the data of a reply, with what it announces, and apart from it some of the data, where nothing is held. It takes no
+    /// memory.
+    pub(crate) fn hold_apart(
+        &mut self,
+        head: &[u8],
+        announced: Announced,
+        more: &[u8],
+    ) -> Result<(), NoMemory>
         requires empty { held_in self.old ≡ [] }
-        requires whole { simple_head_size ≤ length head.now }
         requires short { length head.now ≤ longest_front }
         requires fits { length more.now ≤ vec_len self.old.content }
         requires kept { IsKept self.old }
         ensures held { held_in self.new ≡ head.now ++ more.now }
         ensures head { self.new.head.items ≡ head.now }
+        ensures announced { self.new.announced ≡ Some announced }
         ensures kept { IsKept self.new }
         ensures room { vec_len self.new.content ≡ vec_len self.old.content }
         ensures memory { IsOk result }
     {
+        self.announced = Some(announced);
         self.head.extend_from_slice(head)?;
         self.put(more);
         Ok(())
@@ -137,6 +133,7 @@ impl Pending {
         requires { IsKept self.old }
         ensures held { held_in self.new ≡ held_in self.old }
         ensures head { self.new.head ≡ self.old.head }
+        ensures announced { self.new.announced ≡ self.old.announced }
         ensures came { self.new.came ≡ self.old.came }
         ensures kept { IsKept self.new }
         ensures ok { OnOk result (size ≤ vec_len self.new.content) }

@@ -3,33 +3,35 @@
 //! many are held as it lacks and no more; the record that ends in them is taken, and what follows goes the way of `drain`. So a record that
 //! arrives whole is never held. What a handle answers does not hang on how much is held, only what is copied and what memory is wanted.
 //!
-//! Its other parts: the bytes held (`pending`), the front of a reply whose data are held apart (`heads`), and such a reply filed once its
-//! data are all there (`filing`).
+//! The front of a reply that brings data to a read is judged by the turn that finds it, and what it announces is kept with it: the data behind it
+//! are held apart, and its command is looked up once more, when it is filed.
+//!
+//! Its other parts: the bytes held (`pending`), and such a reply filed once its data are all there (`filing`).
 
-ghost use Rattle.std.specs.Prelude.{◌≡◌, ◌≢◌, ◌≤◌, ◌<◌, ◌+◌, true, false, length, vec_len, vec_capacity, IfSome, IsOk, if◌then◌else◌, IfNone, nat_lt, ◌||◌, not, ◌==◌};
-ghost use Rattle.lnbd_records.specs.Transmission.{simple_head_size};
-ghost use Rattle.lnbd_handle.specs.Held.{held_in};
-ghost use Rattle.lnbd_handle.specs.Room.{AreWithin, HasPlaces, IsBehindFront, IsCalm, IsHeadWithin, IsKept, IsQuiet, RepliesSimply};
-ghost use Rattle.lnbd_handle.specs.Seen.{IsSound, machine_of, state_of};
-ghost use Rattle.lnbd_handle.specs.Turns.{Arrives, Brings, HoldMeans};
-ghost use Rattle.lnbd_machine.specs.Laws.{IsPartial};
+ghost use Rattle.std.specs.Prelude.{◌≡◌, ◌≢◌, ◌≤◌, ◌<◌, ◌+◌, ◌++◌, Some, None, length, vec_len, vec_capacity, IfSome, IsOk, if◌then◌else◌, IfNone, nat_lt, ◌||◌, not, ◌==◌};
+ghost use Rattle.lnbd_records.specs.Handshake.{option_reply_magic};
 ghost use Rattle.lnbd_records.specs.Numbers.{number_at};
 ghost use Rattle.lnbd_history.specs.declared.kinds.Phase.TheVariants.{Ready};
-ghost use Rattle.lnbd_records.specs.Handshake.{option_reply_magic};
+ghost use Rattle.lnbd_machine.specs.Laws.{IsPartial};
+ghost use Rattle.lnbd_arrivals.specs.Frames.{front_size};
+ghost use Rattle.lnbd_arrivals.specs.declared.replies.Replies.TheVariants.{Extended, Structured};
+ghost use Rattle.lnbd_handle.specs.Announcing.{announced_by_front, replies_in};
+ghost use Rattle.lnbd_handle.specs.Held.{held_in};
+ghost use Rattle.lnbd_handle.specs.Room.{AreWithin, HasPlacesAt, IsCalm, IsKept, IsQuiet, KeepsFrontAt};
+ghost use Rattle.lnbd_handle.specs.Seen.{IsSound, machine_of, state_of};
+ghost use Rattle.lnbd_handle.specs.Turns.{Arrives, HoldMeans};
 
 use crate::connection::Connection;
 use crate::drain::take_fresh;
 use crate::filing::file_data;
-use crate::heads::announced_in;
 use crate::kinds::{Holding, Short, Turn};
 use crate::pending::Pending;
-use crate::turns::{by_name_size, has_no_zeroes, replies_of, turn, waiting_at};
-use lnbd_arrivals::{Announced, Replies, content_size};
+use crate::turns::{by_name_size, has_no_zeroes, replies_of, turn};
+use lnbd_arrivals::{Announced, Replies};
 use lnbd_callbacks::Caller;
-use lnbd_commands::Waiting;
 use lnbd_history::Phase;
 use lnbd_options::{Read64, read_head};
-use lnbd_wire::{Read, read_chunk_head, read_chunk_head_ext, read_simple};
+use lnbd_wire::{Read, read_chunk_head, read_chunk_head_ext};
 
 /// How many bytes an option reply has, as far as these show: a whole head tells it.
 fn option_size(bytes: &[u8]) -> usize
@@ -42,20 +44,10 @@ fn option_size(bytes: &[u8]) -> usize
     }
 }
 
-/// How many bytes a simple reply has, as far as these show.
-fn simple_size(waiting: Option<Waiting>, bytes: &[u8]) -> usize {
-    let Some(command) = waiting else {
-        return 16;
-    };
-    match read_simple(bytes) {
-        Read::Value(head) => (content_size(&command, head.error) as usize).saturating_add(16),
-        Read::NeedMore => 16,
-        Read::BadMagic(_) => 16,
-    }
-}
-
 /// Of a chunk that has so many bytes first the front alone, which shows whether it brings data.
-fn front_first(front: usize, size: usize, bytes: &[u8]) -> usize {
+fn front_first(front: usize, size: usize, bytes: &[u8]) -> usize
+    ensures { length bytes.now < front → result ≤ front }
+{
     if bytes.len() < front {
         size.min(front)
     } else {
@@ -64,7 +56,9 @@ fn front_first(front: usize, size: usize, bytes: &[u8]) -> usize {
 }
 
 /// How many bytes a chunk has, as far as these show. A simple reply in its place has no more than its head.
-fn chunk_size(bytes: &[u8]) -> usize {
+fn chunk_size(bytes: &[u8]) -> usize
+    ensures { length bytes.now < front_size Structured → result ≤ front_size Structured }
+{
     match read_chunk_head(bytes) {
         Read::Value(head) => front_first(28, (head.length as usize).saturating_add(20), bytes),
         Read::NeedMore => 20,
@@ -73,7 +67,9 @@ fn chunk_size(bytes: &[u8]) -> usize {
 }
 
 /// The same with extended headers.
-fn extended_chunk_size(bytes: &[u8]) -> usize {
+fn extended_chunk_size(bytes: &[u8]) -> usize
+    ensures { length bytes.now < front_size Extended → result ≤ front_size Extended }
+{
     match read_chunk_head_ext(bytes) {
         Read::Value(head) => front_first(40, (head.length as usize).saturating_add(32), bytes),
         Read::NeedMore => 32,
@@ -81,41 +77,41 @@ fn extended_chunk_size(bytes: &[u8]) -> usize {
     }
 }
 
-/// How many bytes a reply has, as far as these show.
-fn frame_size(replies: Replies, waiting: Option<Waiting>, bytes: &[u8]) -> usize
-    ensures { length bytes.now < simple_head_size → result ≡ simple_head_size }
+/// How many bytes a reply has that announces no data, as far as these show. Of a simple one that is its head.
+fn frame_size(replies: Replies, bytes: &[u8]) -> usize
+    ensures { length bytes.now < front_size replies → result ≤ front_size replies }
 {
     if bytes.len() < 16 {
         return 16;
     }
     match replies {
-        Replies::Simple => simple_size(waiting, bytes),
+        Replies::Simple => 16,
         Replies::Structured => chunk_size(bytes),
         Replies::Extended => extended_chunk_size(bytes),
     }
 }
 
-/// How many bytes the record at the front has in this phase, as far as these show.
+/// How many bytes the record at the front has in this phase, as far as these show, where it announces no data.
 fn size_at<K>(connection: &Connection<K>, phase: Phase, bytes: &[u8]) -> usize
-    ensures { phase ≡ Ready → length bytes.now < simple_head_size → result ≡ simple_head_size }
+    ensures { phase ≡ Ready → length bytes.now < front_size (replies_in (state_of connection.now)) → result ≤ front_size (replies_in (state_of connection.now)) }
 {
     match phase {
         Phase::Greeting => 18,
         Phase::Asked(_) => option_size(bytes),
         Phase::OptMode => option_size(bytes),
         Phase::AskedByName => by_name_size(has_no_zeroes(connection.flags)),
-        Phase::Ready => frame_size(replies_of(connection), waiting_at(connection, bytes), bytes),
+        Phase::Ready => frame_size(replies_of(connection), bytes),
         Phase::Refused(_) => 0,
     }
 }
 
 /// How many bytes the record that these begin still lacks, as far as they show, and one at least.
-fn lacking<K>(connection: &Connection<K>, pending: &Pending, announced: Option<Announced>) -> usize
+fn lacking<K>(connection: &Connection<K>, pending: &Pending) -> usize
     ensures some { 0 < result }
-    ensures data { IfSome announced (λ some. pending.now.came < some.size → pending.now.came + result ≤ some.size) }
-    ensures head { IfNone announced (connection.now.talk.phase ≡ Ready → length pending.now.head.items < simple_head_size → length pending.now.head.items + result ≤ simple_head_size) }
+    ensures data { IfSome pending.now.announced (λ announced. pending.now.came < announced.size → pending.now.came + result ≤ announced.size) }
+    ensures front { IfNone pending.now.announced (connection.now.talk.phase ≡ Ready → AreWithin (front_size (replies_in (state_of connection.now))) None pending.now result) }
 {
-    let lacks = match announced {
+    let lacks = match pending.announced {
         Some(announced) => announced.size.saturating_sub(pending.came),
         None => {
             let size = size_at(connection, connection.talk.phase(), &pending.head);
@@ -126,45 +122,50 @@ fn lacking<K>(connection: &Connection<K>, pending: &Pending, announced: Option<A
 }
 
 /// Holds bytes behind those that are held as the front of a record, which show nothing yet, and takes the record that ends in
-/// them, if one does.
+/// them, if one does. Where none does it is told what they announce then.
 fn hold_front<K: Caller>(
     connection: &mut Connection<K>,
-    pending: &mut Vec<u8>,
+    head: &mut Vec<u8>,
+    announced: &mut Option<Announced>,
     world: &mut K::World,
     front: &[u8],
 ) -> Holding
     requires sound { IsSound connection.old }
-    requires partial { IsPartial (machine_of connection.old pending.old.items) }
-    ensures means { HoldMeans K.steps connection.old pending.old.items world.old front.now result connection.new pending.new.items world.new }
+    requires partial { IsPartial (machine_of connection.old head.old.items) }
+    ensures means { HoldMeans K.steps connection.old head.old.items world.old front.now result connection.new head.new.items world.new }
     ensures sound { IsSound connection.new }
     ensures still { result ≡ Holding.More → connection.new ≡ connection.old }
-    ensures capacity { vec_capacity pending.old ≤ vec_capacity pending.new }
-    ensures len { length pending.new.items ≤ length pending.old.items + length front.now }
-    ensures memory { IsCalm (state_of connection.old) → vec_len pending.old + length front.now ≤ vec_capacity pending.old → result ≢ Holding.Short }
+    ensures joined { result ≡ Holding.More → head.new.items ≡ head.old.items ++ front.now }
+    ensures told { result ≡ Holding.More → announced.new ≡ announced_by_front (state_of connection.new) head.new.items }
+    ensures untold { result ≢ Holding.More → announced.new ≡ announced.old }
+    ensures capacity { vec_capacity head.old ≤ vec_capacity head.new }
+    ensures memory { IsCalm (state_of connection.old) → vec_len head.old + length front.now ≤ vec_capacity head.old → result ≢ Holding.Short }
 {
-    let before = pending.len();
-    if pending.extend_from_slice(front).is_err() {
+    let before = head.len();
+    if head.extend_from_slice(front).is_err() {
         return Holding::Short;
     }
-    match turn(connection, world, pending) {
-        Turn::Nothing => Holding::More,
+    match turn(connection, world, head) {
+        Turn::Nothing(told) => {
+            *announced = told;
+            Holding::More
+        }
         Turn::All => {
-            pending.clear();
+            head.clear();
             Holding::Took(front.len())
         }
         Turn::Took(n) => {
-            pending.clear();
+            head.clear();
             Holding::Took(n - before)
         }
         Turn::Short => {
-            pending.truncate(before);
+            head.truncate(before);
             Holding::Short
         }
     }
 }
 
-/// The same of whatever is held.
-#[tactic(auto, using(crate::proofs::PlacesLemmas::none_behind, crate::proofs::PlacesLemmas::same_behind))]
+/// The same where no data are held apart.
 fn hold_record<K: Caller>(
     connection: &mut Connection<K>,
     pending: &mut Pending,
@@ -173,24 +174,27 @@ fn hold_record<K: Caller>(
 ) -> Holding
     requires sound { IsSound connection.old }
     requires partial { IsPartial (machine_of connection.old (held_in pending.old)) }
-    requires kept { IsKept pending.old }
+    requires places { HasPlacesAt (state_of connection.old) pending.old }
+    requires unannounced { pending.old.announced ≡ None }
+    requires within { connection.old.talk.phase ≡ Ready → AreWithin (front_size (replies_in (state_of connection.old))) None pending.old (length front.now) }
     ensures means { HoldMeans K.steps connection.old (held_in pending.old) world.old front.now result connection.new (held_in pending.new) world.new }
     ensures sound { IsSound connection.new }
     ensures still { result ≡ Holding.More → connection.new ≡ connection.old }
     ensures kept { IsKept pending.new }
     ensures room { vec_len pending.new.content ≡ vec_len pending.old.content }
-    ensures memory { IsCalm (state_of connection.old) → IsHeadWithin pending.old front.now → result ≢ Holding.Short }
-    ensures head { IsHeadWithin pending.old front.now → length pending.new.head.items ≤ simple_head_size }
-    ensures front { IsBehindFront connection.old.talk.structured connection.old.talk.extended pending.old → IsBehindFront connection.new.talk.structured connection.new.talk.extended pending.new }
+    ensures memory { IsQuiet (state_of connection.old) → result ≢ Holding.Short }
+    ensures said { KeepsFrontAt (state_of connection.new) pending.new }
 {
-    let Ok(()) = pending.join() else {
-        return Holding::Short;
-    };
-    hold_front(connection, &mut pending.head, world, front)
+    hold_front(
+        connection,
+        &mut pending.head,
+        &mut pending.announced,
+        world,
+        front,
+    )
 }
 
 /// Holds data of a reply, and takes the reply that ends in them.
-#[tactic(auto, using(crate::proofs::PlacesLemmas::none_behind, crate::proofs::HeadLemmas::put_behind))]
 fn hold_content<K: Caller>(
     connection: &mut Connection<K>,
     pending: &mut Pending,
@@ -200,18 +204,16 @@ fn hold_content<K: Caller>(
 ) -> Holding
     requires sound { IsSound connection.old }
     requires partial { IsPartial (machine_of connection.old (held_in pending.old)) }
-    requires brings { Brings connection.old pending.old.head.items announced }
+    requires places { HasPlacesAt (state_of connection.old) pending.old }
+    requires announces { pending.old.announced ≡ Some announced }
     requires fits { pending.old.came + length front.now ≤ announced.size }
-    requires there { announced.size ≤ vec_len pending.old.content }
-    requires kept { IsKept pending.old }
     ensures means { HoldMeans K.steps connection.old (held_in pending.old) world.old front.now result connection.new (held_in pending.new) world.new }
     ensures sound { IsSound connection.new }
     ensures still { result ≡ Holding.More → connection.new ≡ connection.old }
     ensures kept { IsKept pending.new }
     ensures room { vec_len pending.new.content ≡ vec_len pending.old.content }
     ensures memory { IsCalm (state_of connection.old) → result ≢ Holding.Short }
-    ensures head { length pending.new.head.items ≤ length pending.old.head.items }
-    ensures front { IsBehindFront connection.old.talk.structured connection.old.talk.extended pending.old → IsBehindFront connection.new.talk.structured connection.new.talk.extended pending.new }
+    ensures said { KeepsFrontAt (state_of connection.new) pending.new }
 {
     let before = pending.came;
     pending.put(front);
@@ -243,38 +245,24 @@ fn hold<K: Caller>(
     connection: &mut Connection<K>,
     pending: &mut Pending,
     world: &mut K::World,
-    announced: Option<Announced>,
     front: &[u8],
 ) -> Holding
     requires sound { IsSound connection.old }
     requires partial { IsPartial (machine_of connection.old (held_in pending.old)) }
-    requires kept { IsKept pending.old }
-    requires brings { IfSome announced (λ some. Brings connection.old pending.old.head.items some) }
-    requires there { IfSome announced (λ some. some.size ≤ vec_len pending.old.content) }
+    requires places { HasPlacesAt (state_of connection.old) pending.old }
+    requires within { connection.old.talk.phase ≡ Ready → AreWithin (front_size (replies_in (state_of connection.old))) pending.old.announced pending.old (length front.now) }
     ensures means { HoldMeans K.steps connection.old (held_in pending.old) world.old front.now result connection.new (held_in pending.new) world.new }
     ensures sound { IsSound connection.new }
     ensures still { result ≡ Holding.More → connection.new ≡ connection.old }
     ensures kept { IsKept pending.new }
     ensures room { vec_len pending.new.content ≡ vec_len pending.old.content }
-    ensures memory { IsCalm (state_of connection.old) → AreWithin announced pending.old front.now → result ≢ Holding.Short }
-    ensures split { length pending.old.head.items ≤ simple_head_size → AreWithin announced pending.old front.now → length pending.new.head.items ≤ simple_head_size }
-    ensures front { IsBehindFront connection.old.talk.structured connection.old.talk.extended pending.old → IsBehindFront connection.new.talk.structured connection.new.talk.extended pending.new }
+    ensures memory { IsQuiet (state_of connection.old) → result ≢ Holding.Short }
+    ensures said { KeepsFrontAt (state_of connection.new) pending.new }
 {
-    match announced {
-        Some(announced) if fits(pending, front, announced.size) => {
-            hold_content(connection, pending, world, announced, front)
-        }
-        _ => hold_record(connection, pending, world, front),
+    match pending.announced {
+        Some(announced) => hold_content(connection, pending, world, announced, front),
+        None => hold_record(connection, pending, world, front),
     }
-}
-
-/// Whether these bytes are all data of a reply that brings so many.
-fn fits(pending: &Pending, front: &[u8], size: usize) -> bool
-    ensures yes { result ≡ true → pending.now.came + length front.now ≤ size }
-    ensures no { result ≡ false → size < pending.now.came + length front.now }
-{
-    let held = pending.came;
-    held <= size && front.len() <= size - held
 }
 
 /// Takes bytes behind those that are held, which show nothing yet. Of the record that these begin so many are held as it
@@ -287,22 +275,20 @@ pub(crate) fn take_behind<K: Caller>(
 ) -> Result<(), Short>
     requires sound { IsSound connection.old }
     requires partial { IsPartial (machine_of connection.old (held_in pending.old)) }
-    requires places { HasPlaces connection.old.stage connection.old.talk.phase connection.old.talk.structured connection.old.talk.extended connection.old.commands.rows pending.old }
+    requires places { HasPlacesAt (state_of connection.old) pending.old }
     ensures arrives { Arrives K.steps connection.old (held_in pending.old) world.old bytes.now result connection.new (held_in pending.new) world.new }
     ensures sound { IsSound connection.new }
     ensures kept { IsKept pending.new }
     ensures room { vec_len pending.new.content ≡ vec_len pending.old.content }
-    ensures split { RepliesSimply connection.new.stage connection.new.talk.phase connection.new.talk.structured connection.new.talk.extended → length pending.new.head.items ≤ simple_head_size }
-    ensures front { IsBehindFront connection.new.talk.structured connection.new.talk.extended pending.new }
+    ensures said { KeepsFrontAt (state_of connection.new) pending.new }
     ensures memory { IsQuiet (state_of connection.old) → IsOk result }
 {
     let mut used = 0;
     while used < bytes.len() {
         let (_, rest) = bytes.split_at(used);
-        let announced = announced_in(connection, &pending.head);
-        let most = lacking(connection, pending, announced).min(rest.len());
+        let most = lacking(connection, pending).min(rest.len());
         let (front, _) = rest.split_at(most);
-        match hold(connection, pending, world, announced, front) {
+        match hold(connection, pending, world, front) {
             Holding::More => used += most,
             Holding::Took(n) => {
                 let (_, rest) = rest.split_at(n);

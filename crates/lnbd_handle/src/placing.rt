@@ -12,12 +12,11 @@ ghost use Rattle.lnbd_machine.specs.Machine.{calls, step};
 ghost use Rattle.lnbd_handle.specs.Held.{held_in};
 ghost use Rattle.lnbd_handle.specs.Histories.{ForEach};
 ghost use Rattle.lnbd_handle.specs.Placing.{AddsSilently, has_fault, place_size};
-ghost use Rattle.lnbd_handle.specs.Room.{HasPlaces};
-ghost use Rattle.lnbd_handle.specs.Seen.{machine_of};
+ghost use Rattle.lnbd_handle.specs.Room.{HasPlacesAt};
+ghost use Rattle.lnbd_handle.specs.Seen.{machine_of, state_of};
 
 use crate::connection::Connection;
 use crate::handle::Handle;
-use crate::heads::{announced_in, front_size};
 use crate::pending::Pending;
 use lnbd_arrivals::{Announced, Carrier};
 
@@ -37,31 +36,26 @@ fn has_fault<K>(connection: &Connection<K>, announced: &Announced) -> bool
 /// How many bytes the place has.
 fn place_size<K>(connection: &Connection<K>, pending: &Pending) -> usize
     requires partial { IsPartial (machine_of connection.now (held_in pending.now)) }
-    requires places { HasPlaces connection.now.stage connection.now.talk.phase connection.now.talk.structured connection.now.talk.extended connection.now.commands.rows pending.now }
+    requires places { HasPlacesAt (state_of connection.now) pending.now }
     ensures size { result ≡ place_size (machine_of connection.now (held_in pending.now)) }
     ensures fits { pending.now.came + result ≤ vec_len pending.now.content }
 {
-    let size = front_size(connection).min(pending.head.len());
-    let (front, data) = pending.head.split_at(size);
-    let held = data.len();
-    match announced_in(connection, front) {
+    match pending.announced {
         Some(announced) => {
             if has_fault(connection, &announced) {
                 return 0;
             }
-            left_of(announced.size, held, pending.came)
+            left_of(announced.size, pending.came)
         }
         None => 0,
     }
 }
 
-/// How many data are still to come but for the last one, where so many came in two parts.
-fn left_of(size: usize, first: usize, second: usize) -> usize
-    ensures { result ≡ size - (first + second) - 1 }
+/// How many data are still to come but for the last one, where so many came.
+fn left_of(size: usize, came: usize) -> usize
+    ensures { result ≡ size - came - 1 }
 {
-    size.saturating_sub(first)
-        .saturating_sub(second)
-        .saturating_sub(1)
+    size.saturating_sub(came).saturating_sub(1)
 }
 
 impl<K> Handle<K> {

@@ -16,49 +16,17 @@ use crate::connection::Connection;
 use crate::standing::{by_state, state_at};
 use crate::strict;
 use lnbd_model::{Blocks, Contexts, Kind, Lack, State, Why};
+use lnbd_records::names::{
+    CMD_FLAG_DF, CMD_FLAG_FAST_ZERO, CMD_FLAG_FUA, CMD_FLAG_NO_HOLE, CMD_FLAG_REQ_ONE,
+    FLAG_READ_ONLY, FLAG_SEND_CACHE, FLAG_SEND_DF, FLAG_SEND_FAST_ZERO, FLAG_SEND_FLUSH,
+    FLAG_SEND_FUA, FLAG_SEND_TRIM, FLAG_SEND_WRITE_ZEROES, MAX_DATA, MAX_EXTENDED_RANGE, MAX_RANGE,
+};
 
 /// The most commands that are not retired.
 const MAX_UNRETIRED: u32 = 1024;
 
-/// The most bytes of one read or write.
-const MAX_DATA: u32 = 33_554_432;
-
-/// The longest range of a command without data, where heads are compact: 2^32 - 1.
-const MAX_RANGE: u64 = 4_294_967_295;
-
-/// The same with extended headers: 2^63 - 1.
-const MAX_EXTENDED_RANGE: u64 = 9_223_372_036_854_775_807;
-
 /// All command flags but PAYLOAD_LEN, which is the client's own.
 const SENDABLE_FLAGS: u32 = 0xffdf;
-
-// Transmission flags (NBD protocol, "Transmission flags").
-const READ_ONLY: u32 = 2;
-
-const SEND_FLUSH: u32 = 4;
-
-const SEND_FUA: u32 = 8;
-
-const SEND_TRIM: u32 = 32;
-
-const SEND_WRITE_ZEROES: u32 = 64;
-
-const SEND_DF: u32 = 128;
-
-const SEND_CACHE: u32 = 1024;
-
-const SEND_FAST_ZERO: u32 = 2048;
-
-// Command flags (NBD protocol, "Command flags").
-const FUA: u32 = 1;
-
-const NO_HOLE: u32 = 2;
-
-const DF: u32 = 4;
-
-const REQ_ONE: u32 = 8;
-
-const FAST_ZERO: u32 = 16;
 
 /// All by which a command is judged.
 #[derive(Clone, Copy)]
@@ -174,10 +142,10 @@ fn has_context(contexts: &Contexts) -> bool
 
 impl Terms {
     /// Whether the export has this transmission flag.
-    fn tells(self, flag: u32) -> bool
+    fn tells(self, flag: u16) -> bool
         ensures { result ≡ has_flag flag self.flags }
     {
-        has_flag(self.flags as u32, flag)
+        has_flag(self.flags as u32, flag as u32)
     }
 
     /// Whether the client is strict on the rule of this bit.
@@ -188,7 +156,7 @@ impl Terms {
     }
 
     /// What is lacking unless the export has this flag.
-    fn unless(self, flag: u32, lack: Lack) -> Option<Lack>
+    fn unless(self, flag: u16, lack: Lack) -> Option<Lack>
         ensures { result ≡ (if has_flag flag self.flags then None else Some lack) }
     {
         if self.tells(flag) { None } else { Some(lack) }
@@ -198,7 +166,7 @@ impl Terms {
     fn unless_read_only(self, lack: Option<Lack>) -> Option<Lack>
         ensures { result ≡ (if has_flag flag_read_only self.flags then Some Lack.ReadOnly else lack) }
     {
-        if self.tells(READ_ONLY) {
+        if self.tells(FLAG_READ_ONLY) {
             Some(Lack::ReadOnly)
         } else {
             lack
@@ -212,10 +180,10 @@ impl Terms {
         match kind {
             Kind::Read => None,
             Kind::Write => self.unless_read_only(None),
-            Kind::Flush => self.unless(SEND_FLUSH, Lack::Flush),
-            Kind::Trim => self.unless_read_only(self.unless(SEND_TRIM, Lack::Trim)),
-            Kind::Cache => self.unless(SEND_CACHE, Lack::Cache),
-            Kind::Zero => self.unless_read_only(self.unless(SEND_WRITE_ZEROES, Lack::Zero)),
+            Kind::Flush => self.unless(FLAG_SEND_FLUSH, Lack::Flush),
+            Kind::Trim => self.unless_read_only(self.unless(FLAG_SEND_TRIM, Lack::Trim)),
+            Kind::Cache => self.unless(FLAG_SEND_CACHE, Lack::Cache),
+            Kind::Zero => self.unless_read_only(self.unless(FLAG_SEND_WRITE_ZEROES, Lack::Zero)),
             Kind::BlockStatus => {
                 if self.has_context {
                     None
@@ -231,15 +199,19 @@ impl Terms {
         ensures value { result ≡ rule.flag_if (has_flag flag_send_fua self.flags) cmd_flag_fua }
         ensures small { result ≤ cmd_flag_fua }
     {
-        if self.tells(SEND_FUA) { FUA } else { 0 }
+        if self.tells(FLAG_SEND_FUA) {
+            CMD_FLAG_FUA as u32
+        } else {
+            0
+        }
     }
 
     /// DF, where the export takes it and structured replies are on.
     fn df(self) -> u32
         ensures { result ≡ rule.flag_if (has_flag flag_send_df self.flags && self.structured) cmd_flag_df }
     {
-        if self.tells(SEND_DF) && self.structured {
-            DF
+        if self.tells(FLAG_SEND_DF) && self.structured {
+            CMD_FLAG_DF as u32
         } else {
             0
         }
@@ -250,8 +222,8 @@ impl Terms {
         ensures value { result ≡ rule.flag_if (has_flag flag_send_fast_zero self.flags) cmd_flag_fast_zero }
         ensures small { result ≤ cmd_flag_fast_zero }
     {
-        if self.tells(SEND_FAST_ZERO) {
-            FAST_ZERO
+        if self.tells(FLAG_SEND_FAST_ZERO) {
+            CMD_FLAG_FAST_ZERO as u32
         } else {
             0
         }
@@ -267,8 +239,8 @@ impl Terms {
             Kind::Flush => 0,
             Kind::Trim => self.fua(),
             Kind::Cache => 0,
-            Kind::Zero => self.fua() + NO_HOLE + self.fast_zero(),
-            Kind::BlockStatus => REQ_ONE,
+            Kind::Zero => self.fua() + CMD_FLAG_NO_HOLE as u32 + self.fast_zero(),
+            Kind::BlockStatus => CMD_FLAG_REQ_ONE as u32,
         }
     }
 

@@ -1,6 +1,6 @@
 //! What goes out: how bytes that went out are counted, and DISC.
 
-ghost use Rattle.std.specs.Prelude.{◌≡◌, ◌≤◌, ◌+◌, ◌++◌, ◌∷◌, [], false, length};
+ghost use Rattle.std.specs.Prelude.{◌≡◌, ◌≤◌, ◌+◌, ◌++◌, ◌∷◌, [], false, length, nat_lt};
 ghost use Rattle.lnbd_history.specs.declared.kinds.Phase.TheVariants.{Ready};
 ghost use Rattle.lnbd_history.specs.declared.kinds.Stage.TheVariants as stage;
 ghost use Rattle.lnbd_history.specs.Outgoing.{disconnect_part, out};
@@ -23,6 +23,14 @@ fn own_bytes<K>(connection: &Connection<K>) -> &[u8]
         Some(cookie) => connection.commands.payload(cookie),
         None => &[],
     }
+}
+
+/// Whether bytes are offered. No command is looked up for it.
+pub(crate) fn is_offering<K>(connection: &Connection<K>) -> bool
+    requires { IsSound connection.now }
+    ensures { result ≡ nat_lt 0 (length (out_now (state_of connection.now))) }
+{
+    !connection.queue.is_empty()
 }
 
 /// The bytes that are offered: the rest of the first part that waits.

@@ -1,21 +1,18 @@
 //! What a caller sets, beside the export's name. A setting that is refused changes nothing.
 
-ghost use Rattle.std.specs.Prelude.{◌≡◌, ◌≢◌, IfErr, OnOk, OnErr};
+ghost use Rattle.std.specs.Prelude.{◌≡◌, IfErr, OnOk, OnErr};
 ghost use Rattle.lnbd_history.specs.declared.kinds.Stage.TheVariants.{Created};
 ghost use Rattle.lnbd_history.specs.Events.{Set, Context, Extended, OptMode, Structured};
 ghost use Rattle.lnbd_machine.specs.Machine.{step};
-ghost use Rattle.lnbd_machine.specs.Now.{state_now};
 ghost use Rattle.lnbd_handle.specs.Histories.{AddsOnOk, ForEach};
-ghost use Rattle.lnbd_handle.specs.Settings.{MayAdd, RefusesContext};
+ghost use Rattle.lnbd_handle.specs.Settings.{MayAdd, RefusesContext, RefusesStarted};
 
 use crate::handle::Handle;
 use crate::kinds::SetFault;
 use crate::standing::may_name;
 use lnbd_history::Stage;
 use lnbd_model::Text;
-
-/// How many meta contexts may be asked for.
-const MAX_CONTEXTS: u32 = 16;
+use lnbd_records::names::MAX_CONTEXTS;
 
 impl<K> Handle<K> {
     /// Adds a meta context to those that SET_META_CONTEXT asks for, before the start or in opt mode (libnbd,
@@ -42,9 +39,7 @@ impl<K> Handle<K> {
     pub fn set_opt_mode(&mut self, on: bool) -> Result<(), SetFault>
         ensures ok { OnOk result (self.new.machine ≡ step self.old.machine (Set (OptMode on))) }
         ensures allowed { OnOk result (self.old.machine.known.stage ≡ Created) }
-
-        // It is refused exactly in the other states, and then nothing has changed.
-        ensures refused { IfErr result (λ fault. (self.old.machine.known.stage ≢ Created) × (fault ≡ SetFault.State (state_now self.old.machine.known))) }
+        ensures refused { IfErr result (λ fault. RefusesStarted self.old.machine.known fault) }
         ensures err { OnErr result (self.new.machine ≡ self.old.machine) }
         ensures stands { ForEach self.old.machine (AddsOnOk result (Set (OptMode on)) self.new.machine) }
     {
@@ -62,9 +57,7 @@ impl<K> Handle<K> {
     pub fn set_request_structured_replies(&mut self, on: bool) -> Result<(), SetFault>
         ensures ok { OnOk result (self.new.machine ≡ step self.old.machine (Set (Structured on))) }
         ensures allowed { OnOk result (self.old.machine.known.stage ≡ Created) }
-
-        // It is refused exactly in the other states, and then nothing has changed.
-        ensures refused { IfErr result (λ fault. (self.old.machine.known.stage ≢ Created) × (fault ≡ SetFault.State (state_now self.old.machine.known))) }
+        ensures refused { IfErr result (λ fault. RefusesStarted self.old.machine.known fault) }
         ensures err { OnErr result (self.new.machine ≡ self.old.machine) }
         ensures stands { ForEach self.old.machine (AddsOnOk result (Set (Structured on)) self.new.machine) }
     {
@@ -83,9 +76,7 @@ impl<K> Handle<K> {
     pub fn set_request_extended_headers(&mut self, on: bool) -> Result<(), SetFault>
         ensures ok { OnOk result (self.new.machine ≡ step self.old.machine (Set (Extended on))) }
         ensures allowed { OnOk result (self.old.machine.known.stage ≡ Created) }
-
-        // It is refused exactly in the other states, and then nothing has changed.
-        ensures refused { IfErr result (λ fault. (self.old.machine.known.stage ≢ Created) × (fault ≡ SetFault.State (state_now self.old.machine.known))) }
+        ensures refused { IfErr result (λ fault. RefusesStarted self.old.machine.known fault) }
         ensures err { OnErr result (self.new.machine ≡ self.old.machine) }
         ensures stands { ForEach self.old.machine (AddsOnOk result (Set (Extended on)) self.new.machine) }
     {

@@ -1,6 +1,6 @@
 //! Where a connection stands, in the words of its caller.
 
-ghost use Rattle.std.specs.Prelude.{◌≡◌, IfErr, OnOk, OnErr, Some, None, true, false};
+ghost use Rattle.std.specs.Prelude.{◌≡◌, ℕ, List, length, nat_lt, IfErr, OnOk, OnErr, Some, None, true, false};
 ghost use Rattle.lnbd_history.specs.Answers.{state_at, is_living, direction_of};
 ghost use Rattle.lnbd_history.specs.Laws.{may_name};
 ghost use Rattle.lnbd_history.specs.Refusals.{by_state};
@@ -42,15 +42,15 @@ fn is_living(stage: Stage) -> bool
 }
 
 /// 0 where nothing may be read or written, else 1 for reading, and 3 where bytes wait.
-pub(crate) fn direction_of(stage: Stage, out: &[u8]) -> u32
-    ensures { result ≡ direction_of (is_living stage) out.now }
+pub(crate) fn direction_of(stage: Stage, offers: bool) -> u32
+    ensures { (out : List ℕ) → offers ≡ nat_lt 0 (length out) → result ≡ direction_of (is_living stage) out }
 {
     if !is_living(stage) {
-        return 0;
-    }
-    match out.first() {
-        None => 1,
-        Some(_) => 3,
+        0
+    } else if offers {
+        3
+    } else {
+        1
     }
 }
 

@@ -2,6 +2,7 @@
 
 ghost use Rattle.std.specs.Prelude.{◌≡◌, ◌≢◌, ◌≤◌, if◌then◌else◌, true, false, length};
 ghost use Rattle.std.specs.Option.{option_map};
+ghost use Rattle.lnbd_records.specs.Flags.{flag_no_zeroes};
 ghost use Rattle.lnbd_records.specs.Numbers.{number_at};
 ghost use Rattle.lnbd_history.specs.declared.kinds.Phase.TheVariants.{Greeting, AskedByName, Ready};
 ghost use Rattle.lnbd_history.specs.declared.kinds.Stage.TheVariants.{Open};
@@ -9,7 +10,8 @@ ghost use Rattle.lnbd_history.specs.Arrivals.{has_bit};
 ghost use Rattle.lnbd_machine.specs.Machine.{waited};
 ghost use Rattle.lnbd_commands.specs.Seen.{seen_waiting};
 ghost use Rattle.lnbd_handle.specs.Seen.{IsSound, state_of};
-ghost use Rattle.lnbd_handle.specs.Turns.{AreAgreed, TurnMeans, is_speaking, takes_options};
+ghost use Rattle.lnbd_handle.specs.Announcing.{is_speaking};
+ghost use Rattle.lnbd_handle.specs.Turns.{AreAgreed, TurnMeans, takes_options};
 ghost use Rattle.lnbd_handle.specs.Room.{IsCalm, IsQuiet};
 ghost use Rattle.lnbd_arrivals.specs.declared.replies.Replies.TheVariants.{Simple};
 ghost use Rattle.lnbd_arrivals.specs.Frames.{IsChunk, replies_by};
@@ -25,6 +27,9 @@ use lnbd_commands::Waiting;
 use lnbd_history::{Phase, Stage};
 use lnbd_model::Cause;
 use lnbd_negotiate::{Greeted, Seen, TalkFault, look, look_by_name, look_hello};
+use lnbd_records::names::{
+    EXPORT_NAME_REPLY_SIZE, FLAG_NO_ZEROES, HELLO_SIZE, OPTION_REPLY_HEAD_SIZE, PADDING_SIZE,
+};
 
 fn turn_hello<K: Caller>(connection: &mut Connection<K>, world: &mut K::World, rest: &[u8]) -> Turn
     requires sound { IsSound connection.old }
@@ -34,13 +39,13 @@ fn turn_hello<K: Caller>(connection: &mut Connection<K>, world: &mut K::World, r
     ensures sound { IsSound connection.new }
 {
     match look_hello(rest) {
-        Greeted::Nothing => Turn::Nothing,
+        Greeted::Nothing => Turn::Nothing(None),
         Greeted::Broken(breach) => {
             die(connection, world, Cause::Broke(breach));
             Turn::All
         }
         Greeted::Whole(flags) => match greet(connection, flags) {
-            Ok(()) => Turn::Took(18),
+            Ok(()) => Turn::Took(HELLO_SIZE),
             Err(TalkFault::NoMemory) => Turn::Short,
             Err(TalkFault::Cause(cause)) => {
                 die(connection, world, cause);
@@ -58,17 +63,17 @@ fn turn_option<K: Caller>(connection: &mut Connection<K>, world: &mut K::World, 
     ensures sound { IsSound connection.new }
 {
     match look(connection.talk.phase(), rest) {
-        Seen::Nothing => Turn::Nothing,
+        Seen::Nothing => Turn::Nothing(None),
         Seen::Broken(breach) => {
             die(connection, world, Cause::Broke(breach));
             Turn::All
         }
         Seen::Whole(head) => {
             let size = head.length as usize;
-            let (_, body) = rest.split_at(20);
+            let (_, body) = rest.split_at(OPTION_REPLY_HEAD_SIZE);
             let (body, _) = body.split_at(size);
             match take_reply(connection, &head, body) {
-                Ok(()) => Turn::Took(20 + size),
+                Ok(()) => Turn::Took(OPTION_REPLY_HEAD_SIZE + size),
                 Err(TalkFault::NoMemory) => Turn::Short,
                 Err(TalkFault::Cause(cause)) => {
                     die(connection, world, cause);
@@ -81,26 +86,19 @@ fn turn_option<K: Caller>(connection: &mut Connection<K>, world: &mut K::World, 
 
 /// Whether the server's handshake flags offer NO_ZEROES.
 pub(crate) fn has_no_zeroes(flags: u16) -> bool
-    ensures { result ≡ has_bit 2 flags }
+    ensures { result ≡ has_bit flag_no_zeroes flags }
 {
-    flags & 2 != 0
+    flags & FLAG_NO_ZEROES != 0
 }
-
-/// The size of the export in 8 bytes and the transmission flags in 2, which begin the reply to EXPORT_NAME (NBD protocol, "Newstyle
-/// negotiation").
-const BY_NAME: usize = 10;
-
-/// The zeroes that end it, unless both sides agreed to leave them out.
-const BY_NAME_ZEROES: usize = 124;
 
 /// How many bytes the reply to EXPORT_NAME has, which `look_by_name` waits for.
 pub(crate) fn by_name_size(no_zeroes: bool) -> usize
     ensures { result ≡ (if no_zeroes then 10 else 134) }
 {
     if no_zeroes {
-        BY_NAME
+        EXPORT_NAME_REPLY_SIZE
     } else {
-        BY_NAME + BY_NAME_ZEROES
+        EXPORT_NAME_REPLY_SIZE + PADDING_SIZE
     }
 }
 
@@ -117,7 +115,7 @@ fn turn_by_name<K: Caller>(
 {
     let no_zeroes = has_no_zeroes(connection.flags);
     match look_by_name(no_zeroes, rest) {
-        None => Turn::Nothing,
+        None => Turn::Nothing(None),
         Some((size, flags)) => match connection.talk.export_told(size, flags) {
             Ok(_) => Turn::Took(by_name_size(no_zeroes)),
             Err(TalkFault::NoMemory) => Turn::Short,
@@ -130,10 +128,11 @@ fn turn_by_name<K: Caller>(
 }
 
 /// What is known of the command that waits for this cookie: it is wholly written and in flight.
-fn waiting_for<K>(connection: &Connection<K>, cookie: u64) -> Option<Waiting>
-    ensures { option_map seen_waiting result ≡ waited (state_of connection.now) cookie }
+fn waiting_for<K>(connection: &mut Connection<K>, cookie: u64) -> Option<Waiting>
+    ensures waits { option_map seen_waiting result ≡ waited (state_of connection.old) cookie }
+    ensures unchanged { connection.new ≡ connection.old }
 {
-    if cookie <= connection.written {
+    if cookie <= connection.written && connection.commands.find(cookie) {
         connection.commands.waiting(cookie)
     } else {
         None
@@ -141,8 +140,9 @@ fn waiting_for<K>(connection: &Connection<K>, cookie: u64) -> Option<Waiting>
 }
 
 /// The same for the cookie of a reply, where its head is whole.
-pub(crate) fn waiting_at<K>(connection: &Connection<K>, rest: &[u8]) -> Option<Waiting>
-    ensures { 16 ≤ length rest.now → waited (state_of connection.now) (number_at 8 8 rest.now) ≡ option_map seen_waiting result }
+fn waiting_at<K>(connection: &mut Connection<K>, rest: &[u8]) -> Option<Waiting>
+    ensures waits { 16 ≤ length rest.now → waited (state_of connection.old) (number_at 8 8 rest.now) ≡ option_map seen_waiting result }
+    ensures unchanged { connection.new ≡ connection.old }
 {
     match cookie_in(rest) {
         Some(cookie) => waiting_for(connection, cookie),
@@ -192,18 +192,25 @@ fn turn_chunk<K: Caller>(
     }
 }
 
-fn turn_frame<K: Caller>(connection: &mut Connection<K>, world: &mut K::World, rest: &[u8]) -> Turn
+/// Takes the reply at the front of the bytes, whose command is known, if it waits.
+fn turn_reply<K: Caller>(
+    connection: &mut Connection<K>,
+    world: &mut K::World,
+    waiting: Option<Waiting>,
+    rest: &[u8],
+) -> Turn
     requires sound { IsSound connection.old }
     requires speaking { is_speaking connection.old.stage ≡ true }
     requires ready { connection.old.talk.phase ≡ Ready }
+    requires waits { 16 ≤ length rest.now → waited (state_of connection.old) (number_at 8 8 rest.now) ≡ option_map seen_waiting waiting }
     ensures means { TurnMeans K.steps connection.old world.old rest.now result connection.new world.new }
     ensures sound { IsSound connection.new }
     ensures memory { IsQuiet (state_of connection.old) → result ≢ Turn.Short }
 {
-    let waiting = waiting_at(connection, rest);
     let replies = replies_of(connection);
     match look_frame(replies, waiting, rest) {
-        Frame::Nothing => Turn::Nothing,
+        Frame::Nothing => Turn::Nothing(None),
+        Frame::Begun(announced) => Turn::Nothing(Some(announced)),
         Frame::Broken(breach) => {
             die(connection, world, Cause::Broke(breach));
             Turn::All
@@ -222,6 +229,18 @@ fn turn_frame<K: Caller>(connection: &mut Connection<K>, world: &mut K::World, r
         }
         Frame::Chunk(chunk) => turn_chunk(connection, world, replies, &chunk, rest),
     }
+}
+
+fn turn_frame<K: Caller>(connection: &mut Connection<K>, world: &mut K::World, rest: &[u8]) -> Turn
+    requires sound { IsSound connection.old }
+    requires speaking { is_speaking connection.old.stage ≡ true }
+    requires ready { connection.old.talk.phase ≡ Ready }
+    ensures means { TurnMeans K.steps connection.old world.old rest.now result connection.new world.new }
+    ensures sound { IsSound connection.new }
+    ensures memory { IsQuiet (state_of connection.old) → result ≢ Turn.Short }
+{
+    let waiting = waiting_at(connection, rest);
+    turn_reply(connection, world, waiting, rest)
 }
 
 fn turn_open<K: Caller>(connection: &mut Connection<K>, world: &mut K::World, rest: &[u8]) -> Turn

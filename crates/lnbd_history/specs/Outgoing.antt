@@ -5,9 +5,9 @@ use Rattle.lnbd_model.specs.declared.kind.Kind.{Kind}
 use Rattle.lnbd_records.specs.Numbers.{row}
 use Rattle.lnbd_records.specs.Handshake as handshake
 pub use Rattle.lnbd_records.specs.Handshake.{option_request}
-use Rattle.lnbd_records.specs.Requests.{info_request, meta_request}
+use Rattle.lnbd_records.specs.Requests.{asked_information, info_request, meta_request}
 use Rattle.lnbd_records.specs.Transmission as transmission
-use Rattle.lnbd_records.specs.Flags.{cmd_flag_payload_len}
+use Rattle.lnbd_records.specs.Flags.{cmd_flag_payload_len, flag_fixed_newstyle, flag_no_zeroes}
 use Rattle.lnbd_records.specs.Options.{opt_abort, opt_export_name, opt_set_meta_context}
 use Rattle.lnbd_history.specs.declared.kinds.Phase.{Phase}
 use Rattle.lnbd_history.specs.declared.kinds.Phase.TheVariants.{Greeting, Asked, AskedByName, OptMode, Ready, Refused}
@@ -18,12 +18,12 @@ use Rattle.lnbd_history.specs.Commands.{Command, is_write}
 
 -- the handshake flags that the client sends: of the server's flags the two that it knows
 abbrev pub client_flags : ℕ → List ℕ
-client_flags flags = row (handshake.client_flags (bit_and flags 3))
+client_flags flags = row (handshake.client_flags (bit_and flags (flag_fixed_newstyle + flag_no_zeroes)))
 
 -- INFO and GO ask for NAME (1), DESCRIPTION (2) and BLOCK_SIZE (3).
 abbrev pub option_body : ℕ → List ℕ → List (List ℕ) → List ℕ
 option_body option name contexts =
-    if is_info option then info_request name (1 ∷ 2 ∷ 3 ∷ [])
+    if is_info option then info_request name asked_information
     else if option == opt_set_meta_context then meta_request name contexts
     else if option == opt_export_name then name
     else []

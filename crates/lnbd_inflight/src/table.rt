@@ -29,9 +29,9 @@ pub struct Table<R> {
     order: VecDeque<(u64, usize)>,
     done: VecDeque<Mark>,
     next_stamp: u64,
-    // The key that `get_mut` found last. It is only where a cookie is looked for first, so it may be any number: each
-    // use asks the slab whether the cookie stands there. A reply's row is lent and then marked, and each further chunk
-    // lends it again: the index is searched once for all of these.
+    // The key that `find` found last. It is only where a cookie is looked for first, so it may be any number: each use
+    // asks the slab whether the cookie stands there. A reply's row is found, lent, marked and read again, and so it is
+    // with each further chunk: the index is searched once for all of these.
     recent: usize,
 }
 
@@ -99,7 +99,7 @@ impl<R> Table<R> {
     pub fn get(&self, cookie: u64) -> Option<&R>
         ensures { option_copied result ≡ value_at cookie self.now.rows }
     {
-        let key = *self.index.get(&cookie)?;
+        let key = find_key(&self.index, &self.spots, self.recent, cookie)?;
         match &self.rows[key] {
             Some(held) => Some(&held.row),
             None => None,
@@ -118,8 +118,8 @@ impl<R> Table<R> {
         }
     }
 
-    /// Whether a cookie is held. Its key is kept as the recent one.
-    fn find(&mut self, cookie: u64) -> bool
+    /// Whether a cookie is held. What is asked of it next, and of no other one between, searches the index no more.
+    pub fn find(&mut self, cookie: u64) -> bool
         ensures held { result ≡ holds_key cookie self.old.rows }
         ensures unchanged { self.new ≡ self.old }
     {

@@ -1,7 +1,7 @@
 //! Texts: names, descriptions, hosts and paths. What is no UTF-8 or too long never gets in.
 
 ghost use Rattle.std.specs.Prelude.{◌≡◌, ◌<◌, ◌≤◌, ◌↔◌, IfOk, IsErrOf, length, IsUtf8, ℕ, []};
-ghost use Rattle.lnbd_model.specs.Text.{IsText};
+ghost use Rattle.lnbd_model.specs.Text.{IsText, text_limit};
 
 use crate::fault::{NoMemory, TextFault};
 use std::alloc::Global;
@@ -43,13 +43,13 @@ impl Text {
         ensures ok { IfOk result (λ text. text ≡ bytes.now) }
         ensures ok_is_text { IfOk result (λ text. IsText text) }
         ensures not_utf8 { IsErrOf result TextFault.NotUtf8 ↔ (¬ IsUtf8 bytes.now) }
-        ensures limit { (n : ℕ) → IsErrOf result (TextFault.TooLong n) → n ≡ 4096 }
-        ensures too_long { IsErrOf result (TextFault.TooLong 4096) ↔ (IsUtf8 bytes.now × 4096 < length bytes.now) }
+        ensures limit { (n : ℕ) → IsErrOf result (TextFault.TooLong n) → n ≡ text_limit }
+        ensures too_long { IsErrOf result (TextFault.TooLong text_limit) ↔ (IsUtf8 bytes.now × text_limit < length bytes.now) }
     {
         let Ok(text) = from_utf8(bytes) else {
             return Err(TextFault::NotUtf8);
         };
-        if text.len() > 4096 {
+        if text.len() > Text::LIMIT as usize {
             return Err(TextFault::TooLong(Text::LIMIT));
         }
         match String::from_str(alloc, text) {
@@ -77,7 +77,7 @@ impl Text {
     /// How many bytes the text has, at most 4,096.
     pub fn len(&self) -> usize
         ensures length { result ≡ length self.now }
-        ensures limit { result ≤ 4096 }
+        ensures limit { result ≤ text_limit }
     {
         self.text.len()
     }

@@ -5,6 +5,8 @@ use Rattle.lnbd_model.specs.declared.breach.Breach.TheVariants.{NotFixed, SizeTo
 use Rattle.lnbd_model.specs.declared.export.Context.{Context}
 use Rattle.lnbd_model.specs.declared.export.ExportInfo.{ExportInfo}
 use Rattle.lnbd_model.specs.declared.state.Cause.TheVariants.{Broke, Refused, Ended, LinkFailed}
+use Rattle.lnbd_records.specs.Flags.{flag_fixed_newstyle}
+use Rattle.lnbd_records.specs.Options.{opt_export_name, opt_go}
 use Rattle.lnbd_records.specs.Told.{Told}
 use Rattle.lnbd_history.specs.declared.kinds.Phase.{Phase}
 use Rattle.lnbd_history.specs.declared.kinds.Phase.TheVariants as phase
@@ -42,9 +44,9 @@ pub record Stays (old new : Talk) (out now : List ℕ) : Type 0 where
 
 -- What the server's hello does, by its flags.
 abbrev pub Greets : Talk → ℕ → List ℕ → Result Next TalkFault → Talk → List ℕ → Type 0
-Greets old flags out (Ok next) new now = (has_bit 1 flags ≡ true) × Takes Hello old new out now × (next_of new.phase ≡ Some next)
+Greets old flags out (Ok next) new now = (has_bit flag_fixed_newstyle flags ≡ true) × Takes Hello old new out now × (next_of new.phase ≡ Some next)
 Greets old flags out (Err NoMemory) new now = Stays old new out now
-Greets old flags out (Err (Cause (Broke breach))) new now = (has_bit 1 flags ≡ false) × (breach ≡ NotFixed) × Stays old new out now
+Greets old flags out (Err (Cause (Broke breach))) new now = (has_bit flag_fixed_newstyle flags ≡ false) × (breach ≡ NotFixed) × Stays old new out now
 Greets old flags out (Err (Cause (Refused option code))) new now = ⊥
 Greets old flags out (Err (Cause Ended)) new now = ⊥
 Greets old flags out (Err (Cause LinkFailed)) new now = ⊥
@@ -62,7 +64,7 @@ Applies old verdict out (Ok next) new now =
 Applies old verdict out (Err NoMemory) new now = Stays old new out now
 Applies old verdict out (Err (Cause (Broke breach))) new now = (verdict ≡ Some (Broken breach)) × Stays old new out now
 Applies old verdict out (Err (Cause (Refused option code))) new now =
-    (told : Told) × (verdict ≡ Some (OptionReply told)) × Takes (Replied told) old new out now × (new.phase ≡ phase.Refused code) × (option ≡ 7)
+    (told : Told) × (verdict ≡ Some (OptionReply told)) × Takes (Replied told) old new out now × (new.phase ≡ phase.Refused code) × (option ≡ opt_go)
 Applies old verdict out (Err (Cause Ended)) new now = ⊥
 Applies old verdict out (Err (Cause LinkFailed)) new now = ⊥
 
@@ -78,7 +80,7 @@ ToldByName old size flags (Err (Cause LinkFailed)) new = ⊥
 -- the option that is unanswered
 abbrev pub asked_at : Phase → Option ℕ
 asked_at (phase.Asked option) = Some option
-asked_at phase.AskedByName = Some 1
+asked_at phase.AskedByName = Some opt_export_name
 asked_at phase.Greeting = None
 asked_at phase.OptMode = None
 asked_at phase.Ready = None

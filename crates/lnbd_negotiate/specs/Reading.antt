@@ -2,9 +2,10 @@
 use Rattle.std.specs.Prelude.{◌^◌, nat_lt, if◌then◌else◌, ◌≡◌, ◌==◌, ℕ, ◌+◌, ◌≤◌, Bool, ◌&&◌, List, length, take, drop, Option, Some, None, nat_le}
 use Rattle.lnbd_model.specs.declared.breach.Breach.{Breach}
 use Rattle.lnbd_model.specs.declared.breach.Breach.TheVariants.{BadHello, BadOptionLength, BadOptionMagic, NotFixed, OldStyle, SizeTooBig, UnexpectedReply, WrongOption}
+use Rattle.lnbd_records.specs.Flags.{flag_fixed_newstyle}
 use Rattle.lnbd_records.specs.Limits.{max_option_reply}
 use Rattle.lnbd_records.specs.Numbers.{number_at}
-use Rattle.lnbd_records.specs.Handshake.{oldstyle_magic, option_reply_magic}
+use Rattle.lnbd_records.specs.Handshake.{hello_size, oldstyle_magic, option_reply_head_size, option_reply_magic}
 use Rattle.lnbd_wire.specs.declared.hello.HelloRead.{HelloRead}
 use Rattle.lnbd_wire.specs.declared.hello.HelloRead.TheVariants as read
 use Rattle.lnbd_options.specs.declared.head.OptionHead.{OptionHead}
@@ -23,7 +24,7 @@ use Rattle.lnbd_negotiate.specs.Told.{told_of}
 
 -- a whole head of an option reply, by the numbers that stand in the bytes
 pub record IsHeaded (bytes : List ℕ) (head : OptionHead) : Type 0 where
-  pub there : 20 ≤ length bytes
+  pub there : option_reply_head_size ≤ length bytes
   pub magic : number_at 0 8 bytes ≡ option_reply_magic
   pub option : head.option ≡ number_at 8 4 bytes
   pub kind : head.kind ≡ number_at 12 4 bytes
@@ -50,8 +51,8 @@ SeenAs sight bytes seen.Nothing = shows_option sight bytes ≡ None
 SeenAs sight bytes (seen.Broken breach) = shows_option sight bytes ≡ Some (Broken breach)
 SeenAs sight bytes (seen.Whole head) =
     (head.length ≡ number_at 16 4 bytes)
-    × (20 + head.length ≤ length bytes)
-    × (shows_option sight bytes ≡ reply_verdict sight head.option head.kind head.length (take head.length (drop 20 bytes)))
+    × (option_reply_head_size + head.length ≤ length bytes)
+    × (shows_option sight bytes ≡ reply_verdict sight head.option head.kind head.length (take head.length (drop option_reply_head_size bytes)))
     × (broken_by sight.phase head ≡ None)
 
 -- more replies of this type to this option don't count
@@ -69,7 +70,7 @@ abbrev pub GreetedAs : List ℕ → Greeted → Type 0
 GreetedAs bytes greeted.Nothing = shows_hello bytes ≡ None
 GreetedAs bytes (greeted.Broken breach) = shows_hello bytes ≡ Some (Broken breach)
 GreetedAs bytes (greeted.Whole flags) =
-    (18 ≤ length bytes) × (shows_hello bytes ≡ wants (has_bit 1 flags) (Broken NotFixed) (Some (Hello flags)))
+    (hello_size ≤ length bytes) × (shows_hello bytes ≡ wants (has_bit flag_fixed_newstyle flags) (Broken NotFixed) (Some (Hello flags)))
 
 -- the breach of a second number that is not IHAVEOPT
 abbrev pub second_breach : (second : ℕ) → Breach
@@ -78,7 +79,7 @@ second_breach second = if second == oldstyle_magic then OldStyle else BadHello
 -- What was read of it is what the bytes show; of a whole hello the flags are still to be judged, and of another second number which breach it is.
 abbrev pub IsHelloShown : List ℕ → HelloRead → Type 0
 IsHelloShown bytes (read.Value flags) =
-    (18 ≤ length bytes) × (shows_hello bytes ≡ wants (has_bit 1 flags) (Broken NotFixed) (Some (Hello flags)))
+    (hello_size ≤ length bytes) × (shows_hello bytes ≡ wants (has_bit flag_fixed_newstyle flags) (Broken NotFixed) (Some (Hello flags)))
 IsHelloShown bytes read.NeedMore = shows_hello bytes ≡ None
 IsHelloShown bytes (read.BadFirst other) = shows_hello bytes ≡ Some (Broken BadHello)
 IsHelloShown bytes (read.BadSecond other) = shows_hello bytes ≡ Some (Broken (second_breach other))

@@ -5,13 +5,13 @@ ghost use Rattle.lnbd_records.specs.Requests.{is_info};
 ghost use Rattle.lnbd_history.specs.Arrivals.{Sight, is_asked, is_named};
 ghost use Rattle.lnbd_negotiate.specs.Reading.{IsHeadRead, IsHeaded, SeenAs, broken_by};
 
-use crate::options::{GO, INFO, LIST, SET_META_CONTEXT};
 use lnbd_history::Phase;
 use lnbd_model::Breach;
 use lnbd_options::{OptionHead, Read64, read_head};
-
-/// The most bytes that a reply's data may have.
-const LIMIT: u32 = 65536;
+use lnbd_records::names::{
+    FIRST_REP_ERROR, MAX_OPTION_REPLY, OPT_GO, OPT_INFO, OPT_LIST, OPT_SET_META_CONTEXT,
+    OPTION_REPLY_HEAD_SIZE, REP_ACK, REP_INFO, REP_META_CONTEXT, REP_SERVER,
+};
 
 /// What the bytes at the front show of an option reply.
 #[derive(Clone, Copy, Debug, PartialEq, Eq)]
@@ -36,17 +36,17 @@ pub fn is_asked(option: u32, phase: Phase) -> bool
 pub fn is_info(option: u32) -> bool
     ensures { result ≡ is_info option }
 {
-    option == INFO || option == GO
+    option == OPT_INFO || option == OPT_GO
 }
 
 pub fn is_named(option: u32, kind: u32) -> bool
     ensures { result ≡ is_named option kind }
 {
-    kind >= 0x80000000
-        || kind == 1
-        || (kind == 2 && option == LIST)
-        || (kind == 3 && is_info(option))
-        || (kind == 4 && option == SET_META_CONTEXT)
+    kind >= FIRST_REP_ERROR
+        || kind == REP_ACK
+        || (kind == REP_SERVER && option == OPT_LIST)
+        || (kind == REP_INFO && is_info(option))
+        || (kind == REP_META_CONTEXT && option == OPT_SET_META_CONTEXT)
 }
 
 /// What the head of a reply alone breaks at this phase, if anything.
@@ -57,7 +57,7 @@ pub fn broken_by(phase: Phase, head: &OptionHead) -> Option<Breach>
     if !is_asked(head.option, phase) {
         return Some(Breach::WrongOption);
     }
-    if head.length > LIMIT {
+    if head.length > MAX_OPTION_REPLY {
         return Some(Breach::BadOptionLength);
     }
     if !is_named(head.option, head.kind) {
@@ -93,7 +93,7 @@ fn look_reply(phase: Phase, head: OptionHead, bytes: &[u8]) -> Seen
     match broken_by(phase, &head) {
         Some(breach) => Seen::Broken(breach),
         None => {
-            if bytes.len() - 20 < head.length as usize {
+            if bytes.len() - OPTION_REPLY_HEAD_SIZE < head.length as usize {
                 Seen::Nothing
             } else {
                 Seen::Whole(head)

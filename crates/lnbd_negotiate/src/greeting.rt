@@ -6,11 +6,12 @@ ghost use Rattle.lnbd_history.specs.Arrivals.{shows_hello, shows_by_name};
 ghost use Rattle.lnbd_negotiate.specs.Reading.{GreetedAs, IsHelloShown, NamedAs, second_breach};
 
 use lnbd_model::Breach;
+use lnbd_records::names::{EXPORT_NAME_REPLY_SIZE, OLDSTYLE_MAGIC, PADDING_SIZE};
 use lnbd_records::{u16_at, u64_at};
 use lnbd_wire::{HelloRead, read_hello};
 
-/// In the place of IHAVEOPT where the server speaks the oldstyle negotiation.
-const OLDSTYLE: u64 = 0x0000420281861253;
+/// The whole reply to EXPORT_NAME where NO_ZEROES is not agreed.
+const PADDED_REPLY_SIZE: usize = EXPORT_NAME_REPLY_SIZE + PADDING_SIZE;
 
 /// What the bytes at the front show of a hello.
 #[derive(Clone, Copy, Debug, PartialEq, Eq)]
@@ -34,7 +35,7 @@ fn hello_at(bytes: &[u8]) -> HelloRead
 fn second_breach(second: u64) -> Breach
     ensures { result ≡ second_breach second }
 {
-    if second == OLDSTYLE {
+    if second == OLDSTYLE_MAGIC {
         Breach::OldStyle
     } else {
         Breach::BadHello
@@ -60,7 +61,11 @@ pub fn look_hello(bytes: &[u8]) -> Greeted
 pub fn look_by_name(no_zeroes: bool, bytes: &[u8]) -> Option<(u64, u16)>
     ensures { NamedAs no_zeroes bytes.now result }
 {
-    let size = if no_zeroes { 10 } else { 134 };
+    let size = if no_zeroes {
+        EXPORT_NAME_REPLY_SIZE
+    } else {
+        PADDED_REPLY_SIZE
+    };
     if bytes.len() < size {
         return None;
     }

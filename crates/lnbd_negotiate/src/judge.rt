@@ -6,11 +6,14 @@ ghost use Rattle.lnbd_negotiate.specs.Told.{told_of};
 ghost use Rattle.lnbd_negotiate.specs.Reading.{JudgedAs, broken_by, is_over};
 
 use crate::front::is_info;
-use crate::options::LIST;
 use crate::told::{Told, read_told};
 use lnbd_model::Breach;
 use lnbd_options::{OptionFault, OptionHead};
+use lnbd_records::names::{FIRST_REP_ERROR, MAX_LISTED, MAX_REPLIES, OPT_LIST, REP_ACK};
 use std::alloc::Global;
+
+/// The first size that no export has.
+pub const SIZE_END: u64 = 1 << 63;
 
 #[derive(Debug, Drop)]
 pub enum Ruling {
@@ -19,17 +22,11 @@ pub enum Ruling {
     Told(Told),
 }
 
-/// How many exports a server may list.
-const MAX_LISTED: u32 = 10000;
-
-/// How many replies another option may have before its last.
-const MAX_REPLIES: u32 = 1024;
-
 /// How many replies that neither acknowledge nor refuse an option may have.
 fn limit(option: u32) -> u32
     ensures { result ≡ limit option }
 {
-    if option == LIST {
+    if option == OPT_LIST {
         MAX_LISTED
     } else {
         MAX_REPLIES
@@ -39,7 +36,7 @@ fn limit(option: u32) -> u32
 fn is_over(option: u32, kind: u32, count: u32) -> bool
     ensures { result ≡ is_over option kind count }
 {
-    !(kind >= 0x80000000 || kind == 1) && count >= limit(option)
+    !(kind >= FIRST_REP_ERROR || kind == REP_ACK) && count >= limit(option)
 }
 
 fn is_ack(told: &Told) -> bool
@@ -55,7 +52,7 @@ fn is_too_big(told: &Told) -> bool
     ensures { result ≡ is_too_big (told_of told.now) }
 {
     match told {
-        Told::Export(size) => size.size >= 0x8000000000000000,
+        Told::Export(size) => size.size >= SIZE_END,
         _ => false,
     }
 }

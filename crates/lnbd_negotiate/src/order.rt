@@ -4,18 +4,17 @@ ghost use Rattle.std.specs.Prelude.{◌≡◌};
 ghost use Rattle.lnbd_history.specs.Agreement.{after_hello, after_extended, after_structured, after_answer, settles_replies};
 ghost use Rattle.lnbd_negotiate.specs.Told.{end};
 
-use crate::options::{EXTENDED_HEADERS, GO, SET_META_CONTEXT, STRUCTURED_REPLY};
 use lnbd_history::Phase;
 use lnbd_model::Texts;
-
-/// UNSUP: the server doesn't know the option (NBD protocol, "Option reply types").
-const UNSUP: u32 = 1;
+use lnbd_records::names::{
+    ERR_UNSUP, OPT_EXTENDED_HEADERS, OPT_GO, OPT_SET_META_CONTEXT, OPT_STRUCTURED_REPLY,
+};
 
 /// Whether the option settles how the server replies. Such options are asked without the caller.
 pub fn settles_replies(option: u32) -> bool
     ensures { result ≡ settles_replies option }
 {
-    option == STRUCTURED_REPLY || option == EXTENDED_HEADERS
+    option == OPT_STRUCTURED_REPLY || option == OPT_EXTENDED_HEADERS
 }
 
 /// How the server replies is settled.
@@ -25,9 +24,9 @@ fn after_structured(opt_mode: bool, wanted: &Texts, on: bool) -> Phase
     if opt_mode {
         Phase::OptMode
     } else if on && wanted.len() != 0 {
-        Phase::Asked(SET_META_CONTEXT)
+        Phase::Asked(OPT_SET_META_CONTEXT)
     } else {
-        Phase::Asked(GO)
+        Phase::Asked(OPT_GO)
     }
 }
 
@@ -36,7 +35,7 @@ fn after_extended(structured: bool, opt_mode: bool, wanted: &Texts, on: bool) ->
     ensures { result ≡ after_extended structured opt_mode wanted.now on }
 {
     if !on && structured {
-        Phase::Asked(STRUCTURED_REPLY)
+        Phase::Asked(OPT_STRUCTURED_REPLY)
     } else {
         after_structured(opt_mode, wanted, on)
     }
@@ -46,7 +45,7 @@ pub fn after_hello(extended: bool, structured: bool, opt_mode: bool, wanted: &Te
     ensures { result ≡ after_hello extended structured opt_mode wanted.now }
 {
     if extended {
-        Phase::Asked(EXTENDED_HEADERS)
+        Phase::Asked(OPT_EXTENDED_HEADERS)
     } else {
         after_extended(structured, opt_mode, wanted, false)
     }
@@ -61,7 +60,7 @@ fn after_go(opt_mode: bool, code: Option<u32>) -> Phase
         Some(code) => {
             if opt_mode {
                 Phase::OptMode
-            } else if code == UNSUP {
+            } else if code == ERR_UNSUP {
                 Phase::AskedByName
             } else {
                 Phase::Refused(code)
@@ -80,15 +79,15 @@ pub fn after_answer(
 ) -> Phase
     ensures { result ≡ after_answer structured opt_mode wanted.now option (end code) }
 {
-    if option == EXTENDED_HEADERS {
+    if option == OPT_EXTENDED_HEADERS {
         after_extended(structured, opt_mode, wanted, code.is_none())
-    } else if option == STRUCTURED_REPLY {
+    } else if option == OPT_STRUCTURED_REPLY {
         after_structured(opt_mode, wanted, code.is_none())
-    } else if option == GO {
+    } else if option == OPT_GO {
         after_go(opt_mode, code)
     } else if opt_mode {
         Phase::OptMode
     } else {
-        Phase::Asked(GO)
+        Phase::Asked(OPT_GO)
     }
 }

@@ -4,14 +4,20 @@ ghost use Rattle.std.specs.Prelude.{◌≡◌, ◌++◌, [], ◌≤◌, OnOk, On
 ghost use Rattle.std.specs.List.{concat};
 ghost use Rattle.lnbd_records.specs.Handshake.{option_request};
 ghost use Rattle.lnbd_records.specs.Limits.{max_contexts};
+ghost use Rattle.lnbd_records.specs.Options.{opt_abort};
 ghost use Rattle.lnbd_history.specs.Outgoing.{client_flags, option_body, request_at};
 
 use crate::front::is_info;
-use crate::options::{EXPORT_NAME, SET_META_CONTEXT};
 use lnbd_history::Phase;
 use lnbd_model::{NoMemory, Text, Texts};
 use lnbd_options::{put_info, put_meta, put_option};
+use lnbd_records::names::{
+    FLAG_FIXED_NEWSTYLE, FLAG_NO_ZEROES, OPT_EXPORT_NAME, OPT_SET_META_CONTEXT,
+};
 use std::alloc::Global;
+
+/// The handshake flags that are known.
+const KNOWN_FLAGS: u16 = FLAG_FIXED_NEWSTYLE | FLAG_NO_ZEROES;
 
 /// The flags that answer the server's handshake flags: of its bits the two that are known (NBD
 /// protocol, "Client flags").
@@ -19,13 +25,13 @@ use std::alloc::Global;
 pub fn client_flags(flags: u16) -> [u8; 4]
     ensures { result ≡ client_flags flags }
 {
-    u32::from(flags & 3).to_be_bytes()
+    u32::from(flags & KNOWN_FLAGS).to_be_bytes()
 }
 
 /// The request of ABORT.
 #[tactic(auto, unfolding(lnbd_records::specs::Numbers::row))]
 pub fn abort_request() -> [u8; 16]
-    ensures { result ≡ option_request 2 [] }
+    ensures { result ≡ option_request opt_abort [] }
 {
     *b"IHAVEOPT\0\0\0\x02\0\0\0\0"
 }
@@ -38,9 +44,9 @@ fn body(alloc: Global, option: u32, name: &Text, wanted: &Texts) -> Result<Vec<u
     let mut body = Vec::new(alloc);
     if is_info(option) {
         put_info(alloc, name, &mut body)?;
-    } else if option == SET_META_CONTEXT {
+    } else if option == OPT_SET_META_CONTEXT {
         put_meta(alloc, name, wanted, &mut body)?;
-    } else if option == EXPORT_NAME {
+    } else if option == OPT_EXPORT_NAME {
         body.extend_from_slice(name.as_bytes())?;
     }
     Ok(body)
@@ -79,7 +85,7 @@ pub fn put_request_at(
 {
     match phase {
         Phase::Asked(option) => put_request(alloc, option, name, wanted, out),
-        Phase::AskedByName => put_request(alloc, EXPORT_NAME, name, wanted, out),
+        Phase::AskedByName => put_request(alloc, OPT_EXPORT_NAME, name, wanted, out),
         _ => Ok(()),
     }
 }

@@ -4,6 +4,7 @@ ghost use Rattle.std.specs.Prelude.{◌≡◌, ◌++◌, ◌≤◌, ◌<◌, [],
 ghost use Rattle.std.specs.List.{concat};
 ghost use Rattle.std.specs.Option.{option_copied};
 ghost use Rattle.lnbd_records.specs.Limits.{max_contexts};
+ghost use Rattle.lnbd_records.specs.Options.{opt_extended_headers, opt_list, opt_set_meta_context};
 ghost use Rattle.lnbd_records.specs.Requests.{is_info};
 ghost use Rattle.lnbd_history.specs.declared.kinds.Phase.TheVariants.{Greeting, AskedByName, OptMode};
 ghost use Rattle.lnbd_history.specs.Events as setting;
@@ -16,9 +17,8 @@ ghost use Rattle.lnbd_negotiate.specs.Reading.{broken_by};
 ghost use Rattle.lnbd_negotiate.specs.Means.{begun_with, Takes, Stays, Greets, IsSeenBy, Applies, ToldByName, next_of, asked_at, info_of, IsNext};
 
 use crate::front::{broken_by, is_info};
-use crate::judge::{Ruling, judge};
+use crate::judge::{Ruling, SIZE_END, judge};
 use crate::kinds::{Config, Next, TalkFault};
-use crate::options::{EXPORT_NAME, EXTENDED_HEADERS, LIST, SET_META_CONTEXT};
 use crate::order::{after_answer, after_hello, settles_replies};
 use crate::pending::{Pending, nothing};
 use crate::requests::put_request_at;
@@ -26,6 +26,9 @@ use crate::told::{Size, Told, end_of};
 use lnbd_history::{OptAnswer, Phase};
 use lnbd_model::{Blocks, Breach, Cause, Contexts, ExportInfo, Listing, NoMemory, Text, Texts};
 use lnbd_options::OptionHead;
+use lnbd_records::names::{
+    FLAG_FIXED_NEWSTYLE, OPT_EXPORT_NAME, OPT_EXTENDED_HEADERS, OPT_LIST, OPT_SET_META_CONTEXT,
+};
 use std::alloc::Global;
 use std::marker::Model;
 use std::mem::replace;
@@ -150,7 +153,7 @@ impl Talk {
         requires { self.old.phase ≡ Greeting }
         ensures { Greets self.old flags out.old.items result self.new out.new.items }
     {
-        if flags & 1 == 0 {
+        if flags & FLAG_FIXED_NEWSTYLE == 0 {
             return Err(TalkFault::Cause(Cause::Broke(Breach::NotFixed)));
         }
         let phase = after_hello(
@@ -211,7 +214,7 @@ impl Talk {
         requires { self.old.phase ≡ AskedByName }
         ensures { ToldByName self.old size flags result self.new }
     {
-        if size >= 0x8000000000000000 {
+        if size >= SIZE_END {
             return Err(TalkFault::Cause(Cause::Broke(Breach::SizeTooBig)));
         }
         self.has_info = true;
@@ -267,7 +270,7 @@ impl Talk {
     {
         match self.phase {
             Phase::Asked(option) => Some(option),
-            Phase::AskedByName => Some(EXPORT_NAME),
+            Phase::AskedByName => Some(OPT_EXPORT_NAME),
             _ => None,
         }
     }
@@ -398,17 +401,17 @@ impl Talk {
     }
 
     fn close_extended(&mut self, option: u32, acknowledged: bool)
-        ensures { self.new ≡ record self.old { extended = ((option == 11) && acknowledged) || self.old.extended } }
+        ensures { self.new ≡ record self.old { extended = ((option == opt_extended_headers) && acknowledged) || self.old.extended } }
     {
-        if option == EXTENDED_HEADERS && acknowledged {
+        if option == OPT_EXTENDED_HEADERS && acknowledged {
             self.info.extended = true;
         }
     }
 
     fn close_contexts(&mut self, option: u32, acknowledged: bool, told: Contexts)
-        ensures { self.new ≡ record self.old { contexts = if option == 10 then if acknowledged then told else [] else self.old.contexts } }
+        ensures { self.new ≡ record self.old { contexts = if option == opt_set_meta_context then if acknowledged then told else [] else self.old.contexts } }
     {
-        if option == SET_META_CONTEXT {
+        if option == OPT_SET_META_CONTEXT {
             if acknowledged {
                 self.info.contexts = told;
             } else {
@@ -444,9 +447,9 @@ impl Talk {
     }
 
     fn close_listing(&mut self, option: u32, acknowledged: bool, servers: Listing)
-        ensures { self.new ≡ record self.old { listing = if (option == 3) && acknowledged then servers else self.old.listing } }
+        ensures { self.new ≡ record self.old { listing = if (option == opt_list) && acknowledged then servers else self.old.listing } }
     {
-        if option == LIST && acknowledged {
+        if option == OPT_LIST && acknowledged {
             self.listing = servers;
         }
     }

@@ -2,6 +2,7 @@
 
 ghost use Rattle.std.specs.Prelude.{◌≡◌};
 ghost use Rattle.std.specs.Option.{option_map};
+ghost use Rattle.lnbd_records.specs.Options.{rep_info, rep_meta_context, rep_server};
 ghost use Rattle.lnbd_records.specs.Replies.{body_of};
 ghost use Rattle.lnbd_history.specs.Agreement.{end_of};
 ghost use Rattle.lnbd_options.specs.Answers.{ReadAs, info_told};
@@ -9,6 +10,7 @@ ghost use Rattle.lnbd_negotiate.specs.Told.{end, told_of};
 
 use lnbd_model::{Blocks, Context, Listed, Text};
 use lnbd_options::{Info, OptionFault, read_context, read_info, read_server};
+use lnbd_records::names::{FIRST_REP_ERROR, REP_ACK, REP_INFO, REP_META_CONTEXT, REP_SERVER};
 use std::alloc::Global;
 use std::marker::Model;
 
@@ -71,26 +73,26 @@ fn told_by(info: Info) -> Told
 pub fn read_told(alloc: Global, kind: u32, bytes: &[u8]) -> Result<Told, OptionFault>
     ensures { ReadAs told_of (body_of kind bytes.now) result }
 {
-    if kind >= 0x80000000 {
-        return Ok(Told::Error(kind - 0x80000000));
+    if kind >= FIRST_REP_ERROR {
+        return Ok(Told::Error(kind - FIRST_REP_ERROR));
     }
     match kind {
-        1 => {
+        REP_ACK => {
             if bytes.is_empty() {
                 Ok(Told::Ack)
             } else {
                 Err(OptionFault::BadOptionLength)
             }
         }
-        2 => server(alloc, bytes),
-        3 => information(alloc, bytes),
-        4 => context(alloc, bytes),
+        REP_SERVER => server(alloc, bytes),
+        REP_INFO => information(alloc, bytes),
+        REP_META_CONTEXT => context(alloc, bytes),
         _ => Err(OptionFault::BadOptionLength),
     }
 }
 
 fn server(alloc: Global, bytes: &[u8]) -> Result<Told, OptionFault>
-    ensures { ReadAs told_of (body_of 2 bytes.now) result }
+    ensures { ReadAs told_of (body_of rep_server bytes.now) result }
 {
     match read_server(alloc, bytes) {
         Ok(listed) => Ok(Told::Server(listed)),
@@ -101,7 +103,7 @@ fn server(alloc: Global, bytes: &[u8]) -> Result<Told, OptionFault>
 }
 
 fn information(alloc: Global, bytes: &[u8]) -> Result<Told, OptionFault>
-    ensures { ReadAs told_of (body_of 3 bytes.now) result }
+    ensures { ReadAs told_of (body_of rep_info bytes.now) result }
 {
     match read_info(alloc, bytes) {
         Ok(info) => Ok(told_by(info)),
@@ -112,7 +114,7 @@ fn information(alloc: Global, bytes: &[u8]) -> Result<Told, OptionFault>
 }
 
 fn context(alloc: Global, bytes: &[u8]) -> Result<Told, OptionFault>
-    ensures { ReadAs told_of (body_of 4 bytes.now) result }
+    ensures { ReadAs told_of (body_of rep_meta_context bytes.now) result }
 {
     match read_context(alloc, bytes) {
         Ok(context) => Ok(Told::Context(context)),

@@ -1,6 +1,7 @@
 -- What is answered of the bodies of option replies and requests.
 use Rattle.std.specs.Prelude.{◌≡◌, ℕ, true, false, List, Option, Some, None, Result, Ok, Err, ◌==◌}
 use Rattle.std.specs.List.{list_all, list_any}
+use Rattle.lnbd_records.specs.Options.{info_description, info_name}
 use Rattle.lnbd_records.specs.Told.{Told, Body}
 use Rattle.lnbd_records.specs.Told as told
 use Rattle.lnbd_records.specs.Replies.{is_text}
@@ -32,7 +33,7 @@ ReadAs told_by body (Err BadText) = (told : Told) × (body ≡ Some (record { to
 -- a request as it is asked; of the types of information only NAME and DESCRIPTION change what is answered
 abbrev pub request_of : Asked → Request
 request_of (asked.Name name) = request.Name name
-request_of (asked.Info name types) = request.Info name (list_any (λ type. type == 1) types) (list_any (λ type. type == 2) types)
+request_of (asked.Info name types) = request.Info name (list_any (λ type. type == info_name) types) (list_any (λ type. type == info_description) types)
 request_of (asked.Meta name queries) = request.Meta name queries
 request_of asked.Plain = request.Plain
 

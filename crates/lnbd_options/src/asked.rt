@@ -9,14 +9,12 @@ ghost use Rattle.lnbd_options.specs.Answers.{AskedAs, TextsAs};
 use crate::fault::OptionFault;
 use crate::text::text;
 use lnbd_model::{Text, Texts};
+use lnbd_records::names::{
+    INFO_DESCRIPTION, INFO_NAME, OPT_ABORT, OPT_EXPORT_NAME, OPT_EXTENDED_HEADERS, OPT_GO,
+    OPT_INFO, OPT_LIST, OPT_SET_META_CONTEXT, OPT_STRUCTURED_REPLY,
+};
 use lnbd_records::{u16_at, u32_at};
 use std::alloc::Global;
-
-/// The number of the information NAME.
-const NAME: u16 = 1;
-
-/// The number of the information DESCRIPTION.
-const DESCRIPTION: u16 = 2;
 
 /// What an option request asks (NBD protocol, "Option types").
 #[derive(Debug, Drop)]
@@ -44,11 +42,11 @@ pub enum Request {
 pub fn read_asked(alloc: Global, option: u32, bytes: &[u8]) -> Result<Request, OptionFault>
     ensures { AskedAs (asked_of option bytes.now) result }
 {
-    if option == 1 {
+    if option == OPT_EXPORT_NAME {
         name(alloc, bytes)
-    } else if option == 6 || option == 7 {
+    } else if option == OPT_INFO || option == OPT_GO {
         info(alloc, bytes)
-    } else if option == 10 {
+    } else if option == OPT_SET_META_CONTEXT {
         meta(alloc, bytes)
     } else {
         plain(option, bytes)
@@ -86,8 +84,8 @@ fn info_of(alloc: Global, name: &[u8], types: &[u8], count: usize) -> Result<Req
     ensures { AskedAs (Some (asked.Info name.now (types_in count types.now))) result }
 {
     let name = text(alloc, name)?;
-    let wants_name = has_type(types, count, NAME);
-    let wants_description = has_type(types, count, DESCRIPTION);
+    let wants_name = has_type(types, count, INFO_NAME);
+    let wants_description = has_type(types, count, INFO_DESCRIPTION);
     Ok(Request::Info {
         name,
         wants_name,
@@ -176,11 +174,20 @@ fn texts(alloc: Global, bytes: &[u8], count: u32) -> Result<Texts, OptionFault>
     Ok(list)
 }
 
+/// Whether the option fits only without data.
+fn has_no_data(option: u32) -> bool
+    ensures { result ≡ asked.has_no_data option }
+{
+    option == OPT_ABORT
+        || option == OPT_LIST
+        || option == OPT_STRUCTURED_REPLY
+        || option == OPT_EXTENDED_HEADERS
+}
+
 fn plain(option: u32, bytes: &[u8]) -> Result<Request, OptionFault>
     ensures { AskedAs (if asked.has_no_data option && not (length bytes.now == 0) then None else Some asked.Plain) result }
 {
-    let has_no_data = option == 2 || option == 3 || option == 8 || option == 11;
-    if has_no_data && !bytes.is_empty() {
+    if has_no_data(option) && !bytes.is_empty() {
         Err(OptionFault::BadOptionLength)
     } else {
         Ok(Request::Plain)

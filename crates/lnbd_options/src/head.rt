@@ -7,9 +7,8 @@ ghost use Rattle.lnbd_options.specs.declared.head.OptionHead.{OptionHead};
 ghost use Rattle.lnbd_options.specs.declared.head.Read64.{Read64};
 ghost use Rattle.lnbd_options.specs.Heads.{reply_fields, front_of};
 
+use lnbd_records::names::{OPTION_REPLY_HEAD_SIZE, OPTION_REPLY_MAGIC};
 use lnbd_records::{u32_at, u64_at};
-
-const MAGIC: u64 = 0x0003e889045565a9;
 
 /// An option reply up to its data.
 #[derive(Clone, Copy, Debug, PartialEq, Eq)]
@@ -42,10 +41,10 @@ pub fn read_head(bytes: &[u8]) -> Read64<OptionHead>
         return Read64::NeedMore;
     }
     let found = u64_at(bytes, 0);
-    if found != MAGIC {
+    if found != OPTION_REPLY_MAGIC {
         return Read64::BadMagic(found);
     }
-    if bytes.len() < 20 {
+    if bytes.len() < OPTION_REPLY_HEAD_SIZE {
         return Read64::NeedMore;
     }
     let option = u32_at(bytes, 8);

@@ -4,7 +4,8 @@ ghost use Rattle.std.specs.Prelude.{◌≡◌, ◌<◌, ◌^◌, ◌++◌, ◌�
 ghost use Rattle.lnbd_records.specs.Numbers.{row, AllFit};
 ghost use Rattle.lnbd_records.specs.Fronts.{IsFront};
 ghost use Rattle.lnbd_records.specs.Handshake.{option_reply_magic};
-ghost use Rattle.lnbd_records.specs.Requests.{info_request, meta_request, asked_of, Info, Meta};
+ghost use Rattle.lnbd_records.specs.Options.{opt_go, opt_set_meta_context};
+ghost use Rattle.lnbd_records.specs.Requests.{asked_information, info_request, meta_request, asked_of, Info, Meta};
 ghost use Rattle.lnbd_options.specs.declared.head.OptionHead.{OptionHead};
 ghost use Rattle.lnbd_options.specs.Heads.{reply_fields, front_of};
 
@@ -19,8 +20,8 @@ pub fn head_read_again()
 /// The bodies that a client puts ask what it wanted, where a server reads them.
 pub fn requests_read_again()
     ensures go { (name : List ℕ) → length name < 2 ^ 32
-        → asked_of 7 (info_request name (1 ∷ 2 ∷ 3 ∷ [])) ≡ Some (Info name (1 ∷ 2 ∷ 3 ∷ [])) }
+        → asked_of opt_go (info_request name asked_information) ≡ Some (Info name asked_information) }
     ensures meta { (name : List ℕ) (queries : List (List ℕ)) → length name < 2 ^ 32 → length queries < 2 ^ 32
         → All (λ query. length query < 2 ^ 32) queries
-        → asked_of 10 (meta_request name queries) ≡ Some (Meta name queries) }
+        → asked_of opt_set_meta_context (meta_request name queries) ≡ Some (Meta name queries) }
 {}

@@ -3,14 +3,12 @@
 ghost use Rattle.std.specs.Prelude.{◌≡◌, ◌<◌, ◌^◌, ◌++◌, ◌∷◌, [], OnOk, OnErr, IfOk, length};
 ghost use Rattle.lnbd_records.specs.Numbers.{number, row, counted};
 ghost use Rattle.lnbd_records.specs.Handshake.{option_head, option_request};
-ghost use Rattle.lnbd_records.specs.Requests.{all_counted, information_types, info_request, meta_request};
+ghost use Rattle.lnbd_records.specs.Requests.{all_counted, asked_information, information_types, info_request, meta_request};
 
 use lnbd_model::{NoMemory, Text, Texts};
+use lnbd_records::names::{INFO_BLOCK_SIZE, INFO_DESCRIPTION, INFO_NAME, OPTION_MAGIC};
 use lnbd_records::{push_u16, push_u32, push_u64};
 use std::alloc::Global;
-
-/// IHAVEOPT.
-const MAGIC: u64 = 0x49484156454f5054;
 
 /// Puts an option request with this body. On `NoMemory` `out` holds what it held.
 pub fn put_option(
@@ -31,7 +29,7 @@ pub fn put_option(
 /// Puts the body of INFO or GO: the export's name, and that its name, description and block sizes are
 /// asked for. On `NoMemory` `out` holds what it held.
 pub fn put_info(alloc: Global, name: &Text, out: &mut Vec<u8>) -> Result<(), NoMemory>
-    ensures ok { OnOk result (out.new.items ≡ out.old.items ++ info_request name.now (1 ∷ 2 ∷ 3 ∷ [])) }
+    ensures ok { OnOk result (out.new.items ≡ out.old.items ++ info_request name.now asked_information) }
     ensures err { OnErr result (out.new.items ≡ out.old.items) }
 {
     let body = info_body(alloc, name)?;
@@ -67,7 +65,7 @@ fn request(alloc: Global, option: u32, body: &[u8]) -> Result<Vec<u8>, NoMemory>
 }
 
 fn info_body(alloc: Global, name: &Text) -> Result<Vec<u8>, NoMemory>
-    ensures { IfOk result (λ v. v.items ≡ info_request name.now (1 ∷ 2 ∷ 3 ∷ [])) }
+    ensures { IfOk result (λ v. v.items ≡ info_request name.now asked_information) }
 {
     let mut out = Vec::new(alloc);
     put_text(&mut out, name)?;
@@ -89,19 +87,19 @@ fn meta_body(alloc: Global, name: &Text, queries: &Texts) -> Result<Vec<u8>, NoM
 fn put_head(out: &mut Vec<u8>, option: u32, length: u32) -> Result<(), NoMemory>
     ensures { OnOk result (out.new.items ≡ out.old.items ++ row (option_head option length)) }
 {
-    push_u64(out, MAGIC)?;
+    push_u64(out, OPTION_MAGIC)?;
     push_u32(out, option)?;
     push_u32(out, length)?;
     Ok(())
 }
 
 fn put_types(out: &mut Vec<u8>) -> Result<(), NoMemory>
-    ensures { OnOk result (out.new.items ≡ out.old.items ++ row (information_types (1 ∷ 2 ∷ 3 ∷ []))) }
+    ensures { OnOk result (out.new.items ≡ out.old.items ++ row (information_types asked_information)) }
 {
     push_u16(out, 3)?;
-    push_u16(out, 1)?;
-    push_u16(out, 2)?;
-    push_u16(out, 3)?;
+    push_u16(out, INFO_NAME)?;
+    push_u16(out, INFO_DESCRIPTION)?;
+    push_u16(out, INFO_BLOCK_SIZE)?;
     Ok(())
 }
 

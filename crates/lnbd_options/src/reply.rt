@@ -1,6 +1,7 @@
 //! The bodies of option replies, read on the client's side.
 
 ghost use Rattle.std.specs.Prelude.{◌≡◌, ◌≤◌, ◌&&◌, length, Some};
+ghost use Rattle.lnbd_records.specs.Options.{rep_info, rep_meta_context, rep_server};
 ghost use Rattle.lnbd_records.specs.Told as told;
 ghost use Rattle.lnbd_records.specs.Replies.{server_body, context_body, info_body, info_of_type, are_blocks, blocks_told, body_of, is_text};
 ghost use Rattle.lnbd_options.specs.Answers.{ReadAs, info_told};
@@ -8,6 +9,9 @@ ghost use Rattle.lnbd_options.specs.Answers.{ReadAs, info_told};
 use crate::fault::OptionFault;
 use crate::text::text;
 use lnbd_model::{Blocks, Context, Listed, Text};
+use lnbd_records::names::{
+    INFO_BLOCK_SIZE, INFO_DESCRIPTION, INFO_EXPORT, INFO_NAME, MAX_MINIMUM_BLOCK,
+};
 use lnbd_records::{u16_at, u32_at, u64_at};
 use std::alloc::Global;
 
@@ -29,7 +33,7 @@ pub enum Info {
 /// of the minimum or 0xffffffff.
 #[tactic(auto, unfolding(lnbd_records::specs::Replies::body_of))]
 pub fn read_info(alloc: Global, bytes: &[u8]) -> Result<Info, OptionFault>
-    ensures { ReadAs info_told (body_of 3 bytes.now) result }
+    ensures { ReadAs info_told (body_of rep_info bytes.now) result }
 {
     if bytes.len() < 2 {
         return Err(OptionFault::BadOptionLength);
@@ -41,7 +45,7 @@ pub fn read_info(alloc: Global, bytes: &[u8]) -> Result<Info, OptionFault>
 /// Reads the body of a SERVER reply.
 #[tactic(auto, unfolding(lnbd_records::specs::Replies::body_of))]
 pub fn read_server(alloc: Global, bytes: &[u8]) -> Result<Listed, OptionFault>
-    ensures { ReadAs told.Server (body_of 2 bytes.now) result }
+    ensures { ReadAs told.Server (body_of rep_server bytes.now) result }
 {
     if bytes.len() < 4 {
         return Err(OptionFault::BadOptionLength);
@@ -59,7 +63,7 @@ pub fn read_server(alloc: Global, bytes: &[u8]) -> Result<Listed, OptionFault>
 /// Reads the body of a META_CONTEXT reply.
 #[tactic(auto, unfolding(lnbd_records::specs::Replies::body_of))]
 pub fn read_context(alloc: Global, bytes: &[u8]) -> Result<Context, OptionFault>
-    ensures { ReadAs told.Context (body_of 4 bytes.now) result }
+    ensures { ReadAs told.Context (body_of rep_meta_context bytes.now) result }
 {
     if bytes.len() < 4 {
         return Err(OptionFault::BadOptionLength);
@@ -74,18 +78,18 @@ fn info_of(alloc: Global, kind: u16, bytes: &[u8]) -> Result<Info, OptionFault>
     ensures { ReadAs info_told (info_of_type kind bytes.now) result }
 {
     let (_, rest) = bytes.split_at(2);
-    if kind == 0 {
+    if kind == INFO_EXPORT {
         if bytes.len() != 12 {
             return Err(OptionFault::BadOptionLength);
         }
         let size = u64_at(bytes, 2);
         let flags = u16_at(bytes, 10);
         Ok(Info::Export { size, flags })
-    } else if kind == 1 {
+    } else if kind == INFO_NAME {
         name(alloc, rest)
-    } else if kind == 2 {
+    } else if kind == INFO_DESCRIPTION {
         description(alloc, rest)
-    } else if kind == 3 {
+    } else if kind == INFO_BLOCK_SIZE {
         if bytes.len() != 14 {
             return Err(OptionFault::BadOptionLength);
         }
@@ -117,7 +121,7 @@ fn are_blocks(minimum: u32, preferred: u32, maximum: u32) -> bool
 {
     minimum.is_power_of_two()
         && preferred.is_power_of_two()
-        && minimum <= 65536
+        && minimum <= MAX_MINIMUM_BLOCK
         && minimum <= preferred
         && (maximum == u32::MAX || (maximum > 0 && maximum % minimum == 0))
 }

@@ -9,6 +9,9 @@ flag_no_zeroes = 2
 
 -- Of an export.
 
+abbrev pub flag_has_flags : ℕ
+flag_has_flags = 1
+
 abbrev pub flag_read_only : ℕ
 flag_read_only = 2
 
@@ -18,6 +21,9 @@ flag_send_flush = 4
 abbrev pub flag_send_fua : ℕ
 flag_send_fua = 8
 
+abbrev pub flag_rotational : ℕ
+flag_rotational = 16
+
 abbrev pub flag_send_trim : ℕ
 flag_send_trim = 32
 
@@ -26,6 +32,9 @@ flag_send_write_zeroes = 64
 
 abbrev pub flag_send_df : ℕ
 flag_send_df = 128
+
+abbrev pub flag_can_multi_conn : ℕ
+flag_can_multi_conn = 256
 
 abbrev pub flag_send_cache : ℕ
 flag_send_cache = 1024
@@ -60,3 +69,11 @@ cmd_flag_payload_len = 32
 
 abbrev pub reply_flag_done : ℕ
 reply_flag_done = 1
+
+-- Of an extent of base:allocation.
+
+abbrev pub state_hole : ℕ
+state_hole = 1
+
+abbrev pub state_zero : ℕ
+state_zero = 2

@@ -21,6 +21,9 @@ option_reply_magic = 0x0003e889045565a9
 abbrev pub hello : ℕ → List Field
 hello flags = number 8 init_magic ∷ number 8 option_magic ∷ number 2 flags ∷ []
 
+abbrev pub hello_size : ℕ
+hello_size = 18
+
 -- what the client says first
 abbrev pub client_flags : ℕ → List Field
 client_flags flags = number 4 flags ∷ []
@@ -37,9 +40,15 @@ option_request option body = row (option_head option (length body)) ++ body
 abbrev pub option_reply_head : (option type length : ℕ) → List Field
 option_reply_head option type length = number 8 option_reply_magic ∷ number 4 option ∷ number 4 type ∷ number 4 length ∷ []
 
+abbrev pub option_reply_head_size : ℕ
+option_reply_head_size = 20
+
 -- the reply to EXPORT_NAME, which has no head
 abbrev pub export_name_reply : (size flags : ℕ) → List Field
 export_name_reply size flags = number 8 size ∷ number 2 flags ∷ []
+
+abbrev pub export_name_reply_size : ℕ
+export_name_reply_size = 10
 
 -- how many bytes follow it, which nobody reads
 abbrev pub padding : Bool → ℕ

@@ -1,5 +1,6 @@
 -- The limits of what is taken from a peer, and of what is asked of it.
 use Rattle.std.specs.Prelude.{ℕ}
+use Rattle.lnbd_model.specs.Text.{text_limit}
 
 -- the most bytes of a read, of a write, and of the data in one chunk
 abbrev pub max_data : ℕ
@@ -11,7 +12,7 @@ max_descriptors = 1048576
 
 -- the longest message of an error, and the longest name or description
 abbrev pub max_text : ℕ
-max_text = 4096
+max_text = text_limit
 
 -- the longest payload of an error of a type that isn't known
 abbrev pub max_other_error : ℕ

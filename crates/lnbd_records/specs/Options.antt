@@ -42,9 +42,15 @@ rep_meta_context = 4
 abbrev pub first_rep_error : ℕ
 first_rep_error = 2 ^ 31
 
--- the code of an option that the server doesn't know
+-- the codes of an option that the server doesn't know, of a request whose data isn't lawful, and of an export that isn't there
 abbrev pub err_unsup : ℕ
 err_unsup = 1
+
+abbrev pub err_invalid : ℕ
+err_invalid = 3
+
+abbrev pub err_unknown : ℕ
+err_unknown = 6
 
 abbrev pub info_export : ℕ
 info_export = 0

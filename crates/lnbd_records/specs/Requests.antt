@@ -3,7 +3,7 @@ use Rattle.std.specs.Prelude.{◌≡◌, ℕ, zero, suc, ◌+◌, ◌*◌, ◌^�
 use Rattle.std.specs.List.{list_all}
 use Rattle.lnbd_records.specs.Numbers.{Field, number, row, AllFit, number_at, counted}
 use Rattle.lnbd_records.specs.Replies.{is_text}
-use Rattle.lnbd_records.specs.Options.{opt_abort, opt_export_name, opt_extended_headers, opt_go, opt_info, opt_list, opt_set_meta_context, opt_structured_reply}
+use Rattle.lnbd_records.specs.Options.{info_block_size, info_description, info_name, opt_abort, opt_export_name, opt_extended_headers, opt_go, opt_info, opt_list, opt_set_meta_context, opt_structured_reply}
 
 -- What a client puts.
 
@@ -19,6 +19,10 @@ information_types types = number 2 (length types) ∷ map (number 2) types
 -- INFO and GO: an export's name, and the types of information that are asked for
 abbrev pub info_request : List ℕ → List ℕ → List ℕ
 info_request name types = counted name ++ row (information_types types)
+
+-- the information that this client asks for
+abbrev pub asked_information : List ℕ
+asked_information = info_name ∷ info_description ∷ info_block_size ∷ []
 
 -- SET_META_CONTEXT: an export's name, how many queries, and the queries
 abbrev pub meta_request : List ℕ → List (List ℕ) → List ℕ

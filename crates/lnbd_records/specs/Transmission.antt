@@ -26,7 +26,10 @@ abbrev pub request : (flags type cookie offset length : ℕ) → List Field
 request flags type cookie offset length =
     number 4 request_magic ∷ number 2 flags ∷ number 2 type ∷ number 8 cookie ∷ number 8 offset ∷ number 4 length ∷ []
 
--- the type of DISC
+-- the types of WRITE and DISC
+abbrev pub type_write : ℕ
+type_write = 1
+
 abbrev pub type_disc : ℕ
 type_disc = 2
 
@@ -52,7 +55,7 @@ extended_request flags type cookie offset length =
 
 -- DISC with extended headers
 abbrev pub extended_disconnect : List Field
-extended_disconnect = extended_request 0 2 0 0 0
+extended_disconnect = extended_request no_cmd_flags type_disc 0 0 0
 
 -- an extended reply chunk up to its payload
 abbrev pub extended_chunk_head : (flags type cookie offset length : ℕ) → List Field

@@ -1,10 +1,11 @@
 //! The protocol's numbers and records: their definitions in `specs/`, and functions that each say one
-//! law of them and do nothing. Of code only the reading and putting of single numbers lives here; no
-//! record is read or put, and no input or output stands here.
+//! law of them and do nothing. Of code only the numbers' names and the reading and putting of single
+//! numbers live here; no record is read or put, and no input or output stands here.
 #![tactic(auto)]
 
 mod bodies;
 mod fields;
+pub mod names;
 mod numbers;
 mod prefixes;
 

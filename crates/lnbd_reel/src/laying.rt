@@ -1,17 +1,16 @@
 //! What was told of blocks is laid out as runs: whole blocks that were told as zero, and what is to be read between them.
 
 ghost use Rattle.std.specs.Prelude.{◌≡◌, ◌≤◌, ◌<◌, ◌+◌, ◌-◌, ◌/◌, ◌^◌, [], ℕ, IfOk, OnOk, true};
-ghost use Rattle.lnbd_asked.specs.Transcript.{state_zero, zero_in};
+ghost use Rattle.lnbd_asked.specs.Transcript.{zero_in};
+ghost use Rattle.lnbd_records.specs.Flags.{state_zero};
 ghost use Rattle.lnbd_records.specs.Numbers.{has_bit};
 ghost use Rattle.lnbd_reel.specs.Laying.{LaysOn, LaysOne, PushesRun, ZerosAreSpared, zero_among};
 ghost use Rattle.lnbd_reel.specs.Reel.{AreRuns, IsInWhole};
 
 use crate::reel::{Run, Runs};
 use lnbd_model::Extent;
+use lnbd_records::names::STATE_ZERO;
 use std::alloc::AllocError;
-
-/// The bit of an extent of base:allocation whose bytes read as zeros (NBD protocol, "NBD_STATE_ZERO").
-const STATE_ZERO: u64 = 2;
 
 fn is_zero(flags: u64) -> bool
     ensures { result ≡ has_bit state_zero flags }

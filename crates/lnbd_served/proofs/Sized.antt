@@ -5,9 +5,10 @@ use Rattle.lnbd_stream.proofs.Grammar.{once_some, wants_is}
 use Rattle.lnbd_model.specs.declared.kind.Kind.TheVariants as kind
 use Rattle.lnbd_records.specs.Flags.{cmd_flag_payload_len}
 use Rattle.lnbd_records.specs.Numbers.{has_bit}
+use Rattle.lnbd_records.specs.Transmission.{type_write}
 use Rattle.lnbd_server.specs.declared.stage.Stage.{Stage}
 use Rattle.lnbd_server.specs.declared.stage.Stage.TheVariants.{Greeting, Haggling, Serving, Ended, Strayed}
-use Rattle.lnbd_server.specs.Client.{Said, Flags, OptionRequest, Asks, Disconnect, Stray, Ignored, Heard, heard, stray, says, says_flags, says_option, says_asked, says_request, says_extended, kind_of, asks_of, data_size, lacks_data, type_write}
+use Rattle.lnbd_server.specs.Client.{Said, Flags, OptionRequest, Asks, Disconnect, Stray, Ignored, Heard, heard, stray, says, says_flags, says_option, says_asked, says_request, says_extended, kind_of, asks_of, data_size, lacks_data}
 
 -- A write's data has its length.
 

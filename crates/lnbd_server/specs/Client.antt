@@ -7,7 +7,7 @@ use Rattle.lnbd_records.specs.Flags.{flag_fixed_newstyle, flag_no_zeroes, cmd_fl
 use Rattle.lnbd_records.specs.Handshake.{option_magic}
 use Rattle.lnbd_records.specs.Limits.{max_data}
 use Rattle.lnbd_records.specs.Numbers.{number_at, has_bit}
-use Rattle.lnbd_records.specs.Transmission.{request_magic, extended_request_magic, extended_head_size}
+use Rattle.lnbd_records.specs.Transmission.{request_magic, extended_request_magic, extended_head_size, type_disc, type_write}
 use Rattle.lnbd_stream.specs.Grammar.{once, wants, each_byte}
 use Rattle.lnbd_export.specs.declared.request.Request.{Request}
 use Rattle.lnbd_server.specs.declared.stage.Stage.{Stage}
@@ -62,12 +62,6 @@ says_option bytes =
 
 -- Requests.
 
-abbrev pub type_disconnect : ℕ
-type_disconnect = 2
-
-abbrev pub type_write : ℕ
-type_write = 1
-
 -- the command of a type, if one has it
 abbrev pub kind_of : ℕ → Option Kind
 kind_of type =
@@ -91,7 +85,7 @@ lacks_data extended type flags = extended && (type == type_write) && not (has_bi
 
 abbrev pub asks_of : (type flags cookie offset length : ℕ) → List ℕ → Said
 asks_of type flags cookie offset n payload =
-    if type == type_disconnect then Disconnect
+    if type == type_disc then Disconnect
     else Asks (record { kind = kind_of type; flags = flags; cookie = cookie; offset = offset; length = n }) payload
 
 -- a request by its whole head of so many bytes, and its data

@@ -1,10 +1,12 @@
 -- How a server answers options: the protocol's "Option types" and "Option reply types".
 use Rattle.std.specs.Prelude.{ℕ, ◌+◌, Bool, false, not, ◌||◌, List, [], ◌∷◌, ◌++◌, length, replicate, codes, Option, Some, None, if◌then◌else◌, ◌==◌, bytes_eq}
 use Rattle.std.specs.List.{flat_map}
-use Rattle.lnbd_records.specs.Flags.{flag_read_only, flag_send_flush, flag_send_fua, flag_send_trim, flag_send_write_zeroes, flag_send_df, flag_send_cache}
+use Rattle.lnbd_records.specs.Flags.{flag_can_multi_conn, flag_has_flags, flag_read_only, flag_send_flush, flag_send_fua, flag_send_trim, flag_send_write_zeroes, flag_send_df, flag_send_cache}
 use Rattle.lnbd_records.specs.Handshake.{option_reply_head, export_name_reply, padding}
+use Rattle.lnbd_records.specs.Limits.{max_data}
 use Rattle.lnbd_records.specs.Numbers.{Field, number, row, counted}
 use Rattle.lnbd_records.specs.Options.{opt_export_name, opt_abort, opt_list, opt_go, opt_structured_reply, opt_set_meta_context, opt_extended_headers, rep_ack, rep_server, rep_info, rep_meta_context, first_rep_error, err_unsup, info_name, info_description}
+pub use Rattle.lnbd_records.specs.Options.{err_invalid, err_unknown}
 use Rattle.lnbd_records.specs.Replies.{export, block_size}
 use Rattle.lnbd_records.specs.Requests.{Asked, asked_of, asks_texts}
 use Rattle.lnbd_options.specs.Answers.{request_of}
@@ -18,12 +20,6 @@ use Rattle.lnbd_export.specs.declared.request.Replies.TheVariants.{Simple, Struc
 use Rattle.lnbd_server.specs.declared.stage.Offers.{Offers}
 use Rattle.lnbd_server.specs.declared.stage.Stage.{Stage}
 use Rattle.lnbd_server.specs.declared.stage.Stage.TheVariants.{Haggling, Serving, Ended, Strayed}
-
-abbrev pub err_invalid : ℕ
-err_invalid = 3
-
-abbrev pub err_unknown : ℕ
-err_unknown = 6
 
 -- Option replies.
 
@@ -45,12 +41,6 @@ refused code = record { type = first_rep_error + code; body = [] }
 
 -- What is told of an export.
 
-abbrev pub flag_has_flags : ℕ
-flag_has_flags = 1
-
-abbrev pub flag_can_multi_conn : ℕ
-flag_can_multi_conn = 256
-
 -- the transmission flags: DF is offered where replies may come in chunks
 abbrev pub flags_of : Replies → Export → ℕ
 flags_of replies offered =
@@ -59,7 +49,7 @@ flags_of replies offered =
 
 -- the sizes of blocks that are told: the smallest, the preferred and the largest
 abbrev pub blocks : List Field
-blocks = block_size 1 4096 33554432
+blocks = block_size 1 4096 max_data
 
 abbrev pub size_told : (size flags : ℕ) → Reply
 size_told n flags = record { type = rep_info; body = row (export (record { size = n; flags = flags })) }

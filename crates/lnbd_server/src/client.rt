@@ -8,34 +8,19 @@ ghost use Rattle.lnbd_server.specs.Seen.{heard_of, IsThere, used_of};
 use crate::stage::Stage;
 use lnbd_export::Request;
 use lnbd_model::Kind;
+use lnbd_records::names::{
+    CMD_FLAG_PAYLOAD_LEN, EXTENDED_REQUEST_MAGIC, FLAG_FIXED_NEWSTYLE, FLAG_NO_ZEROES, MAX_DATA,
+    OPTION_MAGIC, REQUEST_MAGIC, TYPE_DISC, TYPE_WRITE,
+};
 use lnbd_records::{u16_at, u32_at, u64_at};
 
-/// FIXED_NEWSTYLE, which each client has to say.
-const FIXED_NEWSTYLE: u32 = 1;
+/// What each client has to say, and what it may say.
+const FIXED_NEWSTYLE: u32 = FLAG_FIXED_NEWSTYLE as u32;
 
-/// FIXED_NEWSTYLE and NO_ZEROES.
-const BOTH: u32 = 3;
-
-/// IHAVEOPT.
-const OPTION_MAGIC: u64 = 0x49484156454f5054;
+const BOTH: u32 = (FLAG_FIXED_NEWSTYLE | FLAG_NO_ZEROES) as u32;
 
 /// The longest data of an option request that is read.
 const MAX_OPTION_REQUEST: u32 = 131_072;
-
-const REQUEST_MAGIC: u32 = 0x25609513;
-
-const EXTENDED_REQUEST_MAGIC: u32 = 0x21e41c71;
-
-/// The types of WRITE and DISC.
-const WRITE: u16 = 1;
-
-const DISC: u16 = 2;
-
-/// The data of a request follows it.
-const PAYLOAD_LEN: u16 = 32;
-
-/// The most bytes of data that follow a request.
-const MAX_DATA: u64 = 33_554_432;
 
 /// What some bytes show.
 #[derive(Clone, Copy, Debug, PartialEq, Eq)]
@@ -199,14 +184,14 @@ fn look_for_data(
     ensures there { IsThere result bytes.now }
 {
     let payload = data_size(extended, kind, flags, size);
-    if lacks_data(extended, kind, flags) || payload > MAX_DATA {
+    if lacks_data(extended, kind, flags) || payload > MAX_DATA as u64 {
         return Seen::Stray;
     }
     let payload = payload as usize;
     if bytes.len() < head + payload {
         return Seen::Nothing;
     }
-    if kind == DISC {
+    if kind == TYPE_DISC {
         return Seen::Disconnect {
             size: head + payload,
         };
@@ -230,9 +215,9 @@ fn data_size(extended: bool, kind: u16, flags: u16, length: u64) -> u64
     ensures { result ≡ data_size extended kind flags length }
 {
     let has_data = if extended {
-        flags & PAYLOAD_LEN != 0
+        flags & CMD_FLAG_PAYLOAD_LEN != 0
     } else {
-        kind == WRITE
+        kind == TYPE_WRITE
     };
     if has_data { length } else { 0 }
 }
@@ -241,7 +226,7 @@ fn data_size(extended: bool, kind: u16, flags: u16, length: u64) -> u64
 fn lacks_data(extended: bool, kind: u16, flags: u16) -> bool
     ensures { result ≡ lacks_data extended kind flags }
 {
-    extended && kind == WRITE && flags & PAYLOAD_LEN == 0
+    extended && kind == TYPE_WRITE && flags & CMD_FLAG_PAYLOAD_LEN == 0
 }
 
 /// The command of a type, if one has it.
@@ -250,7 +235,7 @@ fn kind_of(kind: u16) -> Option<Kind>
 {
     match kind {
         0 => Some(Kind::Read),
-        WRITE => Some(Kind::Write),
+        TYPE_WRITE => Some(Kind::Write),
         3 => Some(Kind::Flush),
         4 => Some(Kind::Trim),
         5 => Some(Kind::Cache),

@@ -17,6 +17,7 @@ use crate::replies::put_reply;
 use crate::stage::{Offers, Stage};
 use lnbd_export::{Agreed, Export, Replies, Request};
 use lnbd_model::NoMemory;
+use lnbd_records::names::FLAG_NO_ZEROES;
 use std::alloc::Global;
 use std::marker::Model;
 use std::mem::replace;
@@ -25,7 +26,7 @@ use std::mem::replace;
 const HELLO: &[u8] = b"NBDMAGICIHAVEOPT\x00\x03";
 
 /// NO_ZEROES of the client's flags.
-const NO_ZEROES: u32 = 2;
+const NO_ZEROES: u32 = FLAG_NO_ZEROES as u32;
 
 #[derive(Debug, Drop)]
 pub(crate) struct Dialogue {

@@ -39,6 +39,13 @@ use crate::stage::{Offers, Stage};
 use lnbd_export::{Agreed, Export, Replies};
 use lnbd_model::{NoMemory, Text, Texts};
 use lnbd_options::{OptionFault, Request, read_asked};
+use lnbd_records::names::{
+    ERR_INVALID, ERR_UNKNOWN, ERR_UNSUP, FIRST_REP_ERROR, FLAG_CAN_MULTI_CONN, FLAG_HAS_FLAGS,
+    FLAG_READ_ONLY, FLAG_SEND_CACHE, FLAG_SEND_DF, FLAG_SEND_FLUSH, FLAG_SEND_FUA, FLAG_SEND_TRIM,
+    FLAG_SEND_WRITE_ZEROES, INFO_DESCRIPTION, INFO_NAME, OPT_ABORT, OPT_EXPORT_NAME,
+    OPT_EXTENDED_HEADERS, OPT_GO, OPT_LIST, OPT_SET_META_CONTEXT, OPT_STRUCTURED_REPLY,
+    OPTION_REPLY_MAGIC, REP_ACK, REP_INFO, REP_META_CONTEXT, REP_SERVER,
+};
 use lnbd_records::{push_u16, push_u32, push_u64};
 use std::alloc::Global;
 
@@ -50,57 +57,16 @@ pub(crate) struct Answer {
     pub stage: Stage,
 }
 
-// Options, the types of their replies and the codes of errors (NBD protocol, "Option types").
-
-const EXPORT_NAME: u32 = 1;
-
-const ABORT: u32 = 2;
-
-const LIST: u32 = 3;
-
-const GO: u32 = 7;
-
-const STRUCTURED_REPLY: u32 = 8;
-
-const SET_META_CONTEXT: u32 = 10;
-
-const EXTENDED_HEADERS: u32 = 11;
-
-const ACK: u32 = 1;
-
-const SERVER: u32 = 2;
-
-const INFO: u32 = 3;
-
-const META_CONTEXT: u32 = 4;
-
-const ERROR: u32 = 1 << 31;
-
-const UNSUP: u32 = 1;
-
-const INVALID: u32 = 3;
-
-const UNKNOWN: u32 = 6;
-
-/// The magic of option replies.
-const MAGIC: u64 = 0x0003e889045565a9;
-
 const ALLOCATION: &str = "base:allocation";
 
-// The numbers of information (NBD protocol, "Metadata and information types").
-
-const NAME: u16 = 1;
-
-const DESCRIPTION: u16 = 2;
-
-// Transmission flags (NBD protocol, "Transmission flags"): HAS_FLAGS, SEND_FLUSH, SEND_FUA, SEND_TRIM,
-// SEND_WRITE_ZEROES, CAN_MULTI_CONN and SEND_CACHE, and those that depend on the session or the export.
-
-const FLAGS: u16 = 0x056d;
-
-const SEND_DF: u16 = 0x0080;
-
-const READ_ONLY: u16 = 0x0002;
+/// The transmission flags that do not depend on the session or the export.
+const FLAGS: u16 = FLAG_HAS_FLAGS
+    | FLAG_SEND_FLUSH
+    | FLAG_SEND_FUA
+    | FLAG_SEND_TRIM
+    | FLAG_SEND_WRITE_ZEROES
+    | FLAG_CAN_MULTI_CONN
+    | FLAG_SEND_CACHE;
 
 /// Answers an option request (NBD protocol, "Option haggling").
 pub(crate) fn answer_option(
@@ -162,12 +128,12 @@ fn answer_request(
 fn invalid(alloc: Global, agreed: Agreed, option: u32) -> Result<Answer, NoMemory>
     ensures { IfOk result (λ answer. answer_as answer ≡ invalid_answer agreed option) }
 {
-    if option == EXPORT_NAME {
+    if option == OPT_EXPORT_NAME {
         Ok(strayed(alloc, agreed))
-    } else if option == SET_META_CONTEXT {
-        refuse(alloc, option, INVALID, without_allocation(agreed))
+    } else if option == OPT_SET_META_CONTEXT {
+        refuse(alloc, option, ERR_INVALID, without_allocation(agreed))
     } else {
-        refuse(alloc, option, INVALID, agreed)
+        refuse(alloc, option, ERR_INVALID, agreed)
     }
 }
 
@@ -196,7 +162,7 @@ fn refuse(alloc: Global, option: u32, code: u32, agreed: Agreed) -> Result<Answe
     ensures { IfOk result (λ answer. answer_as answer ≡ going option (refused code ∷ []) agreed) }
 {
     let mut bytes = Vec::new(alloc);
-    push_reply(&mut bytes, option, ERROR + code, &[], &[])?;
+    push_reply(&mut bytes, option, FIRST_REP_ERROR + code, &[], &[])?;
     Ok(Answer {
         bytes,
         agreed,
@@ -209,7 +175,7 @@ fn acknowledge(alloc: Global, option: u32, agreed: Agreed) -> Result<Answer, NoM
     ensures { IfOk result (λ answer. answer_as answer ≡ going option (acknowledged ∷ []) agreed) }
 {
     let mut bytes = Vec::new(alloc);
-    push_reply(&mut bytes, option, ACK, &[], &[])?;
+    push_reply(&mut bytes, option, REP_ACK, &[], &[])?;
     Ok(Answer {
         bytes,
         agreed,
@@ -284,7 +250,7 @@ fn informed(
     if is_name(name, export) {
         told(alloc, export, agreed, option, wants_name, wants_description)
     } else {
-        refuse(alloc, option, UNKNOWN, agreed)
+        refuse(alloc, option, ERR_UNKNOWN, agreed)
     }
 }
 
@@ -321,7 +287,7 @@ fn told(
 fn stage_after(option: u32) -> Stage
     ensures { result ≡ stage_after option }
 {
-    if option == GO {
+    if option == OPT_GO {
         Stage::Serving
     } else {
         Stage::Haggling
@@ -346,16 +312,16 @@ fn information(
         export.size(),
         flags_of(replies, export),
     )?;
-    push_text(&mut bytes, option, wants_name, NAME, export.name())?;
+    push_text(&mut bytes, option, wants_name, INFO_NAME, export.name())?;
     push_text(
         &mut bytes,
         option,
         wants_description,
-        DESCRIPTION,
+        INFO_DESCRIPTION,
         export.description(),
     )?;
     push_blocks(&mut bytes, option)?;
-    push_reply(&mut bytes, option, ACK, &[], &[])?;
+    push_reply(&mut bytes, option, REP_ACK, &[], &[])?;
     Ok(bytes)
 }
 
@@ -373,7 +339,7 @@ fn push_size(
     push_u16(&mut body, 0)?;
     push_u64(&mut body, size)?;
     push_u16(&mut body, flags)?;
-    push_reply(bytes, option, INFO, &body, &[])
+    push_reply(bytes, option, REP_INFO, &body, &[])
 }
 
 /// INFO with a text, where it is asked for.
@@ -396,7 +362,7 @@ fn push_told(bytes: &mut Vec<u8>, option: u32, kind: u16, text: &Text) -> Result
     ensures { OnOk result (bytes.new.items ≡ bytes.old.items ++ put_reply option (text_told kind text.now)) }
 {
     let number = kind.to_be_bytes();
-    push_reply(bytes, option, INFO, &number, text.as_bytes())
+    push_reply(bytes, option, REP_INFO, &number, text.as_bytes())
 }
 
 /// INFO with the sizes of blocks: 1, 4096 and 33,554,432.
@@ -406,7 +372,7 @@ fn push_blocks(bytes: &mut Vec<u8>, option: u32) -> Result<(), NoMemory>
     push_reply(
         bytes,
         option,
-        INFO,
+        REP_INFO,
         b"\x00\x03\x00\x00\x00\x01\x00\x00\x10\x00\x02\x00\x00\x00",
         &[],
     )
@@ -416,7 +382,9 @@ fn push_blocks(bytes: &mut Vec<u8>, option: u32) -> Result<(), NoMemory>
 fn flags_of(replies: Replies, export: &Export) -> u16
     ensures { result ≡ flags_of replies export.now }
 {
-    FLAGS + flag_if(replies.is_structured(), SEND_DF) + flag_if(export.is_read_only(), READ_ONLY)
+    FLAGS
+        + flag_if(replies.is_structured(), FLAG_SEND_DF)
+        + flag_if(export.is_read_only(), FLAG_READ_ONLY)
 }
 
 fn flag_if(on: bool, flag: u16) -> u16
@@ -437,11 +405,11 @@ fn in_context(
     ensures { IfOk result (λ answer. answer_as answer ≡ meta_answer export.now agreed option name.now queries.now) }
 {
     if !agreed.replies.is_structured() {
-        refuse(alloc, option, INVALID, without_allocation(agreed))
+        refuse(alloc, option, ERR_INVALID, without_allocation(agreed))
     } else if is_name(name, export) {
         agree(alloc, option, agreed, has_allocation(queries))
     } else {
-        refuse(alloc, option, UNKNOWN, without_allocation(agreed))
+        refuse(alloc, option, ERR_UNKNOWN, without_allocation(agreed))
     }
 }
 
@@ -497,11 +465,11 @@ fn allocated(alloc: Global, option: u32) -> Result<Vec<u8>, NoMemory>
     push_reply(
         &mut bytes,
         option,
-        META_CONTEXT,
+        REP_META_CONTEXT,
         &[0, 0, 0, 1],
         ALLOCATION.as_bytes(),
     )?;
-    push_reply(&mut bytes, option, ACK, &[], &[])?;
+    push_reply(&mut bytes, option, REP_ACK, &[], &[])?;
     Ok(bytes)
 }
 
@@ -509,7 +477,7 @@ fn unallocated(alloc: Global, option: u32) -> Result<Vec<u8>, NoMemory>
     ensures { IfOk result (λ bytes. bytes.items ≡ put_replies option (acknowledged ∷ [])) }
 {
     let mut bytes = Vec::new(alloc);
-    push_reply(&mut bytes, option, ACK, &[], &[])?;
+    push_reply(&mut bytes, option, REP_ACK, &[], &[])?;
     Ok(bytes)
 }
 
@@ -523,17 +491,17 @@ fn plain(
 ) -> Result<Answer, NoMemory>
     ensures { IfOk result (λ answer. answer_as answer ≡ plain_answer offers export.now agreed option) }
 {
-    if option == ABORT {
+    if option == OPT_ABORT {
         aborted(alloc, agreed, option)
-    } else if option == LIST {
+    } else if option == OPT_LIST {
         listed(alloc, export, agreed, option)
-    } else if option == STRUCTURED_REPLY {
+    } else if option == OPT_STRUCTURED_REPLY {
         let replies = with_structured(agreed.replies);
         switch(alloc, offers.structured, replies, option, agreed)
-    } else if option == EXTENDED_HEADERS {
+    } else if option == OPT_EXTENDED_HEADERS {
         switch(alloc, offers.extended, Replies::Extended, option, agreed)
     } else {
-        refuse(alloc, option, UNSUP, agreed)
+        refuse(alloc, option, ERR_UNSUP, agreed)
     }
 }
 
@@ -542,7 +510,7 @@ fn aborted(alloc: Global, agreed: Agreed, option: u32) -> Result<Answer, NoMemor
     ensures { IfOk result (λ answer. answer_as answer ≡ record { bytes = put_replies option (acknowledged ∷ []); agreed = agreed; stage = Stage.Ended }) }
 {
     let mut bytes = Vec::new(alloc);
-    push_reply(&mut bytes, option, ACK, &[], &[])?;
+    push_reply(&mut bytes, option, REP_ACK, &[], &[])?;
     Ok(Answer {
         bytes,
         agreed,
@@ -577,7 +545,7 @@ fn switch(
         };
         acknowledge(alloc, option, agreed)
     } else {
-        refuse(alloc, option, UNSUP, agreed)
+        refuse(alloc, option, ERR_UNSUP, agreed)
     }
 }
 
@@ -592,11 +560,11 @@ fn listed(alloc: Global, export: &Export, agreed: Agreed, option: u32) -> Result
     push_reply(
         &mut bytes,
         option,
-        SERVER,
+        REP_SERVER,
         &name,
         export.description().as_bytes(),
     )?;
-    push_reply(&mut bytes, option, ACK, &[], &[])?;
+    push_reply(&mut bytes, option, REP_ACK, &[], &[])?;
     Ok(Answer {
         bytes,
         agreed,
@@ -624,7 +592,7 @@ fn push_reply(
 fn push_head(out: &mut Vec<u8>, option: u32, kind: u32, size: u32) -> Result<(), NoMemory>
     ensures { OnOk result (out.new.items ≡ out.old.items ++ row (option_reply_head option kind size)) }
 {
-    push_u64(out, MAGIC)?;
+    push_u64(out, OPTION_REPLY_MAGIC)?;
     push_u32(out, option)?;
     push_u32(out, kind)?;
     push_u32(out, size)?;

@@ -2,6 +2,7 @@
 //! export says.
 
 ghost use Rattle.std.specs.Prelude.{◌≡◌, ◌≢◌, ◌+◌, ◌<◌, ◌≤◌, ◌^◌, ◌*◌, ◌%◌, ◌++◌, IfOk, OnOk, OnErr, length};
+ghost use Rattle.lnbd_records.specs.Limits.{max_data, max_descriptors};
 ghost use Rattle.lnbd_records.specs.Numbers.{row};
 ghost use Rattle.lnbd_records.specs.Transmission.{block_status, extended_block_status, simple_reply};
 ghost use Rattle.lnbd_export.specs.Requests.{Refused, Done, Content, Status, reply, most};
@@ -10,33 +11,16 @@ ghost use Rattle.lnbd_server.specs.Replies.{put_reply, put_framed, put_chunk, pu
 use crate::outbox::Outbox;
 use lnbd_export::{Agreed, Export, Replies, Request};
 use lnbd_model::{Extent, Kind, NoMemory};
+use lnbd_records::names::{
+    CMD_FLAG_REQ_ONE, MAX_DESCRIPTORS, REPLY_FLAG_DONE, REPLY_TYPE_BLOCK_STATUS,
+    REPLY_TYPE_BLOCK_STATUS_EXT, REPLY_TYPE_ERROR, REPLY_TYPE_NONE, REPLY_TYPE_OFFSET_DATA,
+};
 use lnbd_records::{push_u32, push_u64};
 use lnbd_wire::{ChunkHead, ExtHead, put_chunk_head, put_chunk_head_ext, put_simple};
 use std::alloc::Global;
 
-/// DONE: the chunk is the last of its reply.
-const DONE: u16 = 1;
-
-// The types of chunks (NBD protocol, "Structured reply types").
-
-const NONE: u16 = 0;
-
-const OFFSET_DATA: u16 = 1;
-
-const BLOCK_STATUS: u16 = 5;
-
-const BLOCK_STATUS_EXT: u16 = 6;
-
-const ERROR: u16 = 32769;
-
 /// The number of base:allocation.
 const ALLOCATION: u32 = 1;
-
-/// The most descriptors that a reply tells, and how many where one is asked for.
-const MAX_DESCRIPTORS: usize = 1_048_576;
-
-/// Only one descriptor is asked for.
-const REQ_ONE: u16 = 8;
 
 /// Puts the reply to a request behind what waits. On `NoMemory` nothing changes.
 pub(crate) fn put_reply(
@@ -70,10 +54,10 @@ pub(crate) fn put_reply(
 fn most(flags: u16) -> usize
     ensures { result ≡ most flags }
 {
-    if flags & REQ_ONE != 0 {
+    if flags & CMD_FLAG_REQ_ONE != 0 {
         1
     } else {
-        MAX_DESCRIPTORS
+        MAX_DESCRIPTORS as usize
     }
 }
 
@@ -99,8 +83,8 @@ fn put_done(replies: Replies, request: Request, out: &mut Outbox) -> Result<(), 
 {
     match replies {
         Replies::Simple => put_bare(request.cookie, 0, out),
-        Replies::Structured => put_chunk(replies, request, NONE, &[], &[], out),
-        Replies::Extended => put_chunk(replies, request, NONE, &[], &[], out),
+        Replies::Structured => put_chunk(replies, request, REPLY_TYPE_NONE, &[], &[], out),
+        Replies::Extended => put_chunk(replies, request, REPLY_TYPE_NONE, &[], &[], out),
     }
 }
 
@@ -111,7 +95,7 @@ fn put_content(
     content: &[u8],
     out: &mut Outbox,
 ) -> Result<(), NoMemory>
-    requires { length content.now ≤ 33554432 }
+    requires { length content.now ≤ max_data }
     ensures ok { OnOk result (out.new ≡ out.old ++ put_reply replies request (Content content.now)) }
     ensures err { OnErr result (out.new ≡ out.old) }
 {
@@ -129,7 +113,7 @@ fn put_statuses(
     statuses: &[Extent],
     out: &mut Outbox,
 ) -> Result<(), NoMemory>
-    requires { length statuses.now ≤ 1048576 }
+    requires { length statuses.now ≤ max_descriptors }
     ensures ok { OnOk result (out.new ≡ out.old ++ put_reply replies request (Status statuses.now)) }
     ensures err { OnErr result (out.new ≡ out.old) }
 {
@@ -137,11 +121,25 @@ fn put_statuses(
         Replies::Simple => put_bare(request.cookie, 0, out),
         Replies::Structured => {
             let payload = block_status(alloc, statuses)?;
-            put_chunk(replies, request, BLOCK_STATUS, &[], &payload, out)
+            put_chunk(
+                replies,
+                request,
+                REPLY_TYPE_BLOCK_STATUS,
+                &[],
+                &payload,
+                out,
+            )
         }
         Replies::Extended => {
             let payload = extended_block_status(alloc, statuses)?;
-            put_chunk(replies, request, BLOCK_STATUS_EXT, &[], &payload, out)
+            put_chunk(
+                replies,
+                request,
+                REPLY_TYPE_BLOCK_STATUS_EXT,
+                &[],
+                &payload,
+                out,
+            )
         }
     }
 }
@@ -158,7 +156,7 @@ fn put_error(
     ensures err { OnErr result (out.new ≡ out.old) }
 {
     let error = error.to_be_bytes();
-    put_chunk(replies, request, ERROR, &error, &[0, 0], out)
+    put_chunk(replies, request, REPLY_TYPE_ERROR, &error, &[0, 0], out)
 }
 
 /// The chunk of a read's bytes; of no bytes there is none.
@@ -169,18 +167,25 @@ fn put_data(
     out: &mut Outbox,
 ) -> Result<(), NoMemory>
     requires framed { replies ≢ Replies.Simple }
-    requires small { length content.now ≤ 33554432 }
+    requires small { length content.now ≤ max_data }
     ensures ok { OnOk result (out.new ≡ out.old ++ put_framed replies request (content_chunk request.offset content.now)) }
     ensures err { OnErr result (out.new ≡ out.old) }
 {
     if content.is_empty() {
-        return put_chunk(replies, request, NONE, &[], &[], out);
+        return put_chunk(replies, request, REPLY_TYPE_NONE, &[], &[], out);
     }
     let offset = request.offset.to_be_bytes();
-    put_chunk(replies, request, OFFSET_DATA, &offset, content, out)
+    put_chunk(
+        replies,
+        request,
+        REPLY_TYPE_OFFSET_DATA,
+        &offset,
+        content,
+        out,
+    )
 }
 
-/// The payload of BLOCK_STATUS, whose numbers are of 32 bits.
+/// The payload of REPLY_TYPE_BLOCK_STATUS, whose numbers are of 32 bits.
 fn block_status(alloc: Global, statuses: &[Extent]) -> Result<Vec<u8>, NoMemory>
     ensures bytes { IfOk result (λ payload. payload.items ≡ row (block_status 1 statuses.now)) }
     ensures size { IfOk result (λ payload. length payload.items ≡ 4 + 8 * length statuses.now) }
@@ -196,7 +201,7 @@ fn block_status(alloc: Global, statuses: &[Extent]) -> Result<Vec<u8>, NoMemory>
 
 /// The payload of BLOCK_STATUS_EXT.
 fn extended_block_status(alloc: Global, statuses: &[Extent]) -> Result<Vec<u8>, NoMemory>
-    requires { length statuses.now ≤ 1048576 }
+    requires { length statuses.now ≤ max_descriptors }
     ensures bytes { IfOk result (λ payload. payload.items ≡ row (extended_block_status 1 statuses.now)) }
     ensures size { IfOk result (λ payload. length payload.items ≡ 8 + 16 * length statuses.now) }
 {
@@ -271,7 +276,7 @@ fn put_compact(
 {
     let mut head = [0; 20];
     let chunk = ChunkHead {
-        flags: DONE,
+        flags: REPLY_FLAG_DONE,
         kind,
         cookie: request.cookie,
         length: (first.len() + second.len()) as u32,
@@ -293,7 +298,7 @@ fn put_extended(
 {
     let mut head = [0; 32];
     let chunk = ExtHead {
-        flags: DONE,
+        flags: REPLY_FLAG_DONE,
         kind,
         cookie: request.cookie,
         offset: request.offset,

@@ -11,11 +11,12 @@ use crate::keeping::Keeping;
 use crate::session::Session;
 use lnbd_handle::IssueFault;
 use lnbd_model::Bytes;
+use lnbd_records::names::MAX_DATA;
 use std::alloc::Global;
 use std::mem;
 
-/// The most bytes of one read: a larger buffer is never made (NBD protocol, "Terminating the transmission phase": 32 MiB).
-const MAX_READ: usize = 33_554_432;
+/// The most bytes of one read: a larger buffer is never made.
+const MAX_READ: usize = MAX_DATA as usize;
 
 impl Session {
     /// The callback of the command that is issued next.

@@ -24,16 +24,11 @@ use crate::told::Told;
 use lnbd_chunks::Form;
 use lnbd_extents::{AddFault, Ranges};
 use lnbd_model::{Breach, Contexts, EPROTO, Extent, Failure, Kind, NoMemory, Origin, told_error};
+use lnbd_records::names::{CMD_FLAG_DF, CMD_FLAG_REQ_ONE};
 use lnbd_records::{u32_at, u64_at};
 use lnbd_wire::ExtHead;
 use std::alloc::Global;
 use std::marker::Model;
-
-/// DF: one chunk has the content of the whole read.
-const DF: u32 = 4;
-
-/// REQ_ONE: one descriptor is told for each meta context.
-const REQ_ONE: u32 = 8;
 
 /// What is kept of a command in place of the chunks that came for it.
 #[derive(Debug, Drop)]
@@ -138,11 +133,11 @@ impl Assembly {
         }
     }
 
-    /// Whether content came before where one chunk has the whole.
+    /// Whether content came before where one chunk has the whole (DF).
     fn came_again(&self) -> bool
         ensures { result ≡ (is_whole self.now.query && self.now.facts.came) }
     {
-        self.flags & DF != 0 && self.came
+        self.flags & CMD_FLAG_DF as u32 != 0 && self.came
     }
 
     /// Whether content at these places of the export would have a fault now: some of them were told, or content came where one chunk has the whole.
@@ -210,7 +205,7 @@ impl Assembly {
         ensures fault { IfOk result (λ bad. bad ≡ status_bad self.old contexts.now id entries.now) }
         ensures err { OnErr result (self.new ≡ self.old) }
     {
-        let single = self.flags & REQ_ONE != 0;
+        let single = self.flags & CMD_FLAG_REQ_ONE as u32 != 0;
         if !is_agreed(contexts.as_slice(), id)
             || is_among(&self.contexts, id)
             || any_empty(entries)

@@ -11,44 +11,13 @@ ghost use Rattle.lnbd_structured.specs.Asked.{waiting_in};
 
 use lnbd_chunks::Form;
 use lnbd_model::{Breach, Kind};
+use lnbd_records::names::{
+    FIRST_REPLY_TYPE_ERROR, MAX_DATA, MAX_DESCRIPTORS, MAX_FAULTS, MAX_OTHER_ERROR, MAX_TEXT,
+    REPLY_FLAG_DONE, REPLY_TYPE_BLOCK_STATUS, REPLY_TYPE_BLOCK_STATUS_EXT, REPLY_TYPE_ERROR,
+    REPLY_TYPE_ERROR_OFFSET, REPLY_TYPE_NONE, REPLY_TYPE_OFFSET_DATA, REPLY_TYPE_OFFSET_HOLE,
+};
 use lnbd_records::{u16_at, u32_at, u64_at};
 use lnbd_wire::ExtHead;
-
-// The types of chunks; bit 15 is set for errors.
-
-const NONE: u16 = 0;
-
-const OFFSET_DATA: u16 = 1;
-
-const OFFSET_HOLE: u16 = 2;
-
-const BLOCK_STATUS: u16 = 5;
-
-const BLOCK_STATUS_EXT: u16 = 6;
-
-const FIRST_ERROR: u16 = 0x8000;
-
-const ERROR: u16 = 0x8001;
-
-const ERROR_OFFSET: u16 = 0x8002;
-
-/// The flag of a command's last chunk.
-const DONE: u16 = 1;
-
-/// The most bytes of data in a chunk.
-const MAX_DATA: u64 = 33_554_432;
-
-/// The most descriptors in a chunk.
-const MAX_DESCRIPTORS: u64 = 1_048_576;
-
-/// The longest message of an error.
-const MAX_TEXT: u64 = 4_096;
-
-/// The longest payload of an error of another type.
-const MAX_OTHER_ERROR: u64 = 65_536;
-
-/// How many chunks of a command may be errors or have a content fault before its last.
-const MAX_FAULTS: u64 = 1_024;
 
 /// By what a command's chunks are judged.
 #[derive(Clone, Copy, Debug, PartialEq, Eq)]
@@ -65,36 +34,36 @@ pub struct Asked {
 pub fn is_done(flags: u16) -> bool
     ensures { result ≡ has_bit reply_flag_done flags }
 {
-    flags & DONE != 0
+    flags & REPLY_FLAG_DONE != 0
 }
 
 /// The form of a chunk of this type, with extended headers or without (NBD protocol, "Structured reply types").
 pub fn form_of(extended: bool, kind: u16) -> Form
     ensures { result ≡ form_of extended kind }
 {
-    if kind == NONE {
+    if kind == REPLY_TYPE_NONE {
         Form::Empty
-    } else if kind == OFFSET_DATA {
+    } else if kind == REPLY_TYPE_OFFSET_DATA {
         Form::Data
-    } else if kind == OFFSET_HOLE {
+    } else if kind == REPLY_TYPE_OFFSET_HOLE {
         Form::Hole
-    } else if kind == BLOCK_STATUS {
+    } else if kind == REPLY_TYPE_BLOCK_STATUS {
         if extended {
             Form::Unknown
         } else {
             Form::Status
         }
-    } else if kind == BLOCK_STATUS_EXT {
+    } else if kind == REPLY_TYPE_BLOCK_STATUS_EXT {
         if extended {
             Form::ExtendedStatus
         } else {
             Form::Unknown
         }
-    } else if kind == ERROR {
+    } else if kind == REPLY_TYPE_ERROR {
         Form::Error
-    } else if kind == ERROR_OFFSET {
+    } else if kind == REPLY_TYPE_ERROR_OFFSET {
         Form::ErrorAt
-    } else if kind >= FIRST_ERROR {
+    } else if kind >= FIRST_REPLY_TYPE_ERROR {
         Form::OtherError
     } else {
         Form::Unknown
@@ -124,7 +93,7 @@ pub fn fits_length(form: Form, n: u64) -> bool
 {
     match form {
         Form::Empty => n == 0,
-        Form::Data => 9 <= n && n <= 8 + MAX_DATA,
+        Form::Data => 9 <= n && n <= 8 + MAX_DATA as u64,
         Form::Hole => n == 12,
         Form::Status => 12 <= n && n <= 4 + 8 * MAX_DESCRIPTORS && n % 8 == 4,
         Form::ExtendedStatus => 24 <= n && n <= 8 + 16 * MAX_DESCRIPTORS && n % 16 == 8,

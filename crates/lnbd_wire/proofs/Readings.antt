@@ -1,6 +1,6 @@
 -- A head is read in one way.
 use Rattle.std.proofs.Common.{◌≡◌, ◌↔◌, ℕ, List, [], ◌∷◌, refl, subst}
-use Rattle.lnbd_records.specs.Numbers.{Field}
+use Rattle.lnbd_records.specs.Numbers.{Field, number, number_at, fields_at}
 use Rattle.lnbd_records.specs.Fronts.{IsFront}
 use Rattle.lnbd_records.specs.Transmission.{simple_reply_magic, request_magic, structured_reply_magic, extended_request_magic, extended_reply_magic}
 use Rattle.lnbd_records.proofs.FrontLemmas.{IsHead, one_front, number_of, nth}
@@ -79,3 +79,13 @@ extended_request_head = record {
   back = λ fs. record { flags = nth 1 fs; kind = nth 2 fs; cookie = nth 3 fs; offset = nth 4 fs; length = nth 5 fs };
   undone = λ head. refl;
 }
+
+-- What stands where a head begins, and its length, in so many bytes, behind it or behind an offset.
+
+pub without_offset : (bytes : List ℕ) (width m f k c l : ℕ) → number_at 0 4 bytes ≡ m → f ≡ number_at 4 2 bytes → k ≡ number_at 6 2 bytes → c ≡ number_at 8 8 bytes → l ≡ number_at 16 width bytes →
+    fields_at 0 (4 ∷ 2 ∷ 2 ∷ 8 ∷ width ∷ []) bytes ≡ number 4 m ∷ number 2 f ∷ number 2 k ∷ number 8 c ∷ number width l ∷ []
+without_offset bytes width m f k c l magic flags kind cookie long = cc
+
+pub with_offset : (bytes : List ℕ) (width m f k c o l : ℕ) → number_at 0 4 bytes ≡ m → f ≡ number_at 4 2 bytes → k ≡ number_at 6 2 bytes → c ≡ number_at 8 8 bytes → o ≡ number_at 16 8 bytes → l ≡ number_at 24 width bytes →
+    fields_at 0 (4 ∷ 2 ∷ 2 ∷ 8 ∷ 8 ∷ width ∷ []) bytes ≡ number 4 m ∷ number 2 f ∷ number 2 k ∷ number 8 c ∷ number 8 o ∷ number width l ∷ []
+with_offset bytes width m f k c o l magic flags kind cookie offset long = cc

@@ -9,10 +9,9 @@ ghost use Rattle.lnbd_wire.specs.declared.chunk.ChunkHead.{ChunkHead};
 ghost use Rattle.lnbd_wire.specs.Heads.{chunk_fields, front_of};
 
 use crate::put::{put_u16, put_u32, put_u64};
-use crate::read::{Judged, Read, judge};
-use lnbd_records::{u16_at, u32_at, u64_at};
-
-const MAGIC: u32 = 0x668e33ef;
+use crate::read::{Read, read_start};
+use lnbd_records::names::STRUCTURED_REPLY_MAGIC;
+use lnbd_records::u32_at;
 
 /// A structured reply chunk up to its payload.
 #[derive(Clone, Copy, Debug, PartialEq, Eq)]
@@ -31,7 +30,7 @@ pub struct ChunkHead {
 pub fn put_chunk_head(head: &ChunkHead, out: &mut [u8; 20])
     ensures { out.new ≡ row (chunk_fields head.now) }
 {
-    put_u32(out, 0, MAGIC);
+    put_u32(out, 0, STRUCTURED_REPLY_MAGIC);
     put_u16(out, 4, head.flags);
     put_u16(out, 6, head.kind);
     put_u64(out, 8, head.cookie);
@@ -43,18 +42,15 @@ pub fn read_chunk_head(bytes: &[u8]) -> Read<ChunkHead>
     ensures { (read : Read ChunkHead) → (result ≡ read)
         ↔ IsFront chunk_fields 4 structured_reply_magic 20 bytes.now (front_of read) }
 {
-    match judge(bytes, MAGIC, 20) {
-        Judged::NeedMore => Read::NeedMore,
-        Judged::BadMagic(magic) => Read::BadMagic(magic),
-        Judged::Whole => {
-            let flags = u16_at(bytes, 4);
-            let kind = u16_at(bytes, 6);
-            let cookie = u64_at(bytes, 8);
+    match read_start(bytes, STRUCTURED_REPLY_MAGIC, 20) {
+        Read::NeedMore => Read::NeedMore,
+        Read::BadMagic(magic) => Read::BadMagic(magic),
+        Read::Value(start) => {
             let length = u32_at(bytes, 16);
             Read::Value(ChunkHead {
-                flags,
-                kind,
-                cookie,
+                flags: start.flags,
+                kind: start.kind,
+                cookie: start.cookie,
                 length,
             })
         }

@@ -9,10 +9,9 @@ ghost use Rattle.lnbd_wire.specs.declared.extended_chunk.ExtHead.{ExtHead};
 ghost use Rattle.lnbd_wire.specs.Heads.{extended_chunk_fields, front_of};
 
 use crate::put::{put_u16, put_u32, put_u64};
-use crate::read::{Judged, Read, judge};
-use lnbd_records::{u16_at, u64_at};
-
-const MAGIC: u32 = 0x6e8a278c;
+use crate::read::{Read, read_start};
+use lnbd_records::names::EXTENDED_REPLY_MAGIC;
+use lnbd_records::u64_at;
 
 /// An extended reply chunk up to its payload.
 #[derive(Clone, Copy, Debug, PartialEq, Eq)]
@@ -33,7 +32,7 @@ pub struct ExtHead {
 pub fn put_chunk_head_ext(head: &ExtHead, out: &mut [u8; 32])
     ensures { out.new ≡ row (extended_chunk_fields head.now) }
 {
-    put_u32(out, 0, MAGIC);
+    put_u32(out, 0, EXTENDED_REPLY_MAGIC);
     put_u16(out, 4, head.flags);
     put_u16(out, 6, head.kind);
     put_u64(out, 8, head.cookie);
@@ -46,19 +45,16 @@ pub fn read_chunk_head_ext(bytes: &[u8]) -> Read<ExtHead>
     ensures { (read : Read ExtHead) → (result ≡ read)
         ↔ IsFront extended_chunk_fields 4 extended_reply_magic 32 bytes.now (front_of read) }
 {
-    match judge(bytes, MAGIC, 32) {
-        Judged::NeedMore => Read::NeedMore,
-        Judged::BadMagic(magic) => Read::BadMagic(magic),
-        Judged::Whole => {
-            let flags = u16_at(bytes, 4);
-            let kind = u16_at(bytes, 6);
-            let cookie = u64_at(bytes, 8);
+    match read_start(bytes, EXTENDED_REPLY_MAGIC, 32) {
+        Read::NeedMore => Read::NeedMore,
+        Read::BadMagic(magic) => Read::BadMagic(magic),
+        Read::Value(start) => {
             let offset = u64_at(bytes, 16);
             let length = u64_at(bytes, 24);
             Read::Value(ExtHead {
-                flags,
-                kind,
-                cookie,
+                flags: start.flags,
+                kind: start.kind,
+                cookie: start.cookie,
                 offset,
                 length,
             })

@@ -10,14 +10,10 @@ ghost use Rattle.lnbd_wire.specs.declared.extended_request.ExtRequest.{ExtReques
 ghost use Rattle.lnbd_wire.specs.Heads.{extended_request_fields, front_of};
 
 use crate::put::{put_u16, put_u32, put_u64};
-use crate::read::{Judged, Read, judge};
+use crate::read::{Read, read_start};
 use lnbd_model::Kind;
-use lnbd_records::{u16_at, u64_at};
-
-const MAGIC: u32 = 0x21e41c71;
-
-/// The type of the request that ends a session.
-const DISC: u16 = 2;
+use lnbd_records::names::{EXTENDED_REQUEST_MAGIC, TYPE_DISC};
+use lnbd_records::u64_at;
 
 /// An extended request up to its data.
 #[derive(Clone, Copy, Debug, PartialEq, Eq)]
@@ -62,7 +58,7 @@ pub fn put_disconnect_ext(out: &mut [u8; 32])
 {
     let head = ExtRequest {
         flags: 0,
-        kind: DISC,
+        kind: TYPE_DISC,
         cookie: 0,
         offset: 0,
         length: 0,
@@ -73,7 +69,7 @@ pub fn put_disconnect_ext(out: &mut [u8; 32])
 fn put_head(head: &ExtRequest, out: &mut [u8; 32])
     ensures { out.new ≡ row (extended_request_fields head.now) }
 {
-    put_u32(out, 0, MAGIC);
+    put_u32(out, 0, EXTENDED_REQUEST_MAGIC);
     put_u16(out, 4, head.flags);
     put_u16(out, 6, head.kind);
     put_u64(out, 8, head.cookie);
@@ -86,19 +82,16 @@ pub fn read_request_ext(bytes: &[u8]) -> Read<ExtRequest>
     ensures { (read : Read ExtRequest) → (result ≡ read)
         ↔ IsFront extended_request_fields 4 extended_request_magic 32 bytes.now (front_of read) }
 {
-    match judge(bytes, MAGIC, 32) {
-        Judged::NeedMore => Read::NeedMore,
-        Judged::BadMagic(magic) => Read::BadMagic(magic),
-        Judged::Whole => {
-            let flags = u16_at(bytes, 4);
-            let kind = u16_at(bytes, 6);
-            let cookie = u64_at(bytes, 8);
+    match read_start(bytes, EXTENDED_REQUEST_MAGIC, 32) {
+        Read::NeedMore => Read::NeedMore,
+        Read::BadMagic(magic) => Read::BadMagic(magic),
+        Read::Value(start) => {
             let offset = u64_at(bytes, 16);
             let length = u64_at(bytes, 24);
             Read::Value(ExtRequest {
-                flags,
-                kind,
-                cookie,
+                flags: start.flags,
+                kind: start.kind,
+                cookie: start.cookie,
                 offset,
                 length,
             })

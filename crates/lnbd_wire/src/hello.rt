@@ -4,13 +4,8 @@ ghost use Rattle.std.specs.Prelude.{◌≡◌, ◌↔◌};
 ghost use Rattle.lnbd_wire.specs.declared.hello.HelloRead.{HelloRead};
 ghost use Rattle.lnbd_wire.specs.Hello.{IsHelloRead};
 
+use lnbd_records::names::{HELLO_SIZE, INIT_MAGIC, OPTION_MAGIC};
 use lnbd_records::{u16_at, u64_at};
-
-/// NBDMAGIC.
-const FIRST: u64 = 0x4e42444d41474943;
-
-/// IHAVEOPT.
-const SECOND: u64 = 0x49484156454f5054;
 
 /// A hello at the front of what a server said.
 #[derive(Clone, Copy, Debug, PartialEq, Eq)]
@@ -33,17 +28,17 @@ pub fn read_hello(bytes: &[u8]) -> HelloRead
         return HelloRead::NeedMore;
     }
     let first = u64_at(bytes, 0);
-    if first != FIRST {
+    if first != INIT_MAGIC {
         return HelloRead::BadFirst(first);
     }
     if bytes.len() < 16 {
         return HelloRead::NeedMore;
     }
     let second = u64_at(bytes, 8);
-    if second != SECOND {
+    if second != OPTION_MAGIC {
         return HelloRead::BadSecond(second);
     }
-    if bytes.len() < 18 {
+    if bytes.len() < HELLO_SIZE {
         return HelloRead::NeedMore;
     }
     let flags = u16_at(bytes, 16);

@@ -10,14 +10,10 @@ ghost use Rattle.lnbd_wire.specs.declared.request.RequestHead.{RequestHead};
 ghost use Rattle.lnbd_wire.specs.Heads.{request_fields, front_of};
 
 use crate::put::{put_u16, put_u32, put_u64};
-use crate::read::{Judged, Read, judge};
+use crate::read::{Read, read_start};
 use lnbd_model::Kind;
-use lnbd_records::{u16_at, u32_at, u64_at};
-
-const MAGIC: u32 = 0x25609513;
-
-/// The type of the request that ends a session.
-const DISC: u16 = 2;
+use lnbd_records::names::{REQUEST_MAGIC, TYPE_DISC};
+use lnbd_records::{u32_at, u64_at};
 
 /// A request up to its data.
 #[derive(Clone, Copy, Debug, PartialEq, Eq)]
@@ -62,7 +58,7 @@ pub fn put_disconnect(out: &mut [u8; 28])
 {
     let head = RequestHead {
         flags: 0,
-        kind: DISC,
+        kind: TYPE_DISC,
         cookie: 0,
         offset: 0,
         length: 0,
@@ -73,7 +69,7 @@ pub fn put_disconnect(out: &mut [u8; 28])
 fn put_head(head: &RequestHead, out: &mut [u8; 28])
     ensures { out.new ≡ row (request_fields head.now) }
 {
-    put_u32(out, 0, MAGIC);
+    put_u32(out, 0, REQUEST_MAGIC);
     put_u16(out, 4, head.flags);
     put_u16(out, 6, head.kind);
     put_u64(out, 8, head.cookie);
@@ -86,19 +82,16 @@ pub fn read_request(bytes: &[u8]) -> Read<RequestHead>
     ensures { (read : Read RequestHead) → (result ≡ read)
         ↔ IsFront request_fields 4 request_magic 28 bytes.now (front_of read) }
 {
-    match judge(bytes, MAGIC, 28) {
-        Judged::NeedMore => Read::NeedMore,
-        Judged::BadMagic(magic) => Read::BadMagic(magic),
-        Judged::Whole => {
-            let flags = u16_at(bytes, 4);
-            let kind = u16_at(bytes, 6);
-            let cookie = u64_at(bytes, 8);
+    match read_start(bytes, REQUEST_MAGIC, 28) {
+        Read::NeedMore => Read::NeedMore,
+        Read::BadMagic(magic) => Read::BadMagic(magic),
+        Read::Value(start) => {
             let offset = u64_at(bytes, 16);
             let length = u32_at(bytes, 24);
             Read::Value(RequestHead {
-                flags,
-                kind,
-                cookie,
+                flags: start.flags,
+                kind: start.kind,
+                cookie: start.cookie,
                 offset,
                 length,
             })

@@ -9,9 +9,8 @@ ghost use Rattle.lnbd_wire.specs.Heads.{simple_fields, front_of};
 
 use crate::put::{put_u32, put_u64};
 use crate::read::{Judged, Read, judge};
+use lnbd_records::names::SIMPLE_REPLY_MAGIC;
 use lnbd_records::{u32_at, u64_at};
-
-const MAGIC: u32 = 0x67446698;
 
 /// A simple reply up to its data.
 #[derive(Clone, Copy, Debug, PartialEq, Eq)]
@@ -26,7 +25,7 @@ pub struct SimpleHead {
 pub fn put_simple(error: u32, cookie: u64, out: &mut [u8; 16])
     ensures { out.new ≡ row (simple_reply error cookie) }
 {
-    put_u32(out, 0, MAGIC);
+    put_u32(out, 0, SIMPLE_REPLY_MAGIC);
     put_u32(out, 4, error);
     put_u64(out, 8, cookie);
 }
@@ -36,7 +35,7 @@ pub fn read_simple(bytes: &[u8]) -> Read<SimpleHead>
     ensures { (read : Read SimpleHead) → (result ≡ read)
         ↔ IsFront simple_fields 4 simple_reply_magic 16 bytes.now (front_of read) }
 {
-    match judge(bytes, MAGIC, 16) {
+    match judge(bytes, SIMPLE_REPLY_MAGIC, 16) {
         Judged::NeedMore => Read::NeedMore,
         Judged::BadMagic(magic) => Read::BadMagic(magic),
         Judged::Whole => {

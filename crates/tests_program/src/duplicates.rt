@@ -30,7 +30,6 @@ const RUNS: &str = "- nbdcopy a new→0 4 4 = 01020304
 - nbdcopy --request-size 4096 --sparse 8192 zeros new→0 8192 8192 = 00*4096 cc*4096
 - nbdcopy --destination-is-zero --flush zeros old→0 8192 4096 = 00*4096 cc*4096
 - nbdcopy a a→1 0 0 = 01020304
-- nbdcopy nbd://h a→1 0 0 = 01020304
 - nbdcopy absent new→11 0 0 = none
 0 nbdcopy a old→11 0 0 = ff*9
 1 nbdcopy a old→11 0 0 = ff*9

@@ -33,12 +33,12 @@ nbdcopy nbd://h/a nbd://h/b nbd://h/c→usage
 nbdcopy nbd://h/a→usage
 nbdcopy --help→usage
 nbdcopy nbd://h/a -→usage
-nbdcopy nbd://h/a -- -→usage
+nbdcopy nbd://h/a -- -→files 4 64 262144 4096 1 0 0 0 a file -
 nbdcopy nbds://h/a x://h→uri Tls
 nbdcopy nbd://h/a nbd://h:0/b→uri Port
 nbdcopy x://h nbd://h/b→uri Scheme
 nbdcopy nbd://h/a x://h→uri Scheme
-nbdcopy nbd://h/a nbd:/h→usage
+nbdcopy nbd://h/a nbd:/h→files 4 64 262144 4096 1 0 0 0 a file nbd:/h
 nbdcopy  nbd://h/b→usage
 nbdcopy a b→files 4 64 262144 4096 1 0 0 0 file a file b
 nbdcopy a b --flush -S 0→files 4 64 262144 0 1 0 0 1 file a file b
@@ -48,8 +48,8 @@ nbdcopy a ./a→files 4 64 262144 4096 1 0 0 0 file a file ./a
 nbdcopy a a→usage
 nbdcopy a →usage
 nbdcopy  a→usage
-nbdcopy a nbd://h/b→usage
-nbdcopy nbds://h/a b→usage
+nbdcopy a nbd://h/b→files 4 64 262144 4096 1 0 0 0 file a b
+nbdcopy nbds://h/a b→uri Tls
 nbdcopy a b c→usage
 nbdcopy a→usage
 nbdcopy x nbd://h/b --flush=1→usage

@@ -13,6 +13,7 @@ returns-in-None-clause-on c = λ n.
 pub returns-in_default : goal.returns-in_default
 returns-in_default c = record {
   on = λ n. advances_none c.args.how n c.args.slice c.args.stage;
+  inside = tt;
   sits = c.requires.sits;
   busy = c.requires.idle;
   over = over_other c.args.stage c.in_default.not-Holding c.requires.idle c.requires.whole;

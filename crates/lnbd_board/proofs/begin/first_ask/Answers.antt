@@ -1,4 +1,5 @@
-use Rattle.std.proofs.Common.{◌≡◌, Bool, true, false, not, ◌&&◌, ◌||◌, ◌==◌, refl, inl, inr}
+use Rattle.std.proofs.Common.{◌≡◌, Bool, true, false, not, ◌&&◌, ◌||◌, ◌==◌, refl, ap, ◌∙◌, inl, inr, arith, length, List, ℕ}
+use Rattle.std.proofs.Math.ListN.{length-replicate}
 use Rattle.lnbd_model.specs.declared.kind.Kind.TheVariants.{Write, Zero}
 use Rattle.lnbd_board.specs.Pieces.{Bytes, Zeros}
 use Rattle.lnbd_board.proofs.begin.first_ask.Goals as goal
@@ -17,8 +18,8 @@ blind true false true z s h = absurd (cc)
 blind true false false z s h = absurd (cc)
 blind false zeroes skip z s h = absurd (cc)
 
-pub returns-then-how : goal.returns-then-how
-returns-then-how c =
+pub returns-then-how-clause-first : goal.returns-then-how-clause-first
+returns-then-how-clause-first c =
     let z = not_false c.args.slice.zero c.if-not-slice.false in (
       z,
       record {
@@ -32,8 +33,8 @@ returns-then-how c =
       },
     )
 
-pub returns : goal.returns
-returns c =
+pub returns-clause-first : goal.returns-clause-first
+returns-clause-first c =
     let z = not_false c.args.slice.zero c.if-not-slice.false in (
       z,
       record {
@@ -46,3 +47,11 @@ returns c =
         zeroed = rw c.if-how.false refl;
       },
     )
+
+pub returns-then-how-clause-inside : goal.returns-then-how-clause-inside
+returns-then-how-clause-inside c = (record { some = λ some. some; after = omega arith; before = omega arith }, c.zero_flags-flags.ensures, c.if-how.true)
+
+pub returns-clause-inside : goal.returns-clause-inside
+returns-clause-inside c =
+    let many : length c.in_ok-bytes.bytes ≡ c.args.slice.length = ap (λ (l : List ℕ). length l) c.in_ok-bytes.ensures ∙ length-replicate c.args.slice.length 0 in
+    record { some = λ some. omega (arith, many, some); after = omega arith; before = omega (arith, many) }

@@ -1,12 +1,12 @@
-use Rattle.std.proofs.Common.{inl, refl, subst, sym, ◌∙◌, ap}
+use Rattle.std.proofs.Common.{inl, inr, refl, subst, sym, ◌∙◌, ap}
 use Rattle.lnbd_cli.specs.Did.{Did, HasRoom, IsOnWires, NeverReads}
 use Rattle.lnbd_cli.specs.Calls.{is_calls_status}
 use Rattle.lnbd_cli.specs.Copies.{is_copy_status}
 use Rattle.lnbd_cli.specs.Dumps.{is_dump_status}
-use Rattle.lnbd_cli.specs.Duplicates.{is_duplicate_status}
 use Rattle.lnbd_cli.specs.Ends.{End, status_of}
 use Rattle.lnbd_cli.specs.Informs.{is_info_status}
 use Rattle.lnbd_cli.specs.Trials.{is_test_status}
+use Rattle.lnbd_cli.proofs.EndLemmas.{files_never}
 use Rattle.lnbd_cli.proofs.top.act.Goals as goal
 
 pub returns-in-Calls-clause-did : goal.returns-in-Calls-clause-did
@@ -59,10 +59,10 @@ returns-in-Copy-clause-did g c = subst (Did g.I.Source.left c.args.input.now c.a
     })
 
 pub returns-in-FileCopy-clause-did : goal.returns-in-FileCopy-clause-did
-returns-in-FileCopy-clause-did g c = subst (Did g.I.Source.left c.args.input.now c.args.input.now g.W.Wires.told c.args.wires.now c.args.wires.now g.O.Sink.taken c.args.out.now c.args.out.now
+returns-in-FileCopy-clause-did g c = subst (Did g.I.Source.left c.args.input.now c.args.input.now g.W.Wires.told c.args.wires.now c.copy_files.new.wires g.O.Sink.taken c.args.out.now c.args.out.now
     g.S.Store.told g.S.Store.shelf g.S.Store.given g.S.Store.taken c.args.store.now c.copy_files.new.store
     g.P.Spawner.told c.args.spawn.now c.args.spawn.now c.copy_files.result) (sym c.in-FileCopy.is) (record {
-      does = (c.copy_files.ensures.ends, refl, refl);
+      does = (c.copy_files.ensures.ends, refl);
       known = c.copy_files.ensures.known;
       accepts = tt;
       store_same = λ none. absurd none;
@@ -141,22 +141,16 @@ pub copy_files-requires : goal.copy_files-requires
 copy_files-requires g c = subst HasRoom c.in-FileCopy.is c.requires
 
 pub returns-in-FileCopy-clause-well : goal.returns-in-FileCopy-clause-well
-returns-in-FileCopy-clause-well g c on = absurd (subst IsOnWires c.in-FileCopy.is on)
+returns-in-FileCopy-clause-well g c on = c.copy_files.ensures.well (subst IsOnWires c.in-FileCopy.is on)
 
 pub returns-in-FileCopy-clause-patient : goal.returns-in-FileCopy-clause-patient
-returns-in-FileCopy-clause-patient g c on = absurd (subst IsOnWires c.in-FileCopy.is on)
-
-pub returns-in-FileCopy-clause-link : goal.returns-in-FileCopy-clause-link
-returns-in-FileCopy-clause-link g c e = cc (ap (λ (r : End). is_duplicate_status (status_of r)) (sym e) ∙ c.copy_files.ensures.known)
-
-pub returns-in-FileCopy-clause-silent : goal.returns-in-FileCopy-clause-silent
-returns-in-FileCopy-clause-silent g c e = cc (ap (λ (r : End). is_duplicate_status (status_of r)) (sym e) ∙ c.copy_files.ensures.known)
+returns-in-FileCopy-clause-patient g c on = c.copy_files.ensures.patient (subst IsOnWires c.in-FileCopy.is on)
 
 pub returns-in-FileCopy-clause-output : goal.returns-in-FileCopy-clause-output
-returns-in-FileCopy-clause-output g c e = cc (ap (λ (r : End). is_duplicate_status (status_of r)) (sym e) ∙ c.copy_files.ensures.known)
+returns-in-FileCopy-clause-output g c e = absurd (files_never c.in-FileCopy.from c.in-FileCopy.to _ c.copy_files.ensures.known (inl (ap (λ (r : End). status_of r) e)))
 
 pub returns-in-FileCopy-clause-input : goal.returns-in-FileCopy-clause-input
-returns-in-FileCopy-clause-input g c e = cc (ap (λ (r : End). is_duplicate_status (status_of r)) (sym e) ∙ c.copy_files.ensures.known)
+returns-in-FileCopy-clause-input g c e = absurd (files_never c.in-FileCopy.from c.in-FileCopy.to _ c.copy_files.ensures.known (inr (inl (ap (λ (r : End). status_of r) e))))
 
 pub returns-in-FileCopy-clause-spawning : goal.returns-in-FileCopy-clause-spawning
-returns-in-FileCopy-clause-spawning g c e = cc (ap (λ (r : End). is_duplicate_status (status_of r)) (sym e) ∙ c.copy_files.ensures.known)
+returns-in-FileCopy-clause-spawning g c e = absurd (files_never c.in-FileCopy.from c.in-FileCopy.to _ c.copy_files.ensures.known (inr (inr (ap (λ (r : End). status_of r) e))))

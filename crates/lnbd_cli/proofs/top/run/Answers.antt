@@ -7,7 +7,7 @@ use Rattle.lnbd_cli.specs.Ends.{Prints}
 use Rattle.lnbd_cli.specs.Runs.{Refused}
 use Rattle.lnbd_cli.proofs.DumpLemmas.{shown_front, shown_whole}
 use Rattle.lnbd_cli.proofs.DuplicateLemmas.{changed_untold}
-use Rattle.lnbd_cli.proofs.EndLemmas.{beside_done, calls_done, copy_done, dump_done, duplicate_done, info_done, serve_done, test_done}
+use Rattle.lnbd_cli.proofs.EndLemmas.{beside_done, calls_done, copy_done, dump_done, duplicate_done, info_done, mixed_done, serve_done, test_done}
 use Rattle.lnbd_cli.proofs.EndLemmas.{by_status, came_known, ends_well, known, of_done, of_end, refused_known, rose_by_fault}
 use Rattle.lnbd_cli.proofs.ServingLemmas.{beside_known, beside_run}
 use Rattle.lnbd_cli.proofs.top.run.Goals as goal
@@ -38,9 +38,21 @@ pub returns-clause-copy : goal.returns-clause-copy
 returns-clause-copy g c t asks = record { end = c.tool-end.result; ends = (c.tool-end.ensures.did (asked.Copy t.options t.from t.to) asks).does; tells = c.print_end.ensures.tells }
 
 pub returns-clause-duplicate : goal.returns-clause-duplicate
-returns-clause-duplicate g c d asks = record {
+returns-clause-duplicate g c d asks =
+    let does = (c.tool-end.ensures.did (asked.FileCopy d.options (side.File d.from) (side.File d.to)) asks).does in
+    record { end = c.tool-end.result; ends = (does.0.0, does.0.1, does.1); tells = c.print_end.ensures.tells }
+
+pub returns-clause-download : goal.returns-clause-download
+returns-clause-download g c d asks = record {
   end = c.tool-end.result;
-  ends = (c.tool-end.ensures.did (asked.FileCopy d.options (side.File d.from) (side.File d.to)) asks).does;
+  ends = (c.tool-end.ensures.did (asked.FileCopy d.options (side.Nbd d.from) (side.File d.to)) asks).does;
+  tells = c.print_end.ensures.tells;
+}
+
+pub returns-clause-upload : goal.returns-clause-upload
+returns-clause-upload g c u asks = record {
+  end = c.tool-end.result;
+  ends = (c.tool-end.ensures.did (asked.FileCopy u.options (side.File u.from) (side.Nbd u.to)) asks).does;
   tells = c.print_end.ensures.tells;
 }
 
@@ -120,8 +132,24 @@ returns-clause-duplicate_complete g c d asks sound =
     let did = c.tool-end.ensures.did asked_ asks in
     duplicate_done c.print_end.result _
     (known asked_ (λ (t : List ℕ). Prints g.E.Sink.taken g.E.Sink.faults c.args.err.now c.print_end.new.err t) c.tool-end.result c.print_end.result did.known c.print_end.ensures.tells)
-    (λ e. changed_untold d _ _ _ _ _ _ _ _ _ c.tool-end.result did.does.0
+    (λ e. changed_untold d _ _ _ _ _ _ _ _ _ c.tool-end.result did.does.0.0
     (of_end (λ (t : List ℕ). Prints g.E.Sink.taken g.E.Sink.faults c.args.err.now c.print_end.new.err t) c.tool-end.result 6 c.print_end.result (λ n. omega (arith, n)) c.print_end.ensures.tells e))
+    (λ e. sound (c.tool-end.ensures.storing (c.print_end.ensures.store e)))
+
+pub returns-clause-download_complete : goal.returns-clause-download_complete
+returns-clause-download_complete g c d asks quiet sound =
+    let asked_ = asked.FileCopy d.options (side.Nbd d.from) (side.File d.to) in
+    mixed_done c.print_end.result
+    (known asked_ (λ (t : List ℕ). Prints g.E.Sink.taken g.E.Sink.faults c.args.err.now c.print_end.new.err t) c.tool-end.result c.print_end.result (c.tool-end.ensures.did asked_ asks).known c.print_end.ensures.tells)
+    (λ e. quiet.sound (c.tool-end.ensures.link (c.print_end.ensures.link e))) (λ e. quiet.patient (c.tool-end.ensures.silent (c.print_end.ensures.silent e)))
+    (λ e. sound (c.tool-end.ensures.storing (c.print_end.ensures.store e)))
+
+pub returns-clause-upload_complete : goal.returns-clause-upload_complete
+returns-clause-upload_complete g c u asks quiet sound =
+    let asked_ = asked.FileCopy u.options (side.File u.from) (side.Nbd u.to) in
+    mixed_done c.print_end.result
+    (known asked_ (λ (t : List ℕ). Prints g.E.Sink.taken g.E.Sink.faults c.args.err.now c.print_end.new.err t) c.tool-end.result c.print_end.result (c.tool-end.ensures.did asked_ asks).known c.print_end.ensures.tells)
+    (λ e. quiet.sound (c.tool-end.ensures.link (c.print_end.ensures.link e))) (λ e. quiet.patient (c.tool-end.ensures.silent (c.print_end.ensures.silent e)))
     (λ e. sound (c.tool-end.ensures.storing (c.print_end.ensures.store e)))
 
 pub returns-clause-dump_complete : goal.returns-clause-dump_complete

@@ -1,7 +1,16 @@
 use Rattle.std.proofs.Common.{subst, ◌<◌, ◌^◌, ℕ, arith}
 use Rattle.lnbd_copy.proofs.AskedLemmas.{is_asked, read_room}
+use Rattle.lnbd_callbacks.specs.Steps.{OneByOne}
+use Rattle.lnbd_handle.specs.Issues.{read_of}
+use Rattle.lnbd_board.specs.declared.ticket.Ticket.TheVariants as ticket
+use Rattle.lnbd_board.specs.Files.{Files}
+use Rattle.lnbd_copy.proofs.LawfulLemmas.{faults_expected}
 use Rattle.lnbd_copy.proofs.dealing.ask_read.Goals as goal
 
 pub returns-in-Ok-clause-asked : goal.returns-in-Ok-clause-asked
 returns-in-Ok-clause-asked c =
     is_asked _ (read_room _ c.args.offset _ (omega (arith, c.ranges.offset.fits))) c.get_mut.result.now.machine c.aio_pread-answer.new.self.machine (subst (λ (n : ℕ). n < 2 ^ 64) c.in-Ok.ensures.cookie c.told.ensures.small) c.in-Ok.ensures.stands c.args.index c.args.handles.now c.get_mut.ensures.value
+
+pub of_memory-requires : goal.of_memory-requires
+of_memory-requires c =
+    faults_expected (OneByOne Files) (read_of c.args.buf.items c.args.offset (ticket.Slice c.args.number) 0) c.in-Err.fault c.get_mut.result.now.machine c.aio_pread-answer.new.self.machine c.args.board.now c.aio_pread-answer.new.world c.in-Err.ensures.faults (c.requires.may c.get_mut.result.now.machine c.get_mut.ensures.value)

@@ -4,12 +4,14 @@ use Rattle.lnbd_machine.specs.Machine.{Machine}
 use Rattle.lnbd_copy.proofs.ForgetLemmas.{forgets_one, forgets_then, keep_more, keep_none}
 use Rattle.lnbd_copy.proofs.HandleLemmas.{length_with}
 use Rattle.lnbd_copy.proofs.LinkLemmas.{same_then, same_with}
+use Rattle.lnbd_copy.proofs.ReadyLemmas.{forgets_ready, ready_then}
 use Rattle.lnbd_copy.proofs.forgetting.forget.Goals as goal
 
 pub handles-preserved : goal.handles-preserved
 handles-preserved c = record {
   count = length_with c.handles.handles c.handles.index c.clear_log.new.self.machine ∙ c.handles.invariant.count;
   links = same_then _ _ _ c.handles.invariant.links (same_with c.handles.handles c.handles.index c.clear_log.new.self.machine);
+  ready = ready_then _ _ _ c.handles.invariant.ready (forgets_ready c.handles.index c.handles.handles _ c.clear_log.new.self.machine c.clear_log.ensures.stands c.get_mut.ensures.value);
   forgets = forgets_then _ _ _ c.handles.invariant.forgets (forgets_one c.handles.index c.handles.handles _ c.clear_log.new.self.machine c.clear_log.ensures.stands c.get_mut.ensures.value);
   first = keep_more c.handles.index _ c.handles.handles c.clear_log.new.self.machine refl (ap (λ (m : Machine Ticket). m.known.notes) c.clear_log.ensures.step) c.handles.invariant.first;
 }

@@ -1,4 +1,4 @@
-use Rattle.lnbd_copyfile.proofs.WentLemmas.{looks_over, makes_change, makes_end, makes_nothing}
+use Rattle.lnbd_copyfile.proofs.WentLemmas.{looks_made, looks_over, makes_change, makes_end, makes_nothing}
 use Rattle.lnbd_copyfile.proofs.desk.go_on_once.Goals as goal
 use Rattle.lnbd_copyfile.specs.declared.fault.Stop.TheVariants as stop
 use Rattle.lnbd_copyfile.specs.OneFile.{BreaksWriting, Write_lacks_memory, Writes}
@@ -28,3 +28,8 @@ returns-in-Over-clause-writes g c = grew_none _ (Writes c.args.file) tt
 
 pub returns-in-Err-clause-breaks : goal.returns-in-Err-clause-breaks
 returns-in-Err-clause-breaks g c = grew_none _ (BreaksWriting c.args.file stop.NoMemory) (Write_lacks_memory tt refl)
+
+pub returns-in-Ok-make_change-clause-looked : goal.returns-in-Ok-make_change-clause-looked
+returns-in-Ok-make_change-clause-looked g c =
+    looks_made c.args.board.now.how c.args.board.now c.next.new.self c.complete.new.board c.in-Asks.slice c.in-Asks.destination c.in-Asks.change c.comes_back.result c.in-Ok.next c.in-Asks.is
+    c.in-Ok.ensures.ok c.complete.ensures

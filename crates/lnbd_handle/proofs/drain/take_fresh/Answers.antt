@@ -1,10 +1,12 @@
-use Rattle.std.proofs.Common.{◌≡◌, ◌≤◌, [], true, length, drop, take, ap, sym, subst, ◌∙◌, arith, length-append}
+use Rattle.std.proofs.Common.{◌≡◌, ◌≤◌, [], true, drop, take, sym, subst, ◌∙◌}
 use Rattle.std.specs.Prelude.{vec_len}
 use Rattle.lnbd_model.specs.Kind.{is_read}
-use Rattle.lnbd_handle.specs.Held.{data_in, held_in}
+use Rattle.lnbd_handle.specs.Announcing.{announced_by_front}
+use Rattle.lnbd_handle.specs.Held.{held_in}
 use Rattle.lnbd_handle.specs.Runs.{Runs}
 use Rattle.lnbd_handle.specs.Seen.{machine_of}
 use Rattle.lnbd_handle.specs.Turns.{arriving}
+use Rattle.lnbd_handle.proofs.AnnouncedLemmas.{said_empty}
 use Rattle.lnbd_handle.proofs.DrainLemmas.{drained_whole}
 use Rattle.lnbd_handle.proofs.CalmLemmas.{runs_calm}
 use Rattle.lnbd_handle.proofs.HeadLemmas.{not_err, ok_of}
@@ -35,6 +37,13 @@ returns-then-is_err-clause-memory g c calm =
     (c.hold_rest.ensures.memory (λ speaking. (runs_calm g.K.Caller.steps (take c.drain-taken.result.used c.args.bytes.now) (machine_of c.args.connection.now []) (machine_of c.drain-taken.new.connection []) c.args.world.now c.drain-taken.new.world c.drain-taken.ensures.drained.so_far calm speaking).0))
     (sym c.if-is_err.ensures.value))
 
--- what holds nothing has no head
-pub returns-then-taken-clause-split : goal.returns-then-taken-clause-split
-returns-then-taken-clause-split g c simply = omega (arith, ap length c.requires.fresh, length-append c.args.pending.now.head.items (data_in c.args.pending.now))
+pub hold_rest-requires-clause-ordered : goal.hold_rest-requires-clause-ordered
+hold_rest-requires-clause-ordered g c = (runs_lasting (λ kind length flight. is_read kind ≡ true → length ≤ vec_len c.args.pending.now.content) g.K.Caller.steps (take c.drain-taken.result.used c.args.bytes.now) (machine_of c.args.connection.now []) (machine_of c.drain-taken.new.connection []) c.args.world.now c.drain-taken.new.world c.drain-taken.ensures.drained.so_far (c.requires.fits, c.requires.ordered)).1
+
+pub hold_rest-requires-clause-announces : goal.hold_rest-requires-clause-announces
+hold_rest-requires-clause-announces g c =
+    subst (λ b. c.drain-taken.result.announced ≡ announced_by_front (state_of c.drain-taken.new.connection) b) (sym c.split_at.ensures.back) (c.drain-taken.ensures.drained.announces c.if-taken.false)
+
+-- what holds nothing announces nothing
+pub returns-then-taken-clause-said : goal.returns-then-taken-clause-said
+returns-then-taken-clause-said g c = said_empty (state_of c.drain-taken.new.connection) c.args.pending.now c.requires.kept c.requires.fresh c.requires.unannounced

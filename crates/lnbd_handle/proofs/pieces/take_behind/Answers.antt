@@ -1,13 +1,17 @@
-use Rattle.std.proofs.Common.{◌≡◌, ◌≤◌, true, Ok, Err, [], ◌++◌, length, take, refl, ap, sym, ◌∙◌, subst, arith}
+use Rattle.std.proofs.Common.{◌≡◌, ◌≤◌, true, Ok, Err, [], length, take, refl, ap, sym, ◌∙◌, subst, arith}
 use Rattle.std.specs.Prelude.{vec_len}
 use Rattle.std.proofs.lemmas.List.{length-drop, length-take}
 use Rattle.lnbd_model.specs.Kind.{is_read}
-use Rattle.lnbd_handle.specs.Held.{data_in, held_in}
-use Rattle.lnbd_handle.specs.Room.{HasPlaces, IsBehindFront, IsQuiet, ReadsFit}
+use Rattle.lnbd_arrivals.specs.Frames.{front_size}
+use Rattle.lnbd_handle.specs.Announcing.{replies_in}
+use Rattle.lnbd_handle.specs.Held.{held_in}
+use Rattle.lnbd_handle.specs.Room.{HasPlacesAt, IsQuiet, KeepsFrontAt, ReadsFit}
 use Rattle.lnbd_handle.specs.Runs.{Runs}
 use Rattle.lnbd_handle.specs.Seen.{machine_of, state_of}
-use Rattle.lnbd_handle.specs.Turns.{arriving, Arrives, ShowsNothing}
-use Rattle.lnbd_handle.proofs.CalmLemmas.{runs_calm, within_lacks}
+use Rattle.lnbd_handle.specs.Turns.{arriving, Arrives}
+use Rattle.lnbd_handle.proofs.AnnouncedLemmas.{came_some, said_none}
+use Rattle.lnbd_handle.proofs.CalmLemmas.{runs_calm}
+use Rattle.lnbd_handle.proofs.HoldLemmas.{lacks_within}
 use Rattle.lnbd_handle.proofs.RoomLemmas.{runs_lasting}
 use Rattle.lnbd_handle.proofs.RunLemmas.{runs_none}
 use Rattle.lnbd_handle.proofs.DrainLemmas.{arrives_some, took_all, took_some}
@@ -30,14 +34,11 @@ loop-used-preserved g c =
       sound = c.in-More.ensures.sound;
       same = same ∙ c.loop-used.invariant.same;
       room = c.in-More.ensures.room ∙ c.loop-used.invariant.room;
-      places = subst (λ k. HasPlaces k.stage k.talk.phase k.talk.structured k.talk.extended k.commands.rows c.hold.new.pending) (sym same) (record {
+      places = subst (λ k. HasPlacesAt (state_of k) c.hold.new.pending) (sym same) (record {
         kept = c.in-More.ensures.kept;
         fits = subst (λ n. ReadsFit n c.loop-used.connection.commands.rows) (sym c.in-More.ensures.room) p.fits;
-        split = λ simply. c.in-More.ensures.split (p.split simply) (within_lacks c.loop-used.connection c.loop-used.pending c.announced_in-announced.result c.deref.result.now c.split_at-in-loop-used.result.0.now c.lacking.result c.deref.ensures.value simply p.kept (p.split simply) c.announced_in-announced.ensures.brings
-            (λ whole. c.announced_in-announced.ensures.all (data_in c.loop-used.pending) simply whole (subst (λ h. ShowsNothing (state_of c.loop-used.connection) (h ++ data_in c.loop-used.pending)) (sym c.deref.ensures.value) c.loop-used.invariant.partial)) c.lacking.ensures.data c.lacking.ensures.head
-            (omega (arith, ap length c.split_at-in-loop-used.ensures.front, length-take c.min-most.result c.split_at.result.1.now, c.min-most.ensures)));
         ordered = p.ordered;
-        front = subst (λ k. IsBehindFront k.talk.structured k.talk.extended c.hold.new.pending) same (c.in-More.ensures.front p.front);
+        said = subst (λ k. KeepsFrontAt (state_of k) c.hold.new.pending) same c.in-More.ensures.said;
       });
       partial = means.1;
       so_far = arrives_some g.K.Caller.steps g.met.K.Caller.empty g.met.K.Caller.append (machine_of c.args.connection.now (held_in c.args.pending.now)) now next c.args.world.now c.loop-used.world c.hold.new.world c.args.bytes.now c.loop-used.used c.loop-used.invariant.so_far
@@ -95,8 +96,16 @@ returns-in-Err-clause-memory g c quiet =
 pub returns-in-Short-clause-memory : goal.returns-in-Short-clause-memory
 returns-in-Short-clause-memory g c quiet =
     let now : IsQuiet (state_of c.loop-used.connection) = subst (λ k. IsQuiet (state_of k)) (sym c.loop-used.invariant.same) quiet in
-    let p = c.loop-used.invariant.places in
-    absurd (c.in-Short.ensures.memory (λ speaking. now)
-    (within_lacks c.loop-used.connection c.loop-used.pending c.announced_in-announced.result c.deref.result.now c.split_at-in-loop-used.result.0.now c.lacking.result c.deref.ensures.value now.0 p.kept (p.split now.0) c.announced_in-announced.ensures.brings
-    (λ whole. c.announced_in-announced.ensures.all (data_in c.loop-used.pending) now.0 whole (subst (λ h. ShowsNothing (state_of c.loop-used.connection) (h ++ data_in c.loop-used.pending)) (sym c.deref.ensures.value) c.loop-used.invariant.partial)) c.lacking.ensures.data c.lacking.ensures.head
-    (omega (arith, ap length c.split_at-in-loop-used.ensures.front, length-take c.min-most.result c.split_at.result.1.now, c.min-most.ensures))) refl)
+    absurd (c.in-Short.ensures.memory now refl)
+
+-- No more is held than the record lacks.
+pub hold-requires-clause-within : goal.hold-requires-clause-within
+hold-requires-clause-within g c ready =
+    let state = state_of c.loop-used.connection in
+    let p = c.loop-used.pending in
+    let places = c.loop-used.invariant.places in
+    lacks_within (front_size (replies_in state)) p.announced p c.lacking.result (length c.split_at-in-loop-used.result.0.now) c.lacking.ensures.data (came_some state p places.kept places.ordered places.said c.loop-used.invariant.partial) c.lacking.ensures.front
+    (omega (arith, ap length c.split_at-in-loop-used.ensures.front, length-take c.min-most.result c.split_at.result.1.now, c.min-most.ensures)) ready
+
+pub take_fresh-requires-clause-unannounced : goal.take_fresh-requires-clause-unannounced
+take_fresh-requires-clause-unannounced g c = said_none (state_of c.hold.new.connection) c.hold.new.pending c.in-Took.ensures.kept c.in-Took.ensures.said c.in-Took.ensures.means.2

@@ -24,4 +24,4 @@ pub returns-clause-ok : goal.returns-clause-ok
 returns-clause-ok c =
     let row : Row = record { slice = c.args.slice; source = c.args.source; destination = c.args.destination; stage = c.stage_of.result } in
     subst (λ (s : Seen). Begins s.how c.args.slice s.begun c.in_ok-one.one s.rows c.insert.new.self.rows) c.self.view_is
-    (begins_as c.self.inside.how c.args.slice c.self.inside.begun c.in_ok-one.one row c.self.inside.rows.rows c.insert.new.self.rows c.in_ok-one.ensures refl c.stage_of.ensures c.in-Ok.ensures.rows)
+    (begins_as c.self.inside.how c.args.slice c.self.inside.begun c.in_ok-one.one row c.self.inside.rows.rows c.insert.new.self.rows c.in_ok-one.ensures.first refl c.stage_of.ensures c.in-Ok.ensures.rows)

@@ -2,9 +2,9 @@ use Rattle.std.proofs.Common.{Some, refl, ap, sym, subst, ◌∙◌}
 use Rattle.std.proofs.lemmas.Result.{on_ok_weaker}
 use Rattle.lnbd_copy.specs.Copier.{HasJob, IsOnItsWay, Seen}
 use Rattle.lnbd_copy.proofs.CopierLemmas.{if_ok_leads}
-use Rattle.lnbd_copy.proofs.EndLemmas.{after_acting, job_writes}
+use Rattle.lnbd_copy.proofs.EndLemmas.{after_acting, job_dealt, job_may, job_writes}
 use Rattle.lnbd_copy.proofs.MovingLemmas.{job_changed}
-use Rattle.lnbd_copy.proofs.SpreadLemmas.{on_ok_three}
+use Rattle.lnbd_copy.proofs.SpreadLemmas.{on_ok_four}
 use Rattle.lnbd_copy.proofs.UnderWayLemmas.{busy_after}
 use Rattle.lnbd_copy.specs.Awaiting.{AwaitsAll}
 use Rattle.lnbd_copy.proofs.AwaitLemmas.{act_awaits}
@@ -12,9 +12,9 @@ use Rattle.lnbd_copy.proofs.copier.Copier.act.Goals as goal
 
 pub returns-clause-on : goal.returns-clause-on
 returns-clause-on c =
-    on_ok_three c.act.result
-    (λ acts full spreads start told on. after_acting _ start told c.in-Some.job c.act.new.self c.act.new.board c.act.new.handles c.in-Some.is c.act.ensures.terms full.most acts spreads c.act.ensures.parting (subst (λ (s : Seen). IsOnItsWay start told s) (sym c.self.view_is) on))
-    c.act.ensures.acts c.act.ensures.full c.act.ensures.spread
+    on_ok_four c.act.result
+    (λ acts full spreads may start told on. after_acting _ start told c.in-Some.job c.act.new.self c.act.new.board c.act.new.handles c.in-Some.is c.act.ensures.terms full.most acts spreads may c.act.ensures.parting (subst (λ (s : Seen). IsOnItsWay start told s) (sym c.self.view_is) on))
+    c.act.ensures.acts c.act.ensures.full c.act.ensures.spread c.act.ensures.may
 
 pub returns-clause-busy : goal.returns-clause-busy
 returns-clause-busy c =
@@ -39,3 +39,9 @@ returns-clause-awaits c =
 
 pub returns-clause-idle : goal.returns-clause-idle
 returns-clause-idle c = if_ok_leads c.act.result (λ acted idle nothing. idle (subst (λ (s : Seen). AwaitsAll s.job s.board) (sym c.self.view_is) nothing c.in-Some.job c.in-Some.is)) c.act.ensures.idle
+
+pub act-requires-clause-may : goal.act-requires-clause-may
+act-requires-clause-may c = job_may _ c.in-Some.job (subst HasJob (sym c.self.view_is) c.requires.job) c.in-Some.is
+
+pub act-requires-clause-dealt : goal.act-requires-clause-dealt
+act-requires-clause-dealt c = job_dealt _ c.in-Some.job (subst HasJob (sym c.self.view_is) c.requires.job) c.in-Some.is

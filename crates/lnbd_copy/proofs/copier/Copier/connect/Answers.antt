@@ -14,6 +14,7 @@ use Rattle.lnbd_copy.proofs.MeetLemmas.{decided_met}
 use Rattle.lnbd_copy.proofs.DrivenAsLemmas.{first_driven, met_driven}
 use Rattle.lnbd_copy.proofs.ToldAlikeLemmas.{quiet_same}
 use Rattle.lnbd_copy.proofs.PatientLemmas.{always_if_err, patient_any, patient_at, patient_then}
+use Rattle.lnbd_copy.proofs.LawfulLemmas.{sides_some}
 use Rattle.lnbd_copy.proofs.copier.Copier.connect.Goals as goal
 
 pub returns-clause-begins : goal.returns-clause-begins
@@ -206,3 +207,14 @@ pub returns-clause-awaits : goal.returns-clause-awaits
 returns-clause-awaits g c =
     c.in_ok-set_up.ensures.awaits (g.W.Wires.told c.args.wires.now) (g.W.Wires.told c.dial_further.new.wires)
     (met_further c.meet.new.self c.dial_further.new.self _ _ _ c.in_ok-terms.terms c.in_ok-dial_further.ensures.kept c.in_ok-terms.ensures.met c.in_ok-terms.ensures.two c.in_ok-dial_further.ensures.further)
+
+pub set_up-requires-clause-met : goal.set_up-requires-clause-met
+set_up-requires-clause-met g c = record {
+  start = g.W.Wires.told c.args.wires.now;
+  told = g.W.Wires.told c.dial_further.new.wires;
+  met = met_further c.meet.new.self c.dial_further.new.self _ _ _ c.in_ok-terms.terms c.in_ok-dial_further.ensures.kept c.in_ok-terms.ensures.met c.in_ok-terms.ensures.two c.in_ok-dial_further.ensures.further;
+}
+
+pub set_up-requires-clause-many : goal.set_up-requires-clause-many
+set_up-requires-clause-many g c =
+    c.in_ok-dial_further.ensures.many c.in_ok-terms.ensures.met.stand c.in_ok-terms.ensures.two (sides_some c.meet.new.self _ _ c.in_ok-terms.terms c.in_ok-terms.ensures.met).1

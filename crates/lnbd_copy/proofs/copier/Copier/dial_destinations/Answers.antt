@@ -17,6 +17,7 @@ pub further-preserved : goal.further-preserved
 further-preserved g c = record {
   kept = kept_then c.args.self.now c.further.self c.dial_destination.new.self c.further.invariant.kept c.in_ok-dial_destination.ensures.kept;
   more = let many = c.in_ok-dial_destination.ensures.dials.many in let more = c.further.invariant.more in omega (arith, many, more);
+  many = let added = c.in_ok-dial_destination.ensures.dials.many in let many = c.further.invariant.many in omega (arith, added, many);
   further = destination_more c.args.self.now c.further.self c.dial_destination.new.self c.args.sides (c.args.sides.source + 1) _ _ _ c.further.invariant.kept c.in_ok-dial_destination.ensures.board c.further.invariant.further c.in_ok-dial_destination.ensures.dials
       (λ count none. let more = c.further.invariant.more in absurd (omega (arith, count, more, none)))
       (λ count. behind_source c.args.sides (length c.further.self.held) (let more = c.further.invariant.more in omega (arith, count, more)));
@@ -65,3 +66,11 @@ returns-in_err-dial_destination-clause-decides g c =
 
 pub returns-in_err-dial_destination-clause-untried : goal.returns-in_err-dial_destination-clause-untried
 returns-in_err-dial_destination-clause-untried g c = untired_then _ _ _ c.further.invariant.untried c.dial_destination.ensures.untried
+
+pub returns-clause-many : goal.returns-clause-many
+returns-clause-many g c some =
+    let many = c.further.invariant.many in
+    let begun = c.further.invariant.some in
+    let most = c.further.invariant.most in
+    let end = c.further-test.false in
+    omega (arith, many, begun, most, end, some)

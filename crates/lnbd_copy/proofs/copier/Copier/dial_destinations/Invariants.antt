@@ -12,6 +12,7 @@ abbrev pub invariant-further : goal.invariant-further
 invariant-further g l = record {
   kept : l.self ≡ record l.fn.self { held = l.self.held; board = l.self.board };
   more : length l.fn.self.held ≤ length l.self.held;
+  many : length l.self.held + 1 ≡ length l.fn.self.held + l.connection;
   further : GoesFurther l.fn.self l.fn.sides (l.fn.sides.source + 1) l.fn.self.board l.fn.self.held (g.W.Wires.told l.fn.wires) l.self.board l.self.held (g.W.Wires.told l.wires);
   untried : TriesAtMost 0 (g.W.Wires.told l.fn.wires) (g.W.Wires.told l.wires);
   unpaused : Unpaused (g.W.Wires.told l.fn.wires) (g.W.Wires.told l.wires);

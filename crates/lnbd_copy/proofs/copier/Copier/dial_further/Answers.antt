@@ -217,3 +217,13 @@ returns-in_err-dial_sources-clause-paces g c start terms met same count paced = 
 pub returns-in_err-dial_destinations-clause-paces : goal.returns-in_err-dial_destinations-clause-paces
 returns-in_err-dial_destinations-clause-paces g c start terms met same count paced =
     pace_fewer 1 2 start _ (omega arith) (pace_untired 1 start _ _ (omega arith) (untired_then _ _ _ c.dial_sources.ensures.untried c.dial_destinations.ensures.untried) paced)
+
+pub returns-clause-many : goal.returns-clause-many
+returns-clause-many g c =
+    on_ok_weaker c.settle.result
+    (λ goes stand two some.
+    let same = goes.many (c.in_ok-dial_destinations.ensures.further.stand (c.in_ok-dial_sources.ensures.further.stand stand)) in
+    let first = c.in_ok-dial_sources.ensures.many two in
+    let second = c.in_ok-dial_destinations.ensures.many some in
+    omega (arith, same, first, second))
+    c.settle.ensures.goes

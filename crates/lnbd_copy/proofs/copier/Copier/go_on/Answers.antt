@@ -313,3 +313,6 @@ returns-in_err-check_well-clause-decides g c = handed_on _ c.from_residual-in_er
 
 pub returns-in_err-check_counts-clause-grounds : goal.returns-in_err-check_counts-clause-grounds
 returns-in_err-check_counts-clause-grounds g c = handed_on _ c.from_residual-in_err-check_counts.result _ c.from_residual-in_err-check_counts.ensures.1 (λ start on. none_grounded _ _ _ _ _ _ c.in_err-check_counts.ensures.free)
+
+pub take_turn-requires-clause-job : goal.take_turn-requires-clause-job
+take_turn-requires-clause-job g c = has_job c.requires.going.start _ _ c.requires.going.on

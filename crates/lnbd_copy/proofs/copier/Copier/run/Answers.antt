@@ -1,5 +1,5 @@
 use Rattle.std.proofs.lemmas.Result.{on_ok_weaker}
-use Rattle.lnbd_copy.proofs.EndLemmas.{grown_copies, told_part}
+use Rattle.lnbd_copy.proofs.EndLemmas.{grown_copies}
 use Rattle.lnbd_copy.proofs.MadeLemmas.{is_made}
 use Rattle.lnbd_copy.proofs.ConductLemmas.{conducts}
 use Rattle.lnbd_copy.proofs.copier.Copier.run.Goals as goal

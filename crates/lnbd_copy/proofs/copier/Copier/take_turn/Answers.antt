@@ -9,6 +9,7 @@ use Rattle.lnbd_copy.proofs.FullLemmas.{turned_unpaused, cut_unpaused}
 use Rattle.lnbd_conduct.specs.Changes.{Behaves}
 use Rattle.lnbd_copy.proofs.FaultLemmas.{cut_behaves, whole_behaves}
 use Rattle.lnbd_copy.proofs.GroundLemmas.{handed_on}
+use Rattle.lnbd_copy.proofs.ReadyLemmas.{may_go_still, turned_ready}
 use Rattle.lnbd_copy.proofs.TurnLemmas.{turned_goes}
 use Rattle.lnbd_copy.specs.Links.{LinksGo}
 use Rattle.lnbd_copy.proofs.LinkLemmas.{links_cut, links_turned}
@@ -19,7 +20,7 @@ use Rattle.lnbd_copy.proofs.TriedLemmas.{way_tries}
 use Rattle.lnbd_copy.proofs.VainLemmas.{turned_vain}
 use Rattle.lnbd_copy.proofs.DrivingLemmas.{drives_none, goes_drive, cut_drives}
 use Rattle.lnbd_conduct.specs.Decided.{IsDecided}
-use Rattle.lnbd_copy.specs.Deciding.{WasUntroubledAs}
+use Rattle.lnbd_copy.specs.Deciding.{AreAlive, WasUntroubledAs}
 use Rattle.lnbd_copy.proofs.DecidingLemmas.{way_calm}
 use Rattle.lnbd_copy.proofs.DrivenAsLemmas.{way_driven}
 use Rattle.lnbd_conduct.specs.Connects.{AreDrivenBy}
@@ -29,7 +30,7 @@ use Rattle.lnbd_copy.proofs.copier.Copier.take_turn.Goals as goal
 
 pub returns-clause-on : goal.returns-clause-on
 returns-clause-on g c start on =
-    after_turn _ start c.turn.new.board c.turn.new.handles (g.W.Wires.told c.args.wires.now) (g.W.Wires.told c.turn.new.wires) (turned_goes _ _ _ _ c.in_ok-moved.moved _ _ _ _ c.in_ok-moved.ensures.ok)
+    after_turn _ start c.turn.new.board c.turn.new.handles (g.W.Wires.told c.args.wires.now) (g.W.Wires.told c.turn.new.wires) (λ j. may_go_still j _ _ (turned_ready _ _ _ _ c.in_ok-moved.moved _ _ _ _ c.in_ok-moved.ensures.ok c.in_ok-moved.ensures.calm.alive)) (turned_goes _ _ _ _ c.in_ok-moved.moved _ _ _ _ c.in_ok-moved.ensures.ok)
     (subst (λ (s : Seen). IsOnItsWay start (g.W.Wires.told c.args.wires.now) s) (sym c.self.view_is) on)
 
 pub returns-clause-unpaused : goal.returns-clause-unpaused
@@ -49,14 +50,14 @@ returns-clause-links g c =
 pub returns-clause-fair : goal.returns-clause-fair
 returns-clause-fair g c start on two fair =
     subst (λ (s : Seen). Told start (g.W.Wires.told c.turn.new.wires) (Behaves s.options s.from s.to)) c.self.view_is
-    (whole_behaves _ c.turn.new.board c.turn.new.handles start (g.W.Wires.told c.args.wires.now) (g.W.Wires.told c.turn.new.wires) _ _ c.in_ok-moved.moved c.in_ok-moved.ensures.ok c.in_ok-check_calm.ensures.well
+    (whole_behaves _ c.turn.new.board c.turn.new.handles start (g.W.Wires.told c.args.wires.now) (g.W.Wires.told c.turn.new.wires) _ _ c.in_ok-moved.moved c.in_ok-moved.ensures.ok c.in_ok-check_well.ensures
     (subst (λ (s : Seen). IsOnItsWay start (g.W.Wires.told c.args.wires.now) s) (sym c.self.view_is) on) (subst (λ (s : Seen). s.from ≢ s.to) (sym c.self.view_is) two)
     (subst (λ (s : Seen). Told start (g.W.Wires.told c.args.wires.now) (Behaves s.options s.from s.to)) (sym c.self.view_is) fair))
 
 pub returns-in_err-moved-clause-fair : goal.returns-in_err-moved-clause-fair
 returns-in_err-moved-clause-fair g c start on two fair =
     subst (λ (s : Seen). Told start (g.W.Wires.told c.turn.new.wires) (Behaves s.options s.from s.to)) c.self.view_is
-    (cut_behaves _ c.turn.new.board c.turn.new.handles start (g.W.Wires.told c.args.wires.now) (g.W.Wires.told c.turn.new.wires) _ _ c.in_err-moved.ensures.cut c.in_ok-check_calm.ensures.well
+    (cut_behaves _ c.turn.new.board c.turn.new.handles start (g.W.Wires.told c.args.wires.now) (g.W.Wires.told c.turn.new.wires) _ _ c.in_err-moved.ensures.cut c.in_ok-check_well.ensures
     (subst (λ (s : Seen). IsOnItsWay start (g.W.Wires.told c.args.wires.now) s) (sym c.self.view_is) on) (subst (λ (s : Seen). s.from ≢ s.to) (sym c.self.view_is) two)
     (subst (λ (s : Seen). Told start (g.W.Wires.told c.args.wires.now) (Behaves s.options s.from s.to)) (sym c.self.view_is) fair))
 
@@ -81,8 +82,11 @@ returns-in_err-moved-clause-drives g c start on =
     subst (λ (s : Seen). Told start (g.W.Wires.told c.turn.new.wires) (AreDrivenBy s.options s.from s.to)) c.self.view_is
     (way_driven _ start _ _ (cut_drives _ _ _ _ _ _ _ _ c.in_err-moved.ensures.cut) (subst (λ (s : Seen). IsOnItsWay start (g.W.Wires.told c.args.wires.now) s) (sym c.self.view_is) on))
 
-pub returns-in_err-check_calm-clause-drives : goal.returns-in_err-check_calm-clause-drives
-returns-in_err-check_calm-clause-drives g c start on = way_driven c.args.self.now start _ _ (drives_none _ _ _) on
+pub returns-in_err-check_well-clause-drives : goal.returns-in_err-check_well-clause-drives
+returns-in_err-check_well-clause-drives g c start on = way_driven c.args.self.now start _ _ (drives_none _ _ _) on
+
+pub returns-in_err-check_parting-clause-drives : goal.returns-in_err-check_parting-clause-drives
+returns-in_err-check_parting-clause-drives g c start on = way_driven c.args.self.now start _ _ (drives_none _ _ _) on
 
 pub returns-in_err-moved-clause-grounds : goal.returns-in_err-moved-clause-grounds
 returns-in_err-moved-clause-grounds g c =
@@ -118,5 +122,11 @@ returns-in_err-moved-clause-once g c start on =
     let way = subst (λ (s : Seen). IsOnItsWay start (g.W.Wires.told c.args.wires.now) s) (sym c.self.view_is) on in
     cut_tires _ way.way _ _ start _ way.on _ _ _ _ _ way.stand c.in_err-moved.ensures.cut
 
-pub returns-in_err-check_calm-clause-once : goal.returns-in_err-check_calm-clause-once
-returns-in_err-check_calm-clause-once g c start on = tires_none 1 _
+pub returns-in_err-check_well-clause-once : goal.returns-in_err-check_well-clause-once
+returns-in_err-check_well-clause-once g c start on = tires_none 1 _
+
+pub returns-in_err-check_parting-clause-once : goal.returns-in_err-check_parting-clause-once
+returns-in_err-check_parting-clause-once g c start on = tires_none 1 _
+
+pub turn-requires-clause-calm : goal.turn-requires-clause-calm
+turn-requires-clause-calm g c = record { alive = subst (λ (s : Seen). AreAlive s.held) (sym c.self.view_is) c.in_ok-check_parting.ensures.alive; well = c.in_ok-check_well.ensures; fit = tt }

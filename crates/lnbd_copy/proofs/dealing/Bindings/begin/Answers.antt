@@ -1,14 +1,16 @@
 use Rattle.std.proofs.Common.{ℕ, ◌+◌, refl, ap, sym, ◌∙◌, arith}
+use Rattle.lnbd_board.specs.Files as board
 use Rattle.lnbd_copy.specs.Dealing.{Begins}
 use Rattle.lnbd_copy.proofs.DealingLemmas.{begins_none, begins_on, zeros_stay}
 use Rattle.lnbd_copy.proofs.MovingLemmas.{none_more}
 use Rattle.lnbd_copy.proofs.SpreadLemmas.{deals_none, deals_then}
 use Rattle.lnbd_copy.proofs.UnderWayLemmas.{begun_all, begun_count, fills_end, fills_stop, none_to_begin}
 use Rattle.lnbd_copy.proofs.LinkLemmas.{same_none, same_then}
+use Rattle.lnbd_copy.proofs.ReadyLemmas.{may_here, ready_none, ready_then}
 use Rattle.lnbd_copy.proofs.dealing.Bindings.begin.Goals as goal
 
 pub slices-init : goal.slices-init
-slices-init c = record { sides = refl; zeros = c.requires.zeros; windows = refl; count = sym c.count-under_way.ensures.count; all = refl; still = λ none. refl; most = λ few. few; least = omega (arith); grows = omega (arith); stops = λ none. refl; none = λ same. refl; links = same_none c.args.handles.now; begins = begins_none c.args.board.now.how c.args.self.now.sides c.args.windows.now c.args.windows.now c.args.board.now c.args.handles.now refl refl; dealt = deals_none c.args.limit c.args.self.now.sides c.args.self.now.bound c.args.board.now.rows }
+slices-init c = record { sides = refl; zeros = c.requires.zeros; windows = refl; count = sym c.count-under_way.ensures.count; all = refl; still = λ none. refl; most = λ few. few; least = omega (arith); grows = omega (arith); stops = λ none. refl; none = λ same. refl; links = same_none c.args.handles.now; ready = ready_none c.args.handles.now; begins = begins_none c.args.board.now.how c.args.self.now.sides c.args.windows.now c.args.windows.now c.args.board.now c.args.handles.now refl refl; dealt = deals_none c.args.limit c.args.self.now.sides c.args.self.now.bound c.args.board.now.rows }
 
 pub slices-preserved : goal.slices-preserved
 slices-preserved c =
@@ -30,6 +32,7 @@ slices-preserved c =
       stops = λ stop. absurd (none_to_begin _ c.args.limit c.args.windows.now c.slices.windows c.begin_next.new.windows c.args.board.now c.slices.board c.begin_next.new.board went c.slices.invariant.grows (let count = c.slices.invariant.count in let less = c.slices-test.true in omega (arith, count, less)) c.slices.invariant.all stop c.in_ok-begin_next.ensures.next);
       none = λ same. absurd (let least = c.slices.invariant.least in let one = c.in_ok-begin_next.ensures.begun went in omega (arith, least, one, same));
       links = same_then _ _ _ c.slices.invariant.links c.begin_next.ensures.links;
+      ready = ready_then _ _ _ c.slices.invariant.ready c.in_ok-begin_next.ensures.ready;
       begins = all;
       dealt = deals_then c.args.limit c.args.self.now.sides c.slices.self.sides c.args.self.now.bound c.slices.self.bound c.begin_next.new.self.bound c.args.board.now.rows c.slices.board.rows c.begin_next.new.board.rows c.slices.invariant.sides c.slices.invariant.dealt
           (c.in_ok-begin_next.ensures.dealt c.args.limit c.ranges.limit.fits (let count = c.slices.invariant.count in let less = c.slices-test.true in omega (arith, count, less)));
@@ -60,3 +63,7 @@ returns-then-not-branch-clause-none c stop = c.slices.invariant.stops stop
 
 pub returns-clause-none : goal.returns-clause-none
 returns-clause-none c stop = c.slices.invariant.stops stop
+
+pub begin_next-requires-clause-may : goal.begin_next-requires-clause-may
+begin_next-requires-clause-may c =
+    may_here c.args.self.now.sides c.slices.self.sides c.args.board.now.how c.slices.board.how c.args.handles.now c.slices.handles c.slices.invariant.sides (ap (λ (b : board.Seen). b.how) c.slices.invariant.begins.begun) c.slices.invariant.ready c.requires.may

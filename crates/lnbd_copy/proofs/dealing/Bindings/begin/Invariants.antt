@@ -3,6 +3,7 @@ use Rattle.lnbd_copy.specs.Dealt.{Deals}
 use Rattle.lnbd_copy.specs.Dealing.{Begins}
 use Rattle.lnbd_copy.specs.UnderWay.{unfinished}
 use Rattle.lnbd_copy.specs.Links.{HaveSameLinks}
+use Rattle.lnbd_copy.specs.Ready.{StaysReady}
 use Rattle.lnbd_copy.proofs.dealing.Bindings.begin.Given as goal
 
 abbrev pub invariant-slices : goal.invariant-slices
@@ -19,6 +20,7 @@ invariant-slices l = record {
   stops : (length l.fn.board.rows < l.limit → length l.fn.windows.plan.slices ≡ 0) → l.done ≡ 0;
   none : l.board.begun ≡ l.fn.board.begun → l.done ≡ 0;
   links : HaveSameLinks l.fn.handles l.handles;
+  ready : StaysReady l.fn.handles l.handles;
   begins : Begins l.fn.board.how l.fn.self.sides l.fn.windows l.windows l.fn.board l.board l.fn.handles l.handles;
   dealt : Deals l.limit l.fn.self.sides l.fn.self.bound l.self.bound l.fn.board.rows l.board.rows;
 }

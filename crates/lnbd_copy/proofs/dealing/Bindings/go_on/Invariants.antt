@@ -1,6 +1,7 @@
 use Rattle.std.proofs.Common.{◌≡◌, ◌≤◌, ℕ, [], length}
 use Rattle.lnbd_copy.specs.Dealt.{Deals}
 use Rattle.lnbd_copy.specs.Dealing.{HasGoneOn}
+use Rattle.lnbd_copy.specs.Ready.{StaysReady}
 use Rattle.lnbd_copy.specs.Way.{Keeps}
 use Rattle.lnbd_copy.specs.Links.{HaveSameLinks}
 use Rattle.lnbd_copy.proofs.dealing.Bindings.go_on.Given as goal
@@ -14,6 +15,10 @@ invariant-slices l = record {
   same : l.done ≡ 0 → l.board ≡ l.fn.board;
   none : l.fn.board.came ≡ [] → (l.done ≡ 0) × (l.board.came ≡ []);
   links : HaveSameLinks l.fn.handles l.handles;
+  ready : StaysReady l.fn.handles l.handles;
   keeps : Keeps l.fn.board.how l.fn.self.sides [] l.fn.board l.board l.fn.handles l.handles;
   dealt : (limit : ℕ) → Deals limit l.fn.self.sides l.fn.self.bound l.self.bound l.fn.board.rows l.board.rows;
 }
+
+abbrev pub decreases-slices : goal.decreases-slices
+decreases-slices l = length l.board.came

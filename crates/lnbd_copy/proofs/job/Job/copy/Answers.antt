@@ -66,3 +66,12 @@ returns-then-heard-clause-idle c nothing =
 
 pub returns-else-heard-clause-idle : goal.returns-else-heard-clause-idle
 returns-else-heard-clause-idle c nothing = (asks_no_more c.args.self.now c.go_on.new.self c.hear.new.self c.ask.new.self c.begin.new.self c.args.board.now c.go_on.new.board c.ask.new.board c.begin.new.board _ _ _ _ c.requires.copying c.go_on.ensures.job c.in_ok-went.ensures.none c.in_ok-went.ensures.same c.in_ok-heard.ensures.heard c.in_ok-asked.ensures.due c.in_ok-asked.ensures.asked c.in_ok-asked.ensures.asks c.in_ok-begun.ensures.fills c.in_ok-begun.ensures.none nothing).asked
+
+pub ask-requires-clause-may : goal.ask-requires-clause-may
+ask-requires-clause-may c = c.in_ok-heard.ensures.may c.go_on.new.handles c.in_ok-went.ensures.may
+
+pub returns-then-heard-clause-may : goal.returns-then-heard-clause-may
+returns-then-heard-clause-may c going = c.in_ok-begun.ensures.may
+
+pub returns-else-heard-clause-may : goal.returns-else-heard-clause-may
+returns-else-heard-clause-may c going = c.in_ok-begun.ensures.may

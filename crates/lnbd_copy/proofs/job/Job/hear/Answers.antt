@@ -6,7 +6,9 @@ use Rattle.lnbd_copy.specs.Job.{Acts, Seen}
 use Rattle.lnbd_copy.specs.Reached.{IsToldTo, told_heard}
 use Rattle.lnbd_copy.specs.Spared.{IsSpared, whole_heard}
 use Rattle.lnbd_copy.specs.Windows as windows
+use Rattle.lnbd_copy.specs.Ready.{MayAct}
 use Rattle.lnbd_copy.proofs.JobLemmas.{acts_heard}
+use Rattle.lnbd_copy.proofs.ReadyLemmas.{may_act_heard}
 use Rattle.lnbd_copy.proofs.job.Job.hear.Goals as goal
 
 pub returns-clause-acts : goal.returns-clause-acts
@@ -27,3 +29,9 @@ returns-clause-acts c = λ held.
     c.told.ensures c.in_ok-hear.ensures.heard in
     subst (λ (j : Seen). Acts j new c.args.board.now c.args.board.now held held) c.self.view_is
     (acts_heard was new c.hear.new.self c.args.board.now held (ap (λ (j : Seen). j.phase) c.self.view_is ∙ c.requires) (ap (λ (j : Seen). j.asked) c.self.view_is ∙ c.has_come.ensures.asked c.if-not-has_come.false) (c.has_come.ensures.mapped c.if-not-has_come.false) (sym c.is_short.ensures ∙ c.if-is_short.false) refl c.hear.ensures.cells c.hear.ensures.size c.hear.ensures.grain spares hears goes tells c.in_ok-hear.ensures.ahead c.in_ok-hear.ensures.inside)
+
+pub returns-clause-may : goal.returns-clause-may
+returns-clause-may c = λ held.
+    let was : Seen = record { terms = c.self.inside.terms; windows = c.self.inside.windows; asked = c.self.inside.asked; phase = c.self.inside.phase; bound = c.self.inside.bindings.bound } in
+    let new : Seen = record { terms = c.self.inside.terms; windows = c.hear.new.self; asked = false; phase = c.self.inside.phase; bound = c.self.inside.bindings.bound } in
+    subst (λ (j : Seen). MayAct j held → MayAct new held) c.self.view_is (may_act_heard was new held refl c.hear.ensures.unwanted)

@@ -1,6 +1,7 @@
 use Rattle.std.proofs.Common.{◌≤◌, ◌+◌, ◌-◌, ◌≡◌, refl, inr, ap, sym, subst, arith}
 use Rattle.lnbd_copy.specs.Windows.{Seen, IsPlanned}
 use Rattle.lnbd_plan.specs.Plans.{Planned}
+use Rattle.lnbd_copy.proofs.QueriedLemmas.{none_wanted}
 use Rattle.lnbd_copy.proofs.ReachLemmas.{heard_all}
 use Rattle.lnbd_copy.proofs.ToldLemmas.{told_none}
 use Rattle.lnbd_copy.proofs.WindowLemmas.{window_kept, window_planned}
@@ -30,3 +31,11 @@ returns-clause-heard c = λ heard all.
 
 pub returns-clause-reached : goal.returns-clause-reached
 returns-clause-reached c = λ reach none. told_none _ reach none
+
+pub returns-clause-unwanted : goal.returns-clause-unwanted
+returns-clause-unwanted c =
+    let ends = ap (λ (p : Planned). p.end) c.in_ok-window.ensures.ok in
+    let ahead = c.self.invariant.ahead in
+    let inside = c.self.invariant.inside in
+    let new : Seen = record { plan = c.window.new.self; size = c.self.inside.size; grain = c.self.inside.grain; at = c.self.inside.size; zero = c.self.inside.zero } in
+    λ some. none_wanted new c.self.inside.size c.self.inside.size (omega (arith, ends, ahead, inside)) (omega arith) (omega arith) some

@@ -2,7 +2,8 @@ use Rattle.std.proofs.Common.{take, OnOk, IfErr, sym, subst}
 use Rattle.lnbd_history.specs.Events.{Arrived}
 use Rattle.lnbd_handle.specs.Held.{held_in}
 use Rattle.lnbd_handle.specs.Runs.{Answered}
-use Rattle.lnbd_handle.specs.Seen.{machine_of}
+use Rattle.lnbd_handle.specs.Seen.{machine_of, state_of}
+use Rattle.lnbd_handle.proofs.AnnouncedLemmas.{said_none}
 use Rattle.lnbd_handle.proofs.ArriveLemmas.{arrives_partial, arrives_ok, arrives_short}
 use Rattle.lnbd_handle.proofs.HistoryLemmas.{arrived_adds, short_adds}
 use Rattle.lnbd_handle.specs.Room.{IsPlain}
@@ -15,7 +16,7 @@ invariant_of-self g c = (
   c.take_fresh.ensures.sound,
   arrives_partial g.K.Caller.steps c.self.inside.connection c.take_fresh.new.connection (held_in c.self.inside.pending) (held_in c.take_fresh.new.pending) c.args.bytes.now c.args.world.now c.take_fresh.new.world c.take_fresh.result
       c.take_fresh.ensures.arrives c.self.invariant.1,
-  places_arrived g.K.Caller.steps c.self.inside.connection c.take_fresh.new.connection c.self.inside.pending c.take_fresh.new.pending c.args.bytes.now c.args.world.now c.take_fresh.new.world c.take_fresh.result c.take_fresh.ensures.arrives c.take_fresh.ensures.kept c.take_fresh.ensures.room c.take_fresh.ensures.split c.take_fresh.ensures.front c.self.invariant.2,
+  places_arrived g.K.Caller.steps c.self.inside.connection c.take_fresh.new.connection c.self.inside.pending c.take_fresh.new.pending c.args.bytes.now c.args.world.now c.take_fresh.new.world c.take_fresh.result c.take_fresh.ensures.arrives c.take_fresh.ensures.kept c.take_fresh.ensures.room c.take_fresh.ensures.said c.self.invariant.2,
 )
 
 pub invariant_of-self-else-is_empty : goal.invariant_of-self-else-is_empty
@@ -23,8 +24,12 @@ invariant_of-self-else-is_empty g c = (
   c.take_behind.ensures.sound,
   arrives_partial g.K.Caller.steps c.self.inside.connection c.take_behind.new.connection (held_in c.self.inside.pending) (held_in c.take_behind.new.pending) c.args.bytes.now c.args.world.now c.take_behind.new.world c.take_behind.result
       c.take_behind.ensures.arrives c.self.invariant.1,
-  places_arrived g.K.Caller.steps c.self.inside.connection c.take_behind.new.connection c.self.inside.pending c.take_behind.new.pending c.args.bytes.now c.args.world.now c.take_behind.new.world c.take_behind.result c.take_behind.ensures.arrives c.take_behind.ensures.kept c.take_behind.ensures.room c.take_behind.ensures.split c.take_behind.ensures.front c.self.invariant.2,
+  places_arrived g.K.Caller.steps c.self.inside.connection c.take_behind.new.connection c.self.inside.pending c.take_behind.new.pending c.args.bytes.now c.args.world.now c.take_behind.new.world c.take_behind.result c.take_behind.ensures.arrives c.take_behind.ensures.kept c.take_behind.ensures.room c.take_behind.ensures.said c.self.invariant.2,
 )
+
+-- where nothing is held nothing is announced
+pub take_fresh-requires-clause-unannounced : goal.take_fresh-requires-clause-unannounced
+take_fresh-requires-clause-unannounced g c = said_none (state_of c.self.inside.connection) c.self.inside.pending c.self.invariant.2.kept c.self.invariant.2.said (c.is_empty.ensures.none c.if-is_empty.true)
 
 pub returns-then-is_empty-clause-ok : goal.returns-then-is_empty-clause-ok
 returns-then-is_empty-clause-ok g c =

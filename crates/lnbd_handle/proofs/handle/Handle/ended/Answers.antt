@@ -19,14 +19,14 @@ pub invariant_of-self-in-Disconnecting : goal.invariant_of-self-in-Disconnecting
 invariant_of-self-in-Disconnecting g c = (
   c.end_closing.ensures.sound,
   partial_none c.end_closing.new.connection (held_in c.clear-in-Disconnecting.new.self) c.clear-in-Disconnecting.ensures.empty,
-  places_ended g.K.Caller.steps (ended_closing (flying c.self.inside.connection.commands.rows)) c.self.inside.connection c.end_closing.new.connection c.self.inside.pending c.clear-in-Disconnecting.new.self c.args.world.now c.end_closing.new.world (closing_lasting (λ kind length flight. is_read kind ≡ true → length ≤ vec_len c.self.inside.pending.content) (flying c.self.inside.connection.commands.rows)) c.end_closing.ensures.acts c.clear-in-Disconnecting.ensures.kept c.clear-in-Disconnecting.ensures.empty c.clear-in-Disconnecting.ensures.room c.self.invariant.2,
+  places_ended g.K.Caller.steps (ended_closing (flying c.self.inside.connection.commands.rows)) c.self.inside.connection c.end_closing.new.connection c.self.inside.pending c.clear-in-Disconnecting.new.self c.args.world.now c.end_closing.new.world (closing_lasting (λ kind length flight. is_read kind ≡ true → length ≤ vec_len c.self.inside.pending.content) (flying c.self.inside.connection.commands.rows)) c.end_closing.ensures.acts c.clear-in-Disconnecting.ensures.kept c.clear-in-Disconnecting.ensures.empty c.clear-in-Disconnecting.ensures.unannounced c.clear-in-Disconnecting.ensures.room c.self.invariant.2,
 )
 
 pub invariant_of-self-in-Aborting : goal.invariant_of-self-in-Aborting
 invariant_of-self-in-Aborting g c = (
   c.end_closing-in-Aborting.ensures.sound,
   partial_none c.end_closing-in-Aborting.new.connection (held_in c.clear-in-Aborting.new.self) c.clear-in-Aborting.ensures.empty,
-  places_ended g.K.Caller.steps (ended_closing (flying c.self.inside.connection.commands.rows)) c.self.inside.connection c.end_closing-in-Aborting.new.connection c.self.inside.pending c.clear-in-Aborting.new.self c.args.world.now c.end_closing-in-Aborting.new.world (closing_lasting (λ kind length flight. is_read kind ≡ true → length ≤ vec_len c.self.inside.pending.content) (flying c.self.inside.connection.commands.rows)) c.end_closing-in-Aborting.ensures.acts c.clear-in-Aborting.ensures.kept c.clear-in-Aborting.ensures.empty c.clear-in-Aborting.ensures.room c.self.invariant.2,
+  places_ended g.K.Caller.steps (ended_closing (flying c.self.inside.connection.commands.rows)) c.self.inside.connection c.end_closing-in-Aborting.new.connection c.self.inside.pending c.clear-in-Aborting.new.self c.args.world.now c.end_closing-in-Aborting.new.world (closing_lasting (λ kind length flight. is_read kind ≡ true → length ≤ vec_len c.self.inside.pending.content) (flying c.self.inside.connection.commands.rows)) c.end_closing-in-Aborting.ensures.acts c.clear-in-Aborting.ensures.kept c.clear-in-Aborting.ensures.empty c.clear-in-Aborting.ensures.unannounced c.clear-in-Aborting.ensures.room c.self.invariant.2,
 )
 
 pub returns-in-Open-clause-answered : goal.returns-in-Open-clause-answered
@@ -84,5 +84,5 @@ pub invariant_of-self : goal.invariant_of-self
 invariant_of-self g c = (
   c.die.ensures.sound,
   partial_none c.die.new.connection (held_in c.clear.new.self) c.clear.ensures.empty,
-  places_ended g.K.Caller.steps (kill cause.Ended) c.self.inside.connection c.die.new.connection c.self.inside.pending c.clear.new.self c.args.world.now c.die.new.world (kill_lasting (λ kind length flight. is_read kind ≡ true → length ≤ vec_len c.self.inside.pending.content) cause.Ended) c.die.ensures.acts c.clear.ensures.kept c.clear.ensures.empty c.clear.ensures.room c.self.invariant.2,
+  places_ended g.K.Caller.steps (kill cause.Ended) c.self.inside.connection c.die.new.connection c.self.inside.pending c.clear.new.self c.args.world.now c.die.new.world (kill_lasting (λ kind length flight. is_read kind ≡ true → length ≤ vec_len c.self.inside.pending.content) cause.Ended) c.die.ensures.acts c.clear.ensures.kept c.clear.ensures.empty c.clear.ensures.unannounced c.clear.ensures.room c.self.invariant.2,
 )

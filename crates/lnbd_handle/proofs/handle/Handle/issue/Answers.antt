@@ -26,7 +26,7 @@ invariant_of-self-2 g c =
     let old = c.self.inside.connection in
     let pending = c.room_for.new.pending in
     let partial = subst (λ held. IsPartial (machine_of old held)) (sym c.room_for.ensures.held) c.self.invariant.1 in
-    let places = places_grown (state_of old) c.self.inside.pending pending c.room_for.ensures.grows c.room_for.ensures.head c.room_for.ensures.came c.room_for.ensures.kept c.self.invariant.2 in
+    let places = places_grown (state_of old) c.self.inside.pending pending c.room_for.ensures.grows c.room_for.ensures.head c.room_for.ensures.announced c.room_for.ensures.came c.room_for.ensures.kept c.self.invariant.2 in
     let room = ok_of c.room_for.result (sym c.if-is_err.ensures.value) c.room_for.ensures.ok in (
       c.issue.ensures.sound,
       elim c.match-issue.branch [
@@ -34,7 +34,7 @@ invariant_of-self-2 g c =
         | in-Err w ↦ same_partial old c.issue.new.connection (held_in pending) w.in-Err.ensures.err partial
       ],
       elim c.match-issue.branch [
-        | in-Ok w ↦ places_issued (command_of c.args.asked) (state_of old) (state_of c.issue.new.connection) pending w.in-Ok.ensures.ok (λ read. let long = c.requires.read read in let fits = room read in omega (arith, long, fits)) places
+        | in-Ok w ↦ places_issued (command_of c.args.asked) (state_of old) (state_of c.issue.new.connection) pending w.in-Ok.ensures.ok (λ read. let long = c.requires.read read in let fits = room read in omega (arith, long, fits)) partial places
         | in-Err w ↦ places_as (state_of old) (state_of c.issue.new.connection) pending w.in-Err.ensures.err places
       ],
     )
@@ -44,7 +44,7 @@ pub invariant_of-self-then-is_err : goal.invariant_of-self-then-is_err
 invariant_of-self-then-is_err g c = (
   c.self.invariant.0,
   subst (λ held. IsPartial (machine_of c.self.inside.connection held)) (sym c.room_for.ensures.held) c.self.invariant.1,
-  places_grown (state_of c.self.inside.connection) c.self.inside.pending c.room_for.new.pending c.room_for.ensures.grows c.room_for.ensures.head c.room_for.ensures.came c.room_for.ensures.kept c.self.invariant.2,
+  places_grown (state_of c.self.inside.connection) c.self.inside.pending c.room_for.new.pending c.room_for.ensures.grows c.room_for.ensures.head c.room_for.ensures.announced c.room_for.ensures.came c.room_for.ensures.kept c.self.invariant.2,
 )
 
 pub returns-in-Some-clause-faults : goal.returns-in-Some-clause-faults

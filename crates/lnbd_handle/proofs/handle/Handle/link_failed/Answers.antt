@@ -70,19 +70,19 @@ pub invariant_of-self : goal.invariant_of-self
 invariant_of-self g c = (
   c.die.ensures.sound,
   partial_none c.die.new.connection (held_in c.clear.new.self) c.clear.ensures.empty,
-  places_ended g.K.Caller.steps (kill cause.LinkFailed) c.self.inside.connection c.die.new.connection c.self.inside.pending c.clear.new.self c.args.world.now c.die.new.world (kill_lasting (λ kind length flight. is_read kind ≡ true → length ≤ vec_len c.self.inside.pending.content) cause.LinkFailed) c.die.ensures.acts c.clear.ensures.kept c.clear.ensures.empty c.clear.ensures.room c.self.invariant.2,
+  places_ended g.K.Caller.steps (kill cause.LinkFailed) c.self.inside.connection c.die.new.connection c.self.inside.pending c.clear.new.self c.args.world.now c.die.new.world (kill_lasting (λ kind length flight. is_read kind ≡ true → length ≤ vec_len c.self.inside.pending.content) cause.LinkFailed) c.die.ensures.acts c.clear.ensures.kept c.clear.ensures.empty c.clear.ensures.unannounced c.clear.ensures.room c.self.invariant.2,
 )
 
 pub invariant_of-self-in-Disconnecting : goal.invariant_of-self-in-Disconnecting
 invariant_of-self-in-Disconnecting g c = (
   c.die-in-Disconnecting.ensures.sound,
   partial_none c.die-in-Disconnecting.new.connection (held_in c.clear-in-Disconnecting.new.self) c.clear-in-Disconnecting.ensures.empty,
-  places_ended g.K.Caller.steps (kill cause.LinkFailed) c.self.inside.connection c.die-in-Disconnecting.new.connection c.self.inside.pending c.clear-in-Disconnecting.new.self c.args.world.now c.die-in-Disconnecting.new.world (kill_lasting (λ kind length flight. is_read kind ≡ true → length ≤ vec_len c.self.inside.pending.content) cause.LinkFailed) c.die-in-Disconnecting.ensures.acts c.clear-in-Disconnecting.ensures.kept c.clear-in-Disconnecting.ensures.empty c.clear-in-Disconnecting.ensures.room c.self.invariant.2,
+  places_ended g.K.Caller.steps (kill cause.LinkFailed) c.self.inside.connection c.die-in-Disconnecting.new.connection c.self.inside.pending c.clear-in-Disconnecting.new.self c.args.world.now c.die-in-Disconnecting.new.world (kill_lasting (λ kind length flight. is_read kind ≡ true → length ≤ vec_len c.self.inside.pending.content) cause.LinkFailed) c.die-in-Disconnecting.ensures.acts c.clear-in-Disconnecting.ensures.kept c.clear-in-Disconnecting.ensures.empty c.clear-in-Disconnecting.ensures.unannounced c.clear-in-Disconnecting.ensures.room c.self.invariant.2,
 )
 
 pub invariant_of-self-in-Aborting : goal.invariant_of-self-in-Aborting
 invariant_of-self-in-Aborting g c = (
   c.die-in-Aborting.ensures.sound,
   partial_none c.die-in-Aborting.new.connection (held_in c.clear-in-Aborting.new.self) c.clear-in-Aborting.ensures.empty,
-  places_ended g.K.Caller.steps (kill cause.LinkFailed) c.self.inside.connection c.die-in-Aborting.new.connection c.self.inside.pending c.clear-in-Aborting.new.self c.args.world.now c.die-in-Aborting.new.world (kill_lasting (λ kind length flight. is_read kind ≡ true → length ≤ vec_len c.self.inside.pending.content) cause.LinkFailed) c.die-in-Aborting.ensures.acts c.clear-in-Aborting.ensures.kept c.clear-in-Aborting.ensures.empty c.clear-in-Aborting.ensures.room c.self.invariant.2,
+  places_ended g.K.Caller.steps (kill cause.LinkFailed) c.self.inside.connection c.die-in-Aborting.new.connection c.self.inside.pending c.clear-in-Aborting.new.self c.args.world.now c.die-in-Aborting.new.world (kill_lasting (λ kind length flight. is_read kind ≡ true → length ≤ vec_len c.self.inside.pending.content) cause.LinkFailed) c.die-in-Aborting.ensures.acts c.clear-in-Aborting.ensures.kept c.clear-in-Aborting.ensures.empty c.clear-in-Aborting.ensures.unannounced c.clear-in-Aborting.ensures.room c.self.invariant.2,
 )

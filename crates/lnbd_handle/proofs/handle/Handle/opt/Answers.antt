@@ -19,7 +19,7 @@ invariant_of-self-2 g c =
     let opened = opt_open old.stage old.talk.phase (subst (λ m. state_now m.known ≡ state.OptMode) (sym (same_machine c.self.view_is)) c.in_ok-may_ask.ensures.ok.0) in (
       c.ask.ensures.sound,
       subst (λ s. IsPartial (record { known = s; pending = held })) (sym c.in_ok-ask.ensures.ok) (step_partial (Opt c.args.option) (machine_of old held) opened c.self.invariant.1),
-      places_asked c.args.option (state_of old) (state_of c.ask.new.connection) c.self.inside.pending c.in_ok-ask.ensures.ok c.self.invariant.2,
+      places_asked c.args.option (state_of old) (state_of c.ask.new.connection) c.self.inside.pending c.in_ok-ask.ensures.ok opened.1 c.self.invariant.2,
     )
 
 pub returns-clause-stands : goal.returns-clause-stands

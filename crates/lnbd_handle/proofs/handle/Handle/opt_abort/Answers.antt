@@ -14,7 +14,7 @@ pub invariant_of-self : goal.invariant_of-self
 invariant_of-self g c = (
   c.abort.ensures.sound,
   partial_none c.abort.new.connection (held_in c.clear.new.self) c.clear.ensures.empty,
-  places_cleared (asking (abort_part ∷ []) (record (state_of c.self.inside.connection) { stage = Aborting })) (state_of c.abort.new.connection) c.self.inside.pending c.clear.new.self c.abort.ensures.state c.clear.ensures.kept c.clear.ensures.empty c.clear.ensures.room c.self.invariant.2.fits c.self.invariant.2.ordered,
+  places_cleared (asking (abort_part ∷ []) (record (state_of c.self.inside.connection) { stage = Aborting })) (state_of c.abort.new.connection) c.self.inside.pending c.clear.new.self c.abort.ensures.state c.clear.ensures.kept c.clear.ensures.empty c.clear.ensures.unannounced c.clear.ensures.room c.self.invariant.2.fits c.self.invariant.2.ordered,
 )
 
 pub returns-in-OptMode-clause-stands : goal.returns-in-OptMode-clause-stands

@@ -19,7 +19,7 @@ returns g c =
       (
         refl,
         λ w.
-            lent_view seen p (record { head = p.head; content = with_items_from p.content p.came w; came = p.came }) w
+            lent_view seen p (record { head = p.head; announced = p.announced; content = with_items_from p.content p.came w; came = p.came }) w
             (ap (λ (d : List ℕ). p.head.items ++ d) (front_kept p.content.len p.came size xs w count fits))
             (room_written p.content.len p.came size xs w count fits)
             ∙ ap (λ (h : Handled g.row.K.Denot). with_place h w) c.self.view_is,

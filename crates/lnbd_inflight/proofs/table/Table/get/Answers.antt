@@ -10,27 +10,27 @@ use Rattle.lnbd_inflight.proofs.table.Table.get.Goals as goal
 pub returns-in_err-key : goal.returns-in_err-key
 returns-in_err-key g c =
     let a = c.self.inside in
-    rw (← c.self.view_is) (ap option_copied c.from_residual.ensures ∙ sym (value_at_kept a.spots (get nat_eq a.index) a.rows.items a.order.items (order_of a.done.items) c.self.invariant.placed c.args.cookie ∙ ap (row_of a.rows.items) (sym c.in_err-key.ensures.value)))
+    rw (← c.self.view_is) (ap option_copied c.from_residual.ensures ∙ sym (value_at_kept a.spots (get nat_eq a.index) a.rows.items a.order.items (order_of a.done.items) c.self.invariant.placed c.args.cookie ∙ ap (row_of a.rows.items) (sym c.find_key.ensures ∙ c.in_err-key.was)))
 
 pub index-requires : goal.index-requires
 index-requires g c =
-    let less = slot_within c.in_ok-key.field-0.now c.self.inside.rows.items (c.self.invariant.placed.filled c.args.cookie c.in_ok-key.field-0.now (sym c.in_ok-key.ensures.value)) in
+    let less = slot_within c.in_ok-key.key c.self.inside.rows.items (c.self.invariant.placed.filled c.args.cookie c.in_ok-key.key (sym c.find_key.ensures ∙ c.in_ok-key.was)) in
     omega (arith, c.self.inside.rows.ok.0)
 
 pub returns-in-Some : goal.returns-in-Some
 returns-in-Some g c =
     let a = c.self.inside in
-    let k = c.in_ok-key.field-0.now in
-    let less = slot_within k a.rows.items (c.self.invariant.placed.filled c.args.cookie k (sym c.in_ok-key.ensures.value)) in
+    let k = c.in_ok-key.key in
+    let less = slot_within k a.rows.items (c.self.invariant.placed.filled c.args.cookie k (sym c.find_key.ensures ∙ c.in_ok-key.was)) in
     let at = slot_at k c.index.result.now a.rows.items less c.index.ensures ∙ c.in-Some.is in
     rw (← c.self.view_is) (sym (value_at_kept a.spots (get nat_eq a.index) a.rows.items a.order.items (order_of a.done.items) c.self.invariant.placed c.args.cookie
-    ∙ ap (row_of a.rows.items) (sym c.in_ok-key.ensures.value) ∙ ap (option_map (λ (h : Held g.row.R.Denot). h.row)) at))
+    ∙ ap (row_of a.rows.items) (sym c.find_key.ensures ∙ c.in_ok-key.was) ∙ ap (option_map (λ (h : Held g.row.R.Denot). h.row)) at))
 
 pub returns-in-None : goal.returns-in-None
 returns-in-None g c =
     let a = c.self.inside in
-    let k = c.in_ok-key.field-0.now in
-    let less = slot_within k a.rows.items (c.self.invariant.placed.filled c.args.cookie k (sym c.in_ok-key.ensures.value)) in
+    let k = c.in_ok-key.key in
+    let less = slot_within k a.rows.items (c.self.invariant.placed.filled c.args.cookie k (sym c.find_key.ensures ∙ c.in_ok-key.was)) in
     let at = slot_at k c.index.result.now a.rows.items less c.index.ensures ∙ c.in-None.is in
     rw (← c.self.view_is) (sym (value_at_kept a.spots (get nat_eq a.index) a.rows.items a.order.items (order_of a.done.items) c.self.invariant.placed c.args.cookie
-    ∙ ap (row_of a.rows.items) (sym c.in_ok-key.ensures.value) ∙ ap (option_map (λ (h : Held g.row.R.Denot). h.row)) at))
+    ∙ ap (row_of a.rows.items) (sym c.find_key.ensures ∙ c.in_ok-key.was) ∙ ap (option_map (λ (h : Held g.row.R.Denot). h.row)) at))

@@ -1,0 +1,3 @@
+pub mod WayLemmas
+pub mod StepLemmas
+pub mod AlikeLemmas

@@ -1,0 +1,3 @@
+pub mod Way
+pub mod Steps
+pub mod Alike

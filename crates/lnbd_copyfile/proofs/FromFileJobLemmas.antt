@@ -1,0 +1,279 @@
+-- What a job of a copy from a file does keeps the copy on its way.
+use Rattle.std.proofs.Common.{◌≡◌, ◌≤◌, ◌+◌, ℕ, Bool, true, false, List, [], ◌++◌, Option, Some, None, refl, ap, sym, subst, ◌∙◌, arith, append_assoc, append-nil}
+use Rattle.std.proofs.lemmas.Bool.{false≢true}
+use Rattle.lnbd_link.specs.Call as wire
+use Rattle.lnbd_handle.specs.Issues.{flush_of}
+use Rattle.lnbd_model.specs.Kind.{is_write}
+use Rattle.lnbd_plan.specs.declared.grid.Slice.{Slice}
+use Rattle.lnbd_poll.specs.Held.{Held}
+use Rattle.lnbd_board.specs.declared.how.How.{How}
+use Rattle.lnbd_board.specs.declared.ticket.Ticket.{Ticket}
+use Rattle.lnbd_board.specs.declared.ticket.Ticket.TheVariants as ticket
+use Rattle.lnbd_board.specs.Files as board
+use Rattle.lnbd_board.specs.Requests.{Request, asking}
+use Rattle.lnbd_board.specs.Rows as rows
+use Rattle.lnbd_board.proofs.Turning.{flush_kept}
+use Rattle.lnbd_tracks.specs.Laws.{asked_by}
+use Rattle.lnbd_course.specs.Counted.{is_zero, up_to_end}
+use Rattle.lnbd_course.specs.Far.{FromFile}
+use Rattle.lnbd_course.specs.Laws.{AsksDestination}
+use Rattle.lnbd_course.specs.Taken.{without_buffer}
+use Rattle.lnbd_course.proofs.Counting.{bytes_beside, flushes_first}
+use Rattle.lnbd_conduct.specs.Slices.{cells_of}
+use Rattle.lnbd_copy.specs.Asked.{IsAsked}
+use Rattle.lnbd_copy.specs.Way.{Filed, Stand}
+use Rattle.lnbd_copy.specs.Windows as windows
+use Rattle.lnbd_copy.proofs.TurnLemmas.{asked_stand}
+use Rattle.lnbd_store.specs.Shelf.{Shelf}
+use Rattle.lnbd_touched.proofs.GrownLemmas.{rose_none, rose_then}
+use Rattle.lnbd_touched.proofs.TouchLemmas.{touches_none, touches_then}
+use Rattle.lnbd_connections.specs.Steps.{Parts}
+use Rattle.lnbd_connections.specs.Way.{IsUnderWay, Way, with_slices}
+use Rattle.lnbd_connections.proofs.WayLemmas.{way_asked}
+use Rattle.lnbd_copyfile.specs.declared.from_file_job.Phase.{Phase}
+use Rattle.lnbd_copyfile.specs.declared.from_file_job.Phase.TheVariants.{Copying, Flushing, Parting}
+use Rattle.lnbd_copyfile.specs.FromFileJob.{Acts, Concludes, IsJob, IsOver, Seen, nowhere}
+use Rattle.lnbd_copyfile.specs.Jobs.{AreOfOne}
+use Rattle.lnbd_copyfile.specs.Loading.{ToldMore}
+use Rattle.lnbd_copyfile.specs.Sending.{Sends}
+use Rattle.lnbd_copyfile.proofs.SendingLemmas.{told_none, told_then}
+
+-- One step after another.
+
+one_same : (way : Way) → AreOfOne way way
+one_same way = record { at = refl; size = refl; how = refl }
+
+one_then : (a b c : Way) → AreOfOne a b → AreOfOne b c → AreOfOne a c
+one_then a b c first second = record { at = second.at ∙ first.at; size = second.size ∙ first.size; how = second.how ∙ first.how }
+
+-- where nothing was read
+module _ (file : ℕ) (job job' : Seen) (now now' : board.Seen) (held held' : List (Held Ticket)) (shelf : Option Shelf) (given : ℕ) where
+  acts_unread : (Stand held → Stand held') → ((way : Way) → IsJob job way now → IsJob job' way now') →
+      ((read : List Request) (way : Way) (calls : List wire.Call) → IsJob job way now → IsUnderWay (FromFile read) way now calls held → IsUnderWay (FromFile read) way now' calls held') →
+      Acts file job job' now now' held held' shelf shelf given given
+  acts_unread stand keeps on = record {
+    stand = stand;
+    on = λ read way had. record {
+      way' = way;
+      read' = read;
+      one = one_same way;
+      job = keeps way had;
+      on = λ calls was. on read way calls had was;
+      touched = touches_none file (ToldMore read read) shelf (told_none read);
+      count = 0;
+      more = omega arith;
+      gave = rose_none given;
+    };
+  }
+
+pub acts_none : (file : ℕ) (job : Seen) (now : board.Seen) (held : List (Held Ticket)) (shelf : Option Shelf) (given : ℕ) → Acts file job job now now held held shelf shelf given given
+acts_none file job now held shelf given = acts_unread file job job now now held held shelf given (λ s. s) (λ way had. had) (λ read way calls had on. on)
+
+pub acts_then : (file : ℕ) (job job2 job3 : Seen) (now now2 now3 : board.Seen) (held held2 held3 : List (Held Ticket)) (a b c : Option Shelf) (given given2 given3 : ℕ) →
+    Acts file job job2 now now2 held held2 a b given given2 → Acts file job2 job3 now2 now3 held2 held3 b c given2 given3 → Acts file job job3 now now3 held held3 a c given given3
+acts_then file job job2 job3 now now2 now3 held held2 held3 a b c given given2 given3 first second = record {
+  stand = λ s. second.stand (first.stand s);
+  on = λ read way had.
+      let one = first.on read way had in
+      let two = second.on one.read' one.way' one.job in
+      record {
+        way' = two.way';
+        read' = two.read';
+        one = one_then way one.way' two.way' one.one two.one;
+        job = two.job;
+        on = λ calls on. two.on calls (one.on calls on);
+        touched = touches_then file (ToldMore read one.read') (ToldMore one.read' two.read') (ToldMore read two.read') a b c
+            (λ x y z f g. told_then read one.read' two.read' x y z f g) one.touched two.touched;
+        count = one.count + two.count;
+        more = (let f = one.more in let g = two.more in omega (arith, f, g));
+        gave = rose_then one.count two.count given given2 given3 one.gave two.gave;
+      };
+}
+
+-- Slices begin and go on.
+
+handed_planned : (p q : windows.Seen) (slices more : List Slice) → p.plan.slices ≡ more ++ q.plan.slices → q ≡ record p { plan = record p.plan { slices = q.plan.slices } } →
+    windows.IsPlanned p nowhere slices → windows.IsPlanned q nowhere (slices ++ more)
+handed_planned p q slices more handed others planned = subst (λ (w : windows.Seen). windows.IsPlanned w nowhere (slices ++ more)) (sym others) (record {
+  parts = planned.parts;
+  are = append_assoc slices more q.plan.slices ∙ ap (λ (l : List Slice). slices ++ l) (sym handed) ∙ planned.are;
+  end = planned.end;
+  within = planned.within;
+  told = planned.told;
+  under_way = planned.under_way;
+  whole = planned.whole;
+})
+
+still_copying : (phase : Phase) → phase ≡ Copying → phase ≡ Parting → ⊥
+still_copying phase copying parting = let e = sym copying ∙ parting in absurd (cc e)
+
+pub acts_sent : (file : ℕ) (job job' : Seen) (planned' : windows.Seen) (bound' : List ℕ) (now now' : board.Seen) (held held' : List (Held Ticket)) (a b : Option Shelf) (given given' : ℕ) →
+    job.phase ≡ Copying → job' ≡ record job { windows = planned'; bound = bound' } → Sends file job.windows planned' now now' held held' a b given given' →
+    Acts file job job' now now' held held' a b given given'
+acts_sent file job job' planned' bound' now now' held held' a b given given' copying is sends = subst (λ (j : Seen). Acts file job j now now' held held' a b given given') (sym is) (record {
+  stand = sends.stand;
+  on = λ read way had. let sent = sends.on read in record {
+    way' = with_slices sends.more way;
+    read' = sent.read';
+    one = record { at = refl; size = refl; how = refl };
+    job = record {
+      room = had.room;
+      size = had.size;
+      fits = had.fits;
+      how = had.how;
+      writes = sends.how ∙ had.writes;
+      cells = ap (λ (w : windows.Seen). w.plan.cells) sends.others ∙ had.cells;
+      planned = handed_planned job.windows planned' way.slices sends.more sends.handed sends.others had.planned;
+      whole = ap (λ (w : windows.Seen). w.plan.end) sends.others ∙ had.whole;
+      unasked = had.unasked;
+      unwanted = λ no. sends.flushing ∙ had.unwanted no;
+      unflushed = λ c. sends.flushing ∙ had.unflushed c;
+      over = λ other. absurd (other copying);
+      flushed = λ parts. absurd (still_copying job.phase copying parts);
+    };
+    on = λ calls on. sent.on way calls (had.how ∙ sym had.writes) on;
+    touched = sent.touched;
+    count = sent.count;
+    more = sent.bytes;
+    gave = sent.gave;
+  };
+})
+
+-- The end.
+
+parting_past : Parting ≡ Copying → ⊥
+parting_past e = cc
+
+flushing_past : Flushing ≡ Copying → ⊥
+flushing_past e = cc
+
+flushing_differs : Flushing ≡ Parting → ⊥
+flushing_differs e = cc
+
+-- Where all slices are over, the job goes to another phase.
+concluded : (job : Seen) (phase' : Phase) (now now' : board.Seen) (way : Way) → (phase' ≡ Copying → ⊥) → IsOver job now → now'.how ≡ now.how → now'.rows ≡ now.rows →
+    (job.terms.flush ≡ false → now'.flushing ≡ false) → (phase' ≡ Parting → job.terms.flush ≡ true → now'.flushed ≡ true) → IsJob job way now → IsJob (record job { phase = phase' }) way now'
+concluded job phase' now now' way past over how same unwanted flushed had = record {
+  room = had.room;
+  size = had.size;
+  fits = had.fits;
+  how = had.how;
+  writes = how ∙ had.writes;
+  cells = had.cells;
+  planned = had.planned;
+  whole = had.whole;
+  unasked = had.unasked;
+  unwanted = unwanted;
+  unflushed = λ c. absurd (past c);
+  over = λ other. record { planned = over.planned; handed = over.handed; rows = same ∙ over.rows };
+  flushed = flushed;
+}
+
+-- All connections are asked to part, where no flush is wanted,
+pub concludes_parting : (job job' : Seen) (now : board.Seen) (held held' : List (Held Ticket)) → job.terms.flush ≡ false → job' ≡ record job { phase = Parting } → IsOver job now →
+    Parts now held held' →
+    Concludes job job' now now held held'
+concludes_parting job job' now held held' unwanted is over parts = subst (λ (j : Seen). Concludes job j now now held held') (sym is) (record {
+  on = λ file shelf given. acts_unread file job (record job { phase = Parting }) now now held held' shelf given parts.stand
+      (λ way had. concluded job Parting now now way parting_past over refl refl had.unwanted (λ p wanted. absurd (false≢true (sym unwanted ∙ wanted))) had)
+      (λ read way calls had on. parts.on (FromFile read) way calls on);
+})
+
+-- and where it was answered.
+pub concludes_flushed : (job job' : Seen) (now : board.Seen) (held held' : List (Held Ticket)) → now.flushed ≡ true → job' ≡ record job { phase = Parting } → job.phase ≡ Flushing →
+    Parts now held held' →
+    Concludes job job' now now held held'
+concludes_flushed job job' now held held' answered is flushing parts = subst (λ (j : Seen). Concludes job j now now held held') (sym is) (record {
+  on = λ file shelf given. acts_unread file job (record job { phase = Parting }) now now held held' shelf given parts.stand
+      (λ way had. concluded job Parting now now way parting_past (had.over (λ e. flushing_past (sym flushing ∙ e))) refl refl had.unwanted (λ p wanted. answered) had)
+      (λ read way calls had on. parts.on (FromFile read) way calls on);
+})
+
+-- The export is asked to flush: the invariant stands with that.
+flush_asks : (how : How) (now now' : board.Seen) (slices : List Slice) → now' ≡ record now { flushing = true } → now.flushing ≡ false →
+    AsksDestination how (without_buffer (flush_of ticket.Flush 0)) slices (slices ++ []) now now'
+flush_asks how now now' slices is unflushed =
+    let command = without_buffer (flush_of ticket.Flush 0) in
+    record {
+      bytes = λ _. refl;
+      earlier = λ none. sym (ap (λ (b : board.Seen). b.error) is) ∙ none;
+      on = λ source destination link cookie stands.
+          subst (λ (more : List Slice). rows.Stands how more now'.rows source (asking link cookie ticket.Flush (asked_by command) destination)) (sym (append-nil slices))
+          (subst (λ (b : board.Seen). rows.Stands how slices b.rows source (asking link cookie ticket.Flush (asked_by command) destination)) (sym is)
+          ((flush_kept how now.rows source destination link cookie (asked_by command) refl refl).on slices stands));
+      counts = λ source destination link cookie k. record {
+        read = ap (λ (b : board.Seen). b.read) is ∙ k.read;
+        written = ap (λ (b : board.Seen). b.written) is ∙ k.written ∙ ap up_to_end (sym (bytes_beside is_write link cookie ticket.Flush (asked_by command) destination refl));
+        zeroed = ap (λ (b : board.Seen). b.zeroed) is ∙ k.zeroed ∙ ap up_to_end (sym (bytes_beside is_zero link cookie ticket.Flush (asked_by command) destination refl));
+        flushes = flushes_first now now' link cookie ticket.Flush (asked_by command) destination refl unflushed (ap (λ (b : board.Seen). b.flushing) is) k.flushes;
+      };
+      flushed = ap (λ (b : board.Seen). b.flushed) is;
+    }
+
+flush_on : (read : List Request) (way : Way) (now now' : board.Seen) (calls : List wire.Call) (held held' : List (Held Ticket)) (index : ℕ) → now' ≡ record now { flushing = true } →
+    now.flushing ≡ false →
+    IsAsked index (flush_of ticket.Flush 0) held held' → IsUnderWay (FromFile read) way now calls held → IsUnderWay (FromFile read) way now' calls held'
+flush_on read way now now' calls held held' index is unflushed asked on =
+    subst (λ (slices : List Slice). IsUnderWay (FromFile read) (record way { slices = slices }) now' calls held') (append-nil way.slices)
+    (way_asked (FromFile read) way now calls held on [] now' held' index (flush_of ticket.Flush 0) (asked.on on.seens on.at) (flush_asks way.how now now' way.slices is unflushed) refl
+    (record { told = ap (λ (b : board.Seen). b.told) is; mapped = ap (λ (b : board.Seen). b.mapped) is; short = ap (λ (b : board.Seen). b.short) is })
+    (let begun = ap (λ (b : board.Seen). b.begun) is in omega (arith, begun)))
+
+pub concludes_flushing : (job job' : Seen) (now now' : board.Seen) (held held' : List (Held Ticket)) (index : ℕ) → job.terms.flush ≡ true → job' ≡ record job { phase = Flushing } →
+    job.phase ≡ Copying → IsOver job now →
+    now' ≡ record now { flushing = true } → IsAsked index (flush_of ticket.Flush 0) held held' → Concludes job job' now now' held held'
+concludes_flushing job job' now now' held held' index wanted is copying over asks asked = subst (λ (j : Seen). Concludes job j now now' held held') (sym is) (record {
+  on = λ file shelf given. acts_unread file job (record job { phase = Flushing }) now now' held held' shelf given (asked_stand index (flush_of ticket.Flush 0) held held' asked)
+      (λ way had. concluded job Flushing now now' way flushing_past over (ap (λ (b : board.Seen). b.how) asks) (ap (λ (b : board.Seen). b.rows) asks) (λ no. absurd (false≢true (sym no ∙ wanted)))
+      (λ p. absurd (flushing_differs p)) had)
+      (λ read way calls had on. flush_on read way now now' calls held held' index asks (had.unflushed copying) asked on);
+})
+
+pub concludes_none : (job : Seen) (now : board.Seen) (held : List (Held Ticket)) → Concludes job job now now held held
+concludes_none job now held = record { on = λ file shelf given. acts_none file job now held shelf given }
+
+-- What was noted is forgotten.
+pub acts_forgotten : (file : ℕ) (job job' : Seen) (now now' : board.Seen) (held held2 held3 : List (Held Ticket)) (a b : Option Shelf) (given given' : ℕ) →
+    Acts file job job' now now' held held2 a b given given' → Parts now' held2 held3 → Acts file job job' now now' held held3 a b given given'
+acts_forgotten file job job' now now' held held2 held3 a b given given' acts forgets =
+    acts_then file job job' job' now now' now' held held2 held3 a b b given given' given' acts
+    (acts_unread file job' job' now' now' held2 held3 b given' forgets.stand (λ way had. had) (λ read way calls had on. forgets.on (FromFile read) way calls on))
+
+-- A job begins.
+pub job_begins : (job : Seen) (way : Way) (now : board.Seen) (room : ℕ) → job.phase ≡ Copying → job.windows.plan.cells ≡ cells_of job.terms → job.windows.plan.end ≡ job.terms.size →
+    ((zero : ℕ → Bool) → windows.IsPlanned job.windows zero []) → way.size ≡ Some room → job.terms.size ≤ room → way.how ≡ job.terms.how → now.how ≡ job.terms.how → way.slices ≡ [] →
+    way.asked ≡ None →
+    now.flushing ≡ false → IsJob job way now
+job_begins job way now room copying cells whole planned size fits how writes none unasked unflushed = record {
+  room = room;
+  size = size;
+  fits = fits;
+  how = how;
+  writes = writes;
+  cells = cells;
+  planned = subst (λ (l : List Slice). windows.IsPlanned job.windows nowhere l) (sym none) (planned nowhere);
+  whole = whole;
+  unasked = unasked;
+  unwanted = λ no. unflushed;
+  unflushed = λ c. unflushed;
+  over = λ other. absurd (other copying);
+  flushed = λ parts. absurd (still_copying job.phase copying parts);
+}
+
+-- What callbacks are told leaves a job as it is.
+pub job_filed : (job : Seen) (way : Way) (now now' : board.Seen) → Filed now now' → IsJob job way now → IsJob job way now'
+job_filed job way now now' filed had = record {
+  room = had.room;
+  size = had.size;
+  fits = had.fits;
+  how = had.how;
+  writes = filed.how ∙ had.writes;
+  cells = had.cells;
+  planned = had.planned;
+  whole = had.whole;
+  unasked = had.unasked;
+  unwanted = λ no. filed.flushing ∙ had.unwanted no;
+  unflushed = λ c. filed.flushing ∙ had.unflushed c;
+  over = λ other. let over = had.over other in record { planned = over.planned; handed = over.handed; rows = filed.none over.rows };
+  flushed = λ parts wanted. filed.flushed (had.flushed parts wanted);
+}

@@ -1,0 +1,11 @@
+use Rattle.std.proofs.Common.{sym, ◌∙◌}
+use Rattle.lnbd_copyfile.proofs.FromFileJobLemmas.{concludes_flushed, concludes_none}
+use Rattle.lnbd_copyfile.proofs.from_file_job.FromFileJob.flushed.Goals as goal
+
+pub returns-then-not-is_flushed-clause-concludes : goal.returns-then-not-is_flushed-clause-concludes
+returns-then-not-is_flushed-clause-concludes c = concludes_none c.args.self.now c.args.board.now c.args.handles.now
+
+pub returns-clause-concludes : goal.returns-clause-concludes
+returns-clause-concludes c =
+    concludes_flushed c.args.self.now c.leave.new.self c.args.board.now c.args.handles.now c.leave.new.handles (sym c.is_flushed.ensures ∙ c.if-not-is_flushed.false) c.leave.ensures.others
+    c.requires.flushing (c.leave.ensures.parts c.args.board.now)

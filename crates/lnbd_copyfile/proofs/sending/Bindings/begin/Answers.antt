@@ -1,0 +1,51 @@
+use Rattle.std.proofs.Common.{[], refl, ◌∙◌, arith}
+use Rattle.lnbd_touched.proofs.GrownLemmas.{grew_both, grew_none}
+use Rattle.lnbd_copyfile.specs.OneFile.{BreaksReading, Reads}
+use Rattle.lnbd_copyfile.proofs.OneFileLemmas.{breaks_reading_behind, reads_on}
+use Rattle.lnbd_copyfile.proofs.SendingLemmas.{begins_none, begins_short, begins_then, zeros_stay}
+use Rattle.lnbd_copyfile.proofs.sending.Bindings.begin.Goals as goal
+
+pub slices-init : goal.slices-init
+slices-init g c = record {
+  zeros = c.requires.zeros;
+  windows = refl;
+  begins = begins_none c.args.source.file c.args.windows.now c.args.board.now _ _;
+  reads = grew_none _ (Reads c.args.source.file) tt;
+  later = omega arith;
+  taken = refl;
+}
+
+pub slices-preserved : goal.slices-preserved
+slices-preserved g c =
+    let inv = c.slices.invariant in
+    let next = c.in-Ok-true.ensures in
+    let all = begins_then c.args.source.file c.args.windows.now c.slices.windows c.begin_next.new.windows c.args.board.now c.slices.board c.begin_next.new.board _ _ _ _ _ _ inv.begins next.begins in
+    record {
+      zeros = zeros_stay c.args.source.file c.args.windows.now c.begin_next.new.windows c.args.board.now c.begin_next.new.board _ _ _ _ c.requires.zeros all;
+      windows = (all.on []).others;
+      begins = all;
+      reads = grew_both _ _ _ (Reads c.args.source.file) (Reads c.args.source.file) (Reads c.args.source.file) (λ xs ys p q. reads_on c.args.source.file xs ys p q) inv.reads next.reads;
+      later = (let f = inv.later in let h = c.begin_next.ensures.later in omega (arith, f, h));
+      taken = c.begin_next.ensures.taken ∙ inv.taken;
+    }
+
+pub returns-in-Ok-false-clause-begins : goal.returns-in-Ok-false-clause-begins
+returns-in-Ok-false-clause-begins g c =
+    begins_then c.args.source.file c.args.windows.now c.slices.windows c.begin_next.new.windows c.args.board.now c.slices.board c.begin_next.new.board _ _ _ _ _ _ c.slices.invariant.begins
+    c.in-Ok-false.ensures.begins
+
+pub returns-in-Ok-false-clause-reads : goal.returns-in-Ok-false-clause-reads
+returns-in-Ok-false-clause-reads g c =
+    grew_both _ _ _ (Reads c.args.source.file) (Reads c.args.source.file) (Reads c.args.source.file) (λ xs ys p q. reads_on c.args.source.file xs ys p q) c.slices.invariant.reads
+    c.in-Ok-false.ensures.reads
+
+pub returns-in-Err-clause-breaks : goal.returns-in-Err-clause-breaks
+returns-in-Err-clause-breaks g c =
+    let why = c.in-Err.why in
+    let source = c.args.source in
+    grew_both _ _ _ (Reads source.file) (BreaksReading source.file source.size why) (BreaksReading source.file source.size why)
+    (λ xs ys p q. breaks_reading_behind source.file source.size why xs ys p q) c.slices.invariant.reads c.in-Err.ensures.breaks
+
+pub returns-in-Err-clause-short : goal.returns-in-Err-clause-short
+returns-in-Err-clause-short g c = λ changed.
+    begins_short c.args.source.file c.args.source.size c.args.windows.now c.slices.windows c.args.board.now c.slices.board _ _ _ _ _ c.slices.invariant.begins (c.in-Err.ensures.short changed)

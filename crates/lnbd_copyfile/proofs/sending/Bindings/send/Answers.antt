@@ -1,0 +1,19 @@
+use Rattle.std.proofs.Common.{not, ap, sym, ◌∙◌}
+use Rattle.lnbd_board.specs.declared.how.How.{How}
+use Rattle.lnbd_copyfile.proofs.SendingLemmas.{passes_how, passes_sent}
+use Rattle.lnbd_copyfile.proofs.sending.Bindings.send.Goals as goal
+
+pub begin-requires : goal.begin-requires
+begin-requires g c = record {
+  zeros = c.requires.zeros ∙ sym (ap (λ (w : How). not w.skip) (passes_how c.args.board.now c.go_on.new.board c.args.handles.now c.go_on.new.handles c.args.windows.now c.in-Ok.ensures));
+}
+
+pub returns-then-begun-clause-sends : goal.returns-then-begun-clause-sends
+returns-then-begun-clause-sends g c =
+    passes_sent c.args.source.file c.args.windows.now c.begin.new.windows c.args.board.now c.go_on.new.board c.begin.new.board c.go_on-2.new.board c.args.handles.now c.go_on.new.handles
+    c.go_on-2.new.handles _ _ _ _ c.in-Ok.ensures c.in-Ok-begin.ensures.begins c.in-Ok-go_on.ensures
+
+pub returns-else-begun-clause-sends : goal.returns-else-begun-clause-sends
+returns-else-begun-clause-sends g c =
+    passes_sent c.args.source.file c.args.windows.now c.begin.new.windows c.args.board.now c.go_on.new.board c.begin.new.board c.go_on-2.new.board c.args.handles.now c.go_on.new.handles
+    c.go_on-2.new.handles _ _ _ _ c.in-Ok.ensures c.in-Ok-begin.ensures.begins c.in-Ok-go_on.ensures

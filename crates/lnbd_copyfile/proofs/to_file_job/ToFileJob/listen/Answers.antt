@@ -1,0 +1,10 @@
+use Rattle.lnbd_copyfile.proofs.ToFileJobLemmas.{acts_then}
+use Rattle.lnbd_copyfile.proofs.to_file_job.ToFileJob.listen.Goals as goal
+
+pub returns-then-heard-clause-acts : goal.returns-then-heard-clause-acts
+returns-then-heard-clause-acts c = λ file shelf taken.
+    acts_then file _ _ _ _ _ _ _ _ _ _ _ _ _ _ _ (c.in_ok-heard.ensures.acts file c.args.handles.now shelf taken) (c.in_ok-asked.ensures.acts file shelf taken)
+
+pub returns-else-heard-clause-acts : goal.returns-else-heard-clause-acts
+returns-else-heard-clause-acts c = λ file shelf taken.
+    acts_then file _ _ _ _ _ _ _ _ _ _ _ _ _ _ _ (c.in_ok-heard.ensures.acts file c.args.handles.now shelf taken) (c.in_ok-asked.ensures.acts file shelf taken)

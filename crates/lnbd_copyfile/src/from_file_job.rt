@@ -1,0 +1,276 @@
+//! What is under way in a copy from a file to an export whose connections stand: slices begin and go on, and in the end the export is flushed
+//! and all connections part. How bytes move is not known here.
+
+ghost use Rattle.std.specs.Prelude.{◌≡◌, ◌≢◌, ◌<◌, ◌≤◌, ◌^◌, ℕ, Err, IfErr, IfOk, None, OnOk, Some, [], false, true};
+ghost use Rattle.lnbd_link.specs.Count.{Rises};
+ghost use Rattle.lnbd_board.specs.Files.{Seen as Kept};
+ghost use Rattle.lnbd_connections.specs.Steps.{Parts};
+ghost use Rattle.lnbd_connections.specs.Way.{Way};
+ghost use Rattle.lnbd_touched.specs.Grown.{Grew};
+ghost use Rattle.lnbd_touched.specs.Parts.{IsShort};
+ghost use Rattle.lnbd_touched.specs.Touches.{Touches};
+ghost use Rattle.lnbd_conduct.specs.Slices.{cells_of};
+ghost use Rattle.lnbd_copyfile.specs.Causes.{IsChanged};
+ghost use Rattle.lnbd_copyfile.specs.OneFile.{BreaksReading, Reads};
+
+use crate::between::Source;
+use crate::fault::Stop;
+use crate::forgetting::forget;
+use crate::sending::Bindings;
+use lnbd_board::{Board, Ticket};
+use lnbd_conduct::Terms;
+use lnbd_connections::{ask_flush, part};
+use lnbd_copy::Windows;
+use lnbd_model::NoMemory;
+use lnbd_poll::Handles;
+use lnbd_store::Store;
+use std::alloc::Global;
+use std::marker::Model;
+
+/// The connection that is asked to flush.
+const FIRST: usize = 0;
+
+/// What a copy is at.
+#[derive(Clone, Copy, Debug, PartialEq, Eq)]
+enum Phase {
+    /// Slices are copied.
+    Copying,
+    /// All are over, and the export is flushed.
+    Flushing,
+    /// The connections part.
+    Parting,
+}
+
+/// What is under way.
+#[derive(Drop)]
+pub(crate) struct FromFileJob {
+    terms: Terms,
+    windows: Windows,
+    bindings: Bindings,
+    phase: Phase,
+}
+
+impl Model for FromFileJob {
+    ghost use Rattle.lnbd_copyfile.specs.FromFileJob.{IsSettled, Seen};
+
+    ghost Value = { Seen };
+
+    ghost view = { λ j. record { terms = j.terms; windows = j.windows; phase = j.phase; bound = j.bindings } };
+
+    ghost invariant = { λ j. IsSettled j.terms j.windows };
+}
+
+impl FromFileJob {
+    ghost use Rattle.lnbd_copyfile.specs.declared.from_file_job.Phase.TheVariants as phase;
+    ghost use Rattle.lnbd_copyfile.specs.FromFileJob.{Acts, Concludes, IsJob, IsOver};
+
+    /// No slice is begun yet. All of the file is planned as bytes.
+    pub(crate) fn new(alloc: Global, terms: Terms) -> Result<FromFileJob, NoMemory>
+        requires cells { (0 < terms.cell) × (0 < terms.zero_cell) × (0 < terms.grain) }
+        requires size { terms.size ≤ 2 ^ 63 }
+        ensures terms { IfOk result (λ job. job.terms ≡ terms) }
+        ensures begins { IfOk result (λ job. (way : Way) (now : Kept) (room : ℕ) → way.size ≡ Some room → terms.size ≤ room → way.how ≡ terms.how → now.how ≡ terms.how → way.slices ≡ [] →
+            way.asked ≡ None → now.flushing ≡ false → IsJob job way now) }
+    {
+        let bindings = Bindings::new(alloc, terms.sides.destination)?;
+        let mut windows = Windows::new(alloc, terms);
+        windows.plan_rest()?;
+        Ok(FromFileJob {
+            terms,
+            windows,
+            bindings,
+            phase: Phase::Copying,
+        })
+    }
+
+    /// The file's size in bytes.
+    pub(crate) fn size(&self) -> u64
+        ensures { result ≡ self.now.terms.size }
+    {
+        self.terms.size
+    }
+
+    /// Whether the connections part.
+    pub(crate) fn is_parting(&self) -> bool
+        ensures { result ≡ true → self.now.phase ≡ phase.Parting }
+    {
+        matches!(self.phase, Phase::Parting)
+    }
+
+    /// Asks for whatever can be asked for now, and reads what begins. Whether anything was, or the copy went on in another way: what the connections
+    /// noted meanwhile is then forgotten.
+    ///
+    /// On a fault some requests may have been made, and the copy is to end.
+    pub(crate) fn act<S: Store>(
+        &mut self,
+        alloc: Global,
+        handles: &mut Handles<Ticket>,
+        board: &mut Board,
+        store: &mut S,
+        file: u32,
+    ) -> Result<bool, Stop>
+        requires how { board.old.how ≡ self.old.terms.how }
+        ensures acts { OnOk result (Acts file self.old self.new board.old board.new handles.old handles.new (S.shelf store.old) (S.shelf store.new) (S.given store.old) (S.given store.new)) }
+        ensures terms { self.new.terms ≡ self.old.terms }
+        ensures how { OnOk result (board.new.how ≡ board.old.how) }
+        ensures reads { OnOk result (Grew (S.told store.old) (S.told store.new) (Reads file)) }
+        ensures breaks { IfErr result (λ why. Grew (S.told store.old) (S.told store.new) (BreaksReading file self.old.terms.size why)) }
+        ensures short { IfErr result (λ why. IsChanged why → Touches file (IsShort self.old.terms.size) (S.shelf store.old) (S.shelf store.new)) }
+        ensures failed { result ≡ Err Stop.Failed → Rises 1 (S.faults store.old) (S.faults store.new) }
+        ensures later { S.faults store.old ≤ S.faults store.new }
+        ensures taken { S.taken store.new ≡ S.taken store.old }
+    {
+        match self.proceed(alloc, handles, board, store, file) {
+            Ok(true) => {
+                forget(handles);
+                Ok(true)
+            }
+            Ok(false) => Ok(false),
+            Err(why) => Err(why),
+        }
+    }
+
+    /// Slices are copied, the flush is waited for, or nothing is asked any more. Whether anything was asked, or the copy went on in another way.
+    fn proceed<S: Store>(
+        &mut self,
+        alloc: Global,
+        handles: &mut Handles<Ticket>,
+        board: &mut Board,
+        store: &mut S,
+        file: u32,
+    ) -> Result<bool, Stop>
+        requires how { board.old.how ≡ self.old.terms.how }
+        ensures acts { OnOk result (Acts file self.old self.new board.old board.new handles.old handles.new (S.shelf store.old) (S.shelf store.new) (S.given store.old) (S.given store.new)) }
+        ensures terms { self.new.terms ≡ self.old.terms }
+        ensures how { OnOk result (board.new.how ≡ board.old.how) }
+        ensures reads { OnOk result (Grew (S.told store.old) (S.told store.new) (Reads file)) }
+        ensures breaks { IfErr result (λ why. Grew (S.told store.old) (S.told store.new) (BreaksReading file self.old.terms.size why)) }
+        ensures short { IfErr result (λ why. IsChanged why → Touches file (IsShort self.old.terms.size) (S.shelf store.old) (S.shelf store.new)) }
+        ensures failed { result ≡ Err Stop.Failed → Rises 1 (S.faults store.old) (S.faults store.new) }
+        ensures later { S.faults store.old ≤ S.faults store.new }
+        ensures taken { S.taken store.new ≡ S.taken store.old }
+    {
+        match self.phase {
+            Phase::Copying => self.copy(alloc, handles, board, store, file),
+            Phase::Flushing => Ok(self.flushed(handles, board)),
+            Phase::Parting => Ok(false),
+        }
+    }
+
+    /// Slices go on and begin; once all are over, the flush is asked for, or the end.
+    fn copy<S: Store>(
+        &mut self,
+        alloc: Global,
+        handles: &mut Handles<Ticket>,
+        board: &mut Board,
+        store: &mut S,
+        file: u32,
+    ) -> Result<bool, Stop>
+        requires how { board.old.how ≡ self.old.terms.how }
+        requires copying { self.old.phase ≡ phase.Copying }
+        ensures acts { OnOk result (Acts file self.old self.new board.old board.new handles.old handles.new (S.shelf store.old) (S.shelf store.new) (S.given store.old) (S.given store.new)) }
+        ensures terms { self.new.terms ≡ self.old.terms }
+        ensures how { OnOk result (board.new.how ≡ board.old.how) }
+        ensures reads { OnOk result (Grew (S.told store.old) (S.told store.new) (Reads file)) }
+        ensures breaks { IfErr result (λ why. Grew (S.told store.old) (S.told store.new) (BreaksReading file self.old.terms.size why)) }
+        ensures short { IfErr result (λ why. IsChanged why → Touches file (IsShort self.old.terms.size) (S.shelf store.old) (S.shelf store.new)) }
+        ensures failed { result ≡ Err Stop.Failed → Rises 1 (S.faults store.old) (S.faults store.new) }
+        ensures later { S.faults store.old ≤ S.faults store.new }
+        ensures taken { S.taken store.new ≡ S.taken store.old }
+    {
+        let sent = match self.send(alloc, handles, board, store, file) {
+            Ok(sent) => sent,
+            Err(why) => return Err(why),
+        };
+        if !self.is_over(board) {
+            return Ok(sent);
+        }
+        match self.conclude(handles, board) {
+            Ok(()) => Ok(true),
+            Err(_) => Err(Stop::NoMemory),
+        }
+    }
+
+    /// Slices go on and begin. Whether there were any.
+    fn send<S: Store>(
+        &mut self,
+        alloc: Global,
+        handles: &mut Handles<Ticket>,
+        board: &mut Board,
+        store: &mut S,
+        file: u32,
+    ) -> Result<bool, Stop>
+        requires how { board.old.how ≡ self.old.terms.how }
+        requires copying { self.old.phase ≡ phase.Copying }
+        ensures acts { OnOk result (Acts file self.old self.new board.old board.new handles.old handles.new (S.shelf store.old) (S.shelf store.new) (S.given store.old) (S.given store.new)) }
+        ensures terms { self.new.terms ≡ self.old.terms }
+        ensures phase { self.new.phase ≡ self.old.phase }
+        ensures how { OnOk result (board.new.how ≡ board.old.how) }
+        ensures reads { OnOk result (Grew (S.told store.old) (S.told store.new) (Reads file)) }
+        ensures breaks { IfErr result (λ why. Grew (S.told store.old) (S.told store.new) (BreaksReading file self.old.terms.size why)) }
+        ensures short { IfErr result (λ why. IsChanged why → Touches file (IsShort self.old.terms.size) (S.shelf store.old) (S.shelf store.new)) }
+        ensures failed { result ≡ Err Stop.Failed → Rises 1 (S.faults store.old) (S.faults store.new) }
+        ensures later { S.faults store.old ≤ S.faults store.new }
+        ensures taken { S.taken store.new ≡ S.taken store.old }
+    {
+        let source = Source {
+            file,
+            size: self.terms.size,
+        };
+        self.bindings.send(
+            alloc,
+            handles,
+            board,
+            store,
+            source,
+            &mut self.windows,
+            self.terms.limit,
+        )
+    }
+
+    /// Whether all slices of the file are over.
+    fn is_over(&self, board: &Board) -> bool
+        ensures { result ≡ true → IsOver self.now board.now }
+    {
+        self.windows.are_planned() && self.windows.left() == 0 && board.count() == 0
+    }
+
+    /// Asks for the flush, where it is wanted, or else for the end.
+    fn conclude(&mut self, handles: &mut Handles<Ticket>, board: &mut Board) -> Result<(), NoMemory>
+        requires copying { self.old.phase ≡ phase.Copying }
+        requires over { IsOver self.old board.old }
+        ensures concludes { OnOk result (Concludes self.old self.new board.old board.new handles.old handles.new) }
+        ensures terms { self.new.terms ≡ self.old.terms }
+        ensures how { OnOk result (board.new.how ≡ board.old.how) }
+    {
+        if self.terms.flush {
+            ask_flush(handles, board, FIRST)?;
+            self.phase = Phase::Flushing;
+            return Ok(());
+        }
+        self.leave(handles);
+        Ok(())
+    }
+
+    /// Asks for the end, where the flush was answered. Whether it was.
+    fn flushed(&mut self, handles: &mut Handles<Ticket>, board: &Board) -> bool
+        requires flushing { self.old.phase ≡ phase.Flushing }
+        ensures concludes { Concludes self.old self.new board.now board.now handles.old handles.new }
+        ensures terms { self.new.terms ≡ self.old.terms }
+    {
+        if !board.is_flushed() {
+            return false;
+        }
+        self.leave(handles);
+        true
+    }
+
+    /// Asks for the end of all connections.
+    fn leave(&mut self, handles: &mut Handles<Ticket>)
+        ensures parts { (now : Kept) → Parts now handles.old handles.new }
+        ensures others { self.new ≡ record self.old { phase = phase.Parting } }
+    {
+        part(handles);
+        self.phase = Phase::Parting;
+    }
+}
