@@ -11,3 +11,4 @@ mod ServeLemmas
 mod ServingLemmas
 mod ToolLemmas
 pub mod TrialLemmas
+mod FilingLemmas

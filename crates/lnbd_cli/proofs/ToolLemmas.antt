@@ -1,10 +1,12 @@
 -- What a run did is what its words asked.
 use Rattle.std.proofs.Common.{◌≡◌, ◌≢◌, ◌≤◌, ◌∷◌, ◌∙◌, ◌⊎◌, inl, inr, ℕ, true, List, [], Option, Some, None, Result, Ok, Err, refl, sym, subst, arith, String}
+use Rattle.std.specs.Int.{is_power_of_two}
 use Rattle.std.specs.Prelude.{IsErrOf}
 use Rattle.std.specs.declared.alloc.Global.{Global}
-use Rattle.lnbd_args.specs.Tools.{Asks, IsContent, IsSize}
+use Rattle.lnbd_args.specs.Tools.{Asks, IsContent, IsCopyOptions, IsSize}
 use Rattle.lnbd_args.specs.Words.{Part, Word}
 use Rattle.lnbd_child.specs.Loading.{IsFew, IsMade}
+use Rattle.lnbd_conduct.specs.Limits.{AreLimited, IsPowerWithin}
 use Rattle.lnbd_spawn.specs.declared.deed.Deed.{Deed}
 use Rattle.lnbd_store.specs.Call.{Call as Move}
 use Rattle.lnbd_store.specs.Shelf.{Shelf}
@@ -57,6 +59,21 @@ few parts (Made seed size) is = omega (arith, (small _ size is.1))
     small (Some digits) n is = is.1
 few parts (File path) is = tt
 
+-- what words may ask of a copy is within its limits
+copy_limits : (parts : List Part) (options : CopyOptions) → IsCopyOptions parts options → AreLimited options
+copy_limits parts options are = record {
+  connected = are.connections.at_least;
+  connections = are.connections.at_most;
+  requested = are.requests.at_least;
+  requests = are.requests.at_most;
+  request_size = record { power = are.request_size.1; at_least = are.request_size.0.at_least; at_most = are.request_size.0.at_most };
+  sparse = looked are.sparse.1;
+}
+  where
+    looked : (options.sparse ≡ 0) ⊎ ((512 ≤ options.sparse) × (is_power_of_two options.sparse ≡ true)) → (options.sparse ≡ 0) ⊎ IsPowerWithin 512 33554432 options.sparse
+    looked (inl none) = inl none
+    looked (inr some) = inr (record { power = some.1; at_least = some.0; at_most = are.sparse.0.at_most })
+
 -- what words may ask to be copied where a side is a file
 file_sides : (words : List Word) (options : CopyOptions) (from to : Side) → Asks words (asked.FileCopy options from to) → AreFileSides options from to
 file_sides words options (side.Nbd from) (side.Nbd to) asks = asks.5
@@ -70,7 +87,7 @@ pub room : (words : List Word) (a : Asked) → Asks words a → HasRoom a
 room words asked.Calls asks = tt
 room words (asked.Info what json place) asks = tt
 room words (asked.Serve s) asks = few asks.1.2.hosts.parts s.content asks.1.2.hosts.serves.content_is
-room words (asked.Copy options from to) asks = tt
+room words (asked.Copy options from to) asks = copy_limits asks.2.2 options asks.2.4.1
 room words (asked.FileCopy options from to) asks = file_sides words options from to asks
 room words (asked.Dump place offset length) asks = tt
 room words (asked.Selftest seed size) asks = tt
@@ -145,8 +162,8 @@ module _ {I W O S P : Type 0} (left : I → Option (List ℕ)) (input : I) (told
       → FilesEnd options from to (told wires) (told wires) (wires ≡ wires) (moved store) (moved store) (shelf store) (shelf store) (gave store) (gave store) (took store) (took store) (store ≡ store)
       (Err fault.NoMemory)
   filing options (side.File from) (side.File to) = (duplicates.Unbegun refl refl, refl)
-  filing options (side.File from) (side.Nbd to) = files.Unbegun refl (refl, refl)
-  filing options (side.Nbd from) (side.File to) = files.Unbegun refl (refl, refl)
+  filing options (side.File from) (side.Nbd to) = (files.Unbegun refl (refl, refl), inr refl)
+  filing options (side.Nbd from) (side.File to) = (files.Unbegun refl (refl, refl), inr refl)
   filing options (side.Nbd from) (side.Nbd to) = (refl, refl, refl)
 
   filed : (from to : Side) → is_files_status from to 9 ≡ true

@@ -5,6 +5,7 @@ use Rattle.lnbd_args.specs.declared.asked.Asked.{Asked}
 use Rattle.lnbd_args.specs.declared.asked.Asked.TheVariants as asked
 use Rattle.lnbd_link.specs.Call.{Call}
 use Rattle.lnbd_child.specs.Loading.{IsFew, IsMade}
+use Rattle.lnbd_conduct.specs.Limits.{AreLimited}
 use Rattle.lnbd_spawn.specs.declared.deed.Deed.{Deed}
 use Rattle.lnbd_store.specs.Call.{Call as Move}
 use Rattle.lnbd_store.specs.Shelf.{Shelf}
@@ -90,12 +91,12 @@ abbrev pub DidAsked : {I W O S P : Type 0} → List (String Global) → (left : 
 DidAsked words left input input' told wires wires' taken out out' moved shelf gave took store store' deeds spawn spawn' end =
     (asked : Asked) → Ask words asked → Did left input input' told wires wires' taken out out' moved shelf gave took store store' deeds spawn spawn' end asked
 
--- What is to be served fits in memory, and the sides of a copy are those that it can have.
+-- What is to be served fits in memory, the options of a copy between two exports are within their limits, and the sides of another copy are those that it can have.
 abbrev pub HasRoom : Asked → Type 0
 HasRoom asked.Calls = Unit {0}
 HasRoom (asked.Info what json place) = Unit {0}
 HasRoom (asked.Serve s) = IsFew s.content
-HasRoom (asked.Copy options from to) = Unit {0}
+HasRoom (asked.Copy options from to) = AreLimited options
 HasRoom (asked.FileCopy options from to) = AreFileSides options from to
 HasRoom (asked.Dump place offset length) = Unit {0}
 HasRoom (asked.Selftest seed size) = Unit {0}

@@ -12,6 +12,7 @@ use Rattle.lnbd_store.specs.declared.serving.Content.{Content}
 use Rattle.lnbd_store.specs.declared.serving.Content.TheVariants.{Made, File}
 use Rattle.lnbd_store.specs.declared.serving.Serving.{Serving}
 use Rattle.lnbd_store.specs.declared.side.Side.{Side}
+use Rattle.lnbd_course.specs.Asks.{GrewBy}
 use Rattle.lnbd_cli.specs.declared.copying.Transfer.{Transfer}
 use Rattle.lnbd_cli.specs.declared.dumping.Excerpt.{Excerpt}
 use Rattle.lnbd_cli.specs.declared.duplicating.Duplication.{Duplication}
@@ -26,7 +27,7 @@ use Rattle.lnbd_cli.specs.Calls.{CallsEnds, HoldsScript, is_calls_status}
 use Rattle.lnbd_cli.specs.Copies.{CopyEnds, is_copy_status}
 use Rattle.lnbd_cli.specs.Dumps.{DumpEnds, is_dump_status}
 use Rattle.lnbd_cli.specs.Duplicates.{DuplicateEnds}
-use Rattle.lnbd_cli.specs.FileCopies.{DownloadEnds, FilesEnd, UploadEnds, is_files_status}
+use Rattle.lnbd_cli.specs.FileCopies.{DownloadConducts, DownloadEnds, FilesEnd, UploadConducts, UploadEnds, is_files_status}
 use Rattle.lnbd_cli.specs.Ends.{End, IsPatient, IsReported, IsSound, Prints}
 use Rattle.lnbd_cli.specs.Informs.{InfoEnds, is_info_status}
 use Rattle.lnbd_cli.specs.Serves.{ServeEnds, is_serve_status}
@@ -81,17 +82,19 @@ abbrev pub RunsDuplicate : {W O S : Type 0} → Duplication → (wires wires' : 
 RunsDuplicate d wires wires' out out' moved shelf gave took store store' end =
     DuplicateEnds d (moved store) (moved store') (shelf store) (shelf store') (gave store) (gave store') (took store) (took store') (store' ≡ store) end × (wires' ≡ wires) × (out' ≡ out)
 
--- nbdcopy: this export was copied to that file
+-- nbdcopy: this export was copied to that file, conducted so whatever it came to
 abbrev pub RunsDownload : {W O S : Type 0} → Download → (told : W → Option (List Call)) (wires wires' : W) (out out' : O)
     (moved : S → Option (List Move)) (shelf : S → Option Shelf) (took : S → ℕ) (store store' : S) → End → Type 0
 RunsDownload d told wires wires' out out' moved shelf took store store' end =
-    DownloadEnds d (told wires) (told wires') (moved store) (moved store') (shelf store) (shelf store') (took store) (took store') ((wires' ≡ wires) × (store' ≡ store)) end × (out' ≡ out)
+    (DownloadEnds d (told wires) (told wires') (moved store) (moved store') (shelf store) (shelf store') (took store) (took store') ((wires' ≡ wires) × (store' ≡ store)) end
+    × (GrewBy (DownloadConducts d) (told wires) (told wires') ⊎ (wires' ≡ wires))) × (out' ≡ out)
 
--- nbdcopy: this file was copied to that export
+-- nbdcopy: this file was copied to that export, in the same way
 abbrev pub RunsUpload : {W O S : Type 0} → Upload → (told : W → Option (List Call)) (wires wires' : W) (out out' : O)
     (moved : S → Option (List Move)) (shelf : S → Option Shelf) (gave : S → ℕ) (store store' : S) → End → Type 0
 RunsUpload u told wires wires' out out' moved shelf gave store store' end =
-    UploadEnds u (told wires) (told wires') (moved store) (moved store') (shelf store) (shelf store') (gave store) (gave store') ((wires' ≡ wires) × (store' ≡ store)) end × (out' ≡ out)
+    (UploadEnds u (told wires) (told wires') (moved store) (moved store') (shelf store) (shelf store') (gave store) (gave store') ((wires' ≡ wires) × (store' ≡ store)) end
+    × (UploadConducts u (told wires) (told wires') (moved store) (moved store') ⊎ (wires' ≡ wires))) × (out' ≡ out)
 
 -- nbddump: these bytes were shown
 abbrev pub RunsDump : {W O : Type 0} → Excerpt → (told : W → Option (List Call)) (wires wires' : W) (taken : O → Option (List ℕ)) (out out' : O) → End → Type 0

@@ -1,6 +1,7 @@
 //! nbdcopy: a copy from one export to another, and how such a run ends (nbdcopy(1)).
 
 ghost use Rattle.std.specs.Prelude.{◌≡◌, Err, OnOk, true};
+ghost use Rattle.lnbd_conduct.specs.Limits.{AreLimited};
 ghost use Rattle.lnbd_link.specs.Count.{Rises, patience};
 ghost use Rattle.lnbd_cli.specs.Copies.{CopyEnds, TellsCopyFault, is_copy_status};
 ghost use Rattle.lnbd_cli.specs.Ends.{status_of};
@@ -39,6 +40,7 @@ pub(crate) fn told(fault: CopyFault) -> Fault
 
 /// Copies.
 pub(crate) fn copy<W: Wires>(alloc: Global, what: Transfer, wires: &mut W) -> End
+    requires { AreLimited what.options }
     ensures ends { CopyEnds what (W.told wires.old) (W.told wires.new) (wires.new ≡ wires.old) result }
     ensures known { is_copy_status (status_of result) ≡ true }
     ensures link { result ≡ Err fault.Link → Rises 1 (W.faults wires.old) (W.faults wires.new) }

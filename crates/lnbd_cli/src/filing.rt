@@ -3,8 +3,9 @@
 
 ghost use Rattle.std.specs.Prelude.{◌≡◌, Err, OnOk, true};
 ghost use Rattle.lnbd_link.specs.Count.{Rises, patience};
+ghost use Rattle.lnbd_course.specs.Asks.{GrewBy};
 ghost use Rattle.lnbd_cli.specs.Ends.{status_of};
-ghost use Rattle.lnbd_cli.specs.FileCopies.{AreFileSides, DownloadEnds, FilesEnd, HasExport, UploadEnds, is_files_status, is_mixed_status};
+ghost use Rattle.lnbd_cli.specs.FileCopies.{AreFileSides, DownloadConducts, DownloadEnds, FilesEnd, HasExport, UploadConducts, UploadEnds, is_files_status, is_mixed_status};
 ghost use Rattle.lnbd_cli.specs.declared.ending.Fault.TheVariants as fault;
 
 use crate::copying::told;
@@ -35,6 +36,7 @@ pub(crate) struct Upload {
 
 /// Copies an export to a file.
 fn fetch<W: Wires, S: Store>(alloc: Global, what: Download, wires: &mut W, store: &mut S) -> End
+    ensures conducts { GrewBy (DownloadConducts what) (W.told wires.old) (W.told wires.new) }
     ensures ends { DownloadEnds what (W.told wires.old) (W.told wires.new) (S.told store.old) (S.told store.new) (S.shelf store.old) (S.shelf store.new)
         (S.taken store.old) (S.taken store.new) ((wires.new ≡ wires.old) × (store.new ≡ store.old)) result }
     ensures known { is_mixed_status (status_of result) ≡ true }
@@ -55,6 +57,7 @@ fn fetch<W: Wires, S: Store>(alloc: Global, what: Download, wires: &mut W, store
 
 /// Copies a file to an export.
 fn send<W: Wires, S: Store>(alloc: Global, what: Upload, wires: &mut W, store: &mut S) -> End
+    ensures conducts { UploadConducts what (W.told wires.old) (W.told wires.new) (S.told store.old) (S.told store.new) }
     ensures ends { UploadEnds what (W.told wires.old) (W.told wires.new) (S.told store.old) (S.told store.new) (S.shelf store.old) (S.shelf store.new)
         (S.given store.old) (S.given store.new) ((wires.new ≡ wires.old) × (store.new ≡ store.old)) result }
     ensures known { is_mixed_status (status_of result) ≡ true }

@@ -16,3 +16,4 @@ pub mod Waiting
 pub mod Conduct
 pub mod Made
 pub mod Decided
+pub mod Limits

@@ -1,3 +1,10 @@
 pub mod WayLemmas
 pub mod StepLemmas
 pub mod AlikeLemmas
+pub mod AskLemmas
+pub mod FewFronts
+pub mod BoundLemmas
+pub mod BoundWay
+pub mod FewLemmas
+pub mod UnmovedLemmas
+pub mod UseLemmas

@@ -1,3 +1,8 @@
 pub mod Way
 pub mod Steps
 pub mod Alike
+pub mod Asks
+pub mod Few
+pub mod Bound
+pub mod Unmoved
+pub mod Uses

@@ -6,6 +6,7 @@ ghost use Rattle.lnbd_handle.specs.Issues.{block_status_of, flush_of, read_of, w
 ghost use Rattle.lnbd_board.specs.declared.ticket.Ticket.TheVariants as ticket;
 ghost use Rattle.lnbd_course.specs.Orders.{command_of};
 ghost use Rattle.lnbd_copy.specs.Asked.{IsAsked};
+ghost use Rattle.lnbd_copy.specs.Links.{HaveSameLinks};
 
 use lnbd_board::{Board, Change, Ticket};
 use lnbd_conduct::FIRST_SOURCE;
@@ -45,6 +46,7 @@ pub fn ask_change(
     number: u64,
     change: Change,
 ) -> Result<(), NoMemory>
+    ensures links { HaveSameLinks handles.old handles.new }
     ensures asked { OnOk result (IsAsked index (command_of number change) handles.old handles.new) }
     ensures board { OnOk result (board.new ≡ board.old) }
 {
@@ -61,6 +63,7 @@ pub fn ask_change(
 }
 
 /// Asks a connection to write bytes of a slice.
+#[tactic(auto, using(lnbd_copy::proofs::LinkLemmas::same_none, lnbd_copy::proofs::LinkLemmas::same_with))]
 fn ask_write(
     handles: &mut Handles<Ticket>,
     board: &mut Board,
@@ -69,6 +72,7 @@ fn ask_write(
     offset: u64,
     buf: Vec<u8>,
 ) -> Result<(), NoMemory>
+    ensures links { HaveSameLinks handles.old handles.new }
     ensures asked { OnOk result (IsAsked index (write_of buf.items offset (ticket.Slice number) 0) handles.old handles.new) }
     ensures board { OnOk result (board.new ≡ board.old) }
 {
@@ -85,6 +89,7 @@ fn ask_write(
 }
 
 /// Asks a connection to zero bytes of a slice.
+#[tactic(auto, using(lnbd_copy::proofs::LinkLemmas::same_none, lnbd_copy::proofs::LinkLemmas::same_with))]
 fn ask_zero(
     handles: &mut Handles<Ticket>,
     board: &mut Board,
@@ -94,6 +99,7 @@ fn ask_zero(
     length: u64,
     flags: u32,
 ) -> Result<(), NoMemory>
+    ensures links { HaveSameLinks handles.old handles.new }
     ensures asked { OnOk result (IsAsked index (zero_of length offset (ticket.Slice number) flags) handles.old handles.new) }
     ensures board { OnOk result (board.new ≡ board.old) }
 {
@@ -110,6 +116,7 @@ fn ask_zero(
 }
 
 /// Asks a connection for the bytes of a slice.
+#[tactic(auto, using(lnbd_copy::proofs::LinkLemmas::same_none, lnbd_copy::proofs::LinkLemmas::same_with))]
 pub fn ask_read(
     handles: &mut Handles<Ticket>,
     board: &mut Board,
@@ -118,6 +125,7 @@ pub fn ask_read(
     offset: u64,
     buf: Vec<u8>,
 ) -> Result<(), NoMemory>
+    ensures links { HaveSameLinks handles.old handles.new }
     ensures asked { OnOk result (IsAsked index (read_of buf.items offset (ticket.Slice number) 0) handles.old handles.new) }
     ensures board { OnOk result (board.new ≡ board.old) }
 {
@@ -134,12 +142,14 @@ pub fn ask_read(
 }
 
 /// Asks the source's first connection for the extents of a range.
+#[tactic(auto, using(lnbd_copy::proofs::LinkLemmas::same_none, lnbd_copy::proofs::LinkLemmas::same_with))]
 pub fn ask_extents(
     handles: &mut Handles<Ticket>,
     board: &mut Board,
     offset: u64,
     length: u64,
 ) -> Result<(), NoMemory>
+    ensures links { HaveSameLinks handles.old handles.new }
     ensures asked { OnOk result (IsAsked 0 (block_status_of length offset ticket.Extents ticket.Extents 0) handles.old handles.new) }
     ensures board { OnOk result (board.new ≡ record board.old { told = []; mapped = false }) }
 {
@@ -157,11 +167,13 @@ pub fn ask_extents(
 }
 
 /// Asks a connection of the destination, the first where there are several, to flush.
+#[tactic(auto, using(lnbd_copy::proofs::LinkLemmas::same_none, lnbd_copy::proofs::LinkLemmas::same_with))]
 pub fn ask_flush(
     handles: &mut Handles<Ticket>,
     board: &mut Board,
     index: usize,
 ) -> Result<(), NoMemory>
+    ensures links { HaveSameLinks handles.old handles.new }
     ensures asked { OnOk result (IsAsked index (flush_of ticket.Flush 0) handles.old handles.new) }
     ensures board { OnOk result (board.new ≡ record board.old { flushing = true }) }
 {

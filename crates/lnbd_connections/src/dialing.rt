@@ -1,11 +1,25 @@
 //! The connections to the one export are made one after another, negotiate side by side, and tell the same.
 
-ghost use Rattle.std.specs.Prelude.{◌≡◌, ◌≤◌, IfErr, None, OnOk, true};
+ghost use Rattle.std.specs.Prelude.{◌≡◌, ◌≤◌, ◌∷◌, IfErr, None, OnOk, [], false, replicate, true, ℕ, List, Option};
+ghost use Rattle.lnbd_link.specs.Call.{Call};
 ghost use Rattle.lnbd_board.specs.Files.{Seen};
+ghost use Rattle.lnbd_course.specs.Far.{Far};
+ghost use Rattle.lnbd_conduct.specs.Told.{Told};
 ghost use Rattle.lnbd_copy.specs.Agreed.{AreQuiet};
 ghost use Rattle.lnbd_copy.specs.Causes.{GoesOn, HasCause, tells_no_count};
+ghost use Rattle.lnbd_copy.specs.Faults.{GoesIdly};
 ghost use Rattle.lnbd_connections.specs.Alike.{AreAlike, FindsUnlike};
+ghost use Rattle.lnbd_connections.specs.Asks.{AsksNone, DialsOnly};
+ghost use Rattle.lnbd_copy.specs.Way.{Stand};
+ghost use Rattle.lnbd_connections.specs.Bound.{Binds, BindsMore, DrivesFirst};
+ghost use Rattle.lnbd_connections.specs.Few.{StaysFew};
 ghost use Rattle.lnbd_connections.specs.Steps.{Dials, Goes};
+ghost use Rattle.lnbd_connections.specs.Unmoved.{PausesUnmoved};
+ghost use Rattle.lnbd_copy.specs.Pauses.{Unpaused};
+ghost use Rattle.lnbd_connections.specs.Uses.{Rests, Uses, UsesTo};
+ghost use Rattle.lnbd_copy.specs.Connects.{StaysConnected};
+ghost use Rattle.lnbd_poll.specs.declared.noticed.Turn.TheVariants as turned;
+ghost use Rattle.lnbd_connections.specs.Way.{IsUnderWay, Way};
 
 use crate::turning::{rest, take_turn};
 use lnbd_board::{Board, Ticket};
@@ -22,7 +36,7 @@ use std::alloc::Global;
 const FIRST: usize = 0;
 
 /// Connects to the export, and has one handle more ask there.
-#[tactic(auto, using(lnbd_copy::proofs::CauseLemmas::goes_same, lnbd_copy::proofs::CauseLemmas::cause_free))]
+#[tactic(auto, using(lnbd_copy::proofs::CauseLemmas::goes_same, lnbd_copy::proofs::CauseLemmas::cause_free, crate::proofs::UseLemmas::uses_nowhere, crate::proofs::FewLemmas::few_same, lnbd_copy::proofs::PauseLemmas::unpaused_none))]
 pub fn dial<W: Wires>(
     alloc: Global,
     handles: &mut Handles<Ticket>,
@@ -33,10 +47,18 @@ pub fn dial<W: Wires>(
     start: Counts,
 ) -> Result<(), CopyFault>
     requires counted { start.faults ≤ W.faults wires.old }
+    ensures links { UsesTo false start.idles (place.now.to ∷ []) handles.old (W.told wires.old) (W.idles wires.old) handles.new (W.told wires.new) (W.idles wires.new) }
+    ensures connects { OnOk result (Uses false start.idles (place.now.to ∷ []) handles.old (W.told wires.old) (W.idles wires.old) handles.new (W.told wires.new) (W.idles wires.new)) }
+    ensures connected { OnOk result (StaysConnected (W.told wires.old) (W.told wires.new)) }
     ensures dials { OnOk result (Dials place.now 1 board.old handles.old (W.told wires.old) handles.new (W.told wires.new)) }
+    ensures binds { OnOk result (BindsMore place.now board.old handles.old (W.told wires.old) handles.new (W.told wires.new)) }
+    ensures drives { OnOk result (DrivesFirst place.now extents board.old handles.old (W.told wires.old) handles.new (W.told wires.new)) }
+    ensures few { (most : ℕ) (start : Option (List Call)) → StaysFew most start (W.told wires.old) (W.told wires.new) }
+    ensures unpaused { Unpaused (W.told wires.old) (W.told wires.new) }
     ensures board { OnOk result (board.new ≡ board.old) }
     ensures causes { IfErr result (λ told. HasCause start (W.faults wires.new) (W.idles wires.new) told) }
     ensures counts { GoesOn (W.faults wires.old) (W.faults wires.new) (W.idles wires.old) (W.idles wires.new) (W.contents wires.old) (W.contents wires.new) }
+    ensures asks { DialsOnly place.now board.old handles.old (W.told wires.old) (W.told wires.new) }
 {
     let handle = open(alloc, &place.name, extents, board)?;
     match wires.connect(&place.to) {
@@ -62,10 +84,17 @@ pub fn dial_further<W: Wires>(
     start: Counts,
 ) -> Result<(), CopyFault>
     requires counted { start.faults ≤ W.faults wires.old }
+    ensures links { UsesTo false start.idles (replicate more place.now.to) handles.old (W.told wires.old) (W.idles wires.old) handles.new (W.told wires.new) (W.idles wires.new) }
+    ensures connects { OnOk result (Uses false start.idles (replicate more place.now.to) handles.old (W.told wires.old) (W.idles wires.old) handles.new (W.told wires.new) (W.idles wires.new)) }
+    ensures connected { OnOk result (StaysConnected (W.told wires.old) (W.told wires.new)) }
     ensures dials { OnOk result (Dials place.now more board.old handles.old (W.told wires.old) handles.new (W.told wires.new)) }
+    ensures binds { OnOk result (BindsMore place.now board.old handles.old (W.told wires.old) handles.new (W.told wires.new)) }
+    ensures few { (most : ℕ) (start : Option (List Call)) → StaysFew most start (W.told wires.old) (W.told wires.new) }
+    ensures unpaused { Unpaused (W.told wires.old) (W.told wires.new) }
     ensures board { OnOk result (board.new ≡ board.old) }
     ensures causes { IfErr result (λ told. HasCause start (W.faults wires.new) (W.idles wires.new) told) }
     ensures counts { GoesOn (W.faults wires.old) (W.faults wires.new) (W.idles wires.old) (W.idles wires.new) (W.contents wires.old) (W.contents wires.new) }
+    ensures asks { DialsOnly place.now board.old handles.old (W.told wires.old) (W.told wires.new) }
 {
     'connections: for _connection in 0..more {
         dial(alloc, handles, board, wires, place, false, start)?;
@@ -91,6 +120,7 @@ fn check_alike(handles: &Handles<Ticket>) -> Result<(), CopyFault>
 }
 
 /// Waits where nothing happened in a turn.
+#[tactic(auto, using(crate::proofs::FewLemmas::few_same))]
 fn rest_after<W: Wires>(
     handles: &mut Handles<Ticket>,
     wires: &mut W,
@@ -98,9 +128,14 @@ fn rest_after<W: Wires>(
     told: Turn,
 ) -> Result<(), CopyFault>
     requires counted { start.idles ≤ W.idles wires.old }
+    ensures unmoved { (now : Seen) → now.error ≡ None → PausesUnmoved now handles.old (W.told wires.old) (W.told wires.new) }
+    ensures rests { Rests (told ≡ turned.Still) start.idles handles.old (W.told wires.old) (W.idles wires.old) handles.new (W.told wires.new) (W.idles wires.new) }
     ensures goes { OnOk result ((now : Seen) → Goes now handles.old (W.told wires.old) now handles.new (W.told wires.new)) }
+    ensures binds { OnOk result ((now : Seen) → Binds now handles.old (W.told wires.old) now handles.new (W.told wires.new)) }
+    ensures few { (most : ℕ) (start : Option (List Call)) → StaysFew most start (W.told wires.old) (W.told wires.new) }
     ensures causes { IfErr result (λ told. HasCause start (W.faults wires.new) (W.idles wires.new) told) }
     ensures counts { GoesOn (W.faults wires.old) (W.faults wires.new) (W.idles wires.old) (W.idles wires.new) (W.contents wires.old) (W.contents wires.new) }
+    ensures asks { GoesIdly (W.told wires.old) (W.told wires.new) }
 {
     match told {
         Turn::Still => rest(handles, wires, start),
@@ -122,12 +157,21 @@ pub fn settle<W: Wires>(
 ) -> Result<(), CopyFault>
     requires faults { start.faults ≤ W.faults wires.old }
     requires idles { start.idles ≤ W.idles wires.old }
+    ensures uses { Stand handles.old → Uses true start.idles [] handles.old (W.told wires.old) (W.idles wires.old) handles.new (W.told wires.new) (W.idles wires.new) }
+    ensures unmoved { PausesUnmoved board.old handles.old (W.told wires.old) (W.told wires.new) }
+    ensures settles { OnOk result (Stand handles.old → Uses false start.idles [] handles.old (W.told wires.old) (W.idles wires.old) handles.new (W.told wires.new) (W.idles wires.new)) }
     ensures goes { OnOk result (Goes board.old handles.old (W.told wires.old) board.new handles.new (W.told wires.new)) }
+    ensures binds { OnOk result (Binds board.old handles.old (W.told wires.old) board.new handles.new (W.told wires.new)) }
+    // Whatever it comes to, none is unanswered on any link at each moment of it, where no slice was begun.
+    ensures few { (most : ℕ) (far : Far) (way : Way) (start : Option (List Call)) → Stand handles.old → board.old.rows ≡ [] →
+        Told start (W.told wires.old) (λ calls. IsUnderWay far way board.old calls handles.old)
+        → StaysFew most start (W.told wires.old) (W.told wires.new) }
     ensures quiet { OnOk result (AreQuiet handles.new) }
     ensures alike { OnOk result (AreAlike handles.new) }
     ensures well { OnOk result (board.new.error ≡ None) }
     ensures causes { IfErr result (λ told. HasCause start (W.faults wires.new) (W.idles wires.new) told) }
     ensures counts { GoesOn (W.faults wires.old) (W.faults wires.new) (W.idles wires.old) (W.idles wires.new) (W.contents wires.old) (W.contents wires.new) }
+    ensures asks { AsksNone board.old handles.old (W.told wires.old) (W.told wires.new) }
 {
     'turns: for _ in 0..MAX_TURNS {
         check_calm(handles, board, None)?;

@@ -95,3 +95,5 @@ pub mod PaceTurns
 pub mod PaceMeets
 pub mod ReadyLemmas
 pub mod LawfulLemmas
+pub mod FewLemmas
+pub mod CalmLemmas

@@ -20,6 +20,7 @@ use Rattle.lnbd_copy.specs.declared.counts.Counts.{Counts}
 use Rattle.lnbd_conduct.specs.declared.sides.Sides.{Sides}
 use Rattle.lnbd_conduct.specs.declared.terms.Terms.{Terms}
 use Rattle.lnbd_copy.specs.Agreed.{IsWished}
+use Rattle.lnbd_conduct.specs.Limits.{AreLimited}
 use Rattle.lnbd_conduct.specs.Links.{AllConnected}
 use Rattle.lnbd_copy.specs.Connects.{StaysConnected}
 use Rattle.lnbd_copy.specs.Dealt.{HasDealt}
@@ -48,12 +49,14 @@ pub record Seen : Type 0 where
   -- what is under way, once all connections stand
   pub job : Option work.Seen
 
--- It has not begun.
+-- It has not begun, by options within their limits.
 pub record HasNotBegun (copy : Seen) : Type 0 where
+  pub limits : AreLimited copy.options
   pub held : copy.held ≡ []
   pub rows : copy.board.rows ≡ []
   pub begun : copy.board.begun ≡ 0
   pub uncounted : HasNotCounted copy.board
+  pub well : copy.board.error ≡ None
 
 -- Its connections.
 

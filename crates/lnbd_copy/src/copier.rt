@@ -4,7 +4,7 @@ ghost use Rattle.std.specs.Prelude.{◌≡◌, ◌≢◌, ◌<◌, ◌≤◌, �
 ghost use Rattle.lnbd_link.specs.Call.{Call, Pause};
 ghost use Rattle.lnbd_link.specs.Count.{Rises, patience};
 ghost use Rattle.lnbd_link.specs.Part.{Adds};
-ghost use Rattle.lnbd_poll.specs.Held.{wants_now};
+ghost use Rattle.lnbd_poll.specs.Held.{max_held, wants_now};
 ghost use Rattle.lnbd_poll.specs.declared.noticed.Turn.TheVariants as turned;
 ghost use Rattle.lnbd_course.specs.Asks.{HasAskedOnce};
 ghost use Rattle.lnbd_copy.specs.Agreed.{AreQuiet};
@@ -21,6 +21,7 @@ ghost use Rattle.lnbd_copy.specs.Ended.{EndsWell};
 ghost use Rattle.lnbd_copy.specs.Driving.{DrivesFurther, DrivesOn, DrivesOneMore};
 ghost use Rattle.lnbd_copy.specs.Faults.{AreUnissued, AsksNone, AsksNothing, GoesIdly, StaysFresh, StaysUnasked};
 ghost use Rattle.lnbd_conduct.specs.Changes.{Behaves};
+ghost use Rattle.lnbd_conduct.specs.Limits.{AreLimited};
 ghost use Rattle.lnbd_copy.specs.Flushed.{HasFlushed};
 ghost use Rattle.lnbd_copy.specs.Grounds.{AllSame, Lasts};
 ghost use Rattle.lnbd_conduct.specs.Grounds.{IsGrounded, needs_no_ground};
@@ -91,16 +92,20 @@ pub struct Copier {
 }
 
 impl Model for Copier {
+    ghost use Rattle.lnbd_conduct.specs.Limits.{AreLimited};
     ghost use Rattle.lnbd_copy.specs.Copier.{Seen};
 
     ghost Value = { Seen };
 
     ghost view = { λ c. record { options = c.options; from = c.from; to = c.to; start = c.start; held = c.handles; board = c.board; job = c.job } };
+
+    ghost invariant = { λ c. AreLimited c.options };
 }
 
 impl Copier {
-    /// A copy that has not begun. It takes no memory.
+    /// A copy that has not begun, by options within their limits. It takes no memory.
     pub fn new(alloc: Global, options: CopyOptions, from: Place, to: Place) -> Copier
+        requires { AreLimited options }
         ensures begun { HasNotBegun result }
         ensures what { (result.options ≡ options) × (result.from ≡ from) × (result.to ≡ to) }
     {
@@ -223,7 +228,6 @@ impl Copier {
     {
         let terms = self.meet(wires)?;
         self.dial_further(wires, terms.sides)?;
-        check_well(&self.board)?;
         Ok(self.set_up(terms)?)
     }
 
@@ -236,6 +240,7 @@ impl Copier {
         ensures kept { self.new ≡ record self.old { held = self.new.held; board = self.new.board } }
         ensures met { IfOk result (λ terms. HasMet self.new (W.told wires.old) (W.told wires.new) terms) }
         ensures two { OnOk result (length self.new.held ≡ 2) }
+        ensures calm { OnOk result (IsCalm (Some one_each) self.new.board self.new.held) }
         ensures many { IfOk result (λ terms. 0 < terms.sides.source) }
         ensures cells { IfOk result (λ terms. (0 < terms.cell) × (0 < terms.zero_cell) × (0 < terms.grain)) }
         ensures size { IfOk result (λ terms. terms.size ≤ 2 ^ 63) }
@@ -298,6 +303,8 @@ impl Copier {
         extents: bool,
         sides: Sides,
     ) -> Result<(), CopyFault>
+        requires few { length self.old.held < max_held }
+        requires calm { IsCalm (Some sides) self.old.board self.old.held }
         requires faults { self.old.start.faults ≤ W.faults wires.old }
         ensures kept { self.new ≡ record self.old { held = self.new.held; board = self.new.board } }
         ensures dials { OnOk result (Dials self.old.from extents self.old.board self.old.held (W.told wires.old) self.new.held (W.told wires.new)) }
@@ -314,6 +321,7 @@ impl Copier {
         ensures connected { OnOk result (StaysConnected (W.told wires.old) (W.told wires.new)) }
         ensures drives { DrivesOneMore self.old.from extents self.old.board self.old.held (W.told wires.old) (W.told wires.new) }
         ensures decides { IfErr result (λ told. DecidesOn (Some sides) false self.old.board self.old.held (W.told wires.old) (W.told wires.new) told) }
+        ensures calm { OnOk result (IsCalm (Some sides) self.new.board self.new.held) }
     {
         dial(
             self.alloc,
@@ -329,6 +337,8 @@ impl Copier {
 
     /// One connection more to the destination.
     fn dial_destination<W: Wires>(&mut self, wires: &mut W, sides: Sides) -> Result<(), CopyFault>
+        requires few { length self.old.held < max_held }
+        requires calm { IsCalm (Some sides) self.old.board self.old.held }
         requires faults { self.old.start.faults ≤ W.faults wires.old }
         ensures kept { self.new ≡ record self.old { held = self.new.held; board = self.new.board } }
         ensures dials { OnOk result (Dials self.old.to false self.old.board self.old.held (W.told wires.old) self.new.held (W.told wires.new)) }
@@ -345,6 +355,7 @@ impl Copier {
         ensures connected { OnOk result (StaysConnected (W.told wires.old) (W.told wires.new)) }
         ensures drives { DrivesOneMore self.old.to false self.old.board self.old.held (W.told wires.old) (W.told wires.new) }
         ensures decides { IfErr result (λ told. DecidesOn (Some sides) false self.old.board self.old.held (W.told wires.old) (W.told wires.new) told) }
+        ensures calm { OnOk result (IsCalm (Some sides) self.new.board self.new.held) }
     {
         dial(
             self.alloc,
@@ -362,6 +373,7 @@ impl Copier {
     fn settle<W: Wires>(&mut self, wires: &mut W, sides: Sides) -> Result<(), CopyFault>
         requires faults { self.old.start.faults ≤ W.faults wires.old }
         requires idles { self.old.start.idles ≤ W.idles wires.old }
+        requires calm { IsCalm (Some sides) self.old.board self.old.held }
         ensures kept { self.new ≡ record self.old { held = self.new.held; board = self.new.board } }
         ensures goes { OnOk result (Goes self.old.board self.old.held (W.told wires.old) self.new.board self.new.held (W.told wires.new)) }
         ensures quiet { OnOk result (AreQuiet self.new.held) }
@@ -393,6 +405,9 @@ impl Copier {
         requires faults { self.old.start.faults ≤ W.faults wires.old }
         requires idles { self.old.start.idles ≤ W.idles wires.old }
         requires some { 0 < sides.source }
+        requires two { length self.old.held ≡ 2 }
+        requires few { sides.source + sides.destination < max_held }
+        requires calm { IsCalm (Some sides) self.old.board self.old.held }
         ensures kept { self.new ≡ record self.old { held = self.new.held; board = self.new.board } }
         ensures further { OnOk result (GoesFurther self.old sides 2 self.old.board self.old.held (W.told wires.old) self.new.board self.new.held (W.told wires.new)) }
         ensures quiet { OnOk result (AreQuiet self.new.held) }
@@ -427,6 +442,9 @@ impl Copier {
     fn dial_sources<W: Wires>(&mut self, wires: &mut W, sides: Sides) -> Result<(), CopyFault>
         requires faults { self.old.start.faults ≤ W.faults wires.old }
         requires some { 0 < sides.source }
+        requires two { length self.old.held ≡ 2 }
+        requires few { sides.source < max_held }
+        requires calm { IsCalm (Some sides) self.old.board self.old.held }
         ensures kept { self.new ≡ record self.old { held = self.new.held; board = self.new.board } }
         ensures further { OnOk result (GoesFurther self.old sides 2 self.old.board self.old.held (W.told wires.old) self.new.board self.new.held (W.told wires.new)) }
         ensures many { OnOk result (length self.old.held ≡ 2 → length self.new.held ≡ sides.source + 1) }
@@ -442,6 +460,7 @@ impl Copier {
         ensures connected { OnOk result (StaysConnected (W.told wires.old) (W.told wires.new)) }
         ensures drives { DrivesFurther self.old sides 2 (W.told wires.old) (W.told wires.new) }
         ensures decides { IfErr result (λ told. DecidesFurther self.old sides 2 (W.told wires.old) (W.told wires.new) told) }
+        ensures calm { OnOk result (IsCalm (Some sides) self.new.board self.new.held) }
     {
         'further: for connection in 1..sides.source {
             self.dial_source(wires, false, sides)?;
@@ -452,6 +471,8 @@ impl Copier {
     #[tactic(auto, using(crate::proofs::CauseLemmas::goes_same, crate::proofs::CauseLemmas::goes_then, crate::proofs::CauseLemmas::cause_later, crate::proofs::CauseLemmas::cause_free, crate::proofs::PauseLemmas::unpaused_none, crate::proofs::PaceLemmas::tires_none, crate::proofs::LinkLemmas::links_none))]
     fn dial_destinations<W: Wires>(&mut self, wires: &mut W, sides: Sides) -> Result<(), CopyFault>
         requires faults { self.old.start.faults ≤ W.faults wires.old }
+        requires few { length self.old.held + sides.destination ≤ max_held }
+        requires calm { IsCalm (Some sides) self.old.board self.old.held }
         ensures kept { self.new ≡ record self.old { held = self.new.held; board = self.new.board } }
         ensures further { OnOk result (GoesFurther self.old sides (sides.source + 1) self.old.board self.old.held (W.told wires.old) self.new.board self.new.held (W.told wires.new)) }
         ensures many { OnOk result (0 < sides.destination → length self.new.held + 1 ≡ length self.old.held + sides.destination) }
@@ -467,6 +488,7 @@ impl Copier {
         ensures connected { OnOk result (StaysConnected (W.told wires.old) (W.told wires.new)) }
         ensures drives { DrivesFurther self.old sides (sides.source + 1) (W.told wires.old) (W.told wires.new) }
         ensures decides { IfErr result (λ told. DecidesFurther self.old sides (sides.source + 1) (W.told wires.old) (W.told wires.new) told) }
+        ensures calm { OnOk result (IsCalm (Some sides) self.new.board self.new.held) }
     {
         'further: for connection in 1..sides.destination {
             self.dial_destination(wires, sides)?;

@@ -1,9 +1,9 @@
 //! The connections of a copy: they are made one after another, and negotiate side by side.
 
-ghost use Rattle.std.specs.Prelude.{◌≡◌, ◌⊎◌, ◌≤◌, ◌++◌, ◌∷◌, [], true, false, IfErr, List, OnErr, OnOk, Option, Some};
+ghost use Rattle.std.specs.Prelude.{◌≡◌, ◌⊎◌, ◌<◌, ◌≤◌, ◌++◌, ◌∷◌, [], true, false, IfErr, List, OnErr, OnOk, Option, Some, length};
 ghost use Rattle.lnbd_link.specs.Call.{Call, Pause};
 ghost use Rattle.lnbd_link.specs.Part.{Adds};
-ghost use Rattle.lnbd_poll.specs.Held.{wants_now};
+ghost use Rattle.lnbd_poll.specs.Held.{max_held, wants_now};
 ghost use Rattle.lnbd_model.specs.declared.target.Place.{Place as At};
 ghost use Rattle.lnbd_poll.specs.declared.noticed.Turn.TheVariants as turned;
 ghost use Rattle.lnbd_board.specs.Files.{Seen};
@@ -30,7 +30,7 @@ ghost use Rattle.lnbd_copy.specs.Way.{Goes, Stand};
 use crate::agreeing::are_quiet;
 use crate::counts::{Counts, check_idles};
 use crate::opening::open;
-use crate::turning::{check_calm, turn};
+use crate::turning::turn;
 use crate::wanting::{check_loud, check_unparted, check_wanted};
 use lnbd_board::{Board, Ticket};
 use lnbd_conduct::Sides;
@@ -47,7 +47,35 @@ const MAX_CONNECTIONS: usize = 64;
 /// After so many turns a copy is given up, as for want of memory. None comes near.
 pub const MAX_TURNS: u64 = u64::MAX;
 
-/// Holds a handle with its link, behind the others.
+/// Holds a handle with its link, behind the others, where fewer are held than may be.
+#[tactic(auto, using(crate::proofs::IdleLemmas::idly_none, crate::proofs::IdleLemmas::idly_shut, crate::proofs::PauseLemmas::unpaused_none, crate::proofs::PauseLemmas::unpaused_shut))]
+fn hold_next<W: Wires>(
+    handles: &mut Handles<Ticket>,
+    board: &mut Board,
+    wires: &mut W,
+    link: u32,
+    handle: Handle<Ticket>,
+) -> Result<(), NoMemory>
+    requires few { length handles.old < max_held }
+    ensures held { OnOk result (handles.new ≡ handles.old ++ record { link = link; handle = handle.machine; inbox = [] } ∷ []) }
+    ensures board { OnOk result (board.new ≡ board.old) }
+    ensures told { OnOk result (W.told wires.new ≡ W.told wires.old) }
+    ensures unpaused { Unpaused (W.told wires.old) (W.told wires.new) }
+    ensures counts { GoesOn (W.faults wires.old) (W.faults wires.new) (W.idles wires.old) (W.idles wires.new) (W.contents wires.old) (W.contents wires.new) }
+    ensures links { LinksGo [] (handles.old ++ record { link = link; handle = handle.machine; inbox = [] } ∷ []) (W.told wires.old) handles.new (W.told wires.new) }
+    ensures idly { GoesIdly (W.told wires.old) (W.told wires.new) }
+{
+    match handles.add(link, handle) {
+        Ok(_) => Ok(()),
+        Err(handle) => {
+            let _ = handle.close(board);
+            wires.shut(link);
+            Err(NoMemory)
+        }
+    }
+}
+
+/// The same, however many are held: one more than may be would count as want of memory.
 #[tactic(auto, using(crate::proofs::IdleLemmas::idly_none, crate::proofs::IdleLemmas::idly_shut, crate::proofs::PauseLemmas::unpaused_none, crate::proofs::PauseLemmas::unpaused_shut))]
 pub fn hold<W: Wires>(
     handles: &mut Handles<Ticket>,
@@ -69,14 +97,7 @@ pub fn hold<W: Wires>(
         wires.shut(link);
         return Err(NoMemory);
     }
-    match handles.add(link, handle) {
-        Ok(_) => Ok(()),
-        Err(handle) => {
-            let _ = handle.close(board);
-            wires.shut(link);
-            Err(NoMemory)
-        }
-    }
+    hold_next(handles, board, wires, link, handle)
 }
 
 /// Connects to this place, and has one handle more ask there.
@@ -91,6 +112,8 @@ pub(crate) fn dial<W: Wires>(
     start: Counts,
     sides: Sides,
 ) -> Result<(), CopyFault>
+    requires few { length handles.old < max_held }
+    requires calm { IsCalm (Some sides) board.old handles.old }
     requires counted { start.faults ≤ W.faults wires.old }
     ensures dials { OnOk result (Dials place.now extents board.old handles.old (W.told wires.old) handles.new (W.told wires.new)) }
     ensures unpaused { Unpaused (W.told wires.old) (W.told wires.new) }
@@ -106,11 +129,11 @@ pub(crate) fn dial<W: Wires>(
     ensures connected { OnOk result (StaysConnected (W.told wires.old) (W.told wires.new)) }
     ensures drives { DrivesOneMore place.now extents board.old handles.old (W.told wires.old) (W.told wires.new) }
     ensures decides { IfErr result (λ told. DecidesOn (Some sides) false board.old handles.old (W.told wires.old) (W.told wires.new) told) }
+    ensures calm { OnOk result (IsCalm (Some sides) board.new handles.new) }
 {
-    check_calm(handles, board, Some(sides))?;
     let handle = open(alloc, &place.name, extents, board)?;
     match wires.connect(&place.to) {
-        Ok(link) => Ok(hold(handles, board, wires, link, handle)?),
+        Ok(link) => Ok(hold_next(handles, board, wires, link, handle)?),
         Err(_) => {
             let _ = handle.close(board);
             Err(CopyFault::Link {
@@ -196,6 +219,7 @@ pub(crate) fn settle<W: Wires>(
 ) -> Result<(), CopyFault>
     requires faults { start.faults ≤ W.faults wires.old }
     requires idles { start.idles ≤ W.idles wires.old }
+    requires calm { IsCalm (Some sides) board.old handles.old }
     ensures goes { OnOk result (Goes board.old handles.old (W.told wires.old) board.new handles.new (W.told wires.new)) }
     ensures quiet { OnOk result (AreQuiet handles.new) }
     ensures unready { StaysUnready board.old handles.old (W.told wires.old) (W.told wires.new) }
@@ -218,7 +242,6 @@ pub(crate) fn settle<W: Wires>(
     ensures impatient { IfErr result (λ told. Stand handles.old → StaysPatient (may_end_waiting told) start.idles (W.told wires.old) (W.idles wires.old) (W.told wires.new) (W.idles wires.new)) }
 {
     'turns: for _ in 0..MAX_TURNS {
-        check_calm(handles, board, Some(sides))?;
         check_idles(wires, start)?;
         if are_quiet(handles) {
             return Ok(());

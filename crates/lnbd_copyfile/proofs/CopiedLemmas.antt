@@ -22,19 +22,23 @@ use Rattle.lnbd_course.specs.FarCourse.{FarCourse}
 use Rattle.lnbd_course.specs.FarEnds.{HasAskedOnceFar, SummarizesFar}
 use Rattle.lnbd_course.specs.FarLaws.{IsReadWhole}
 use Rattle.lnbd_course.specs.Flushes.{IsUnflushed, OneFlushes}
-use Rattle.lnbd_course.proofs.FarEnding.{ended_are_all_done_far, ended_asks_once_far, ended_flushes_once_far, ended_sums_far, ended_unflushed_far}
+use Rattle.lnbd_course.proofs.FarEnding.{ended_are_all_done_far, ended_asks_once_far, ended_flushed_far, ended_flushes_once_far, ended_sums_far, ended_unflushed_far}
+use Rattle.lnbd_conduct.specs.Told.{AtSome}
 use Rattle.lnbd_copy.proofs.EndLemmas.{told_part}
+use Rattle.lnbd_copy.proofs.FaultLemmas.{told_both}
 use Rattle.lnbd_copy.proofs.TurnLemmas.{told_map}
 use Rattle.lnbd_store.specs.Shelf.{Goes, Shelf}
 use Rattle.lnbd_connections.specs.Way.{IsUnderWay, Way}
 use Rattle.lnbd_copyfile.specs.declared.from_file_job.Phase.TheVariants.{Copying, Parting}
+use Rattle.lnbd_copyfile.specs.FlushedLast.{CameToRestFrom, FlushesLastFrom}
 use Rattle.lnbd_copyfile.specs.FromFile.{HasAskedFrom, HasCopied, HasSummedFrom, IsGivenBy, size_of}
 use Rattle.lnbd_copyfile.specs.FromFileJob.{IsJob, IsOver, Seen}
 use Rattle.lnbd_copyfile.specs.OneSide.{IsCopiedFrom}
+use Rattle.lnbd_copyfile.specs.Shown.{FlushesWantedFrom}
 use Rattle.lnbd_copyfile.proofs.FarLemmas.{from_file_is_copied}
 use Rattle.lnbd_copyfile.proofs.SumsLemmas.{from_file_fits, from_file_is_summed, planned_all}
 
-no_skip : (skip : Bool) → not skip ≡ false → skip ≡ true
+pub no_skip : (skip : Bool) → not skip ≡ false → skip ≡ true
 no_skip true e = refl
 no_skip false e = absurd (false≢true (sym e))
 
@@ -167,3 +171,29 @@ module _ (options : CopyOptions) (path : List ℕ) (to : Place) (summary : Summa
   pub copied_unflushed : options.flush ≡ false → GrewBy (IsUnflushed to) start told
   copied_unflushed off = in_the_end (λ calls ends.
       ended_unflushed_far read to (Some room) way.how way.slices now calls None way.known ends (h.copied.going.is.unwanted (h.copied.wished.unflushed off)))
+
+  pub copied_flushed : GrewBy (FlushesWantedFrom options (size_of summary) to) start told
+  copied_flushed =
+      let shown = h.copied.shown in
+      told_part start told (told_map start told (λ calls both.
+      let ends = ends_so calls both.0 in
+      subst (λ (n : ℕ). FlushesWantedFrom options n to calls) (sym (sized calls ends ∙ h.copied.size_)) (record {
+        info = shown.info;
+        shown = both.1;
+        is = (
+          shown.none,
+          λ wanted. ended_flushed_far read to (Some room) way.how way.slices now calls None way.known ends h.copied.ended.well
+              (h.copied.going.is.flushed h.copied.ended.parting (shown.settled.flush ∙ wanted)),
+        );
+      })) (told_both start told h.copied.going.on shown.shown))
+
+  -- All was done before it was asked to flush.
+  pub copied_flushed_last : GrewBy (FlushesLastFrom (size_of summary) to summary) start told
+  copied_flushed_last =
+      told_part start told (told_map start told (λ calls both.
+      let ends = ends_so calls both.0 in
+      subst (λ (n : ℕ). FlushesLastFrom n to summary calls) (sym (sized calls ends)) (record {
+        rested = subst (λ (s : Summary). AtSome (CameToRestFrom job.terms.size to s) calls) (sym h.copied.ended.summary_is)
+            (both.1 (λ copying. parting_past (sym h.copied.ended.parting ∙ copying)) (let few = h.copied.few in let same = h.copied.size_ in omega (arith, few, same)) h.copied.ended.well);
+        once = ended_flushes_once_far read to (Some room) way.how way.slices now calls None way.known ends;
+      })) (told_both start told h.copied.going.on h.copied.going.rests))

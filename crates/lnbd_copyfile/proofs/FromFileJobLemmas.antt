@@ -1,9 +1,10 @@
 -- What a job of a copy from a file does keeps the copy on its way.
-use Rattle.std.proofs.Common.{◌≡◌, ◌≤◌, ◌+◌, ℕ, Bool, true, false, List, [], ◌++◌, Option, Some, None, refl, ap, sym, subst, ◌∙◌, arith, append_assoc, append-nil}
+use Rattle.std.proofs.Common.{◌≡◌, ◌≢◌, ◌≤◌, ◌+◌, ℕ, Bool, true, false, List, [], ◌++◌, Option, Some, None, refl, ap, sym, subst, ◌∙◌, arith, append_assoc, append-nil}
 use Rattle.std.proofs.lemmas.Bool.{false≢true}
 use Rattle.lnbd_link.specs.Call as wire
 use Rattle.lnbd_handle.specs.Issues.{flush_of}
 use Rattle.lnbd_model.specs.Kind.{is_write}
+use Rattle.lnbd_model.specs.declared.target.Place.{Place}
 use Rattle.lnbd_plan.specs.declared.grid.Slice.{Slice}
 use Rattle.lnbd_poll.specs.Held.{Held}
 use Rattle.lnbd_board.specs.declared.how.How.{How}
@@ -15,6 +16,7 @@ use Rattle.lnbd_board.specs.Rows as rows
 use Rattle.lnbd_board.proofs.Turning.{flush_kept}
 use Rattle.lnbd_tracks.specs.Laws.{asked_by}
 use Rattle.lnbd_course.specs.Counted.{is_zero, up_to_end}
+use Rattle.lnbd_course.specs.Counts.{summary_of}
 use Rattle.lnbd_course.specs.Far.{FromFile}
 use Rattle.lnbd_course.specs.Laws.{AsksDestination}
 use Rattle.lnbd_course.specs.Taken.{without_buffer}
@@ -27,15 +29,20 @@ use Rattle.lnbd_copy.proofs.TurnLemmas.{asked_stand}
 use Rattle.lnbd_store.specs.Shelf.{Shelf}
 use Rattle.lnbd_touched.proofs.GrownLemmas.{rose_none, rose_then}
 use Rattle.lnbd_touched.proofs.TouchLemmas.{touches_none, touches_then}
+use Rattle.lnbd_connections.specs.Bound.{BindsStill, IsBound}
 use Rattle.lnbd_connections.specs.Steps.{Parts}
 use Rattle.lnbd_connections.specs.Way.{IsUnderWay, Way, with_slices}
+use Rattle.lnbd_connections.proofs.BoundWay.{bound_asked}
 use Rattle.lnbd_connections.proofs.WayLemmas.{way_asked}
+use Rattle.lnbd_copy.proofs.BindingLemmas.{binds_none}
 use Rattle.lnbd_copyfile.specs.declared.from_file_job.Phase.{Phase}
 use Rattle.lnbd_copyfile.specs.declared.from_file_job.Phase.TheVariants.{Copying, Flushing, Parting}
+use Rattle.lnbd_copyfile.specs.FlushedLast.{HasRested}
 use Rattle.lnbd_copyfile.specs.FromFileJob.{Acts, Concludes, IsJob, IsOver, Seen, nowhere}
 use Rattle.lnbd_copyfile.specs.Jobs.{AreOfOne}
 use Rattle.lnbd_copyfile.specs.Loading.{ToldMore}
 use Rattle.lnbd_copyfile.specs.Sending.{Sends}
+use Rattle.lnbd_copyfile.proofs.FlushedLastLemmas.{rests, rests_not}
 use Rattle.lnbd_copyfile.proofs.SendingLemmas.{told_none, told_then}
 
 -- One step after another.
@@ -50,8 +57,13 @@ one_then a b c first second = record { at = second.at ∙ first.at; size = secon
 module _ (file : ℕ) (job job' : Seen) (now now' : board.Seen) (held held' : List (Held Ticket)) (shelf : Option Shelf) (given : ℕ) where
   acts_unread : (Stand held → Stand held') → ((way : Way) → IsJob job way now → IsJob job' way now') →
       ((read : List Request) (way : Way) (calls : List wire.Call) → IsJob job way now → IsUnderWay (FromFile read) way now calls held → IsUnderWay (FromFile read) way now' calls held') →
+      (job'.phase ≢ Parting → (read : List Request) (way : Way) (calls : List wire.Call) → IsJob job way now → IsBound false (FromFile read) way now calls held → IsBound false (FromFile read) way
+      now' calls held') →
+      (job.phase ≡ Parting → job'.phase ≡ Parting) →
+      ((read : List Request) (way : Way) (calls : List wire.Call) → IsJob job way now → IsUnderWay (FromFile read) way now calls held → HasRested job.phase job.terms.size way.at now calls →
+      HasRested job'.phase job'.terms.size way.at now' calls) →
       Acts file job job' now now' held held' shelf shelf given given
-  acts_unread stand keeps on = record {
+  acts_unread stand keeps on bound parts rests = record {
     stand = stand;
     on = λ read way had. record {
       way' = way;
@@ -59,15 +71,19 @@ module _ (file : ℕ) (job job' : Seen) (now now' : board.Seen) (held held' : Li
       one = one_same way;
       job = keeps way had;
       on = λ calls was. on read way calls had was;
+      bound = λ other calls was. bound other read way calls had was;
       touched = touches_none file (ToldMore read read) shelf (told_none read);
       count = 0;
       more = omega arith;
       gave = rose_none given;
     };
+    parts = parts;
+    rests = rests;
   }
 
 pub acts_none : (file : ℕ) (job : Seen) (now : board.Seen) (held : List (Held Ticket)) (shelf : Option Shelf) (given : ℕ) → Acts file job job now now held held shelf shelf given given
-acts_none file job now held shelf given = acts_unread file job job now now held held shelf given (λ s. s) (λ way had. had) (λ read way calls had on. on)
+acts_none file job now held shelf given = acts_unread file job job now now held held shelf given (λ s. s) (λ way had. had) (λ read way calls had on. on) (λ other read way calls had on. on) (λ
+    parts. parts) (λ read way calls had on rest. rest)
 
 pub acts_then : (file : ℕ) (job job2 job3 : Seen) (now now2 now3 : board.Seen) (held held2 held3 : List (Held Ticket)) (a b c : Option Shelf) (given given2 given3 : ℕ) →
     Acts file job job2 now now2 held held2 a b given given2 → Acts file job2 job3 now2 now3 held2 held3 b c given2 given3 → Acts file job job3 now now3 held held3 a c given given3
@@ -82,12 +98,19 @@ acts_then file job job2 job3 now now2 now3 held held2 held3 a b c given given2 g
         one = one_then way one.way' two.way' one.one two.one;
         job = two.job;
         on = λ calls on. two.on calls (one.on calls on);
+        bound = λ other calls on. two.bound other calls (one.bound (λ parts. other (second.parts parts)) calls on);
         touched = touches_then file (ToldMore read one.read') (ToldMore one.read' two.read') (ToldMore read two.read') a b c
             (λ x y z f g. told_then read one.read' two.read' x y z f g) one.touched two.touched;
         count = one.count + two.count;
         more = (let f = one.more in let g = two.more in omega (arith, f, g));
         gave = rose_then one.count two.count given given2 given3 one.gave two.gave;
       };
+  parts = λ parts. second.parts (first.parts parts);
+  rests = λ read way calls had on rest.
+      let one = first.on read way had in
+      subst (λ (to : Place). HasRested job3.phase job3.terms.size to now3 calls) one.one.at
+      (second.rests one.read' one.way' calls one.job (one.on calls on)
+      (subst (λ (to : Place). HasRested job2.phase job2.terms.size to now2 calls) (sym one.one.at) (first.rests read way calls had on rest)));
 }
 
 -- Slices begin and go on.
@@ -132,11 +155,14 @@ acts_sent file job job' planned' bound' now now' held held' a b given given' cop
       flushed = λ parts. absurd (still_copying job.phase copying parts);
     };
     on = λ calls on. sent.on way calls (had.how ∙ sym had.writes) on;
+    bound = λ other calls on. sent.bound way calls (had.how ∙ sym had.writes) on;
     touched = sent.touched;
     count = sent.count;
     more = sent.bytes;
     gave = sent.gave;
   };
+  parts = λ parts. parts;
+  rests = λ read way calls had on rest. rests_not job.phase job.terms.size way.at now' calls copying;
 })
 
 -- The end.
@@ -176,7 +202,8 @@ pub concludes_parting : (job job' : Seen) (now : board.Seen) (held held' : List 
 concludes_parting job job' now held held' unwanted is over parts = subst (λ (j : Seen). Concludes job j now now held held') (sym is) (record {
   on = λ file shelf given. acts_unread file job (record job { phase = Parting }) now now held held' shelf given parts.stand
       (λ way had. concluded job Parting now now way parting_past over refl refl had.unwanted (λ p wanted. absurd (false≢true (sym unwanted ∙ wanted))) had)
-      (λ read way calls had on. parts.on (FromFile read) way calls on);
+      (λ read way calls had on. parts.on (FromFile read) way calls on) (λ other. absurd (other refl)) (λ _. refl)
+      (λ read way calls had on rest. rests job Parting read way now now calls held over (had.unwanted unwanted) refl refl had on);
 })
 
 -- and where it was answered.
@@ -186,7 +213,8 @@ pub concludes_flushed : (job job' : Seen) (now : board.Seen) (held held' : List 
 concludes_flushed job job' now held held' answered is flushing parts = subst (λ (j : Seen). Concludes job j now now held held') (sym is) (record {
   on = λ file shelf given. acts_unread file job (record job { phase = Parting }) now now held held' shelf given parts.stand
       (λ way had. concluded job Parting now now way parting_past (had.over (λ e. flushing_past (sym flushing ∙ e))) refl refl had.unwanted (λ p wanted. answered) had)
-      (λ read way calls had on. parts.on (FromFile read) way calls on);
+      (λ read way calls had on. parts.on (FromFile read) way calls on) (λ other. absurd (other refl)) (λ _. refl)
+      (λ read way calls had on rest. λ past. rest (λ e. flushing_past (sym flushing ∙ e)));
 })
 
 -- The export is asked to flush: the invariant stands with that.
@@ -219,6 +247,19 @@ flush_on read way now now' calls held held' index is unflushed asked on =
     (record { told = ap (λ (b : board.Seen). b.told) is; mapped = ap (λ (b : board.Seen). b.mapped) is; short = ap (λ (b : board.Seen). b.short) is })
     (let begun = ap (λ (b : board.Seen). b.begun) is in omega (arith, begun)))
 
+no_slice : (n : ℕ) → ticket.Flush ≡ ticket.Slice n → ⊥
+no_slice n e = cc
+
+flush_bound : (read : List Request) (way : Way) (now now' : board.Seen) (calls : List wire.Call) (held held' : List (Held Ticket)) (index : ℕ) → now' ≡ record now { flushing = true } →
+    now.flushing ≡ false →
+    IsAsked index (flush_of ticket.Flush 0) held held' → IsBound false (FromFile read) way now calls held → IsBound false (FromFile read) way now' calls held'
+flush_bound read way now now' calls held held' index is unflushed asked on =
+    subst (λ (slices : List Slice). IsBound false (FromFile read) (record way { slices = slices }) now' calls held') (append-nil way.slices)
+    (bound_asked false (FromFile read) way now calls held on [] now' held' index (flush_of ticket.Flush 0) (asked.on on.seens on.at) (flush_asks way.how now now' way.slices is unflushed) refl
+    (record { told = ap (λ (b : board.Seen). b.told) is; mapped = ap (λ (b : board.Seen). b.mapped) is; short = ap (λ (b : board.Seen). b.short) is })
+    (let begun = ap (λ (b : board.Seen). b.begun) is in omega (arith, begun)) (λ none. sym (ap (λ (b : board.Seen). b.error) is) ∙ none)
+    (binds_none false index ticket.Flush now now' no_slice (ap (λ (b : board.Seen). b.rows) is)))
+
 pub concludes_flushing : (job job' : Seen) (now now' : board.Seen) (held held' : List (Held Ticket)) (index : ℕ) → job.terms.flush ≡ true → job' ≡ record job { phase = Flushing } →
     job.phase ≡ Copying → IsOver job now →
     now' ≡ record now { flushing = true } → IsAsked index (flush_of ticket.Flush 0) held held' → Concludes job job' now now' held held'
@@ -226,7 +267,10 @@ concludes_flushing job job' now now' held held' index wanted is copying over ask
   on = λ file shelf given. acts_unread file job (record job { phase = Flushing }) now now' held held' shelf given (asked_stand index (flush_of ticket.Flush 0) held held' asked)
       (λ way had. concluded job Flushing now now' way flushing_past over (ap (λ (b : board.Seen). b.how) asks) (ap (λ (b : board.Seen). b.rows) asks) (λ no. absurd (false≢true (sym no ∙ wanted)))
       (λ p. absurd (flushing_differs p)) had)
-      (λ read way calls had on. flush_on read way now now' calls held held' index asks (had.unflushed copying) asked on);
+      (λ read way calls had on. flush_on read way now now' calls held held' index asks (had.unflushed copying) asked on)
+      (λ other read way calls had on. flush_bound read way now now' calls held held' index asks (had.unflushed copying) asked on) (λ parts. absurd (still_copying job.phase copying parts))
+      (λ read way calls had on rest. rests job Flushing read way now now' calls held over (had.unflushed copying) (ap (λ (b : board.Seen). summary_of job.terms.size b) asks)
+      (ap (λ (b : board.Seen). b.error) asks) had on);
 })
 
 pub concludes_none : (job : Seen) (now : board.Seen) (held : List (Held Ticket)) → Concludes job job now now held held
@@ -234,10 +278,11 @@ concludes_none job now held = record { on = λ file shelf given. acts_none file 
 
 -- What was noted is forgotten.
 pub acts_forgotten : (file : ℕ) (job job' : Seen) (now now' : board.Seen) (held held2 held3 : List (Held Ticket)) (a b : Option Shelf) (given given' : ℕ) →
-    Acts file job job' now now' held held2 a b given given' → Parts now' held2 held3 → Acts file job job' now now' held held3 a b given given'
-acts_forgotten file job job' now now' held held2 held3 a b given given' acts forgets =
+    Acts file job job' now now' held held2 a b given given' → Parts now' held2 held3 → BindsStill now' held2 held3 → Acts file job job' now now' held held3 a b given given'
+acts_forgotten file job job' now now' held held2 held3 a b given given' acts forgets still =
     acts_then file job job' job' now now' now' held held2 held3 a b b given given' given' acts
-    (acts_unread file job' job' now' now' held2 held3 b given' forgets.stand (λ way had. had) (λ read way calls had on. forgets.on (FromFile read) way calls on))
+    (acts_unread file job' job' now' now' held2 held3 b given' forgets.stand (λ way had. had) (λ read way calls had on. forgets.on (FromFile read) way calls on)
+    (λ other read way calls had on. still.on false (FromFile read) way calls on) (λ parts. parts) (λ read way calls had on rest. rest))
 
 -- A job begins.
 pub job_begins : (job : Seen) (way : Way) (now : board.Seen) (room : ℕ) → job.phase ≡ Copying → job.windows.plan.cells ≡ cells_of job.terms → job.windows.plan.end ≡ job.terms.size →

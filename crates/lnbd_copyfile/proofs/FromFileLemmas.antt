@@ -10,7 +10,9 @@ use Rattle.lnbd_course.specs.Counted.{bytes_of}
 use Rattle.lnbd_course.specs.Far.{FromFile}
 use Rattle.lnbd_conduct.specs.declared.terms.Terms.{Terms}
 use Rattle.lnbd_conduct.specs.Told.{Told}
+use Rattle.lnbd_copy.specs.Lasting.{Lasts}
 use Rattle.lnbd_copy.specs.Way.{Stand}
+use Rattle.lnbd_copy.proofs.FaultLemmas.{told_both}
 use Rattle.lnbd_copy.proofs.TurnLemmas.{told_begins, told_map}
 use Rattle.lnbd_store.specs.Shelf.{Shelf}
 use Rattle.lnbd_touched.specs.Grown.{RoseBy}
@@ -21,9 +23,11 @@ use Rattle.lnbd_connections.specs.Way.{IsUnderWay, Way}
 use Rattle.lnbd_connections.proofs.WayLemmas.{way_agreed, way_began, way_settled}
 use Rattle.lnbd_copyfile.specs.declared.from_file_job.Phase.TheVariants.{Copying, Parting}
 use Rattle.lnbd_copyfile.specs.FromFile.{AreMade, GoesFurther, HasAgreed, HasMet, HasNotBegun, IsGoing, Runs, Seen, new_board, new_way}
+use Rattle.lnbd_copyfile.specs.FlushedLast.{HasRested}
 use Rattle.lnbd_copyfile.specs.FromFileJob as work
 use Rattle.lnbd_copyfile.specs.FromFileJob.{Acts, IsJob}
 use Rattle.lnbd_copyfile.specs.Loading.{ToldMore}
+use Rattle.lnbd_copyfile.proofs.FlushedLastLemmas.{rests_later, rests_not}
 use Rattle.lnbd_copyfile.proofs.FromFileJobLemmas.{job_filed}
 use Rattle.lnbd_copyfile.proofs.SendingLemmas.{told_none, told_then}
 
@@ -104,9 +108,9 @@ joins to terms start a b c copy mid copy' more same dials goes met = record {
 pub going_first : (to : Place) (file : ℕ) (terms : Terms) (start told : Option (List wire.Call)) (copy copy' : Seen) (job : work.Seen) (shelf : Option Shelf) (given : ℕ) →
     copy'.held ≡ copy.held → copy'.board ≡ new_board terms.how → copy.board.error ≡ None →
     ((way : Way) (now : board.Seen) (room : ℕ) → way.size ≡ Some room → terms.size ≤ room → way.how ≡ terms.how → now.how ≡ terms.how → way.slices ≡ [] → way.asked ≡ None → now.flushing ≡
-    false → IsJob job way now) →
+    false → IsJob job way now) → job.phase ≡ Copying →
     HasMet to terms start told copy → IsGoing to file job start told copy' shelf shelf given given
-going_first to file terms start told copy copy' job shelf given held fresh well begins met = record {
+going_first to file terms start told copy copy' job shelf given held fresh well begins copying met = record {
   read = [];
   way = new_way to (Some met.room) terms.how;
   at = refl;
@@ -124,6 +128,7 @@ going_first to file terms start told copy copy' job shelf given held fresh well 
       })) met.made.on);
   touched = touches_none file (ToldMore [] []) shelf (told_none []);
   gave = rose_none given;
+  rests = told_map start told (λ calls on. rests_not job.phase job.terms.size to copy'.board calls copying) met.made.on;
 }
 
 pub runs_first : (to : Place) (terms : Terms) (start told : Option (List wire.Call)) (copy copy' : Seen) (job : work.Seen) → copy'.held ≡ copy.held → copy'.board ≡ new_board terms.how →
@@ -151,8 +156,8 @@ further_then file job job2 job3 a b c copy copy2 copy3 shelf shelf2 shelf3 given
 }
 
 module _ (file : ℕ) (job : work.Seen) (a b : Option (List wire.Call)) (copy copy' : Seen) (shelf : Option Shelf) (given : ℕ) where
-  pub further_turned : steps.Goes copy.board copy.held a copy'.board copy'.held b → GoesFurther file job job a b copy copy' shelf shelf given given
-  further_turned goes = record {
+  pub further_turned : steps.Goes copy.board copy.held a copy'.board copy'.held b → (Stand copy.held → Lasts a b) → GoesFurther file job job a b copy copy' shelf shelf given given
+  further_turned goes lasts = record {
     on = λ to start opened before going. record {
       read = going.read;
       way = going.way;
@@ -162,11 +167,12 @@ module _ (file : ℕ) (job : work.Seen) (a b : Option (List wire.Call)) (copy co
       on = goes.on (FromFile going.read) going.way start going.stand going.on;
       touched = going.touched;
       gave = going.gave;
+      rests = rests_later job.phase job.terms.size to copy.board copy'.board start a b (goes.filed going.stand) (lasts going.stand) going.rests;
     };
   }
 
-  pub further_left : job.phase ≡ Parting → steps.Leaves copy.board copy.held a copy'.board copy'.held b → GoesFurther file job job a b copy copy' shelf shelf given given
-  further_left parting leaves = record {
+  pub further_left : job.phase ≡ Parting → steps.Leaves copy.board copy.held a copy'.board copy'.held b → Lasts a b → GoesFurther file job job a b copy copy' shelf shelf given given
+  further_left parting leaves lasts = record {
     on = λ to start opened before going. record {
       read = going.read;
       way = going.way;
@@ -176,6 +182,7 @@ module _ (file : ℕ) (job : work.Seen) (a b : Option (List wire.Call)) (copy co
       on = leaves.on (FromFile going.read) going.way start going.is.unasked (going.is.over (λ copying. parting_past (sym parting ∙ copying))).rows going.on;
       touched = going.touched;
       gave = going.gave;
+      rests = rests_later job.phase job.terms.size to copy.board copy'.board start a b leaves.filed lasts going.rests;
     };
   }
     where
@@ -197,23 +204,27 @@ further_acted file job job' a copy copy' shelf shelf' given given' acts = record
         touched = touches_then file (ToldMore [] going.read) (ToldMore going.read further.read') (ToldMore [] further.read') opened shelf shelf'
             (λ x y z f g. told_then [] going.read further.read' x y z f g) going.touched further.touched;
         gave = subst (λ (n : ℕ). RoseBy n before given') (sym further.more) (rose_then (bytes_of is_read going.read) further.count before given given' going.gave further.gave);
+        rests = told_map start a (λ calls both.
+            subst (λ (p : Place). HasRested job'.phase job'.terms.size p copy'.board calls) going.at
+            (acts.rests going.read going.way calls going.is both.0
+            (subst (λ (p : Place). HasRested job.phase job.terms.size p copy.board calls) (sym going.at) both.1))) (told_both start a going.on going.rests);
       };
 }
 
 -- A turn: each connection takes its part, the job acts, and those that have parted are left.
 pub further_round : (file : ℕ) (job job' : work.Seen) (a b c : Option (List wire.Call)) (copy copy2 copy3 copy4 : Seen) (shelf shelf' : Option Shelf) (given given' : ℕ) →
-    steps.Goes copy.board copy.held a copy2.board copy2.held b → Acts file job job' copy2.board copy3.board copy2.held copy3.held shelf shelf' given given' →
+    steps.Goes copy.board copy.held a copy2.board copy2.held b → (Stand copy.held → Lasts a b) → Acts file job job' copy2.board copy3.board copy2.held copy3.held shelf shelf' given given' →
     GoesFurther file job' job' b c copy3 copy4 shelf' shelf' given' given' → GoesFurther file job job' a c copy copy4 shelf shelf' given given'
-further_round file job job' a b c copy copy2 copy3 copy4 shelf shelf' given given' goes acts left =
-    further_then file job job job' a b c copy copy2 copy4 shelf shelf shelf' given given given' (further_turned file job a b copy copy2 shelf given goes)
+further_round file job job' a b c copy copy2 copy3 copy4 shelf shelf' given given' goes lasts acts left =
+    further_then file job job job' a b c copy copy2 copy4 shelf shelf shelf' given given given' (further_turned file job a b copy copy2 shelf given goes lasts)
     (further_then file job job' job' b b c copy2 copy3 copy4 shelf shelf' shelf' given given' given' (further_acted file job job' b copy2 copy3 shelf shelf' given given' acts) left)
 
 -- A pause behind it.
 pub further_paused : (file : ℕ) (job job' : work.Seen) (a b c : Option (List wire.Call)) (copy copy2 copy3 : Seen) (shelf shelf' : Option Shelf) (given given' : ℕ) →
-    GoesFurther file job job' a b copy copy2 shelf shelf' given given' → steps.Goes copy2.board copy2.held b copy3.board copy3.held c → GoesFurther file job job' a c copy
+    GoesFurther file job job' a b copy copy2 shelf shelf' given given' → steps.Goes copy2.board copy2.held b copy3.board copy3.held c → Lasts b c → GoesFurther file job job' a c copy
     copy3 shelf shelf' given given'
-further_paused file job job' a b c copy copy2 copy3 shelf shelf' given given' went goes =
-    further_then file job job' job' a b c copy copy2 copy3 shelf shelf' shelf' given given' given' went (further_turned file job' b c copy2 copy3 shelf' given' goes)
+further_paused file job job' a b c copy copy2 copy3 shelf shelf' given given' went goes lasts =
+    further_then file job job' job' a b c copy copy2 copy3 shelf shelf' shelf' given given' given' went (further_turned file job' b c copy2 copy3 shelf' given' goes (λ s. lasts))
 
 pub runs_paused : (job : work.Seen) (copy copy' : Seen) (a b : Option (List wire.Call)) → Runs job copy → steps.Goes copy.board copy.held a copy'.board copy'.held b → Runs job copy'
 runs_paused job copy copy' a b runs goes = record { stand = goes.stand runs.stand; how = (goes.filed runs.stand).how ∙ runs.how }

@@ -17,6 +17,7 @@ pub mod SumsLemmas
 pub mod ToFileRunLemmas
 pub mod ForgettingLemmas
 pub mod SpreadLemmas
+pub mod BoundRows
 pub mod ToFileJobLemmas
 pub mod WaitLemmas
 pub mod SendingLemmas
@@ -24,3 +25,24 @@ pub mod FromFileJobLemmas
 pub mod FromFileLemmas
 pub mod CopiedLemmas
 pub mod HaltLemmas
+pub mod ShownLemmas
+pub mod GivenLemmas
+pub mod ShareLemmas
+pub mod FullLemmas
+pub mod FarFullLemmas
+mod PassedLemmas
+mod PassedRunLemmas
+pub mod TakenLemmas
+pub mod DealtLemmas
+pub mod ShareFromLemmas
+pub mod AllHeldLemmas
+pub mod ToFileFullLemmas
+pub mod ToFilePauseLemmas
+pub mod LinkClauses
+pub mod SparingLemmas
+pub mod FlushedLastLemmas
+pub mod HearingLemmas
+pub mod SentLemmas
+pub mod FarFullFromLemmas
+pub mod FromFileFullLemmas
+pub mod FromFilePauseLemmas

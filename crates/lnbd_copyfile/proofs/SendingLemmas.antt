@@ -6,6 +6,7 @@ use Rattle.lnbd_link.specs.Call as wire
 use Rattle.lnbd_history.specs.Events.{Issue}
 use Rattle.lnbd_plan.specs.declared.grid.Slice.{Slice}
 use Rattle.lnbd_poll.specs.Held.{Held}
+use Rattle.lnbd_board.specs.declared.ask.Ask.TheVariants as ask
 use Rattle.lnbd_board.specs.declared.ask.Change.{Change}
 use Rattle.lnbd_board.specs.declared.ask.Change.TheVariants as change
 use Rattle.lnbd_board.specs.declared.how.How.{How}
@@ -13,6 +14,7 @@ use Rattle.lnbd_board.specs.declared.next.Next.{Next}
 use Rattle.lnbd_board.specs.declared.next.Next.TheVariants as next
 use Rattle.lnbd_board.specs.declared.row.Row.{Row}
 use Rattle.lnbd_board.specs.declared.ticket.Ticket.{Ticket}
+use Rattle.lnbd_board.specs.declared.ticket.Ticket.TheVariants as ticket
 use Rattle.lnbd_board.specs.Asks.{Keeps}
 use Rattle.lnbd_board.specs.Board.{AsksOn, EndsRow, IsNext}
 use Rattle.lnbd_board.specs.Files as board
@@ -25,10 +27,13 @@ use Rattle.lnbd_course.specs.FarCourse.{FarCourse}
 use Rattle.lnbd_course.specs.Laws.{AsksDestination}
 use Rattle.lnbd_course.specs.Orders.{command_of}
 use Rattle.lnbd_course.specs.Taken.{without_buffer}
+use Rattle.lnbd_course.proofs.FarKeeping as keeping
+use Rattle.lnbd_course.proofs.FarStanding.{completed_earlier}
 use Rattle.lnbd_course.proofs.Orders.{going_asks}
 use Rattle.lnbd_copy.specs.Asked.{IsAsked}
 use Rattle.lnbd_copy.specs.Way.{Stand}
 use Rattle.lnbd_copy.specs.Windows as windows
+use Rattle.lnbd_copy.proofs.BindingLemmas.{Binds as BindsRow, SameBindings, binds_on, same_without}
 use Rattle.lnbd_copy.proofs.TurnLemmas.{asked_stand}
 use Rattle.lnbd_copy.proofs.DealingLemmas.{left_then, taken_none, taken_some}
 use Rattle.lnbd_store.specs.Shelf.{Shelf}
@@ -37,9 +42,13 @@ use Rattle.lnbd_touched.specs.Touches.{Touches}
 use Rattle.lnbd_touched.proofs.GrownLemmas.{rose_none, rose_then}
 use Rattle.lnbd_touched.proofs.TouchLemmas.{touches_none, touches_then}
 use Rattle.lnbd_connections.specs.Way.{IsUnderWay, Way, with_slices}
+use Rattle.lnbd_connections.specs.Bound.{IsBound}
+use Rattle.lnbd_connections.proofs.BoundLemmas.{on_dealt}
+use Rattle.lnbd_connections.proofs.BoundWay.{bound_asked, bound_moved}
 use Rattle.lnbd_connections.proofs.WayLemmas.{way_asked, way_moved}
 use Rattle.lnbd_copyfile.specs.Loading.{HasLoaded, ToldMore}
 use Rattle.lnbd_copyfile.specs.Sending.{Begins, BeginsOne, PassesOn, Sends}
+use Rattle.lnbd_copyfile.proofs.BoundRows.{binds_made}
 use Rattle.lnbd_copyfile.proofs.FarLemmas.{change_counts, loaded_with, loading_reads, loading_stands, row_alike, row_counts}
 
 -- What a file told.
@@ -57,6 +66,10 @@ no_more : (far : List Request) (way : Way) (now : board.Seen) (calls : List wire
     IsUnderWay (FromFile far) (with_slices [] way) now calls held
 no_more far way now calls held on = subst (λ (slices : List Slice). IsUnderWay (FromFile far) (record way { slices = slices }) now calls held) (sym (append-nil way.slices)) on
 
+no_more_bound : (far : List Request) (way : Way) (now : board.Seen) (calls : List wire.Call) (held : List (Held Ticket)) → IsBound false (FromFile far) way now calls held →
+    IsBound false (FromFile far) (with_slices [] way) now calls held
+no_more_bound far way now calls held on = subst (λ (slices : List Slice). IsBound false (FromFile far) (record way { slices = slices }) now calls held) (sym (append-nil way.slices)) on
+
 pub passes_none : (now : board.Seen) (held : List (Held Ticket)) → PassesOn now now held held
 passes_none now held = record {
   on = λ file planned shelf given. record {
@@ -69,6 +82,7 @@ passes_none now held = record {
     on = λ read. record {
       read' = read;
       on = λ way calls h on. no_more read way now calls held on;
+      bound = λ way calls h on. no_more_bound read way now calls held on;
       touched = touches_none file (ToldMore read read) shelf (told_none read);
       count = 0;
       bytes = omega arith;
@@ -94,6 +108,9 @@ sends_then file p q r now now2 now3 held held2 held3 a b c given given2 given3 f
         on = λ way calls h on.
             subst (λ (slices : List Slice). IsUnderWay (FromFile two.read') (record way { slices = slices }) now3 calls held3) (append_assoc way.slices first.more second.more)
             (two.on (with_slices first.more way) calls (h ∙ sym first.how) (one.on way calls h on));
+        bound = λ way calls h on.
+            subst (λ (slices : List Slice). IsBound false (FromFile two.read') (record way { slices = slices }) now3 calls held3) (append_assoc way.slices first.more second.more)
+            (two.bound (with_slices first.more way) calls (h ∙ sym first.how) (one.bound way calls h on));
         touched = touches_then file (ToldMore read one.read') (ToldMore one.read' two.read') (ToldMore read two.read') a b c
             (λ x y z f g. told_then read one.read' two.read' x y z f g) one.touched two.touched;
         count = one.count + two.count;
@@ -121,13 +138,26 @@ change_tells_none : (n : ℕ) (one : Change) → asks_extents (Issue (without_bu
 change_tells_none n (change.Write offset bytes) = refl
 change_tells_none n (change.Zero offset size flags) = refl
 
+-- it is on the connection that its slice is bound to
+change_bound : {how : How} (n destination : ℕ) (one : Change) (now mid : board.Seen) → AsksOn how n destination one now mid →
+    BindsRow false destination (without_buffer (command_of n one)).done now mid
+change_bound n destination one now mid asks =
+    subst (λ (t : Ticket). BindsRow false destination t now mid) (sym (change_of_slice n one))
+    (subst (λ (c : ℕ). BindsRow false c (ticket.Slice n) now mid) (sym asks.writes) (binds_on n asks.row asks.stage now mid asks.held (ap (λ (s : board.Seen). s.rows) asks.now)))
+  where
+    change_of_slice : (n : ℕ) (one : Change) → (without_buffer (command_of n one)).done ≡ ticket.Slice n
+    change_of_slice n (change.Write offset bytes) = refl
+    change_of_slice n (change.Zero offset size flags) = refl
+
 -- a step of the board, after which the copy stays on its way
 module _ (now now' : board.Seen) (held held' : List (Held Ticket)) where
   passes_so : now'.how ≡ now.how → now'.flushing ≡ now.flushing → (Stand held → Stand held') →
       ((read : List Request) (way : Way) (calls : List wire.Call) → way.how ≡ now.how → IsUnderWay (FromFile read) way now calls held → IsUnderWay (FromFile read) (with_slices [] way) now'
       calls held') →
+      ((read : List Request) (way : Way) (calls : List wire.Call) → way.how ≡ now.how → IsBound false (FromFile read) way now calls held → IsBound false (FromFile read) (with_slices [] way) now'
+      calls held') →
       PassesOn now now' held held'
-  passes_so how flushing stand on = record {
+  passes_so how flushing stand on bound = record {
     on = λ file planned shelf given. record {
       more = [];
       handed = refl;
@@ -138,6 +168,7 @@ module _ (now now' : board.Seen) (held held' : List (Held Ticket)) where
       on = λ read. record {
         read' = read;
         on = on read;
+        bound = bound read;
         touched = touches_none file (ToldMore read read) shelf (told_none read);
         count = 0;
         bytes = omega arith;
@@ -160,6 +191,13 @@ passes_over told n source destination now now' held is ends =
     (way_moved (FromFile read) way now calls held on now' (ap (λ (s : board.Seen). s.begun) over.now) (λ none. sym (ap (λ (s : board.Seen). s.error) over.now) ∙ none)
     (row_counts now.how n source destination now now' over)
     (λ reads changed. subst (λ (w : How). Keeps w now.rows reads changed now'.rows reads changed) (sym h) (over.goes.on reads changed 0 0)) (row_alike now.how n source destination now now' over)))
+    (λ read way calls h on. no_more_bound read way now' calls held
+    (bound_moved false (FromFile read) way now calls held on now' (FromFile read) (ap (λ (s : board.Seen). s.begun) over.now) (λ none. sym (ap (λ (s : board.Seen). s.error) over.now) ∙ none)
+    (λ rising. subst (λ (rows : List (ℕ × Row)). SameBindings now.rows rows) (sym (ap (λ (s : board.Seen). s.rows) over.now)) (same_without n now.rows rising))
+    (keeping.board_moves_keep_far (FromFile read) way.at way.size way.how way.slices now now' calls on.seens way.asked way.known on.stands (λ none. sym (ap (λ (s : board.Seen). s.error) over.now)
+    ∙ none)
+    (row_counts now.how n source destination now now' over)
+    (λ reads changed. subst (λ (w : How). Keeps w now.rows reads changed now'.rows reads changed) (sym h) (over.goes.on reads changed 0 0)) (row_alike now.how n source destination now now' over))))
 
 pub passes_asks : (told : Next) (n destination : ℕ) (one : Change) (now mid now' : board.Seen) (held held' : List (Held Ticket)) → told ≡ next.Asks n destination one → IsNext now.how told now mid →
     now' ≡ mid → IsAsked destination (command_of n one) held held' → PassesOn now now' held held'
@@ -173,7 +211,15 @@ passes_asks told n destination one now mid now' held held' is goes same asked =
     (going_asks now.how n one way.slices now mid (λ none. sym (ap (λ (s : board.Seen). s.error) asks.now) ∙ none) (change_counts now.how n destination one now mid asks) asks.goes)))
     (change_tells_none n one)
     (record { told = ap (λ (s : board.Seen). s.told) asks.now; mapped = ap (λ (s : board.Seen). s.mapped) asks.now; short = ap (λ (s : board.Seen). s.short) asks.now })
-    (let begun = ap (λ (s : board.Seen). s.begun) asks.now in omega (arith, begun))))
+    (let begun = ap (λ (s : board.Seen). s.begun) asks.now in omega (arith, begun)))
+    (λ read way calls h on. bound_asked false (FromFile read) way now calls held on [] mid held' destination (command_of n one) (asked.on on.seens on.at)
+    (subst (λ (more : List Slice). AsksDestination way.how (without_buffer (command_of n one)) way.slices more now mid) (sym (append-nil way.slices))
+    (subst (λ (w : How). AsksDestination w (without_buffer (command_of n one)) way.slices way.slices now mid) (sym h)
+    (going_asks now.how n one way.slices now mid (λ none. sym (ap (λ (s : board.Seen). s.error) asks.now) ∙ none) (change_counts now.how n destination one now mid asks) asks.goes)))
+    (change_tells_none n one)
+    (record { told = ap (λ (s : board.Seen). s.told) asks.now; mapped = ap (λ (s : board.Seen). s.mapped) asks.now; short = ap (λ (s : board.Seen). s.short) asks.now })
+    (let begun = ap (λ (s : board.Seen). s.begun) asks.now in omega (arith, begun)) (λ none. sym (ap (λ (s : board.Seen). s.error) asks.now) ∙ none)
+    (change_bound n destination one now mid asks)))
 
 -- Slices begin.
 
@@ -218,6 +264,23 @@ module _ (file : ℕ) (slice : Slice) (destination : ℕ) (read : List Request) 
         (subst (λ (w : How). FarCourse (FromFile read) way.at way.size w way.slices now calls on.seens way.asked way.known) h on.stands));
   }
 
+  loaded_bound : (way : Way) (calls : List wire.Call) (held : List (Held Ticket)) → way.how ≡ now.how → IsBound false (FromFile read) way now calls held →
+      IsBound false (FromFile (loaded_with file slice 0 destination read now now' a b given given' loaded)) (with_slices (slice ∷ []) way) now' calls held
+  loaded_bound way calls held h on = record {
+    seens = on.seens;
+    at = on.at;
+    begun = length-append way.slices (slice ∷ []) ∙ ap (λ (n : ℕ). n + 1) on.begun ∙ sym loaded_begun;
+    stands =
+        subst (λ (w : How). FarCourse (FromFile (loaded_with file slice 0 destination read now now' a b given given' loaded)) way.at way.size w (way.slices ++ slice ∷ []) now' calls on.seens way.asked
+        way.known) (sym h)
+        (loading_stands file slice 0 destination read now now' a b given given' loaded way.at way.size way.slices calls on.seens way.asked way.known on.begun
+        (subst (λ (w : How). FarCourse (FromFile read) way.at way.size w way.slices now calls on.seens way.asked way.known) h on.stands));
+    all = on.all;
+    bound = on_dealt false (FromFile read) way.at way.size way.how way.slices now calls on.seens way.asked way.known on.stands now' on.begun
+        (λ well. sym (ap (λ (s : board.Seen). s.error) loaded.begun) ∙ completed_earlier now.begun loaded.bytes loaded.next now' loaded.came well) on.bound destination ticket.Flush
+        (binds_made false slice 0 destination (ask.Read loaded.offset loaded.buf) now loaded.next now' now.begun loaded.bytes (record { begins = loaded.begins; row = loaded.begun }) loaded.came);
+  }
+
 pub loads_begin : (file : ℕ) (slice : Slice) (told : Option Slice) (p q : windows.Seen) (now now' : board.Seen) (a b : Option Shelf) (given given' : ℕ) → told ≡ Some slice →
     p.plan.slices ≡ option_to_list told ++ q.plan.slices → q ≡ record p { plan = record p.plan { slices = q.plan.slices } } → BeginsOne file slice now now' a b given given' →
     Begins file p q now now' a b given given'
@@ -232,6 +295,7 @@ loads_begin file slice told p q now now' a b given given' is taken others one = 
     on = λ read. let loaded = one.loads.on read in record {
       read' = loaded_with file slice 0 one.destination read now now' a b given given' loaded;
       on = λ way calls h on. loaded_on file slice one.destination read now now' a b given given' loaded way calls held h on;
+      bound = λ way calls h on. loaded_bound file slice one.destination read now now' a b given given' loaded way calls held h on;
       touched = loaded.touched;
       count = length loaded.bytes;
       bytes = loading_reads file slice 0 one.destination read now now' a b given given' loaded;

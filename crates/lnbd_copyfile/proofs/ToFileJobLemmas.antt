@@ -18,6 +18,7 @@ use Rattle.lnbd_board.specs.declared.how.How.{How}
 use Rattle.lnbd_board.specs.declared.ticket.Ticket.{Ticket}
 use Rattle.lnbd_board.specs.declared.ticket.Ticket.TheVariants as ticket
 use Rattle.lnbd_board.specs.Asks.{change_of}
+use Rattle.lnbd_board.specs.Board.{first_row}
 use Rattle.lnbd_board.specs.Files as board
 use Rattle.lnbd_board.specs.Files.{came_with, is_unfit, or_error, rows_with}
 use Rattle.lnbd_board.specs.Requests.{Request, asking}
@@ -34,27 +35,34 @@ use Rattle.lnbd_course.specs.Laws.{AsksSource}
 use Rattle.lnbd_course.specs.Taken.{without_buffer}
 use Rattle.lnbd_course.specs.Told.{Known}
 use Rattle.lnbd_course.proofs.Counting.{bytes_beside}
+use Rattle.lnbd_course.proofs.FarStanding.{completed_earlier}
 use Rattle.lnbd_course.proofs.Orders.{beginning_asks}
 use Rattle.lnbd_conduct.specs.Slices.{cells_of}
 use Rattle.lnbd_copy.specs.Asked.{IsAsked}
 use Rattle.lnbd_copy.specs.Heard.{IsHeardTo, passed_heard}
-use Rattle.lnbd_copy.specs.Reached.{told_heard}
+use Rattle.lnbd_copy.specs.Reached.{IsToldTo, told_heard}
 use Rattle.lnbd_copy.specs.Spared.{IsSpared, whole_heard}
 use Rattle.lnbd_copy.specs.Windows as windows
+use Rattle.lnbd_copy.proofs.BindingLemmas.{Binds as BindsRow, binds_first, binds_none}
 use Rattle.lnbd_copy.proofs.SparedLemmas.{spared_none}
+use Rattle.lnbd_copy.proofs.ToldLemmas.{told_handed}
 use Rattle.lnbd_copy.proofs.WindowLemmas.{and_left, and_right, or_cases, or_first, or_second}
 use Rattle.lnbd_store.specs.Shelf.{Shelf}
 use Rattle.lnbd_touched.specs.Grown.{RoseBy}
 use Rattle.lnbd_touched.proofs.GrownLemmas.{rose_none, rose_then}
 use Rattle.lnbd_touched.proofs.TouchLemmas.{touches_none, touches_then}
+use Rattle.lnbd_connections.specs.Bound.{BindsStill, IsBound}
 use Rattle.lnbd_connections.specs.Steps.{Parts}
 use Rattle.lnbd_connections.specs.Way.{IsUnderWay, Way, with_slices}
+use Rattle.lnbd_connections.proofs.BoundLemmas.{on_dealt}
+use Rattle.lnbd_connections.proofs.BoundWay.{bound_asked, bound_heard, bound_listened, bound_moved, bound_unheard}
 use Rattle.lnbd_connections.proofs.WayLemmas.{way_asked, way_heard, way_listened, way_unheard}
 use Rattle.lnbd_copyfile.specs.declared.desk.First.{First}
 use Rattle.lnbd_copyfile.specs.declared.desk.First.TheVariants as first
 use Rattle.lnbd_copyfile.specs.Jobs.{AreOfOne, Seen}
 use Rattle.lnbd_copyfile.specs.Making.{Changed, Ended, HasBegun, HasMadeFirst, IsBegun, MadeMore, MakesChanges, Rested, WentOn}
 use Rattle.lnbd_copyfile.specs.ToFileJob.{Acts, Begins, IsFurther, IsJob, IsOver, anywhere, with_asked, with_heard}
+use Rattle.lnbd_copyfile.proofs.BoundRows.{binds_made, went_earlier, went_same}
 use Rattle.lnbd_copyfile.proofs.FarLemmas.{beginning_keeps, first_counts, going_keeps}
 use Rattle.lnbd_copyfile.proofs.MadeLemmas.{bytes_joined, made_none, made_then}
 
@@ -71,19 +79,31 @@ module _ (file : ℕ) where
   further_near : (made : List Request) (way way' : Way) (job' : Seen) (now now' : board.Seen) (held held' : List (Held Ticket)) (shelf : Option Shelf) (taken : ℕ) → AreOfOne way way'
       → IsJob job' way' now'
       → ((calls : List wire.Call) → IsUnderWay (ToFile made) way now calls held → IsUnderWay (ToFile made) way' now' calls held')
+      → (job'.is_parting ≡ false → (calls : List wire.Call) → IsBound true (ToFile made) way now calls held → IsBound true (ToFile made) way' now' calls held')
       → IsFurther file made way job' now now' held held' shelf shelf taken taken
-  further_near made way way' job' now now' held held' shelf taken one has on = record {
+  further_near made way way' job' now now' held held' shelf taken one has on bound = record {
     way' = way';
     more = [];
     one = one;
     job = has;
     on = λ calls was. subst (λ (xs : List Request). IsUnderWay (ToFile xs) way' now' calls held') (sym (append-nil made)) (on calls was);
+    bound = λ copying calls was. subst (λ (xs : List Request). IsBound true (ToFile xs) way' now' calls held') (sym (append-nil made)) (bound copying calls was);
     touched = touches_none file (MadeMore made []) shelf (λ x. made_none made x);
     took = rose_none taken;
   }
 
   pub acts_none : (job : Seen) (now : board.Seen) (held : List (Held Ticket)) (shelf : Option Shelf) (taken : ℕ) → Acts file job job now now held held shelf shelf taken taken
-  acts_none job now held shelf taken = record { stand = λ s. s; on = λ made way had. further_near made way way job now now held held shelf taken (one_same way) had (λ calls was. was) }
+  acts_none job now held shelf taken = record {
+    stand = λ s. s;
+    on = λ made way had. further_near made way way job now now held held shelf taken (one_same way) had (λ calls was. was) (λ copying
+        calls was. was);
+    parts = λ parts. parts;
+  }
+
+  -- what does not part in the end did not before
+  not_parted : (b c : Bool) → (b ≡ true → c ≡ true) → c ≡ false → b ≡ false
+  not_parted true c parts e = absurd (false≢true (sym e ∙ parts refl))
+  not_parted false c parts e = refl
 
   pub acts_then : (a b c : Seen) (m n o : board.Seen) (h k l : List (Held Ticket)) (x y z : Option Shelf) (t u v : ℕ) → Acts file a b m n h k x y t u → Acts file b c n o k l y z u v
       → Acts file a c m o h l x z t v
@@ -99,10 +119,13 @@ module _ (file : ℕ) where
           one = one_then way one.way' two.way' one.one two.one;
           job = two.job;
           on = λ calls was. subst (λ (xs : List Request). IsUnderWay (ToFile xs) two.way' o calls l) all (two.on calls (one.on calls was));
+          bound = λ copying calls was. subst (λ (xs : List Request). IsBound true (ToFile xs) two.way' o calls l) all
+              (two.bound copying calls (one.bound (not_parted b.is_parting c.is_parting second.parts copying) calls was));
           touched = touches_then file (MadeMore made one.more) (MadeMore (made ++ one.more) two.more) (MadeMore made (one.more ++ two.more)) x y z
               (λ p q r f g. made_then made one.more two.more p q r f g) one.touched two.touched;
           took = subst (λ (n : ℕ). RoseBy n t v) (sym (bytes_joined changes one.more two.more)) (rose_then (bytes_of changes one.more) (bytes_of changes two.more) t u v one.took two.took);
         };
+    parts = λ parts. second.parts (first.parts parts);
   }
 
   -- a job as it is, with slices bound otherwise
@@ -118,6 +141,7 @@ module _ (file : ℕ) where
     spared = had.spared;
     asked = had.asked;
     heard = had.heard;
+    reached = had.reached;
     over = λ parts. (let over = had.over parts in record { planned = over.planned; handed = over.handed; heard = over.heard; rows = over.rows });
   }
 
@@ -127,11 +151,22 @@ module _ (file : ℕ) where
     stand = acts.stand;
     on = λ made way had.
         let one = acts.on made way had in
-        record { way' = one.way'; more = one.more; one = one.one; job = bound_job b c.bound one.way' n one.job; on = one.on; touched = one.touched; took = one.took };
+        record {
+          way' = one.way';
+          more = one.more;
+          one = one.one;
+          job = bound_job b c.bound one.way' n one.job;
+          on = one.on;
+          bound = one.bound;
+          touched = one.touched;
+          took = one.took;
+        };
+    parts = acts.parts;
   })
 
-  pub acts_forgotten : (a b : Seen) (m n : board.Seen) (h k l : List (Held Ticket)) (x y : Option Shelf) (t u : ℕ) → Acts file a b m n h k x y t u → Parts n k l → Acts file a b m n h l x y t u
-  acts_forgotten a b m n h k l x y t u acts forgets = record {
+  pub acts_forgotten : (a b : Seen) (m n : board.Seen) (h k l : List (Held Ticket)) (x y : Option Shelf) (t u : ℕ) → Acts file a b m n h k x y t u → Parts n k l → BindsStill n k l
+      → Acts file a b m n h l x y t u
+  acts_forgotten a b m n h k l x y t u acts forgets still = record {
     stand = λ s. forgets.stand (acts.stand s);
     on = λ made way had.
         let one = acts.on made way had in
@@ -141,9 +176,11 @@ module _ (file : ℕ) where
           one = one.one;
           job = one.job;
           on = λ calls was. forgets.on (ToFile (made ++ one.more)) one.way' calls (one.on calls was);
+          bound = λ copying calls was. still.on true (ToFile (made ++ one.more)) one.way' calls (one.bound copying calls was);
           touched = one.touched;
           took = one.took;
         };
+    parts = acts.parts;
   }
 
 -- Slices go on.
@@ -174,6 +211,13 @@ went_on_way how way now now2 made made2 calls held same went on = record {
   stands = going_keeps way.how way.at way.size way.slices calls on.seens way.asked way.known now now2 made made2 (subst (λ (h : How). WentOn h now made now2 made2) (sym same) went) on.stands;
 }
 
+went_on_bound : (how : How) (way : Way) (now now2 : board.Seen) (made made2 : List Request) (calls : List wire.Call) (held : List (Held Ticket)) → way.how ≡ how → WentOn how now made now2 made2
+    → IsBound true (ToFile made) way now calls held → IsBound true (ToFile made2) way now2 calls held
+went_on_bound how way now now2 made made2 calls held same went on =
+    bound_moved true (ToFile made) way now calls held on now2 (ToFile made2) (went_begun how now now2 made made2 went) (went_earlier how now now2 made made2 went) (went_same how now now2 made
+    made2 went)
+    (going_keeps way.how way.at way.size way.slices calls on.seens way.asked way.known now now2 made made2 (subst (λ (h : How). WentOn h now made now2 made2) (sym same) went) on.stands)
+
 -- a job that goes on has its board go on
 job_on : (job : Seen) (way : Way) (now now' : board.Seen) → job.is_parting ≡ false → now'.how ≡ now.how → IsJob job way now → IsJob job way now'
 job_on job way now now' copying writes had = record {
@@ -187,6 +231,7 @@ job_on job way now now' copying writes had = record {
   spared = had.spared;
   asked = had.asked;
   heard = had.heard;
+  reached = had.reached;
   over = λ parts. absurd (false≢true (sym copying ∙ parts));
 }
 
@@ -203,9 +248,11 @@ acts_made file job now now' held old new taken taken' how copying writes makes =
         one = one_same way;
         job = job_on job way now now' copying writes had;
         on = λ calls was. went_on_way now.how way now now' made (made ++ one.more) calls held (had.how ∙ sym how) one.went was;
+        bound = λ copying calls was. went_on_bound now.how way now now' made (made ++ one.more) calls held (had.how ∙ sym how) one.went was;
         touched = one.touched;
         took = one.took;
       };
+  parts = λ parts. parts;
 }
 
 -- and then some are bound no more
@@ -249,15 +296,31 @@ heard_on : (far : Far) (way : Way) (now : board.Seen) (calls : List wire.Call) (
     → IsUnderWay far (with_heard now.told way) now calls held
 heard_on far way now calls held mapped short on = heard_of far way way.asked now calls held refl mapped short on
 
+-- so each request is where it was
+heard_bound : (made : List Request) (way : Way) (asked : Option (ℕ × ℕ)) (now : board.Seen) (calls : List wire.Call) (held : List (Held Ticket)) → way.asked ≡ asked → now.mapped ≡ true →
+    now.short ≡ false
+    → IsBound true (ToFile made) way now calls held → IsBound true (ToFile made) (record way { known = known_with asked now.told way.known; asked = None }) now calls held
+heard_bound made way None now calls held none mapped short on =
+    let known = known_with None now.told way.known in
+    let unheard : IsBound true (ToFile made) (record way { known = known }) now calls held = bound_unheard true (ToFile made) way now calls held on known
+    (λ p e. elim (or_cases (way.known.zero p) false e) [ inl was ↦ was | inr e ↦ absurd (false≢true e) ]) (λ block p e. or_first (way.known.whole block p) false e)
+    (λ p e. or_first (way.known.reach p) false e) in
+    subst (λ (o : Option (ℕ × ℕ)). IsBound true (ToFile made) (record way { known = known; asked = o }) now calls held) none unheard
+heard_bound made way (Some range) now calls held some mapped short on =
+    bound_heard true (ToFile made) way now calls held on range (known_with (Some range) now.told way.known) some mapped short (heard_in way.known range now)
+    (λ block p e. or_first (way.known.whole block p) _ e) (λ block p e. or_second (way.known.whole block p) _ e) (λ p e. or_first (way.known.reach p) _ e) (λ p e. or_second (way.known.reach p) _ e)
+
 pub acts_heard : (file : ℕ) (job job' : Seen) (windows' : windows.Seen) (now : board.Seen) (held : List (Held Ticket)) (shelf : Option Shelf) (taken : ℕ) → job.is_parting ≡ false → job.asked ≡ true
     → now.mapped ≡ true → now.short ≡ false → job' ≡ record job { windows = windows'; asked = false } → windows'.plan.cells ≡ job.windows.plan.cells → windows'.size ≡ job.windows.size
     → windows'.grain ≡ job.windows.grain
-    → ((whole : ℕ → Bool) (slices : List Slice) → IsSpared job.windows whole slices → IsSpared windows' (λ p. whole p || whole_heard job.windows.grain (windows.wanted job.windows) now.told p) slices)
+    → ((whole : ℕ → Bool) (slices : List Slice) → IsSpared job.windows whole slices → IsSpared windows' (λ p. whole p || whole_heard job.windows.grain (windows.wanted job.windows) now.told p)
+    slices)
     → ((blank : ℕ → Bool) (slices : List Slice) → windows.IsPlanned job.windows blank slices → windows.IsPlanned windows'
     (λ p. blank p || windows.zero_heard (windows.wanted job.windows) now.told p) slices)
     → ((heard : ℕ → Bool) → IsHeardTo job.windows heard → IsHeardTo windows' (λ p. heard p || passed_heard job.windows.grain (windows.wanted job.windows) now.told p))
+    → ((reach : ℕ → Bool) → IsToldTo job.windows reach → IsToldTo windows' (λ p. reach p || told_heard (windows.wanted job.windows) now.told p))
     → Acts file job job' now now held held shelf shelf taken taken
-acts_heard file job job' windows' now held shelf taken copying asked mapped short is cells size grain spares hears goes =
+acts_heard file job job' windows' now held shelf taken copying asked mapped short is cells size grain spares hears goes reaches =
     subst (λ (j : Seen). Acts file job j now now held held shelf shelf taken taken) (sym is) (record {
       stand = λ s. s;
       on = λ made way had.
@@ -277,9 +340,11 @@ acts_heard file job job' windows' now held shelf taken copying asked mapped shor
                 (spares (way.known.whole job.windows.grain) way.slices had.spared));
             asked = refl;
             heard = goes anywhere had.heard;
+            reached = subst (λ (r : Option (ℕ × ℕ)). IsToldTo windows' (λ p. way.known.reach p || told_heard r now.told p)) (sym range) (reaches way.known.reach had.reached);
             over = λ parts. absurd (false≢true (sym copying ∙ parts));
           })
-          (λ calls was. heard_on (ToFile made) way now calls held mapped short was);
+          (λ calls was. heard_on (ToFile made) way now calls held mapped short was) (λ copying calls was. heard_bound made way way.asked now calls held refl mapped short was);
+      parts = λ parts. parts;
     })
 
 -- Extents are asked for.
@@ -311,6 +376,18 @@ listened_on made way now now' calls held held' offset size few none is asked on 
     way_listened made way now calls held on now' held' (offset, size) 0 (block_status_of size offset ticket.Extents ticket.Extents 0) none (asked.on on.seens on.at)
     (extents_ask way.how now now' offset size way.slices is few) (record { asks = record { kind = refl; offset = refl; length_ = refl }; first = refl; done = refl })
     (ap (λ (b : board.Seen). b.told) is) (ap (λ (b : board.Seen). b.mapped) is) (ap (λ (b : board.Seen). b.begun) is)
+
+no_slice : (n : ℕ) → ticket.Extents ≡ ticket.Slice n → ⊥
+no_slice n e = cc
+
+listened_bound : (made : List Request) (way : Way) (now now' : board.Seen) (calls : List wire.Call) (held held' : List (Held Ticket)) (offset size : ℕ) → size ≤ rows.max_extents → way.asked ≡ None
+    → now' ≡ record now { told = []; mapped = false } → IsAsked 0 (block_status_of size offset ticket.Extents ticket.Extents 0) held held' → IsBound true (ToFile made) way now calls held
+    → IsBound true (ToFile made) (with_asked (offset, size) way) now' calls held'
+listened_bound made way now now' calls held held' offset size few none is asked on =
+    bound_listened made way now calls held on now' held' (offset, size) 0 (block_status_of size offset ticket.Extents ticket.Extents 0) none (asked.on on.seens on.at)
+    (extents_ask way.how now now' offset size way.slices is few) (record { asks = record { kind = refl; offset = refl; length_ = refl }; first = refl; done = refl })
+    (ap (λ (b : board.Seen). b.told) is) (ap (λ (b : board.Seen). b.mapped) is) (ap (λ (b : board.Seen). b.begun) is) (λ well. sym (ap (λ (b : board.Seen). b.error) is) ∙ well)
+    (binds_none true 0 ticket.Extents now now' no_slice (ap (λ (b : board.Seen). b.rows) is))
 
 -- No more extents are asked for at once than those of a window.
 length_of : Option (ℕ × ℕ) → ℕ
@@ -346,12 +423,33 @@ acts_asked file job job' now now' held held' shelf taken offset size copying non
             spared = had.spared;
             asked = sym range;
             heard = had.heard;
+            reached = had.reached;
             over = λ parts. absurd (false≢true (sym copying ∙ parts));
           })
-          (λ calls was. listened_on made way now now' calls held held' offset size (few_wanted job.windows offset size had.heard.planned range) blank forgets asked was);
+          (λ calls was. listened_on made way now now' calls held held' offset size (few_wanted job.windows offset size had.heard.planned range) blank forgets asked was)
+          (λ copying calls was. listened_bound made way now now' calls held held' offset size (few_wanted job.windows offset size had.heard.planned range) blank forgets asked was);
+      parts = λ parts. parts;
     })
 
 -- Slices begin.
+
+begun_bound : (file : ℕ) (slice : Slice) (source : ℕ) (made : List Request) (way : Way) (now now' : board.Seen) (calls : List wire.Call) (held : List (Held Ticket)) (old new : Option Shelf)
+    (taken taken' : ℕ)
+    (made_ : HasMadeFirst file slice source 0 made now now' old new taken taken') → way.how ≡ now.how → IsBound true (ToFile made) way now calls held
+    → IsBound true (ToFile (made ++ made_.more)) (with_slices (slice ∷ []) way) now' calls held
+begun_bound file slice source made way now now' calls held old new taken taken' made_ how on = record {
+  seens = on.seens;
+  at = on.at;
+  begun = length-append way.slices (slice ∷ []) ∙ ap (λ (n : ℕ). n + 1) on.begun ∙ sym (ap (λ (s : board.Seen). s.begun) made_.begun.row)
+      ∙ sym (completed_begun now.begun (change_of made_.one).payload made_.mid now' made_.came);
+  stands = subst (λ (h : How). FarCourse (ToFile (made ++ made_.more)) way.at way.size h (way.slices ++ slice ∷ []) now' calls on.seens way.asked way.known) (sym how)
+      (beginning_keeps file slice source 0 made way.at way.size way.slices now now' calls on.seens way.asked way.known old new taken taken' made_ on.begun
+      (subst (λ (h : How). FarCourse (ToFile made) way.at way.size h way.slices now calls on.seens way.asked way.known) how on.stands));
+  all = on.all;
+  bound = on_dealt true (ToFile made) way.at way.size way.how way.slices now calls on.seens way.asked way.known on.stands now' on.begun
+      (λ well. sym (ap (λ (s : board.Seen). s.error) made_.begun.row) ∙ completed_earlier now.begun (change_of made_.one).payload made_.mid now' made_.came well) on.bound source ticket.Flush
+      (binds_made true slice source 0 (ask.Change made_.one) now made_.mid now' now.begun (change_of made_.one).payload made_.begun made_.came);
+}
 
 pub begins_made : (file : ℕ) (slice : Slice) (source : ℕ) (now now' : board.Seen) (held : List (Held Ticket)) (old new : Option Shelf) (taken taken' : ℕ) (one : First) → one ≡ first.Made
     → HasBegun one file slice source 0 now now' old new taken taken' → Begins file slice now now' held held old new taken taken'
@@ -373,6 +471,7 @@ begins_made file slice source now now' held old new taken taken' one is begun =
                   (beginning_keeps file slice source 0 made way.at way.size way.slices now now' calls on.seens way.asked way.known old new taken taken' made_ on.begun
                   (subst (λ (h : How). FarCourse (ToFile made) way.at way.size h way.slices now calls on.seens way.asked way.known) how on.stands));
             };
+            bound = λ calls on. begun_bound file slice source made way now now' calls held old new taken taken' made_ how on;
             touched = made_.touched;
             took = made_.took;
           };
@@ -392,6 +491,21 @@ read_on made way slice source offset number buf bytes now now' calls held held' 
     refl (record { told = ap (λ (s : board.Seen). s.told) begun.row; mapped = ap (λ (s : board.Seen). s.mapped) begun.row; short = ap (λ (s : board.Seen). s.short) begun.row })
     (ap (λ (s : board.Seen). s.begun) begun.row)
 
+read_bound : (made : List Request) (way : Way) (slice : Slice) (source offset number : ℕ) (buf bytes : List ℕ) (now now' : board.Seen) (calls : List wire.Call) (held held' : List (Held Ticket))
+    → way.how ≡ now.how
+    → number ≡ now.begun → IsBegun slice source 0 (ask.Read offset buf) now now' → length bytes ≡ length buf → IsAsked source (read_of bytes offset (ticket.Slice number) 0) held held'
+    → IsBound true (ToFile made) way now calls held
+    → IsBound true (ToFile made) (with_slices (slice ∷ []) way) now' calls held'
+read_bound made way slice source offset number buf bytes now now' calls held held' how count begun size asked on =
+    bound_asked true (ToFile made) way now calls held on (slice ∷ []) now' held' source (read_of bytes offset (ticket.Slice number) 0) (asked.on on.seens on.at)
+    (subst (λ (h : How). AsksSource h (without_buffer (read_of bytes offset (ticket.Slice number) 0)) way.slices (way.slices ++ slice ∷ []) now now') (sym how)
+    (subst (λ (n : ℕ). AsksSource now.how (without_buffer (read_of bytes offset (ticket.Slice n) 0)) way.slices (way.slices ++ slice ∷ []) now now') (sym count)
+    (beginning_asks now.how slice now.begun (ask.Read offset buf) way.slices now now' on.begun (λ none. sym (ap (λ (s : board.Seen). s.error) begun.row) ∙ none)
+    (first_counts slice source 0 (ask.Read offset buf) now now' begun) begun.begins bytes size)))
+    refl (record { told = ap (λ (s : board.Seen). s.told) begun.row; mapped = ap (λ (s : board.Seen). s.mapped) begun.row; short = ap (λ (s : board.Seen). s.short) begun.row })
+    (ap (λ (s : board.Seen). s.begun) begun.row) (λ well. sym (ap (λ (s : board.Seen). s.error) begun.row) ∙ well)
+    (subst (λ (n : ℕ). BindsRow true source (ticket.Slice n) now now') (sym count) (binds_first true (first_row slice source 0) now now' (ap (λ (s : board.Seen). s.rows) begun.row)))
+
 pub begins_read : (file : ℕ) (slice : Slice) (source offset number : ℕ) (buf bytes : List ℕ) (now mid now' : board.Seen) (held held' : List (Held Ticket)) (old new : Option Shelf)
     (taken taken' : ℕ) (one : First)
     → one ≡ first.Reads offset buf → HasBegun one file slice source 0 now mid old new taken taken' → number ≡ now.begun → now' ≡ mid → length bytes ≡ length buf
@@ -406,6 +520,8 @@ begins_read file slice source offset number buf bytes now mid now' held held' ol
         more = [];
         on = λ calls on. subst (λ (xs : List Request). IsUnderWay (ToFile xs) (with_slices (slice ∷ []) way) mid calls held') (sym (append-nil made))
             (read_on made way slice source offset number buf bytes now mid calls held held' how count reads.0 size asked on);
+        bound = λ calls on. subst (λ (xs : List Request). IsBound true (ToFile xs) (with_slices (slice ∷ []) way) mid calls held') (sym (append-nil made))
+            (read_bound made way slice source offset number buf bytes now mid calls held held' how count reads.0 size asked on);
         touched = touches_none file (MadeMore made []) old (λ x. made_none made x);
         took = rose_none taken;
       };
@@ -439,7 +555,13 @@ handed_spared plan plan' whole slices more handed others spared = subst (λ (w :
 })
 
 handed_heard : (plan plan' : windows.Seen) (heard : ℕ → Bool) → plan' ≡ with_left plan plan'.plan.slices → IsHeardTo plan heard → IsHeardTo plan' heard
-handed_heard plan plan' heard others was = subst (λ (w : windows.Seen). IsHeardTo w heard) (sym others) (record { planned = was.planned; before = was.before; blocks = was.blocks; steps = was.steps })
+handed_heard plan plan' heard others was = subst (λ (w : windows.Seen). IsHeardTo w heard) (sym others) (record {
+  planned = was.planned;
+  before = was.before;
+  blocks = was.blocks;
+  steps =
+      was.steps;
+})
 
 pub acts_begun : (file : ℕ) (job job' : Seen) (windows' : windows.Seen) (bound : List ℕ) (slice : Slice) (now now' : board.Seen) (held held' : List (Held Ticket)) (old new : Option Shelf)
     (taken taken' : ℕ)
@@ -465,12 +587,15 @@ acts_begun file job job' windows' bound slice now now' held held' old new taken 
               spared = handed_spared job.windows windows' way.known.whole way.slices (slice ∷ []) handed others had.spared;
               asked = had.asked ∙ ap (λ (w : windows.Seen). if job.asked then windows.wanted w else None) (sym others);
               heard = handed_heard job.windows windows' anywhere others had.heard;
+              reached = told_handed job.windows windows' way.known.reach others had.reached;
               over = λ parts. absurd (false≢true (sym copying ∙ parts));
             };
             on = one.on;
+            bound = λ copying. one.bound;
             touched = one.touched;
             took = one.took;
           };
+      parts = λ parts. parts;
     })
 
 -- The beginning and the end.
@@ -478,8 +603,8 @@ acts_begun file job job' windows' bound slice now now' held held' old new taken 
 pub job_begins : (job : Seen) (way : Way) (now : board.Seen) → job.asked ≡ false → job.is_parting ≡ false → job.windows.plan.cells ≡ cells_of job.terms → job.windows.size ≡ job.terms.size
     → job.windows.grain ≡ job.terms.grain
     → ((blank : ℕ → Bool) → windows.IsPlanned job.windows blank []) → way.size ≡ Some job.terms.size → way.how ≡ job.terms.how → now.how ≡ job.terms.how → way.slices ≡ [] → way.asked ≡ None
-    → ((block p : ℕ) → way.known.whole block p ≡ false) → IsHeardTo job.windows anywhere → IsJob job way now
-job_begins job way now none copying cells ends grain planned size how writes blank asked unknown heard = record {
+    → ((block p : ℕ) → way.known.whole block p ≡ false) → IsHeardTo job.windows anywhere → IsToldTo job.windows way.known.reach → IsJob job way now
+job_begins job way now none copying cells ends grain planned size how writes blank asked unknown heard reached = record {
   size = size;
   how = how;
   writes = writes;
@@ -491,6 +616,7 @@ job_begins job way now none copying cells ends grain planned size how writes bla
       (spared_none job.windows way.known.zero (way.known.whole job.windows.grain) [] (unknown job.windows.grain) (planned way.known.zero));
   asked = asked ∙ ap (λ (b : Bool). if b then windows.wanted job.windows else None) (sym none);
   heard = heard;
+  reached = reached;
   over = λ parts. absurd (false≢true (sym copying ∙ parts));
 }
 
@@ -512,7 +638,9 @@ acts_left file job job' now held held' shelf taken is over parts = subst (λ (j 
         spared = had.spared;
         asked = had.asked;
         heard = had.heard;
+        reached = had.reached;
         over = λ _. record { planned = over.planned; handed = over.handed; heard = over.heard; rows = over.rows };
       })
-      (λ calls was. parts.on (ToFile made) way calls was);
+      (λ calls was. parts.on (ToFile made) way calls was) (λ copying calls was. absurd (false≢true (sym copying)));
+  parts = λ _. refl;
 })

@@ -1,5 +1,5 @@
 -- A copy from an export to a file, from its first connection to the end.
-use Rattle.std.proofs.Common.{◌≡◌, ◌<◌, ◌≤◌, ◌+◌, ◌^◌, ℕ, min, Bool, true, false, not, List, [], ◌∷◌, ◌++◌, length, Option, Some, None, nat_le}
+use Rattle.std.proofs.Common.{◌≡◌, inr, ◌<◌, ◌≤◌, ◌+◌, ◌-◌, ◌^◌, ℕ, min, Bool, true, false, not, List, [], ◌∷◌, ◌++◌, length, Option, Some, None, nat_le}
 use Rattle.std.proofs.Common.{if◌then◌else◌, refl, ap, sym, subst, ◌∙◌, arith, append-nil}
 use Rattle.std.proofs.lemmas.Bool.{false≢true}
 use Rattle.lnbd_link.specs.Call as wire
@@ -59,6 +59,7 @@ use Rattle.lnbd_copyfile.specs.OneFile.{BreaksWriting, Write_lacks_memory, Write
 use Rattle.lnbd_copyfile.specs.Steps.{IsBlank, Kept}
 use Rattle.lnbd_copyfile.specs.ToFile.{Broken_off, GoesFurther, HasReadOnce, HasStored, IsBeginning, IsCopying, IsMadeTo, IsReady, IsSetUp, IsSummedTo, IsTally, LeavesIf}
 use Rattle.lnbd_copyfile.specs.ToFile.{NotStored, Unmade, Unsynced, beginning}
+use Rattle.lnbd_copyfile.specs.Taken.{HasStoredAll, IsCutTo}
 use Rattle.lnbd_copyfile.specs.ToFileJob.{Acts, IsJob, IsOver}
 use Rattle.lnbd_copyfile.proofs.FarLemmas.{to_file_is_copied}
 use Rattle.lnbd_copyfile.proofs.MadeLemmas.{bytes_joined, made_none, made_then}
@@ -152,12 +153,12 @@ module _ (at : Place) (start : Option (List wire.Call)) where
 
 -- The board of a copy at its beginning is one of the terms, and this is its job.
 pub sets_up : (terms : Terms) (now now' : board.Seen) (held : List (Held Ticket)) → now.error ≡ None → now' ≡ blank terms.how → (job : Seen) → job.terms ≡ terms →
-    ((way : Way) (s : board.Seen) → way.size ≡ Some terms.size → way.how ≡ terms.how → s.how ≡ terms.how → way.slices ≡ [] → way.asked ≡ None → ((block p : ℕ) → way.known.whole block p ≡ false) →
-    IsJob job way s) → (at : Place) (start told : Option (List wire.Call)) → IsBeginning at (Some terms.size) start told now held → IsSetUp at start told job now' held
+    ((way : Way) (s : board.Seen) → way.size ≡ Some terms.size → way.how ≡ terms.how → s.how ≡ terms.how → way.slices ≡ [] → way.asked ≡ None →
+    ((block p : ℕ) → way.known.whole block p ≡ false) → ((p : ℕ) → way.known.reach p ≡ false) → IsJob job way s) → (at : Place) (start told : Option (List wire.Call)) → IsBeginning at (Some terms.size) start told now held → IsSetUp at start told job now' held
 sets_up terms now now' held well empty job same is at start told b =
     subst (λ (s : board.Seen). IsSetUp at start told job s held) (sym empty)
     (set_up at start job (blank terms.how) held told
-    (is (beginning at (Some job.terms.size) terms.how) (blank terms.how) (ap (λ (t : Terms). Some t.size) same) refl refl refl refl (λ block p. refl))
+    (is (beginning at (Some job.terms.size) terms.how) (blank terms.how) (ap (λ (t : Terms). Some t.size) same) refl refl refl refl (λ block p. refl) (λ p. refl))
     (subst (λ (t : Terms). IsBeginning at (Some t.size) start told (blank terms.how) held) (sym same)
     (begins_anew at start (Some terms.size) now (blank terms.how) held told well refl refl (uncounted terms.how) b)))
 
@@ -171,7 +172,7 @@ one_held now now' place held held' held2 a b c none stand dials goes =
 
 -- Turns.
 
-asked_none : (asked : Bool) (wanted : Option (ℕ × ℕ)) → asked ≡ false → (if asked then wanted else None) ≡ None
+pub asked_none : (asked : Bool) (wanted : Option (ℕ × ℕ)) → asked ≡ false → (if asked then wanted else None) ≡ None
 asked_none asked wanted none = ap (λ (b : Bool). if b then wanted else None) none
 
 -- What is filed leaves a job as it was.
@@ -186,6 +187,7 @@ job_filed job way now now' filed is = record {
   grain = is.grain;
   spared = is.spared;
   heard = is.heard;
+  reached = is.reached;
   asked = is.asked;
   over = λ parting.
       let over = is.over parting in
@@ -310,7 +312,7 @@ module _ (job : Seen) (way : Way) (now : board.Seen) (calls : List wire.Call) (m
   planned : IsPlannedWhole way.how job.windows.plan.cells is.planned.parts way.at calls job.terms.size way.slices
   planned = planned_whole job way now calls made is over on
 
-  told_size : WasToldSize (dealt_with way.at calls) job.terms.size
+  pub told_size : WasToldSize (dealt_with way.at calls) job.terms.size
   told_size = size_was_told_far (ToFile made) way.at job.terms.size way.how way.slices now calls way.asked way.known stood
 
   -- what the board counted is a summary
@@ -335,14 +337,17 @@ module _ (job : Seen) (way : Way) (now : board.Seen) (calls : List wire.Call) (m
       job.terms.size stood well (λ p. subst (λ (ss : List Slice). IsPlannedOnce job.windows.plan.cells (told_by 0 is.planned.parts) 0 job.terms.size p ss) (sym (append-nil way.slices))
       (planned_once job.windows.plan.cells is.planned.parts job.terms.size way.slices planned.are planned.whole p)) (omega arith) in
       record {
-        links = once.links;
+        asks = record {
+          links = once.links;
+          looks = once.asked.looks;
+          once = once.asked.reads_once;
+          within = inr (record { size = job.terms.size; told = told_size; within = once.asked.reads_within });
+          plain = once.asked.looks_plain;
+          extents = once.asked.extents;
+        };
         size = job.terms.size;
         told = told_size;
-        looks = once.asked.looks;
-        once = once.asked.reads_once;
         within = once.asked.reads_within;
-        plain = once.asked.looks_plain;
-        extents = once.asked.extents;
       }
 
   -- and all of it is done
@@ -395,6 +400,37 @@ is_made path file size at start told job now held summary a b c d t0 t1 t2 t3 bl
     }))
     copying.on
 
+-- The file has as many bytes as the export told.
+pub is_cut : (path : List ℕ) (file size : ℕ) (flush : Bool) (at : Place) (start told : Option (List wire.Call)) (job : Seen) (now : board.Seen) (held : List (Held Ticket)) (summary : Summary)
+    (old new : Option Shelf) (taken taken' : ℕ) (stored stored' : Option (List Call)) → IsCopying file at start told job now held old new taken taken' → job.terms.size ≡ size → size ≤ 2 ^ 63 →
+    job.is_parting ≡ true → held ≡ [] → now.error ≡ None → IsTally size now summary → Grew stored stored' (HasStoredAll path size flush) →
+    Told start told (IsCutTo at path flush summary stored stored')
+is_cut path file size flush at start told job now held summary old new taken taken' stored stored' copying same room parting none well tally cut =
+    let is = copying.job_ in
+    let over = is.over parting in
+    let way = copying.way in
+    let made = copying.made in
+    let low : job.terms.size ≤ 2 ^ 63 = subst (λ (n : ℕ). n ≤ 2 ^ 63) (sym same) room in
+    told_map start told
+    (λ calls on.
+    let on' = subst (λ (l : List (Held Ticket)). IsUnderWay (ToFile made) way now calls l) none on in
+    let sums = to_file_is_summed made way.at job.terms.size way.how way.slices now calls way.asked way.known job.windows.plan.cells is.planned.parts taken taken'
+    (stands_alone job way now calls made is over on') well (planned_whole job way now calls made is over on') low copying.took in
+    let few = sums.few in
+    let all : min (now.written + now.zeroed) 18446744073709551615 + (size - now.written - now.zeroed) ≡ size = omega (arith, few, low, same) in
+    subst (λ (p : Place). IsCutTo p path flush summary stored stored' calls) copying.place (record {
+      size = size;
+      told = subst (λ (n : ℕ). WasToldSize (dealt_with way.at calls) n) same (told_size job way now calls made is over on' well);
+      whole = subst (λ (s : Summary). s.written + s.skipped ≡ size) (sym tally) all;
+      cut = cut;
+    }))
+    copying.on
+
+pub cut_grew : (from : Place) (path : List ℕ) (flush : Bool) (summary : Summary) (stored stored' : Option (List Call)) (a b c : Option (List wire.Call)) → c ≡ b →
+    Told a b (IsCutTo from path flush summary stored stored') → GrewBy (IsCutTo from path flush summary stored stored') a c
+cut_grew from path flush summary stored stored' a b c same told =
+    subst (λ (t : Option (List wire.Call)). GrewBy (IsCutTo from path flush summary stored stored') a t) (sym same) (told_part a b told)
+
 -- So it is of the calls by which a transcript grew.
 pub made_grew : (from : Place) (path : List ℕ) (summary : Summary) (old new : Option Shelf) (taken taken' : ℕ) (a b c : Option (List wire.Call)) → c ≡ b →
     Told a b (IsMadeTo from path summary old new taken taken') → GrewBy (IsMadeTo from path summary old new taken taken') a c
@@ -433,15 +469,19 @@ module _ (path : List ℕ) (file size : ℕ) (flush : Bool) (a b c : Option (Lis
       (grew_both b c d (Writes file) (NotClosed file flush) (Pair file (NotClosed file flush)) (λ own last w ends. record { own = own; last = last; writes = w; ends = ends; are = refl })
       writes unclosed)
 
-  pub stored : (d : Option (List Call)) → Grew a b (IsMaking path file size) → Grew b c (Writes file) → Grew c d (IsClosing file flush) → Grew a d (HasStored path flush)
-  stored d made writes closed =
-      grew_both a b d (IsMaking path file size) (Pair file (IsClosing file flush)) (HasStored path flush)
+  pub stored_all : (d : Option (List Call)) → Grew a b (IsMaking path file size) → Grew b c (Writes file) → Grew c d (IsClosing file flush) → Grew a d (HasStoredAll path size flush)
+  stored_all d made writes closed =
+      grew_both a b d (IsMaking path file size) (Pair file (IsClosing file flush)) (HasStoredAll path size flush)
       (λ calls more m p. record {
         to = file;
-        size = size;
         own = p.own;
         writes = p.writes;
         calls_are = ap (λ (l : List Call). calls ++ l) (p.are ∙ ap (λ (l : List Call). p.own ++ l) p.ends) ∙ ap (λ (l : List Call). l ++ (p.own ++ closing file flush)) m;
       }) made
       (grew_both b c d (Writes file) (IsClosing file flush) (Pair file (IsClosing file flush)) (λ own last w ends. record { own = own; last = last; writes = w; ends = ends; are = refl })
       writes closed)
+
+  pub stored : (d : Option (List Call)) → Grew a b (IsMaking path file size) → Grew b c (Writes file) → Grew c d (IsClosing file flush) → Grew a d (HasStored path flush)
+  stored d made writes closed =
+      grew_as a d (HasStoredAll path size flush) (HasStored path flush) (λ calls s. record { to = s.to; size = size; own = s.own; writes = s.writes; calls_are = s.calls_are })
+      (stored_all d made writes closed)

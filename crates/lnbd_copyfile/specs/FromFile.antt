@@ -37,10 +37,12 @@ use Rattle.lnbd_copyfile.specs.declared.fault.Stop.{Stop}
 use Rattle.lnbd_copyfile.specs.declared.fault.Stop.TheVariants as stop
 use Rattle.lnbd_copyfile.specs.declared.from_file_job.Phase.TheVariants.{Parting}
 use Rattle.lnbd_copyfile.specs.Calls.{NotOpened, opening}
+use Rattle.lnbd_copyfile.specs.FlushedLast.{HasRested}
 use Rattle.lnbd_copyfile.specs.FromFileJob as work
 use Rattle.lnbd_copyfile.specs.FromFileJob.{IsJob}
 use Rattle.lnbd_copyfile.specs.Loading.{ToldMore}
 use Rattle.lnbd_copyfile.specs.OneFile.{BreaksReading, Reads}
+use Rattle.lnbd_copyfile.specs.Shown.{HasShown}
 use Rattle.lnbd_copyfile.specs.Steps.{IsSource}
 
 -- What is claimed.
@@ -175,6 +177,8 @@ pub record IsGoing (to : Place) (file : ℕ) (job : work.Seen) (start told : Opt
   pub on : Told start told (λ calls. IsUnderWay (FromFile read) way copy.board calls copy.held)
   pub touched : Touches file (ToldMore [] read) opened shelf
   pub gave : RoseBy (bytes_of is_read read) before given
+  -- past its slices it came to rest, before the export was asked to flush
+  pub rests : Told start told (HasRested job.phase job.terms.size to copy.board)
 
 -- A step of a copy with a job: wherever it was on its way, it is further on it.
 pub record GoesFurther (file : ℕ) (job job' : work.Seen) (told told' : Option (List wire.Call)) (copy copy' : Seen) (shelf shelf' : Option Shelf) (given given' : ℕ) : Type 0 where
@@ -203,6 +207,7 @@ pub record HasCopiedOpen (options : CopyOptions) (file size : ℕ) (to : Place) 
   pub wished : IsWished options job.terms
   pub going : IsGoing to file job start told copy opened new given given'
   pub ended : HasEnded job copy summary
+  pub shown : HasShown options size to start told job.terms
 
 -- So was the file at a path.
 pub record HasCopied (options : CopyOptions) (path : List ℕ) (to : Place) (summary : Summary) (start told : Option (List wire.Call)) (old new : Option Shelf) (given given' : ℕ) : Type 0 where

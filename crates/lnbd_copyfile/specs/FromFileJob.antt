@@ -15,9 +15,11 @@ use Rattle.lnbd_copy.specs.Windows as windows
 use Rattle.lnbd_store.specs.Shelf.{Shelf}
 use Rattle.lnbd_touched.specs.Grown.{RoseBy}
 use Rattle.lnbd_touched.specs.Touches.{Touches}
+use Rattle.lnbd_connections.specs.Bound.{IsBound}
 use Rattle.lnbd_connections.specs.Way.{IsUnderWay, Way}
 use Rattle.lnbd_copyfile.specs.declared.from_file_job.Phase.{Phase}
 use Rattle.lnbd_copyfile.specs.declared.from_file_job.Phase.TheVariants.{Copying, Parting}
+use Rattle.lnbd_copyfile.specs.FlushedLast.{HasRested}
 use Rattle.lnbd_copyfile.specs.Jobs.{AreOfOne}
 use Rattle.lnbd_copyfile.specs.Loading.{ToldMore}
 
@@ -68,6 +70,8 @@ pub record IsFurther (file : ℕ) (read : List Request) (way : Way) (job' : Seen
   pub one : AreOfOne way way'
   pub job : IsJob job' way' now'
   pub on : (calls : List wire.Call) → IsUnderWay (FromFile read) way now calls held → IsUnderWay (FromFile read') way' now' calls held'
+  -- until its connections part, each request is on the connection that its slice is bound to
+  pub bound : job'.phase ≢ Parting → (calls : List wire.Call) → IsBound false (FromFile read) way now calls held → IsBound false (FromFile read') way' now' calls held'
   pub touched : Touches file (ToldMore read read') old new
   pub count : ℕ
   pub more : bytes_of is_read read' ≡ bytes_of is_read read + count
@@ -77,6 +81,10 @@ pub record IsFurther (file : ℕ) (read : List Request) (way : Way) (job' : Seen
 pub record Acts (file : ℕ) (job job' : Seen) (now now' : board.Seen) (held held' : List (Held Ticket)) (old new : Option Shelf) (given given' : ℕ) : Type 0 where
   pub stand : Stand held → Stand held'
   pub on : (read : List Request) (way : Way) → IsJob job way now → IsFurther file read way job' now now' held held' old new given given'
+  pub parts : job.phase ≡ Parting → job'.phase ≡ Parting
+  -- it comes to rest once all slices are over, before the flush is asked for, and stays so
+  pub rests : (read : List Request) (way : Way) (calls : List wire.Call) → IsJob job way now → IsUnderWay (FromFile read) way now calls held →
+      HasRested job.phase job.terms.size way.at now calls → HasRested job'.phase job'.terms.size way.at now' calls
 
 -- So it does where nothing is begun or read, whatever the file is.
 pub record Concludes (job job' : Seen) (now now' : board.Seen) (held held' : List (Held Ticket)) : Type 0 where

@@ -1,5 +1,5 @@
 -- The slices of a copy from a file, step by step: each is read as it begins, and what it asks for goes to the export. Bridges, which no claim names.
-use Rattle.std.specs.Prelude.{◌≡◌, ℕ, ◌+◌, List, ◌++◌, Option}
+use Rattle.std.specs.Prelude.{◌≡◌, false, ℕ, ◌+◌, List, ◌++◌, Option}
 use Rattle.lnbd_link.specs.Call as wire
 use Rattle.lnbd_model.specs.Kind.{is_read}
 use Rattle.lnbd_plan.specs.declared.grid.Slice.{Slice}
@@ -15,6 +15,7 @@ use Rattle.lnbd_copy.specs.Windows as windows
 use Rattle.lnbd_store.specs.Shelf.{Shelf}
 use Rattle.lnbd_touched.specs.Grown.{RoseBy}
 use Rattle.lnbd_touched.specs.Touches.{Touches}
+use Rattle.lnbd_connections.specs.Bound.{IsBound}
 use Rattle.lnbd_connections.specs.Way.{IsUnderWay, Way, with_slices}
 use Rattle.lnbd_copyfile.specs.Loading.{Loads, ToldMore}
 
@@ -22,6 +23,8 @@ use Rattle.lnbd_copyfile.specs.Loading.{Loads, ToldMore}
 pub record HasSent (file : ℕ) (how : How) (more : List Slice) (read : List Request) (now now' : board.Seen) (held held' : List (Held Ticket)) (old new : Option Shelf) (given given' : ℕ) : Type 0 where
   pub read' : List Request
   pub on : (way : Way) (calls : List wire.Call) → way.how ≡ how → IsUnderWay (FromFile read) way now calls held → IsUnderWay (FromFile read') (with_slices more way) now' calls held'
+  -- each request stays on the connection that its slice is bound to
+  pub bound : (way : Way) (calls : List wire.Call) → way.how ≡ how → IsBound false (FromFile read) way now calls held → IsBound false (FromFile read') (with_slices more way) now' calls held'
   pub touched : Touches file (ToldMore read read') old new
   pub count : ℕ
   pub bytes : bytes_of is_read read' ≡ bytes_of is_read read + count

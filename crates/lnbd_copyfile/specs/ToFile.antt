@@ -1,7 +1,6 @@
 -- What stands of a copy from an export to a file while it is made, what it leaves, and why it does not end well.
-use Rattle.std.specs.Prelude.{◌≡◌, ◌<◌, ◌≤◌, ◌+◌, ◌-◌, ◌^◌, ◌++◌, ◌∷◌, ℕ, min, Bool, true, false, List, [], Option, Some, None}
+use Rattle.std.specs.Prelude.{◌≡◌, ◌<◌, ◌+◌, ◌-◌, ◌^◌, ◌++◌, ◌∷◌, ℕ, min, Bool, true, false, List, [], Option, Some, None}
 use Rattle.lnbd_model.specs.declared.target.Place.{Place}
-use Rattle.lnbd_model.specs.declared.kind.Kind.TheVariants.{BlockStatus}
 use Rattle.lnbd_asked.specs.Honest.{changes}
 use Rattle.lnbd_asked.specs.Transcript.{dealt_with}
 use Rattle.lnbd_link.specs.Call as wire
@@ -14,9 +13,8 @@ use Rattle.lnbd_board.specs.Files as board
 use Rattle.lnbd_board.specs.Requests.{Request}
 use Rattle.lnbd_board.specs.Holds.{WasToldSize}
 use Rattle.lnbd_board.specs.Requests.{reads}
-use Rattle.lnbd_board.specs.Rows.{max_extents}
 use Rattle.lnbd_course.specs.AllDone.{AreAllDone}
-use Rattle.lnbd_course.specs.Asks.{AreOwnLinks, EachAsked, EndsBy, IsPlain, NoneMeet, is_look}
+use Rattle.lnbd_course.specs.Asks.{EachAsked, EndsBy}
 use Rattle.lnbd_course.specs.Counted.{bytes_of}
 use Rattle.lnbd_course.specs.Far.{ToFile}
 use Rattle.lnbd_course.specs.Told.{Known}
@@ -41,6 +39,7 @@ use Rattle.lnbd_copyfile.specs.Jobs.{Seen}
 use Rattle.lnbd_copyfile.specs.Making.{MadeMore}
 use Rattle.lnbd_copyfile.specs.OneFile.{BreaksWriting, Writes}
 use Rattle.lnbd_copyfile.specs.OneSide.{IsCopiedTo}
+use Rattle.lnbd_copyfile.specs.Taken.{ReadsAtMostOnce}
 use Rattle.lnbd_copyfile.specs.ToFileJob.{IsJob}
 
 -- What it leaves.
@@ -53,16 +52,12 @@ pub record IsSummedTo (from : Place) (summary : Summary) (taken taken' : ℕ) (c
   pub zeroed : summary.zeroed ≡ 0
   pub took : taken < 2 ^ 63 → taken' ≡ taken + summary.written
 
--- What was asked of the source, on links of its own: READ and BLOCK_STATUS alone, no position is read twice, and none past its last byte.
+-- What was asked of the source is so as whatever the copy comes to: READ and BLOCK_STATUS alone, and no position is read twice. It told its size, and no position is read past its last byte.
 pub record HasReadOnce (from : Place) (calls : List wire.Call) : Type 0 where
-  pub links : AreOwnLinks from from calls
+  pub asks : ReadsAtMostOnce from calls
   pub size : ℕ
   pub told : WasToldSize (dealt_with from calls) size
-  pub looks : EachAsked (λ command. is_look command.kind ≡ true) (dealt_with from calls)
-  pub once : NoneMeet reads (dealt_with from calls)
   pub within : EachAsked (EndsBy reads size) (dealt_with from calls)
-  pub plain : EachAsked IsPlain (dealt_with from calls)
-  pub extents : EachAsked (λ command. command.kind ≡ BlockStatus → command.length ≤ max_extents) (dealt_with from calls)
 
 -- All of this.
 pub record IsMadeTo (from : Place) (path : List ℕ) (summary : Summary) (old new : Option Shelf) (taken taken' : ℕ) (calls : List wire.Call) : Type 0 where

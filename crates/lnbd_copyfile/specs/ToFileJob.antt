@@ -19,7 +19,7 @@ use Rattle.lnbd_plan.specs.declared.grid.Slice.{Slice}
 use Rattle.lnbd_copy.specs.Bound.{on_source}
 use Rattle.lnbd_copy.specs.Dealt.{IsDealt}
 use Rattle.lnbd_copy.specs.Heard.{IsHeardTo}
-use Rattle.lnbd_copy.specs.Reached.{told_heard}
+use Rattle.lnbd_copy.specs.Reached.{IsToldTo, told_heard}
 use Rattle.lnbd_copy.specs.Spared.{IsSpared, whole_heard}
 use Rattle.lnbd_copy.specs.UnderWay.{AreAwaited, IsWantedOf, unfinished}
 use Rattle.lnbd_copy.specs.Way.{Stand}
@@ -27,6 +27,7 @@ use Rattle.lnbd_copy.specs.Windows as windows
 use Rattle.lnbd_store.specs.Shelf.{Shelf}
 use Rattle.lnbd_touched.specs.Grown.{RoseBy}
 use Rattle.lnbd_touched.specs.Touches.{Touches}
+use Rattle.lnbd_connections.specs.Bound.{IsBound}
 use Rattle.lnbd_connections.specs.Way.{IsUnderWay, Way, with_slices}
 use Rattle.lnbd_copyfile.specs.Jobs.{AreOfOne, Seen}
 use Rattle.lnbd_copyfile.specs.Making.{MadeMore}
@@ -54,6 +55,7 @@ pub record IsJob (job : Seen) (way : Way) (now : board.Seen) : Type 0 where
   pub spared : IsSpared job.windows (way.known.whole job.windows.grain) way.slices
   pub asked : way.asked ≡ (if job.asked then windows.wanted job.windows else None)
   pub heard : IsHeardTo job.windows anywhere
+  pub reached : IsToldTo job.windows way.known.reach
   pub over : job.is_parting ≡ true → IsOver job now
 
 -- A copy whose file made some changes is further on its way: the file made more behind them, and took their bytes.
@@ -63,6 +65,8 @@ pub record IsFurther (file : ℕ) (made : List Request) (way : Way) (job' : Seen
   pub one : AreOfOne way way'
   pub job : IsJob job' way' now'
   pub on : (calls : List wire.Call) → IsUnderWay (ToFile made) way now calls held → IsUnderWay (ToFile (made ++ more)) way' now' calls held'
+  -- until its connections part, each request is on the connection that its slice is bound to
+  pub bound : job'.is_parting ≡ false → (calls : List wire.Call) → IsBound true (ToFile made) way now calls held → IsBound true (ToFile (made ++ more)) way' now' calls held'
   pub touched : Touches file (MadeMore made more) old new
   pub took : RoseBy (bytes_of changes more) taken taken'
 
@@ -70,6 +74,7 @@ pub record IsFurther (file : ℕ) (made : List Request) (way : Way) (job' : Seen
 pub record Acts (file : ℕ) (job job' : Seen) (now now' : board.Seen) (held held' : List (Held Ticket)) (old new : Option Shelf) (taken taken' : ℕ) : Type 0 where
   pub stand : Stand held → Stand held'
   pub on : (made : List Request) (way : Way) → IsJob job way now → IsFurther file made way job' now now' held held' old new taken taken'
+  pub parts : job.is_parting ≡ true → job'.is_parting ≡ true
 
 -- For each connection it counts how many slices that are begun and not over are bound to it, on none more than the limit divided by their number, rounded up.
 abbrev pub HasDealt : Seen → board.Seen → Type 0
@@ -115,6 +120,7 @@ pub record IsSettled (terms : Terms) (planned : windows.Seen) (bound : List ℕ)
 pub record GoesOn (file : ℕ) (made : List Request) (way way' : Way) (now now' : board.Seen) (held held' : List (Held Ticket)) (old new : Option Shelf) (taken taken' : ℕ) : Type 0 where
   pub more : List Request
   pub on : (calls : List wire.Call) → IsUnderWay (ToFile made) way now calls held → IsUnderWay (ToFile (made ++ more)) way' now' calls held'
+  pub bound : (calls : List wire.Call) → IsBound true (ToFile made) way now calls held → IsBound true (ToFile (made ++ more)) way' now' calls held'
   pub touched : Touches file (MadeMore made more) old new
   pub took : RoseBy (bytes_of changes more) taken taken'
 

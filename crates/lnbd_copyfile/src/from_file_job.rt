@@ -1,17 +1,20 @@
 //! What is under way in a copy from a file to an export whose connections stand: slices begin and go on, and in the end the export is flushed
 //! and all connections part. How bytes move is not known here.
 
-ghost use Rattle.std.specs.Prelude.{◌≡◌, ◌≢◌, ◌<◌, ◌≤◌, ◌^◌, ℕ, Err, IfErr, IfOk, None, OnOk, Some, [], false, true};
+ghost use Rattle.std.specs.Prelude.{◌≡◌, ◌≢◌, ◌<◌, ◌≤◌, ◌^◌, ℕ, Err, IfErr, IfOk, None, OnOk, Some, [], false, length, true};
 ghost use Rattle.lnbd_link.specs.Count.{Rises};
 ghost use Rattle.lnbd_board.specs.Files.{Seen as Kept};
+ghost use Rattle.lnbd_board.specs.Rows.{busy};
 ghost use Rattle.lnbd_connections.specs.Steps.{Parts};
 ghost use Rattle.lnbd_connections.specs.Way.{Way};
 ghost use Rattle.lnbd_touched.specs.Grown.{Grew};
 ghost use Rattle.lnbd_touched.specs.Parts.{IsShort};
 ghost use Rattle.lnbd_touched.specs.Touches.{Touches};
 ghost use Rattle.lnbd_conduct.specs.Slices.{cells_of};
+ghost use Rattle.lnbd_copy.specs.Dealt.{IsDealt};
 ghost use Rattle.lnbd_copyfile.specs.Causes.{IsChanged};
 ghost use Rattle.lnbd_copyfile.specs.OneFile.{BreaksReading, Reads};
+ghost use Rattle.lnbd_copy.specs.Links.{HaveSameLinks};
 
 use crate::between::Source;
 use crate::fault::Stop;
@@ -62,13 +65,19 @@ impl Model for FromFileJob {
 
 impl FromFileJob {
     ghost use Rattle.lnbd_copyfile.specs.declared.from_file_job.Phase.TheVariants as phase;
+    ghost use Rattle.lnbd_copyfile.specs.Binding.{Spreads};
     ghost use Rattle.lnbd_copyfile.specs.FromFileJob.{Acts, Concludes, IsJob, IsOver};
+    ghost use Rattle.lnbd_copyfile.specs.Sent.{HasNothingToSend};
 
     /// No slice is begun yet. All of the file is planned as bytes.
+    #[tactic(auto, using(crate::proofs::DealtLemmas::dealt_begins))]
     pub(crate) fn new(alloc: Global, terms: Terms) -> Result<FromFileJob, NoMemory>
         requires cells { (0 < terms.cell) × (0 < terms.zero_cell) × (0 < terms.grain) }
         requires size { terms.size ≤ 2 ^ 63 }
         ensures terms { IfOk result (λ job. job.terms ≡ terms) }
+        ensures ends { IfOk result (λ job. job.windows.size ≡ job.terms.size) }
+        ensures copying { IfOk result (λ job. job.phase ≡ phase.Copying) }
+        ensures dealt { IfOk result (λ job. IsDealt terms.limit terms.sides.destination job.bound []) }
         ensures begins { IfOk result (λ job. (way : Way) (now : Kept) (room : ℕ) → way.size ≡ Some room → terms.size ≤ room → way.how ≡ terms.how → now.how ≡ terms.how → way.slices ≡ [] →
             way.asked ≡ None → now.flushing ≡ false → IsJob job way now) }
     {
@@ -101,6 +110,7 @@ impl FromFileJob {
     /// noted meanwhile is then forgotten.
     ///
     /// On a fault some requests may have been made, and the copy is to end.
+    #[tactic(auto, using(lnbd_copy::proofs::LinkLemmas::same_none, lnbd_copy::proofs::LinkLemmas::same_then))]
     pub(crate) fn act<S: Store>(
         &mut self,
         alloc: Global,
@@ -110,7 +120,13 @@ impl FromFileJob {
         file: u32,
     ) -> Result<bool, Stop>
         requires how { board.old.how ≡ self.old.terms.how }
+        ensures links { HaveSameLinks handles.old handles.new }
+        ensures kept { IfOk result (λ acted. acted ≡ false → handles.new ≡ handles.old) }
         ensures acts { OnOk result (Acts file self.old self.new board.old board.new handles.old handles.new (S.shelf store.old) (S.shelf store.new) (S.given store.old) (S.given store.new)) }
+        ensures waits { IfOk result (λ acted. acted ≡ false → self.new.phase ≡ phase.Copying → HasNothingToSend self.new board.new) }
+        ensures most { OnOk result (length board.old.rows ≤ self.old.terms.limit → length board.new.rows ≤ self.old.terms.limit) }
+        ensures spread { OnOk result (Spreads self.old self.new board.old board.new) }
+        ensures ends { self.new.windows.size ≡ self.old.windows.size }
         ensures terms { self.new.terms ≡ self.old.terms }
         ensures how { OnOk result (board.new.how ≡ board.old.how) }
         ensures reads { OnOk result (Grew (S.told store.old) (S.told store.new) (Reads file)) }
@@ -131,6 +147,7 @@ impl FromFileJob {
     }
 
     /// Slices are copied, the flush is waited for, or nothing is asked any more. Whether anything was asked, or the copy went on in another way.
+    #[tactic(auto, using(lnbd_copy::proofs::LinkLemmas::same_none, lnbd_copy::proofs::LinkLemmas::same_then, crate::proofs::DealtLemmas::spreads_none))]
     fn proceed<S: Store>(
         &mut self,
         alloc: Global,
@@ -140,7 +157,13 @@ impl FromFileJob {
         file: u32,
     ) -> Result<bool, Stop>
         requires how { board.old.how ≡ self.old.terms.how }
+        ensures links { HaveSameLinks handles.old handles.new }
+        ensures kept { IfOk result (λ acted. acted ≡ false → handles.new ≡ handles.old) }
         ensures acts { OnOk result (Acts file self.old self.new board.old board.new handles.old handles.new (S.shelf store.old) (S.shelf store.new) (S.given store.old) (S.given store.new)) }
+        ensures waits { IfOk result (λ acted. acted ≡ false → self.new.phase ≡ phase.Copying → HasNothingToSend self.new board.new) }
+        ensures most { OnOk result (length board.old.rows ≤ self.old.terms.limit → length board.new.rows ≤ self.old.terms.limit) }
+        ensures spread { OnOk result (Spreads self.old self.new board.old board.new) }
+        ensures ends { self.new.windows.size ≡ self.old.windows.size }
         ensures terms { self.new.terms ≡ self.old.terms }
         ensures how { OnOk result (board.new.how ≡ board.old.how) }
         ensures reads { OnOk result (Grew (S.told store.old) (S.told store.new) (Reads file)) }
@@ -158,6 +181,7 @@ impl FromFileJob {
     }
 
     /// Slices go on and begin; once all are over, the flush is asked for, or the end.
+    #[tactic(auto, using(lnbd_copy::proofs::LinkLemmas::same_none, lnbd_copy::proofs::LinkLemmas::same_then))]
     fn copy<S: Store>(
         &mut self,
         alloc: Global,
@@ -168,7 +192,13 @@ impl FromFileJob {
     ) -> Result<bool, Stop>
         requires how { board.old.how ≡ self.old.terms.how }
         requires copying { self.old.phase ≡ phase.Copying }
+        ensures links { HaveSameLinks handles.old handles.new }
+        ensures kept { IfOk result (λ acted. acted ≡ false → handles.new ≡ handles.old) }
         ensures acts { OnOk result (Acts file self.old self.new board.old board.new handles.old handles.new (S.shelf store.old) (S.shelf store.new) (S.given store.old) (S.given store.new)) }
+        ensures waits { IfOk result (λ acted. acted ≡ false → HasNothingToSend self.new board.new) }
+        ensures most { OnOk result (length board.old.rows ≤ self.old.terms.limit → length board.new.rows ≤ self.old.terms.limit) }
+        ensures spread { OnOk result (Spreads self.old self.new board.old board.new) }
+        ensures ends { self.new.windows.size ≡ self.old.windows.size }
         ensures terms { self.new.terms ≡ self.old.terms }
         ensures how { OnOk result (board.new.how ≡ board.old.how) }
         ensures reads { OnOk result (Grew (S.told store.old) (S.told store.new) (Reads file)) }
@@ -192,6 +222,7 @@ impl FromFileJob {
     }
 
     /// Slices go on and begin. Whether there were any.
+    #[tactic(auto, using(lnbd_copy::proofs::LinkLemmas::same_none, lnbd_copy::proofs::LinkLemmas::same_then))]
     fn send<S: Store>(
         &mut self,
         alloc: Global,
@@ -202,7 +233,13 @@ impl FromFileJob {
     ) -> Result<bool, Stop>
         requires how { board.old.how ≡ self.old.terms.how }
         requires copying { self.old.phase ≡ phase.Copying }
+        ensures links { HaveSameLinks handles.old handles.new }
+        ensures kept { IfOk result (λ sent. sent ≡ false → handles.new ≡ handles.old) }
         ensures acts { OnOk result (Acts file self.old self.new board.old board.new handles.old handles.new (S.shelf store.old) (S.shelf store.new) (S.given store.old) (S.given store.new)) }
+        ensures waits { IfOk result (λ sent. sent ≡ false → (board.new.came ≡ []) × (length board.new.rows < self.new.terms.limit → length self.new.windows.plan.slices ≡ 0)) }
+        ensures most { OnOk result (length board.old.rows ≤ self.old.terms.limit → length board.new.rows ≤ self.old.terms.limit) }
+        ensures spread { OnOk result (Spreads self.old self.new board.old board.new) }
+        ensures ends { self.new.windows.size ≡ self.old.windows.size }
         ensures terms { self.new.terms ≡ self.old.terms }
         ensures phase { self.new.phase ≡ self.old.phase }
         ensures how { OnOk result (board.new.how ≡ board.old.how) }
@@ -230,16 +267,23 @@ impl FromFileJob {
 
     /// Whether all slices of the file are over.
     fn is_over(&self, board: &Board) -> bool
-        ensures { result ≡ true → IsOver self.now board.now }
+        ensures over { result ≡ true → IsOver self.now board.now }
+        ensures quiet { board.now.came ≡ [] → busy board.now.rows ≡ length board.now.rows }
     {
-        self.windows.are_planned() && self.windows.left() == 0 && board.count() == 0
+        let count = board.count();
+        self.windows.are_planned() && self.windows.left() == 0 && count == 0
     }
 
     /// Asks for the flush, where it is wanted, or else for the end.
+    #[tactic(auto, using(lnbd_copy::proofs::LinkLemmas::same_none, lnbd_copy::proofs::LinkLemmas::same_then))]
     fn conclude(&mut self, handles: &mut Handles<Ticket>, board: &mut Board) -> Result<(), NoMemory>
         requires copying { self.old.phase ≡ phase.Copying }
         requires over { IsOver self.old board.old }
+        ensures links { HaveSameLinks handles.old handles.new }
         ensures concludes { OnOk result (Concludes self.old self.new board.old board.new handles.old handles.new) }
+        ensures rows { OnOk result (board.new.rows ≡ board.old.rows) }
+        ensures spread { OnOk result (Spreads self.old self.new board.old board.new) }
+        ensures ends { self.new.windows.size ≡ self.old.windows.size }
         ensures terms { self.new.terms ≡ self.old.terms }
         ensures how { OnOk result (board.new.how ≡ board.old.how) }
     {
@@ -253,9 +297,15 @@ impl FromFileJob {
     }
 
     /// Asks for the end, where the flush was answered. Whether it was.
+    #[tactic(auto, using(lnbd_copy::proofs::LinkLemmas::same_none, lnbd_copy::proofs::LinkLemmas::same_then, crate::proofs::DealtLemmas::spreads_none))]
     fn flushed(&mut self, handles: &mut Handles<Ticket>, board: &Board) -> bool
         requires flushing { self.old.phase ≡ phase.Flushing }
+        ensures links { HaveSameLinks handles.old handles.new }
+        ensures kept { result ≡ false → handles.new ≡ handles.old }
         ensures concludes { Concludes self.old self.new board.now board.now handles.old handles.new }
+        ensures waits { result ≡ false → self.new ≡ self.old }
+        ensures spread { Spreads self.old self.new board.now board.now }
+        ensures ends { self.new.windows.size ≡ self.old.windows.size }
         ensures terms { self.new.terms ≡ self.old.terms }
     {
         if !board.is_flushed() {
@@ -266,7 +316,9 @@ impl FromFileJob {
     }
 
     /// Asks for the end of all connections.
+    #[tactic(auto, using(lnbd_copy::proofs::LinkLemmas::same_none, lnbd_copy::proofs::LinkLemmas::same_then))]
     fn leave(&mut self, handles: &mut Handles<Ticket>)
+        ensures links { HaveSameLinks handles.old handles.new }
         ensures parts { (now : Kept) → Parts now handles.old handles.new }
         ensures others { self.new ≡ record self.old { phase = phase.Parting } }
     {

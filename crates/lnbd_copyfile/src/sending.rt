@@ -1,7 +1,7 @@
 //! The slices of a copy from a file: each is read as it begins, and what it asks for goes to the connections of the export. When a copy turns, and
 //! when it ends, is not known here.
 
-ghost use Rattle.std.specs.Prelude.{◌≡◌, ◌+◌, ◌-◌, ◌<◌, ◌≤◌, ◌^◌, Err, IfErr, IfOk, List, OnOk, false, length, not, replicate, slice_index, slice_set, true};
+ghost use Rattle.std.specs.Prelude.{◌≡◌, ◌+◌, ◌-◌, ◌<◌, ◌≤◌, ◌^◌, ℕ, [], Err, IfErr, IfOk, List, OnOk, false, length, not, replicate, slice_index, slice_set, true};
 ghost use Rattle.lnbd_link.specs.Count.{Rises};
 ghost use Rattle.lnbd_poll.specs.Held.{Held};
 ghost use Rattle.lnbd_board.specs.Board.{risen};
@@ -9,9 +9,12 @@ ghost use Rattle.lnbd_board.specs.declared.ticket.Ticket.{Ticket as Tag};
 ghost use Rattle.lnbd_touched.specs.Grown.{Grew};
 ghost use Rattle.lnbd_touched.specs.Parts.{IsShort};
 ghost use Rattle.lnbd_touched.specs.Touches.{Touches};
+ghost use Rattle.lnbd_board.specs.Bound.{IsFewest};
+ghost use Rattle.lnbd_copyfile.specs.Binding.{Deals};
 ghost use Rattle.lnbd_copyfile.specs.Causes.{IsChanged};
 ghost use Rattle.lnbd_copyfile.specs.OneFile.{BreaksReading, Reads};
 ghost use Rattle.lnbd_copyfile.specs.Sending.{Begins, BeginsOne, PassesOn, Sends};
+ghost use Rattle.lnbd_copy.specs.Links.{HaveSameLinks};
 
 use crate::between::Source;
 use crate::fault::Stop;
@@ -62,7 +65,8 @@ impl Bindings {
 
     /// The connection to which the fewest slices are bound.
     fn fewest(&self) -> usize
-        ensures { result < length self.now }
+        ensures held { result < length self.now }
+        ensures fewest { IsFewest self.now result }
     {
         self.bound.fewest()
     }
@@ -85,13 +89,19 @@ impl Bindings {
     }
 
     /// Asks the export what comes next of the slice that something came for first. Whether there was one.
+    #[tactic(auto, using(lnbd_copy::proofs::LinkLemmas::same_none, lnbd_copy::proofs::LinkLemmas::same_then))]
     fn go_on_once(
         &mut self,
         alloc: Global,
         handles: &mut Handles<Ticket>,
         board: &mut Board,
     ) -> Result<bool, NoMemory>
-        ensures { OnOk result (PassesOn board.old board.new handles.old handles.new) }
+        ensures links { HaveSameLinks handles.old handles.new }
+        ensures kept { IfOk result (λ went. went ≡ false → handles.new ≡ handles.old) }
+        ensures passes { OnOk result (PassesOn board.old board.new handles.old handles.new) }
+        ensures deals { OnOk result ((limit : ℕ) → Deals limit self.old self.new board.old board.new) }
+        ensures fewer { OnOk result (length board.new.rows ≤ length board.old.rows) }
+        ensures still { IfOk result (λ went. went ≡ false → (board.old.came ≡ []) × (board.new ≡ board.old)) }
     {
         let next = board.next(alloc)?;
         match next {
@@ -117,13 +127,20 @@ impl Bindings {
 
     /// Asks the export what comes next of all slices that something came for. Whether there were any. If that came to no end it would count as
     /// want of memory.
+    #[tactic(auto, using(lnbd_copy::proofs::LinkLemmas::same_none, lnbd_copy::proofs::LinkLemmas::same_then))]
     fn go_on(
         &mut self,
         alloc: Global,
         handles: &mut Handles<Ticket>,
         board: &mut Board,
     ) -> Result<bool, NoMemory>
-        ensures { OnOk result (PassesOn board.old board.new handles.old handles.new) }
+        ensures links { HaveSameLinks handles.old handles.new }
+        ensures kept { IfOk result (λ went. went ≡ false → handles.new ≡ handles.old) }
+        ensures passes { OnOk result (PassesOn board.old board.new handles.old handles.new) }
+        ensures deals { OnOk result ((limit : ℕ) → Deals limit self.old self.new board.old board.new) }
+        ensures fewer { OnOk result (length board.new.rows ≤ length board.old.rows) }
+        ensures none { OnOk result (board.new.came ≡ []) }
+        ensures still { IfOk result (λ went. went ≡ false → board.new ≡ board.old) }
     {
         let mut went = false;
         'slices: for _ in 0..u64::MAX {
@@ -147,6 +164,8 @@ impl Bindings {
         requires room { slice.start + slice.length ≤ 2 ^ 63 }
         requires copied { slice.zero ≡ true → board.old.how.skip ≡ false }
         ensures begins { OnOk result (BeginsOne source.file slice board.old board.new (S.shelf store.old) (S.shelf store.new) (S.given store.old) (S.given store.new)) }
+        ensures deals { OnOk result ((limit : ℕ) → limit < 2 ^ 64 → length board.old.rows < limit → Deals limit self.old self.new board.old board.new) }
+        ensures more { OnOk result (length board.new.rows ≡ length board.old.rows + 1) }
         ensures reads { OnOk result (Grew (S.told store.old) (S.told store.new) (Reads source.file)) }
         ensures breaks { IfErr result (λ why. Grew (S.told store.old) (S.told store.new) (BreaksReading source.file source.size why)) }
         ensures short { IfErr result (λ why. IsChanged why → Touches source.file (IsShort source.size) (S.shelf store.old) (S.shelf store.new)) }
@@ -174,6 +193,7 @@ impl Bindings {
     }
 
     /// Begins the next slice that is planned, if there is one, and reads it. Whether there was.
+    #[tactic(auto, using(crate::proofs::DealtLemmas::deals_none))]
     fn begin_next<S: Store>(
         &mut self,
         alloc: Global,
@@ -185,6 +205,10 @@ impl Bindings {
         requires zeros { windows.old.plan.cells.zeros ≡ not board.old.how.skip }
         ensures windows { windows.new ≡ record windows.old { plan = record windows.old.plan { slices = windows.new.plan.slices } } }
         ensures begins { OnOk result (Begins source.file windows.old windows.new board.old board.new (S.shelf store.old) (S.shelf store.new) (S.given store.old) (S.given store.new)) }
+        ensures deals { OnOk result ((limit : ℕ) → limit < 2 ^ 64 → length board.old.rows < limit → Deals limit self.old self.new board.old board.new) }
+        ensures more { IfOk result (λ begun. begun ≡ true → length board.new.rows ≡ length board.old.rows + 1) }
+        ensures still { IfOk result (λ begun. begun ≡ false → board.new ≡ board.old) }
+        ensures none { IfOk result (λ begun. begun ≡ false → length windows.new.plan.slices ≡ 0) }
         ensures reads { OnOk result (Grew (S.told store.old) (S.told store.new) (Reads source.file)) }
         ensures breaks { IfErr result (λ why. Grew (S.told store.old) (S.told store.new) (BreaksReading source.file source.size why)) }
         ensures short { IfErr result (λ why. IsChanged why → Touches source.file (IsShort source.size) (S.shelf store.old) (S.shelf store.new)) }
@@ -214,6 +238,9 @@ impl Bindings {
         requires zeros { windows.old.plan.cells.zeros ≡ not board.old.how.skip }
         ensures windows { windows.new ≡ record windows.old { plan = record windows.old.plan { slices = windows.new.plan.slices } } }
         ensures begins { OnOk result (Begins source.file windows.old windows.new board.old board.new (S.shelf store.old) (S.shelf store.new) (S.given store.old) (S.given store.new)) }
+        ensures deals { OnOk result (Deals limit self.old self.new board.old board.new) }
+        ensures full { IfOk result (λ begun. begun ≡ false → length board.new.rows < limit → length windows.new.plan.slices ≡ 0) }
+        ensures most { OnOk result (length board.old.rows ≤ limit → length board.new.rows ≤ limit) }
         ensures reads { OnOk result (Grew (S.told store.old) (S.told store.new) (Reads source.file)) }
         ensures breaks { IfErr result (λ why. Grew (S.told store.old) (S.told store.new) (BreaksReading source.file source.size why)) }
         ensures short { IfErr result (λ why. IsChanged why → Touches source.file (IsShort source.size) (S.shelf store.old) (S.shelf store.new)) }
@@ -234,6 +261,7 @@ impl Bindings {
 
     /// Slices that something came for go on, and planned ones begin, up to as many as may be under way. What was read of these has come at
     /// once, so they go on too. Whether there were any.
+    #[tactic(auto, using(lnbd_copy::proofs::LinkLemmas::same_none, lnbd_copy::proofs::LinkLemmas::same_then))]
     pub(crate) fn send<S: Store>(
         &mut self,
         alloc: Global,
@@ -245,9 +273,14 @@ impl Bindings {
         limit: u64,
     ) -> Result<bool, Stop>
         requires zeros { windows.old.plan.cells.zeros ≡ not board.old.how.skip }
+        ensures links { HaveSameLinks handles.old handles.new }
+        ensures kept { IfOk result (λ sent. sent ≡ false → handles.new ≡ handles.old) }
         ensures windows { windows.new ≡ record windows.old { plan = record windows.old.plan { slices = windows.new.plan.slices } } }
         ensures sends { OnOk result (Sends source.file windows.old windows.new board.old board.new handles.old handles.new (S.shelf store.old) (S.shelf store.new) (S.given store.old)
             (S.given store.new)) }
+        ensures deals { OnOk result (Deals limit self.old self.new board.old board.new) }
+        ensures waits { IfOk result (λ sent. sent ≡ false → (board.new.came ≡ []) × (length board.new.rows < limit → length windows.new.plan.slices ≡ 0)) }
+        ensures most { OnOk result (length board.old.rows ≤ limit → length board.new.rows ≤ limit) }
         ensures reads { OnOk result (Grew (S.told store.old) (S.told store.new) (Reads source.file)) }
         ensures breaks { IfErr result (λ why. Grew (S.told store.old) (S.told store.new) (BreaksReading source.file source.size why)) }
         ensures short { IfErr result (λ why. IsChanged why → Touches source.file (IsShort source.size) (S.shelf store.old) (S.shelf store.new)) }

@@ -12,12 +12,16 @@ ghost use Rattle.lnbd_connections.specs.Way.{Way};
 ghost use Rattle.lnbd_copy.specs.Dealt.{IsDealt};
 ghost use Rattle.lnbd_copy.specs.Forgetting.{NoneKeepNotes};
 ghost use Rattle.lnbd_copy.specs.Heard.{IsHeardTo};
+ghost use Rattle.lnbd_copy.specs.Reached.{IsToldTo};
 ghost use Rattle.lnbd_copy.specs.UnderWay.{IsWantedOf, unfinished};
 ghost use Rattle.lnbd_copy.specs.Windows.{IsPlanned};
 ghost use Rattle.lnbd_touched.specs.Grown.{Grew};
+ghost use Rattle.lnbd_copyfile.specs.Fullness.{StaysWell};
+ghost use Rattle.lnbd_copyfile.specs.Making.{MakesChanges};
 ghost use Rattle.lnbd_copyfile.specs.OneFile.{BreaksWriting, Writes};
 ghost use Rattle.lnbd_copyfile.specs.ToFileJob.{Begins, BindsOne, anywhere};
 ghost use Rattle.lnbd_store.specs.Shelf.{Shelf};
+ghost use Rattle.lnbd_copy.specs.Links.{HaveSameLinks};
 
 use crate::desk::{First, begin_slice, go_on};
 use crate::fault::Stop;
@@ -56,6 +60,7 @@ impl Model for ToFileJob {
 }
 
 impl ToFileJob {
+    ghost use Rattle.lnbd_copyfile.specs.Hearing.{HearsOn};
     ghost use Rattle.lnbd_copyfile.specs.ToFileJob.{Acts, AreToAsk, HasNothingToDo, IsJob, IsOver, Spreads};
 
     /// No slice is begun yet. Where the source's extents can't be asked for, all of it is planned as bytes. A source without connections counts as
@@ -66,8 +71,9 @@ impl ToFileJob {
         ensures terms { IfOk result (λ job. job.terms ≡ terms) }
         ensures copying { IfOk result (λ job. job.is_parting ≡ false) }
         ensures dealt { IfOk result (λ job. IsDealt terms.limit terms.sides.source job.bound []) }
+        ensures at { IfOk result (λ job. extents ≡ true → job.windows.at ≡ 0) }
         ensures begins { IfOk result (λ job. (way : Way) (now : Kept) → way.size ≡ Some terms.size → way.how ≡ terms.how → now.how ≡ terms.how
-            → way.slices ≡ [] → way.asked ≡ None → ((block p : ℕ) → way.known.whole block p ≡ false) → IsJob job way now) }
+            → way.slices ≡ [] → way.asked ≡ None → ((block p : ℕ) → way.known.whole block p ≡ false) → ((p : ℕ) → way.known.reach p ≡ false) → IsJob job way now) }
     {
         let connections = terms.sides.source as usize;
         if connections == 0 {
@@ -93,7 +99,7 @@ impl ToFileJob {
 
     /// Does whatever can be done now of the file, and asks for whatever can be asked for of the source. Whether anything was: what the connections
     /// noted meanwhile is then forgotten.
-    #[tactic(auto, using(crate::proofs::ToFileJobLemmas::acts_none, crate::proofs::SpreadLemmas::spreads_none))]
+    #[tactic(auto, using(crate::proofs::ToFileJobLemmas::acts_none, crate::proofs::HearingLemmas::hears_still, crate::proofs::SpreadLemmas::spreads_none, lnbd_copy::proofs::LinkLemmas::same_none, lnbd_copy::proofs::LinkLemmas::same_then, crate::proofs::FullLemmas::well_none))]
     pub(crate) fn act<S: Store>(
         &mut self,
         alloc: Global,
@@ -103,10 +109,15 @@ impl ToFileJob {
         file: u32,
     ) -> Result<bool, Stop>
         requires how { board.old.how ≡ self.old.terms.how }
+        ensures links { HaveSameLinks handles.old handles.new }
+        ensures kept { IfOk result (λ acted. acted ≡ false → handles.new ≡ handles.old) }
         ensures acts { OnOk result (Acts file self.old self.new board.old board.new handles.old handles.new (S.shelf store.old) (S.shelf store.new) (S.taken store.old) (S.taken store.new)) }
+        ensures parting { self.old.is_parting ≡ true → self.new.is_parting ≡ true }
         ensures terms { self.new.terms ≡ self.old.terms }
         ensures waits { IfOk result (λ acted. acted ≡ false → self.new.is_parting ≡ false → HasNothingToDo self.new board.new) }
         ensures forgets { IfOk result (λ acted. acted ≡ true → NoneKeepNotes handles.new) }
+        ensures most { OnOk result (length board.old.rows ≤ self.old.terms.limit → length board.new.rows ≤ self.old.terms.limit) }
+        ensures well { IfOk result (λ acted. acted ≡ false → StaysWell board.old.how board.old board.new) }
         ensures spread { OnOk result (Spreads self.old self.new board.old board.new) }
         ensures writes { OnOk result (Grew (S.told store.old) (S.told store.new) (Writes file)) }
         ensures breaks { IfErr result (λ why. Grew (S.told store.old) (S.told store.new) (BreaksWriting file why)) }
@@ -114,6 +125,7 @@ impl ToFileJob {
         ensures failed { result ≡ Err Stop.Failed → Rises 1 (S.faults store.old) (S.faults store.new) }
         ensures later { S.faults store.old ≤ S.faults store.new }
         ensures given { S.given store.new ≡ S.given store.old }
+        ensures hears { OnOk result (HearsOn self.old self.new board.old handles.old) }
     {
         if self.is_parting {
             return Ok(false);
@@ -129,6 +141,7 @@ impl ToFileJob {
     }
 
     /// Slices go on, extents are heard and asked for, and slices are begun. Where all of them are over the connections are asked to end.
+    #[tactic(auto, using(lnbd_copy::proofs::LinkLemmas::same_none, lnbd_copy::proofs::LinkLemmas::same_then, crate::proofs::FullLemmas::acts_well))]
     fn copy<S: Store>(
         &mut self,
         alloc: Global,
@@ -139,8 +152,12 @@ impl ToFileJob {
     ) -> Result<bool, Stop>
         requires how { board.old.how ≡ self.old.terms.how }
         requires copying { self.old.is_parting ≡ false }
+        ensures links { HaveSameLinks handles.old handles.new }
+        ensures kept { IfOk result (λ acted. acted ≡ false → handles.new ≡ handles.old) }
         ensures acts { OnOk result (Acts file self.old self.new board.old board.new handles.old handles.new (S.shelf store.old) (S.shelf store.new) (S.taken store.old) (S.taken store.new)) }
         ensures waits { IfOk result (λ acted. acted ≡ false → HasNothingToDo self.new board.new) }
+        ensures most { OnOk result (length board.old.rows ≤ self.old.terms.limit → length board.new.rows ≤ self.old.terms.limit) }
+        ensures well { IfOk result (λ acted. acted ≡ false → StaysWell board.old.how board.old board.new) }
         ensures terms { self.new.terms ≡ self.old.terms }
         ensures spread { OnOk result (Spreads self.old self.new board.old board.new) }
         ensures writes { OnOk result (Grew (S.told store.old) (S.told store.new) (Writes file)) }
@@ -149,6 +166,7 @@ impl ToFileJob {
         ensures failed { result ≡ Err Stop.Failed → Rises 1 (S.faults store.old) (S.faults store.new) }
         ensures later { S.faults store.old ≤ S.faults store.new }
         ensures given { S.given store.new ≡ S.given store.old }
+        ensures hears { OnOk result (HearsOn self.old self.new board.old handles.old) }
     {
         let went = match self.go_on(alloc, board, store, file) {
             Ok(went) => went,
@@ -180,6 +198,7 @@ impl ToFileJob {
             Acts file self.old self.new board.old board.new held held (S.shelf store.old) (S.shelf store.new) (S.taken store.old) (S.taken store.new)) }
         ensures job { self.new ≡ record self.old { bound = self.new.bound } }
         ensures how { OnOk result (board.new.how ≡ board.old.how) }
+        ensures makes { OnOk result (MakesChanges board.old.how file board.old board.new (S.shelf store.old) (S.shelf store.new) (S.taken store.old) (S.taken store.new)) }
         ensures looked { OnOk result (board.new.came ≡ []) }
         ensures spread { OnOk result (Spreads self.old self.new board.old board.new) }
         ensures writes { OnOk result (Grew (S.told store.old) (S.told store.new) (Writes file)) }
@@ -214,8 +233,11 @@ impl ToFileJob {
     }
 
     /// Takes extents that were told, and asks for more. Whether any were, or are.
+    #[tactic(auto, using(lnbd_copy::proofs::LinkLemmas::same_none, lnbd_copy::proofs::LinkLemmas::same_then))]
     fn listen(&mut self, handles: &mut Handles<Ticket>, board: &mut Board) -> Result<bool, NoMemory>
         requires copying { self.old.is_parting ≡ false }
+        ensures links { HaveSameLinks handles.old handles.new }
+        ensures kept { IfOk result (λ listened. listened ≡ false → handles.new ≡ handles.old) }
         ensures acts { OnOk result ((file : ℕ) (shelf : Option Shelf) (taken : ℕ) → Acts file self.old self.new board.old board.new handles.old handles.new shelf shelf taken taken) }
         ensures terms { self.new.terms ≡ self.old.terms }
         ensures copying { OnOk result (self.new.is_parting ≡ false) }
@@ -226,6 +248,7 @@ impl ToFileJob {
         ensures wanted { OnOk result (IsWantedOf self.new.windows) }
         ensures done { OnOk result (¬ AreToAsk self.new board.new) }
         ensures still { IfOk result (λ listened. listened ≡ false → (self.new ≡ self.old) × (board.new ≡ board.old)) }
+        ensures hears { OnOk result (HearsOn self.old self.new board.old handles.old) }
     {
         let heard = self.hear(board)?;
         let asked = self.ask(handles, board)?;
@@ -233,7 +256,7 @@ impl ToFileJob {
     }
 
     /// Takes extents that were told, if the board had memory for them.
-    #[tactic(auto, using(crate::proofs::ToFileJobLemmas::acts_none))]
+    #[tactic(auto, using(crate::proofs::ToFileJobLemmas::acts_none, crate::proofs::HearingLemmas::hears_still))]
     fn hear(&mut self, board: &Board) -> Result<bool, NoMemory>
         requires copying { self.old.is_parting ≡ false }
         ensures acts { OnOk result ((file : ℕ) (held : List (Held Tag)) (shelf : Option Shelf) (taken : ℕ) → Acts file self.old self.new board.now board.now held held shelf shelf taken taken) }
@@ -242,6 +265,7 @@ impl ToFileJob {
         ensures bound { self.new.bound ≡ self.old.bound }
         ensures untold { OnOk result (self.new.asked ≡ true → board.now.mapped ≡ false) }
         ensures still { IfOk result (λ heard. heard ≡ false → self.new ≡ self.old) }
+        ensures hears { OnOk result ((held : List (Held Tag)) → HearsOn self.old self.new board.now held) }
     {
         if !self.has_come(board) {
             return Ok(false);
@@ -264,9 +288,11 @@ impl ToFileJob {
     }
 
     /// Asks for extents, if they may be asked for and windows are left.
-    #[tactic(auto, using(crate::proofs::ToFileJobLemmas::acts_none))]
+    #[tactic(auto, using(crate::proofs::ToFileJobLemmas::acts_none, lnbd_copy::proofs::LinkLemmas::same_none, lnbd_copy::proofs::LinkLemmas::same_then))]
     fn ask(&mut self, handles: &mut Handles<Ticket>, board: &mut Board) -> Result<bool, NoMemory>
         requires copying { self.old.is_parting ≡ false }
+        ensures links { HaveSameLinks handles.old handles.new }
+        ensures kept { IfOk result (λ asked. asked ≡ false → handles.new ≡ handles.old) }
         ensures acts { OnOk result ((file : ℕ) (shelf : Option Shelf) (taken : ℕ) → Acts file self.old self.new board.old board.new handles.old handles.new shelf shelf taken taken) }
         ensures how { OnOk result (board.new.how ≡ board.old.how) }
         ensures terms { self.new.terms ≡ self.old.terms }
@@ -277,6 +303,7 @@ impl ToFileJob {
         ensures wanted { OnOk result (IsWantedOf self.new.windows) }
         ensures untold { IfOk result (λ asked. asked ≡ true → board.new.mapped ≡ false) }
         ensures still { IfOk result (λ asked. asked ≡ false → (self.new ≡ self.old) × (board.new ≡ board.old)) }
+        ensures windows { self.new.windows ≡ self.old.windows }
     {
         if !self.may_ask(board) {
             return Ok(false);
@@ -304,6 +331,7 @@ impl ToFileJob {
     }
 
     /// Planned slices are begun, up to as many as may be under way. Whether one was.
+    #[tactic(auto, using(lnbd_copy::proofs::LinkLemmas::same_none, lnbd_copy::proofs::LinkLemmas::same_then))]
     fn begin<S: Store>(
         &mut self,
         alloc: Global,
@@ -314,18 +342,22 @@ impl ToFileJob {
     ) -> Result<bool, Stop>
         requires how { board.old.how ≡ self.old.terms.how }
         requires copying { self.old.is_parting ≡ false }
+        ensures links { HaveSameLinks handles.old handles.new }
+        ensures kept { IfOk result (λ begun. begun ≡ false → handles.new ≡ handles.old) }
         ensures acts { OnOk result (Acts file self.old self.new board.old board.new handles.old handles.new (S.shelf store.old) (S.shelf store.new) (S.taken store.old) (S.taken store.new)) }
         ensures terms { self.new.terms ≡ self.old.terms }
         ensures copying { OnOk result (self.new.is_parting ≡ false) }
         ensures spread { OnOk result (Spreads self.old self.new board.old board.new) }
         ensures still { IfOk result (λ begun. begun ≡ false → (self.new ≡ self.old) × (board.new ≡ board.old)) }
         ensures full { IfOk result (λ begun. begun ≡ false → length board.new.rows < self.new.terms.limit → length self.new.windows.plan.slices ≡ 0) }
+        ensures most { OnOk result (length board.old.rows ≤ self.old.terms.limit → length board.new.rows ≤ self.old.terms.limit) }
         ensures writes { OnOk result (Grew (S.told store.old) (S.told store.new) (Writes file)) }
         ensures breaks { IfErr result (λ why. Grew (S.told store.old) (S.told store.new) (BreaksWriting file why)) }
         ensures unchanged { (n end : ℕ) → result ≡ Err (Stop.Changed n end) → ⊥ }
         ensures failed { result ≡ Err Stop.Failed → Rises 1 (S.faults store.old) (S.faults store.new) }
         ensures later { S.faults store.old ≤ S.faults store.new }
         ensures given { S.given store.new ≡ S.given store.old }
+        ensures at { self.new.windows.at ≡ self.old.windows.at }
     {
         let mut begun = false;
         'slices: for under_way in board.count() as u64..self.limit() {
@@ -347,6 +379,7 @@ impl ToFileJob {
     }
 
     /// Begins the next slice that is planned, if there is one. Whether there was.
+    #[tactic(auto, using(lnbd_copy::proofs::LinkLemmas::same_none, lnbd_copy::proofs::LinkLemmas::same_then))]
     fn begin_next<S: Store>(
         &mut self,
         alloc: Global,
@@ -357,6 +390,8 @@ impl ToFileJob {
     ) -> Result<bool, Stop>
         requires how { board.old.how ≡ self.old.terms.how }
         requires copying { self.old.is_parting ≡ false }
+        ensures links { HaveSameLinks handles.old handles.new }
+        ensures kept { IfOk result (λ begun. begun ≡ false → handles.new ≡ handles.old) }
         ensures acts { OnOk result (Acts file self.old self.new board.old board.new handles.old handles.new (S.shelf store.old) (S.shelf store.new) (S.taken store.old) (S.taken store.new)) }
         ensures how { OnOk result (board.new.how ≡ board.old.how) }
         ensures terms { self.new.terms ≡ self.old.terms }
@@ -371,6 +406,7 @@ impl ToFileJob {
         ensures failed { result ≡ Err Stop.Failed → Rises 1 (S.faults store.old) (S.faults store.new) }
         ensures later { S.faults store.old ≤ S.faults store.new }
         ensures given { S.given store.new ≡ S.given store.old }
+        ensures at { self.new.windows.at ≡ self.old.windows.at }
     {
         let slice = match self.windows.next() {
             Some(slice) => slice,
@@ -393,13 +429,16 @@ impl ToFileJob {
     }
 
     /// Asks all connections to end, where all is copied. Whether it is.
-    #[tactic(auto, using(crate::proofs::ToFileJobLemmas::acts_none))]
+    #[tactic(auto, using(crate::proofs::ToFileJobLemmas::acts_none, lnbd_copy::proofs::LinkLemmas::same_none, lnbd_copy::proofs::LinkLemmas::same_then))]
     fn leave_where_copied(&mut self, handles: &mut Handles<Ticket>, board: &Board) -> bool
+        ensures links { HaveSameLinks handles.old handles.new }
+        ensures kept { result ≡ false → handles.new ≡ handles.old }
         ensures acts { (file : ℕ) (shelf : Option Shelf) (taken : ℕ) → Acts file self.old self.new board.now board.now handles.old handles.new shelf shelf taken taken }
         ensures terms { self.new.terms ≡ self.old.terms }
         ensures bound { self.new.bound ≡ self.old.bound }
         ensures left { result ≡ false → ¬ IsOver self.old board.now }
         ensures still { result ≡ false → self.new ≡ self.old }
+        ensures windows { self.new.windows ≡ self.old.windows }
         ensures quiet { board.now.came ≡ [] → busy board.now.rows ≡ length board.now.rows }
     {
         if !self.is_copied(board) {
@@ -412,6 +451,7 @@ impl ToFileJob {
 }
 
 /// Begins a slice on the connection to which the fewest are bound. What comes first of it is asked of the connection, or done of the file.
+#[tactic(auto, using(lnbd_copy::proofs::LinkLemmas::same_none, lnbd_copy::proofs::LinkLemmas::same_then))]
 fn begin_one<S: Store>(
     alloc: Global,
     handles: &mut Handles<Ticket>,
@@ -424,6 +464,7 @@ fn begin_one<S: Store>(
     requires room { slice.start + slice.length ≤ 2 ^ 63 }
     requires copied { slice.zero ≡ true → board.old.how.skip ≡ false }
     requires some { 0 < length bound.old }
+    ensures links { HaveSameLinks handles.old handles.new }
     ensures begins { OnOk result (Begins file slice board.old board.new handles.old handles.new (S.shelf store.old) (S.shelf store.new) (S.taken store.old) (S.taken store.new)) }
     ensures binds { OnOk result (BindsOne bound.old bound.new board.old.rows board.new.rows) }
     ensures how { OnOk result (board.new.how ≡ board.old.how) }
@@ -462,6 +503,8 @@ fn first_windows(alloc: Global, terms: Terms, extents: bool) -> Result<Windows, 
     ensures grain { IfOk result (λ windows. windows.grain ≡ terms.grain) }
     ensures cells { IfOk result (λ windows. windows.plan.cells ≡ cells_of terms) }
     ensures heard { IfOk result (λ windows. IsHeardTo windows anywhere) }
+    ensures reached { IfOk result (λ windows. (reach : ℕ → Bool) → ((p : ℕ) → reach p ≡ false) → IsToldTo windows reach) }
+    ensures at { IfOk result (λ windows. extents ≡ true → windows.at ≡ 0) }
 {
     let mut windows = Windows::new(alloc, terms);
     if extents {

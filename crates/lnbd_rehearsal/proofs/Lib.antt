@@ -6,3 +6,4 @@ pub mod Sending
 pub mod ToldSizes
 pub mod CarryLemmas
 pub mod StageLemmas
+pub mod LimitLemmas

@@ -12,3 +12,4 @@ pub mod RoundSpendLemmas
 pub mod PlayLemmas
 pub mod FreedLemmas
 pub mod OriginLemmas
+pub mod CallLemmas

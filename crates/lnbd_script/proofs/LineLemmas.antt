@@ -1,7 +1,6 @@
 -- What a line leaves, from what the handle and the wires answered.
-use Rattle.std.proofs.Common.{arith, string_bytes, ◌≡◌, ◌==◌, inl, inr, ⊎_elim, ◌<◌, ◌≤◌, ◌≢◌, ℕ, zero, suc, Bool, true, false, List, [], ◌∷◌, length, take, Option, Some, None, Result, Ok, Err, OnOk, IfOk, IfErr, OnErr, refl, sym, ◌∙◌, ap, subst}
+use Rattle.std.proofs.Common.{arith, string_bytes, ◌≡◌, ◌==◌, inl, inr, ⊎_elim, ◌<◌, ◌≢◌, ℕ, zero, suc, Bool, true, false, List, [], ◌∷◌, length, Option, Some, None, Result, Ok, Err, OnOk, IfOk, IfErr, OnErr, refl, sym, ◌∙◌, ap, subst}
 use Rattle.std.proofs.lemmas.Bool.{cases_Bool, false≢true, ne_eqb, not-false}
-use Rattle.std.proofs.lemmas.List.{length-take-le}
 use Rattle.lnbd_model.specs.declared.refusal.Why.{Why}
 use Rattle.lnbd_model.specs.declared.state.State.{State}
 use Rattle.lnbd_model.specs.declared.state.State.TheVariants as state
@@ -13,15 +12,15 @@ use Rattle.lnbd_history.specs.declared.kinds.Phase.{Phase}
 use Rattle.lnbd_history.specs.declared.kinds.Phase.TheVariants as phase
 use Rattle.lnbd_history.specs.declared.kinds.Stage.{Stage}
 use Rattle.lnbd_history.specs.declared.kinds.Stage.TheVariants as stage
-use Rattle.lnbd_history.specs.Events.{Event as Happening, StrictMode, Start, Set, Name, Context, Disconnect, Wrote, Retire}
-use Rattle.lnbd_history.specs.Answers.{state_after, completed_after, out_after, state_at}
+use Rattle.lnbd_history.specs.Events.{Event as Happening, StrictMode, Start, Set, Name, Context, Disconnect, Retire}
+use Rattle.lnbd_history.specs.Answers.{state_after, completed_after, state_at}
 use Rattle.lnbd_history.specs.Laws.{may_name}
 use Rattle.lnbd_history.specs.Refusals.{by_state}
 use Rattle.lnbd_history.specs.Strict.{unknown_bits}
 use Rattle.lnbd_machine.specs.Does.{Does}
 use Rattle.lnbd_handle.specs.Placing.{Handled}
 use Rattle.lnbd_machine.specs.Machine.{Machine, step, calls}
-use Rattle.lnbd_machine.specs.Now.{direction_now, state_now, out_now, completed_now}
+use Rattle.lnbd_machine.specs.Now.{state_now, completed_now}
 use Rattle.lnbd_standing.specs.Standing.{May, is_result}
 use Rattle.lnbd_handle.specs.declared.kinds.OptFault.{OptFault}
 use Rattle.lnbd_handle.specs.declared.kinds.OptFault.TheVariants as opt
@@ -54,13 +53,13 @@ use Rattle.lnbd_script.specs.declared.event.Event.{Event}
 use Rattle.lnbd_script.specs.declared.event.Event.TheVariants.{Link}
 use Rattle.lnbd_script.specs.Kept.{Heeds, lines_of, or_first, tally_of}
 use Rattle.lnbd_script.specs.KeptLaws.{heeds_none}
-use Rattle.lnbd_script.specs.Seen.{Seen, IsAt, Went, Goes, Follows, adding, callbacks_of}
+use Rattle.lnbd_script.specs.Seen.{Seen, IsAt, Went, Goes, adding, callbacks_of}
 use Rattle.lnbd_script.specs.Turns.{is_reading, is_waiting}
 use Rattle.lnbd_poll.specs.States.{is_opt_mode}
 use Rattle.lnbd_script.specs.Lines.{Adds, AddsContext, AsksFor, Hears, TellsHeard, hearing, Connects, ConnectsTo, Disconnects, Does as Line_does, LineEnd, ReadsOn, Sets, SetsStrict, WritesOn, asking, connected, has_all_contexts, is_created, is_structured, lacks_structured, named_if, setting_of, taking, told_link}
-use Rattle.lnbd_script.specs.Steps.{Becomes, ReadsOnce, ReadsOnceShort, Takes_option, WritesOnce, halted, option_told}
-use Rattle.lnbd_script.proofs.SeenLemmas.{add, follow, is_plain, met_by}
-use Rattle.lnbd_script.proofs.TurnLemmas.{answers_at, found_at, waits_false, waits_true}
+use Rattle.lnbd_script.specs.Steps.{Becomes, Takes_option, halted, moved_end, option_told}
+use Rattle.lnbd_script.proofs.SeenLemmas.{add, is_plain}
+use Rattle.lnbd_script.proofs.TurnLemmas.{answers_at, found_at}
 
 -- a session whose handle is as before
 pub same_at : (seen : Seen) (old : Session) (handle : Handled Keeper) → IsAt seen old → handle.machine ≡ old.handle.machine → IsAt seen (record { handle = handle; link = old.link; heeded = old.heeded; first = old.first })
@@ -69,26 +68,6 @@ same_at = found_at
 -- a call on the handle that calls no callback
 pub quiet : (old handle : Machine Keeper) (heeded : Heeded) (happening : Happening Keeper) → handle ≡ step old happening → calls old happening ≡ [] → Does Heeds happening old handle heeded heeded
 quiet old handle heeded happening is none = record { machine = is; world = subst (λ cs. Heeds heeded cs heeded) (sym none) (heeds_none heeded) }
-
--- Bytes that went out.
-
-take_take : (n : ℕ) (out : List ℕ) → n ≤ length out → take n out ≡ take (length (take n out)) out
-take_take n out h = ap (λ (k : ℕ). take k out) (sym (length-take-le n out h))
-
-pub counted : (seen : Seen) (old new : Session) (handle : Handled Keeper) (n : ℕ) → IsAt seen old → n ≤ length (out_now old.handle.machine.known) → handle.machine ≡ step old.handle.machine (Wrote n)
-    → new ≡ record { handle = handle; link = old.link; heeded = old.heeded; first = or_first old.first (or_first None (met_by handle.machine old.heeded)) }
-    → 0 < n → (x : Seen) × ((0 < length (take n (out_now old.handle.machine.known))) × (take n (out_now old.handle.machine.known) ≡ take (length (take n (out_now old.handle.machine.known))) (out_after seen.history)) × Follows (Wrote (length (take n (out_now old.handle.machine.known)))) None seen x) × IsAt x new
-counted seen old new handle n at within is new_is some =
-    let size : length (take n (out_now old.handle.machine.known)) ≡ n = length-take-le n (out_now old.handle.machine.known) within in
-    let f = follow seen old new handle old.heeded (Wrote n) None at within refl (quiet old.handle.machine handle.machine old.heeded (Wrote n) is refl) new_is in (
-      f.0,
-      (
-        omega (arith, size, some),
-        take_take n (out_now old.handle.machine.known) within ∙ ap (λ (o : List ℕ). take (length (take n (out_now old.handle.machine.known))) o) (answers_at seen old at).out,
-        subst (λ (k : ℕ). Follows (Wrote k) None seen f.0) (sym size) f.1,
-      ),
-      f.2,
-    )
 
 -- A handle that stands at the beginning was not started.
 stage_created : (s : Stage) (p : Phase) → state_at s p ≡ state.Created → s ≡ stage.Created
@@ -489,9 +468,6 @@ uri_lacks place seen old calls at = record { calls = []; after = seen; grown = g
 
 -- Reads and writes.
 
-reads_off : (b : Bool) (link : Option ℕ) (seen : Seen) → b ≡ false → ReadsOn b link seen [] seen (Ok (told.Moved moved.Idle))
-reads_off b link seen is = subst (λ (c : Bool). ReadsOn c link seen [] seen (Ok (told.Moved moved.Idle))) (sym is) (refl, refl, refl)
-
 reads_none : (b : Bool) (link : Option ℕ) (seen : Seen) → link ≡ None → ReadsOn b link seen [] seen (Ok (told.Moved moved.Idle))
 reads_none true link seen is = subst (λ (l : Option ℕ). ReadsOn true l seen [] seen (Ok (told.Moved moved.Idle))) (sym is) (refl, refl, refl)
 reads_none false link seen is = (refl, refl, refl)
@@ -500,40 +476,32 @@ pub idle_unlinked : (seen : Seen) (old : Session) (calls : Option (List Call)) �
     → Went calls calls old (λ own after. ReadsOn (is_reading seen.history) seen.link seen own after (Ok (told.Moved moved.Idle)))
 idle_unlinked seen old calls at none = record { calls = []; after = seen; grown = grows_none calls; leads = reads_none (is_reading seen.history) seen.link seen (sym at.link ∙ none); at = at }
 
-pub idle_unread : (seen : Seen) (old : Session) (calls : Option (List Call)) → IsAt seen old → is_reading seen.history ≡ false
-    → Went calls calls old (λ own after. ReadsOn (is_reading seen.history) seen.link seen own after (Ok (told.Moved moved.Idle)))
-idle_unread seen old calls at off = record { calls = []; after = seen; grown = grows_none calls; leads = reads_off (is_reading seen.history) seen.link seen off; at = at }
-
-pub read_on : (seen : Seen) (old new : Session) (before after : Option (List Call)) (link : ℕ) (m : Transfer) → IsAt seen old → old.link ≡ Some link → is_reading seen.history ≡ true
-    → Goes before after old new (λ s calls later. ReadsOnce link m s calls later)
-    → Went before after new (λ calls later. ReadsOn (is_reading seen.history) seen.link seen calls later (Ok (told.Moved m)))
-read_on seen old new before after link m at linked on goes =
+pub read_linked : (seen : Seen) (old new : Session) (before after : Option (List Call)) (link : ℕ) (answer : Result Transfer NoMemory) → IsAt seen old → old.link ≡ Some link
+    → Goes before after old new (λ s calls later. ReadsOn (is_reading s.history) (Some link) s calls later (moved_end answer))
+    → Went before after new (λ calls later. ReadsOn (is_reading seen.history) seen.link seen calls later (moved_end answer))
+read_linked seen old new before after link answer at linked goes =
     let w = goes seen at in
-    let whole : ReadsOn true (Some link) seen w.calls w.after (Ok (told.Moved m)) = (w.leads.read, w.leads.calls_are, inl (ap (λ (t : Told). Ok t) w.leads.tells, w.leads.reads)) in
     record {
       calls = w.calls;
       after = w.after;
       grown = w.grown;
-      leads = subst (λ (b : Bool). ReadsOn b seen.link seen w.calls w.after (Ok (told.Moved m))) (sym on) (subst (λ (l : Option ℕ). ReadsOn true l seen w.calls w.after (Ok (told.Moved m))) (sym linked ∙ at.link) whole);
+      leads = subst (λ (l : Option ℕ). ReadsOn (is_reading seen.history) l seen w.calls w.after (moved_end answer)) (sym linked ∙ at.link) w.leads;
       at = w.at;
     }
 
-pub read_short : (seen : Seen) (old new : Session) (before after : Option (List Call)) (link : ℕ) → IsAt seen old → old.link ≡ Some link → is_reading seen.history ≡ true
-    → Goes before after old new (λ s calls later. ReadsOnceShort link s calls later)
-    → Went before after new (λ calls later. ReadsOn (is_reading seen.history) seen.link seen calls later (Err halt.NoMemory))
-read_short seen old new before after link at linked on goes =
-    let w = goes seen at in
-    let whole : ReadsOn true (Some link) seen w.calls w.after (Err halt.NoMemory) = (w.leads.read, w.leads.calls_are, inr (refl, w.leads.reads)) in
-    record {
-      calls = w.calls;
-      after = w.after;
-      grown = w.grown;
-      leads = subst (λ (b : Bool). ReadsOn b seen.link seen w.calls w.after (Err halt.NoMemory)) (sym on) (subst (λ (l : Option ℕ). ReadsOn true l seen w.calls w.after (Err halt.NoMemory)) (sym linked ∙ at.link) whole);
-      at = w.at;
-    }
+-- a read that waits for nothing
+pub read_speaks : (answer : Result Transfer NoMemory) (end : LineEnd) → end ≡ moved_end answer → end ≡ Err halt.Silent → ⊥
+read_speaks (Ok m) end is silent = absurd (cc (sym is ∙ silent))
+read_speaks (Err lacks) end is silent = absurd (cc (sym is ∙ silent))
 
-writes_off : (b : Bool) (link : Option ℕ) (seen : Seen) → b ≡ false → WritesOn b link seen [] seen (Ok (told.Moved moved.Idle))
-writes_off b link seen is = subst (λ (c : Bool). WritesOn c link seen [] seen (Ok (told.Moved moved.Idle))) (sym is) (refl, refl, refl)
+-- what a line leaves where it ends well
+pub read_whole : (answer : Result Transfer NoMemory) (end : LineEnd) (P : Type 0) → end ≡ moved_end answer → OnOk answer P → OnOk end P
+read_whole (Ok m) end P is holds = subst (λ (e : LineEnd). OnOk e P) (sym is) holds
+read_whole (Err lacks) end P is holds = subst (λ (e : LineEnd). OnOk e P) (sym is) tt
+
+pub any_end : (end : LineEnd) (P : Type 0) → P → OnOk end P
+any_end (Ok tells) P holds = holds
+any_end (Err halt) P holds = tt
 
 writes_none : (b : Bool) (link : Option ℕ) (seen : Seen) → link ≡ None → WritesOn b link seen [] seen (Ok (told.Moved moved.Idle))
 writes_none true link seen is = subst (λ (l : Option ℕ). WritesOn true l seen [] seen (Ok (told.Moved moved.Idle))) (sym is) (refl, refl, refl)
@@ -543,22 +511,16 @@ pub write_unlinked : (seen : Seen) (old : Session) (calls : Option (List Call)) 
     → Went calls calls old (λ own after. WritesOn (is_waiting seen.history) seen.link seen own after (Ok (told.Moved moved.Idle)))
 write_unlinked seen old calls at none = record { calls = []; after = seen; grown = grows_none calls; leads = writes_none (is_waiting seen.history) seen.link seen (sym at.link ∙ none); at = at }
 
-pub write_nothing : (seen : Seen) (old : Session) (calls : Option (List Call)) → IsAt seen old → (direction_now old.handle.machine.known == 3) ≡ false
-    → Went calls calls old (λ own after. WritesOn (is_waiting seen.history) seen.link seen own after (Ok (told.Moved moved.Idle)))
-write_nothing seen old calls at none = record { calls = []; after = seen; grown = grows_none calls; leads = writes_off (is_waiting seen.history) seen.link seen (waits_false seen old at none); at = at }
-
-pub write_on : (seen : Seen) (old new : Session) (before after : Option (List Call)) (link : ℕ) (m : Transfer) → IsAt seen old → old.link ≡ Some link → (direction_now old.handle.machine.known == 3) ≡ true
-    → Goes before after old new (λ s calls later. WritesOnce link m s calls later)
+pub write_linked : (seen : Seen) (old new : Session) (before after : Option (List Call)) (link : ℕ) (m : Transfer) → IsAt seen old → old.link ≡ Some link
+    → Goes before after old new (λ s calls later. WritesOn (is_waiting s.history) (Some link) s calls later (Ok (told.Moved m)))
     → Went before after new (λ calls later. WritesOn (is_waiting seen.history) seen.link seen calls later (Ok (told.Moved m)))
-write_on seen old new before after link m at linked some goes =
+write_linked seen old new before after link m at linked goes =
     let w = goes seen at in
-    let on = waits_true seen old at some in
-    let whole : WritesOn true (Some link) seen w.calls w.after (Ok (told.Moved m)) = (w.leads.write, w.leads.calls_are, ap (λ (t : Told). Ok t) w.leads.tells, w.leads.writes) in
     record {
       calls = w.calls;
       after = w.after;
       grown = w.grown;
-      leads = subst (λ (b : Bool). WritesOn b seen.link seen w.calls w.after (Ok (told.Moved m))) (sym on) (subst (λ (l : Option ℕ). WritesOn true l seen w.calls w.after (Ok (told.Moved m))) (sym linked ∙ at.link) whole);
+      leads = subst (λ (l : Option ℕ). WritesOn (is_waiting seen.history) l seen w.calls w.after (Ok (told.Moved m))) (sym linked ∙ at.link) w.leads;
       at = w.at;
     }
 

@@ -1,5 +1,5 @@
 -- One handle of a script: made, closed, and a line on it.
-use Rattle.std.proofs.Common.{◌≡◌, ◌≤◌, string_bytes, ℕ, Bool, true, false, List, [], ◌∷◌, Option, None, Ok, Err, IfOk, refl, sym, ◌∙◌, ap, subst, arith}
+use Rattle.std.proofs.Common.{◌≡◌, ◌≤◌, string_bytes, ℕ, Bool, true, false, List, [], ◌∷◌, Option, None, Ok, Err, IfOk, OnOk, refl, sym, ◌∙◌, ap, subst, arith}
 use Rattle.std.proofs.lemmas.Bool.{false≢true}
 use Rattle.lnbd_history.specs.Events.{Close}
 use Rattle.lnbd_history.specs.Entries.{frees, notes}
@@ -112,6 +112,12 @@ acts_on line old session session' first a b end is goes held at =
       at = held_again w.after session' w.at;
       first_is = w.at.first;
     }
+
+-- Bytes are left unread only where memory ran out.
+pub acts_whole : (old : Place) (session : Session) (first : Option Event) (end : LineEnd) (left : List ℕ) → old ≡ place.Open session
+    → OnOk end ((seen : Seen) → IsAt seen (record { handle = session.handle; link = session.link; heeded = session.heeded; first = first }) → left ≡ []) → OnOk end ((held : Held) → IsHeld held old → left ≡ [])
+acts_whole old session first (Ok tells) left is whole = λ held at. whole (seen_of held first) (at_first held session first (subst (λ (p : Place). IsHeld held p) is at))
+acts_whole old session first (Err halt) left is whole = tt
 
 -- on a closed one
 pub gone : (line : Line) (p : Place) (first : Option Event) (a : Option (List Call)) → is_used p ≡ true → is_open p ≡ false → GoesAt a a p p first first (λ before calls after. Answers line before calls after (Ok told.Gone))

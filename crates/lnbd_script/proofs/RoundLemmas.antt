@@ -1,5 +1,5 @@
 -- One handle after another in a round, and one round after another.
-use Rattle.std.proofs.Common.{◌≡◌, inl, inr, ◌<◌, ◌≤◌, ◌+◌, ◌||◌, ℕ, zero, suc, add-one, Bool, true, false, List, [], ◌∷◌, ◌++◌, length, take, get_or, slice_set, vec_len, vec_capacity, Option, Some, None, Result, Ok, Err, IfOk, OnErr, refl, sym, ◌∙◌, ap, subst, append_assoc, arith}
+use Rattle.std.proofs.Common.{◌≡◌, inl, inr, ◌<◌, ◌≤◌, ◌+◌, ◌||◌, ℕ, zero, suc, add-one, Bool, true, false, List, [], ◌∷◌, ◌++◌, length, take, get_or, slice_set, vec_len, vec_capacity, Option, Some, None, Result, Ok, Err, IfOk, OnErr, OnOk, refl, sym, ◌∙◌, ap, subst, append_assoc, arith}
 use Rattle.std.proofs.lemmas.Bool.{false≢true}
 use Rattle.std.proofs.lemmas.List.{append-nil, length-append}
 use Rattle.std.proofs.lemmas.List.Folds.{list_any-append}
@@ -106,6 +106,12 @@ pub part_lacks : (r : Result Bool NoMemory) (session session' : Session) (first 
 part_lacks (Ok stirred) session session' first link a b linked goes = tt
 part_lacks (Err lacks) session session' first link a b linked goes = part_short session session' first link a b linked goes
 
+-- Bytes are left unread only where memory ran out.
+pub part_whole : (r : Result Bool NoMemory) (session : Session) (first : Option Event) (left : List ℕ) → OnOk r ((seen : Seen) → IsAt seen (record { handle = session.handle; link = session.link; heeded = session.heeded; first = first }) → left ≡ [])
+    → OnOk r ((held : Held) → IsHeld held (place.Open session) → left ≡ [])
+part_whole (Ok stirred) session first left whole = λ held at. whole (seen_of held first) (at_first held session first at)
+part_whole (Err lacks) session first left whole = tt
+
 -- One handle after another.
 
 at_here : (done : List Held) (h : Held) (hs : List Held) (places : List Place) (x : Place) → AreHeld (done ++ h ∷ hs) places → x ≡ get_or places (length done) x → IsHeld h x
@@ -174,6 +180,13 @@ module _ (a b c : Option (List Call)) (handles : List Held) (first : Option Even
                 subst (λ (q : List Held). Round whole handles first ((p.calls ++ w.calls) ++ d) q f) (sym (append_assoc p.done (held_of w.after ∷ []) after))
                 (subst (λ (k : List Call). Round whole handles first k (p.done ++ held_of w.after ∷ after) f) (sym (append_assoc p.calls w.calls d)) all);
           }
+
+  pub passing_here : (h : Held) × IsHeld h x
+  passing_here = go p.left refl
+    where
+      go : (left : List Held) → p.left ≡ left → (h : Held) × IsHeld h x
+      go [] none = none_left p.done p.left places i none p.at p.count within
+      go (h ∷ hs) is_left = (h, at_here p.done h hs places x (subst (λ (q : List Held). AreHeld (p.done ++ q) places) is_left p.at) (subst (λ (n : ℕ). x ≡ get_or places n x) (sym p.count) x_is))
 
   pub passing_short : GoesAt b c x y first' first'' (λ before calls after. PartShort before.link before calls after)
       → WentAll a c (slice_set places i y) (λ calls after. Round false handles first calls after first'')

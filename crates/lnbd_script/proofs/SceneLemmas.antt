@@ -1,5 +1,5 @@
 -- All handles of a script, by their numbers.
-use Rattle.std.proofs.Common.{◌≡◌, ◌<◌, ◌≤◌, ◌+◌, ℕ, zero, suc, add-one, Bool, true, false, List, [], ◌∷◌, ◌++◌, length, get_or, set, replicate, vec_len, vec_capacity, if◌then◌else◌, Option, Result, Ok, Err, refl, sym, ◌∙◌, ap, subst, arith, nat_lt}
+use Rattle.std.proofs.Common.{◌≡◌, ◌<◌, ◌≤◌, ◌+◌, ℕ, zero, suc, add-one, Bool, true, false, List, [], ◌∷◌, ◌++◌, length, get_or, set, replicate, vec_len, vec_capacity, if◌then◌else◌, Option, Result, Ok, Err, OnOk, refl, sym, ◌∙◌, ap, subst, arith, nat_lt}
 use Rattle.std.proofs.lemmas.Bool.{false≢true}
 use Rattle.std.proofs.lemmas.Bool.Decides.{nat_tests}
 use Rattle.lnbd_history.specs.Laws.{is_closed}
@@ -102,6 +102,12 @@ acted line scene sessions sessions' p q i j a b end s items count current start 
       };
     }
 
+-- Bytes are left unread only where memory ran out.
+pub acted_whole : (scene : Scene) (sessions : Sessions) (p : Place) (i : ℕ) (end : LineEnd) (left : List ℕ) → Stands scene sessions i → sessions.current < length sessions.places.items → p ≡ get_or sessions.places.items sessions.current p
+    → OnOk end ((held : Held) → IsHeld held p → left ≡ []) → OnOk end (left ≡ [])
+acted_whole scene sessions p i (Ok tells) left s inside is whole = whole (get_or scene.handles sessions.current unused) (at_index scene.handles sessions.places.items sessions.current p s.held inside is)
+acted_whole scene sessions p i (Err halt) left s inside is whole = tt
+
 -- The current handle stands where the scene says.
 pub at_current : (scene : Scene) (sessions : Sessions) (i : ℕ) (p : Place) → Stands scene sessions i → p ≡ current_place sessions → IsHeld (held_at scene scene.current) p
 at_current scene sessions i p s is =
@@ -120,7 +126,7 @@ inside_if n m false is small = small
 
 -- a handle is made current
 pub chosen : (line : Line) (number : ℕ) (sessions new : Sessions) (i : ℕ) (a : Option (List Call)) → reach_of line ≡ reach.Choice number
-    → new ≡ record { places = sessions.places; current = if nat_lt number 16 then number else sessions.current; first = sessions.first; start = sessions.start; wants = sessions.wants; hears = sessions.hears }
+    → new ≡ record { places = sessions.places; current = if nat_lt number 16 then number else sessions.current; first = sessions.first; start = sessions.start; wants = sessions.wants; inbox = sessions.inbox; hears = sessions.hears }
     → GoesOver a a i i sessions new (λ before calls after. Acts line before calls after (Ok told.Done))
 chosen line number sessions new i a reach is scene s = record {
   calls = [];
@@ -169,6 +175,10 @@ settle_gone sessions p i a is used closed scene s =
 settles_as : (scene after : Scene) (calls : List Call) (end : Result (Unit {0}) Halt) → Settles scene calls after end → SettlesIf false scene calls after (settled_end end)
 settles_as scene after calls (Ok done) s = (refl, s)
 settles_as scene after calls (Err halt) s = s
+
+pub settled_whole : (end : Result (Unit {0}) Halt) (tells : LineEnd) (P : Type 0) → tells ≡ settled_end end → OnOk end P → OnOk tells P
+settled_whole (Ok done) tells P is holds = subst (λ (e : LineEnd). OnOk e P) (sym is) holds
+settled_whole (Err halt) tells P is holds = subst (λ (e : LineEnd). OnOk e P) (sym is) tt
 
 -- and where it is not
 pub settle_on : (sessions new : Sessions) (p : Place) (i j : ℕ) (a b : Option (List Call)) (end : Result (Unit {0}) Halt) (told : LineEnd) → told ≡ settled_end end → p ≡ current_place sessions → is_open p ≡ true

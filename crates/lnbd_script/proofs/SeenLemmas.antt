@@ -15,6 +15,7 @@ use Rattle.lnbd_history.specs.declared.kinds.OptAnswer.{OptAnswer}
 use Rattle.lnbd_history.specs.declared.kinds.OptAnswer.TheVariants as answer
 use Rattle.lnbd_history.specs.Laws.{is_closed}
 use Rattle.lnbd_machine.specs.Does.{Does}
+use Rattle.lnbd_handle.specs.Histories.{Plays}
 use Rattle.lnbd_handle.specs.Placing.{Handled}
 use Rattle.lnbd_machine.specs.Machine.{Machine, calls}
 use Rattle.lnbd_machine.specs.Now.{state_now}
@@ -85,27 +86,24 @@ record Happened (seen : Seen) (happening : Happening Keeper) (handle : Machine K
   heard : heeded.hears ≡ true → string_bytes heeded.heard ≡ lines_of (drop seen.shown (callbacks_of (happening ∷ seen.history)))
   freed : heeded.freed ≡ freed_by 0 (callbacks_of (happening ∷ seen.history))
 
--- A command that is issued joined the callbacks' world before.
-happened : (seen : Seen) (old : Session) (before : Heeded) (handle : Machine Keeper) (heeded : Heeded) (happening : Happening Keeper) → IsAt seen old → May 1024 old.handle.machine happening → is_closed (happening ∷ seen.history) ≡ false
-    → IsWorld (λ t. with_command happening t) old.heeded before → Does Heeds happening old.handle.machine handle before heeded → Happened seen happening handle heeded
-happened seen old before handle heeded happening at may going joins does =
-    let on = goes_on 1024 seen.history old.handle.machine happening at.stands may in
-    let more = stands_calls 1024 seen.history old.handle.machine happening at.stands may in
+-- Once a happening made these calls on the callbacks. A command that is issued joined the callbacks' world before.
+happened : (seen : Seen) (old : Session) (before : Heeded) (handle : Machine Keeper) (heeded : Heeded) (happening : Happening Keeper) (own : List (Call Keeper)) → IsAt seen old → StandsFor 1024 (happening ∷ seen.history) handle
+    → IsWorld (λ t. with_command happening t) old.heeded before → callbacks_of (happening ∷ seen.history) ≡ callbacks_of seen.history ++ own → Heeds before own heeded → Happened seen happening handle heeded
+happened seen old before handle heeded happening own at stands joins more heeds =
     let cs = callbacks_of seen.history in
-    let own = calls old.handle.machine happening in
     let size : length (callbacks_of (happening ∷ seen.history)) ≡ length cs + length own = ap (λ (l : List (Call Keeper)). length l) more ∙ length-append cs own in
     let latest : drop (length cs) (callbacks_of (happening ∷ seen.history)) ≡ own
     = ap (λ (l : List (Call Keeper)). drop (length cs) l) more ∙ drop-append-le (length cs) cs own (omega arith) ∙ ap (λ (l : List (Call Keeper)). l ++ own) (drop-length cs) in
     record {
-      stands = subst (λ (m : Machine Keeper). StandsFor 1024 (happening ∷ seen.history) m) (sym does.machine) (on.stands going);
-      answered = subst (λ (l : List (Call Keeper)). All IsAnswered l) (sym more) (All-append IsAnswered cs own at.answered does.world.answered);
-      tally = does.world.tally ∙ ap (λ (t : Tally). tallied t own) joins.tally ∙ ap (λ (t : Tally). tallied (with_command happening t) own) at.tally
+      stands = stands;
+      answered = subst (λ (l : List (Call Keeper)). All IsAnswered l) (sym more) (All-append IsAnswered cs own at.answered heeds.answered);
+      tally = heeds.tally ∙ ap (λ (t : Tally). tallied t own) joins.tally ∙ ap (λ (t : Tally). tallied (with_command happening t) own) at.tally
           ∙ ap (λ (l : List (Call Keeper)). tallied (with_command happening (tally_after seen.history)) l) (sym latest);
       shown = omega (arith, at.shown, size);
       heard = λ e.
-          does.world.heard e ∙ ap (λ (t : List ℕ). t ++ lines_of own) (joins.heard ∙ at.heard (sym joins.hears ∙ does.world.hears e)) ∙ sym (flat_map-append line_of (drop seen.shown cs) own)
+          heeds.heard e ∙ ap (λ (t : List ℕ). t ++ lines_of own) (joins.heard ∙ at.heard (sym joins.hears ∙ heeds.hears e)) ∙ sym (flat_map-append line_of (drop seen.shown cs) own)
           ∙ ap (λ (l : List (Call Keeper)). lines_of l) (sym (drop-append-le seen.shown cs own at.shown) ∙ ap (λ (l : List (Call Keeper)). drop seen.shown l) (sym more));
-      freed = does.world.freed ∙ ap (λ (n : ℕ). freed_by n own) (joins.freed ∙ at.freed) ∙ sym (freed_on 0 cs own) ∙ ap (freed_by 0) (sym more);
+      freed = heeds.freed ∙ ap (λ (n : ℕ). freed_by n own) (joins.freed ∙ at.freed) ∙ sym (freed_on 0 cs own) ∙ ap (freed_by 0) (sym more);
     }
 
 met_is : (seen : Seen) (happening : Happening Keeper) (handle : Machine Keeper) (heeded : Heeded) → Happened seen happening handle heeded → met_by handle heeded ≡ met (happening ∷ seen.history)
@@ -116,18 +114,16 @@ met_is seen happening handle heeded now =
     ∙ ap (λ (t : Tally). met_of t.faulty (state_after (happening ∷ seen.history)) (opt_answer_after (happening ∷ seen.history)) t.error) now.tally
 
 -- by a call on the wires, after which the session notes what it met
-pub follow : (seen : Seen) (old new : Session) (handle : Handled Keeper) (heeded : Heeded) (happening : Happening Keeper) (fault : Option Event)
-    → IsAt seen old → May 1024 old.handle.machine happening → is_plain happening ≡ true → Does Heeds happening old.handle.machine handle.machine old.heeded heeded
-    → new ≡ record { handle = handle; link = old.link; heeded = heeded; first = or_first old.first (or_first fault (met_by handle.machine heeded)) }
-    → (after : Seen) × Follows happening fault seen after × IsAt after new
-follow seen old new handle heeded happening fault at may plain does is =
-    let now = happened seen old old.heeded handle.machine heeded happening at may (plain_goes_on happening seen.history plain) (plain_world happening old.heeded plain) does in
+pub follow : (seen : Seen) (old : Session) (handle : Handled Keeper) (heeded : Heeded) (happening : Happening Keeper) (fault : Option Event) → IsAt seen old → is_plain happening ≡ true → StandsFor 1024 (happening ∷ seen.history) handle.machine
+    → Plays Heeds happening seen.history old.heeded heeded
+    → (after : Seen) × Follows happening fault seen after × IsAt after (record { handle = handle; link = old.link; heeded = heeded; first = or_first old.first (or_first fault (met_by handle.machine heeded)) })
+follow seen old handle heeded happening fault at plain stands plays =
+    let now = happened seen old old.heeded handle.machine heeded happening plays.calls at stands (plain_world happening old.heeded plain) plays.told plays.world in
     let first = ap (λ (f : Option Event). or_first f (or_first fault (met_by handle.machine heeded))) at.first
     ∙ ap (λ (m : Option Event). or_first seen.first (or_first fault m)) (met_is seen happening handle.machine heeded now) in (
       noting fault happening seen,
       record { is = refl; answered = now.answered },
-      subst (λ (s : Session). IsAt (noting fault happening seen) s) (sym is)
-          (record { stands = now.stands; link = at.link; first = first; answered = now.answered; tally = now.tally; shown = now.shown; heard = now.heard; freed = now.freed }),
+      record { stands = now.stands; link = at.link; first = first; answered = now.answered; tally = now.tally; shown = now.shown; heard = now.heard; freed = now.freed },
     )
 
 -- by a call on the handle alone
@@ -136,7 +132,8 @@ pub add_with : (seen : Seen) (old new : Session) (before : Heeded) (handle : Han
     → new ≡ record { handle = handle; link = old.link; heeded = heeded; first = old.first }
     → IsAt (adding happening seen) new
 add_with seen old new before handle heeded happening at may going joins does is =
-    let now = happened seen old before handle.machine heeded happening at may going joins does in
+    let stands = subst (λ (m : Machine Keeper). StandsFor 1024 (happening ∷ seen.history) m) (sym does.machine) ((goes_on 1024 seen.history old.handle.machine happening at.stands may).stands going) in
+    let now = happened seen old before handle.machine heeded happening (calls old.handle.machine happening) at stands joins (stands_calls 1024 seen.history old.handle.machine happening at.stands may) does.world in
     subst (λ (s : Session). IsAt (adding happening seen) s) (sym is)
     (record { stands = now.stands; link = at.link; first = at.first; answered = now.answered; tally = now.tally; shown = now.shown; heard = now.heard; freed = now.freed })
 

@@ -1,37 +1,32 @@
 -- One call on the wires after another, in turns.
-use Rattle.std.proofs.Common.{◌≡◌, ◌<◌, ◌≤◌, ℕ, Bool, true, false, not, ◌||◌, ◌==◌, List, [], ◌∷◌, ◌++◌, length, Option, refl, sym, ◌∙◌, ap, subst, append_assoc, arith}
+use Rattle.std.proofs.Common.{◌≡◌, ◌⊎◌, inl, inr, ◌≤◌, ℕ, Bool, true, false, not, ◌||◌, ◌==◌, List, [], ◌∷◌, ◌++◌, length, Option, Some, Result, Ok, Err, refl, sym, ◌∙◌, ap, subst, append_assoc, arith}
 use Rattle.std.proofs.lemmas.Bool.{false≢true}
-use Rattle.std.proofs.lemmas.List.{append-nil, length-take-le}
 use Rattle.std.proofs.lemmas.List.Folds.{list_any-append}
 use Rattle.std.specs.List.{list_any}
-use Rattle.lnbd_history.specs.Answers.{out_after, state_after, in_flight_after}
-use Rattle.lnbd_machine.specs.Now.{out_now, direction_now, in_flight_now}
+use Rattle.lnbd_model.specs.declared.fault.NoMemory.{NoMemory}
+use Rattle.lnbd_history.specs.Answers.{state_after, in_flight_after}
+use Rattle.lnbd_machine.specs.Now.{direction_now, in_flight_now}
 use Rattle.lnbd_standing.specs.Standing.{AnswersAs}
 use Rattle.lnbd_standing.proofs.Standing.{stands_right}
-use Rattle.lnbd_link.specs.Answers.{IfMoved, IfSent}
-use Rattle.lnbd_link.specs.Call.{Call, Read, Write, ReadTold, WriteTold, Moved, Unready, Ended, ReadFault, Sent, Full, WriteFault, read_told, write_told}
-use Rattle.lnbd_link.specs.Part.{Grows, Adds}
-use Rattle.lnbd_link.specs.declared.wires.Got.{Got}
-use Rattle.lnbd_link.specs.declared.wires.Got.TheVariants as got
-use Rattle.lnbd_link.specs.declared.wires.Took.{Took}
-use Rattle.lnbd_link.specs.declared.wires.Took.TheVariants as took
+use Rattle.lnbd_link.specs.Call.{Call, ReadTold, WriteTold, Moved, Unready, Ended, ReadFault, Sent, Full, WriteFault}
+use Rattle.lnbd_link.specs.Part.{Grows}
 use Rattle.lnbd_link.specs.Count.{Rises}
 use Rattle.lnbd_link.proofs.Parts.{grows_none, grows_on, rises_earlier, rises_later}
 use Rattle.lnbd_machine.specs.Machine.{Machine}
 use Rattle.lnbd_standing.specs.Standing.{StandsFor}
-use Rattle.lnbd_handle.specs.Placing.{Handled, place_size}
-use Rattle.lnbd_poll.specs.Notices.{room_after, room_of}
+use Rattle.lnbd_handle.specs.Placing.{Handled}
 use Rattle.lnbd_script.specs.declared.keeper.Keeper.{Keeper}
 use Rattle.lnbd_script.specs.declared.event.Event.{Event}
 use Rattle.lnbd_script.specs.declared.session.Session.{Session}
+use Rattle.lnbd_script.specs.declared.told.Halt.TheVariants as halt
 use Rattle.lnbd_script.specs.declared.told.Moved.{Moved as Transfer}
 use Rattle.lnbd_script.specs.declared.told.Moved.TheVariants as moved
 use Rattle.lnbd_script.specs.declared.told.Told.TheVariants as told
 use Rattle.lnbd_script.specs.Seen.{Blames, Counts, Seen, IsAt, Went, Goes, is_link}
 use Rattle.lnbd_poll.specs.States.{is_negotiating}
 use Rattle.lnbd_script.specs.Turns.{Reads, ReadsShort, Writes, WritesAll, Nothing_waits, Takes_nothing, Fails, Takes_some, ReadsIf, TurnsShort, is_busy, is_reading, is_waiting, read_call, write_call, stirs}
-use Rattle.lnbd_script.specs.Lines.{told_read, told_write}
-use Rattle.lnbd_script.specs.Steps.{Becomes, ReadsOnce, ReadsOnceShort, WritesOnce, TurnsOnce, got_moved, took_moved, is_busy_now, is_bytes, is_stirring}
+use Rattle.lnbd_script.specs.Lines.{LineEnd, ReadsOn, WritesOn, told_read, told_write}
+use Rattle.lnbd_script.specs.Steps.{TurnsOnce, is_busy_now, is_bytes, is_stirring, moved_end}
 
 -- What a session's handle answers is what the history says.
 pub answers_at : (seen : Seen) (session : Session) → IsAt seen session → AnswersAs seen.history session.handle.machine
@@ -70,19 +65,6 @@ blames_on a b c f g h one two =
     let both = counts_on a b c f g h 0 0 0 (record { faults_later = one.faults_later; idles_later = omega arith; cause = one.cause }) (record { faults_later = two.faults_later; idles_later = omega arith; cause = two.cause }) in
     blames_of a c f h 0 0 both
 
--- One call.
-
-got_is : (g : Got) (into : List ℕ) → IfMoved g (λ n. (0 < n) × (n ≤ length into)) → told.Moved (got_moved g) ≡ told_read (read_told g into)
-got_is (got.Bytes n) into h = ap (λ (k : ℕ). told.Moved (moved.Bytes k)) (sym (length-take-le n into h.1))
-got_is got.NotReady into h = refl
-got_is got.End into h = refl
-got_is got.Failed into h = refl
-
-took_is : (t : Took) (from : List ℕ) → IfSent t (λ n. (0 < n) × (n ≤ length from)) → told.Moved (took_moved t) ≡ told_write (write_told t from)
-took_is (took.Bytes n) from h = ap (λ (k : ℕ). told.Moved (moved.Bytes k)) (sym (length-take-le n from h.1))
-took_is took.NotReady from h = refl
-took_is took.Failed from h = refl
-
 -- a session whose handle is as before, whatever stands in its place
 pub found_at : (seen : Seen) (old : Session) (handle : Handled Keeper) → IsAt seen old → handle.machine ≡ old.handle.machine → IsAt seen (record { handle = handle; link = old.link; heeded = old.heeded; first = old.first })
 found_at seen old handle at is = record {
@@ -95,84 +77,6 @@ found_at seen old handle at is = record {
   heard = at.heard;
   freed = at.freed;
 }
-
-module _ (old between new : Option (List Call)) (session after : Session) (handle : Handled Keeper) (link n : ℕ) (g : Got) (into : List ℕ) (same : handle.machine ≡ session.handle.machine) where
-  abbrev found : Session
-  found = record { handle = handle; link = session.link; heeded = session.heeded; first = session.first }
-
-  -- into the buffer, where the handle has no place
-  module _ (none : place_size session.handle.machine ≡ 0) (still : between ≡ old) (is : n ≡ 65536) (grown : Adds between new (Read link n (read_told g into))) where
-    grown_by : (seen : Seen) → IsAt seen session → Adds old new (read_call link seen.history (read_told g into))
-    grown_by seen at =
-        let room : n ≡ room_after seen.history = is ∙ sym (ap (λ m. room_of (place_size m)) (sym at.stands.same) ∙ ap room_of none) in
-        subst (λ (t : Option (List Call)). Adds t new (read_call link seen.history (read_told g into))) still (subst (λ (m : ℕ). Adds between new (Read link m (read_told g into))) room grown)
-
-    pub read_went : length into ≡ n → IfMoved g (λ k. (0 < k) × (k ≤ n)) → Becomes found after (λ before later. Reads before (read_told g into) later)
-        → Goes old new session after (λ before calls later. ReadsOnce link (got_moved g) before calls later)
-    read_went size count becomes seen at =
-        let b = becomes seen (found_at seen session handle at same) in
-        let count' = subst (λ (m : ℕ). IfMoved g (λ k. (0 < k) × (k ≤ m))) (sym size) count in
-        record {
-          calls = read_call link seen.history (read_told g into) ∷ [];
-          after = b.0;
-          grown = grown_by seen at;
-          leads = record { read = read_told g into; calls_are = refl; reads = b.1; tells = got_is g into count' };
-          at = b.2;
-        }
-
-    pub read_went_short : Becomes found after (λ before later. ReadsShort before (read_told g into) later)
-        → Goes old new session after (λ before calls later. ReadsOnceShort link before calls later)
-    read_went_short becomes seen at =
-        let b = becomes seen (found_at seen session handle at same) in
-        record {
-          calls = read_call link seen.history (read_told g into) ∷ [];
-          after = b.0;
-          grown = grown_by seen at;
-          leads = record { read = read_told g into; calls_are = refl; reads = b.1 };
-          at = b.2;
-        }
-
--- into the place
-pub read_there : (old new : Option (List Call)) (session after : Session) (handle : Handled Keeper) (link : ℕ) (g : Got) → handle.machine ≡ session.handle.machine
-    → Adds old new (Read link (room_of (place_size session.handle.machine)) (read_told g handle.place)) → IfMoved g (λ k. (0 < k) × (k ≤ length handle.place))
-    → Becomes (record { handle = handle; link = session.link; heeded = session.heeded; first = session.first }) after (λ before later. Reads before (read_told g handle.place) later)
-    → Goes old new session after (λ before calls later. ReadsOnce link (got_moved g) before calls later)
-read_there old new session after handle link g same grown count becomes seen at =
-    let b = becomes seen (found_at seen session handle at same) in
-    record {
-      calls = read_call link seen.history (read_told g handle.place) ∷ [];
-      after = b.0;
-      grown = subst (λ (m : ℕ). Adds old new (Read link m (read_told g handle.place))) (ap (λ m. room_of (place_size m)) at.stands.same) grown;
-      leads = record { read = read_told g handle.place; calls_are = refl; reads = b.1; tells = got_is g handle.place count };
-      at = b.2;
-    }
-
-pub write_went : (old new : Option (List Call)) (session after : Session) (link : ℕ) (t : Took) (out : List ℕ)
-    → out ≡ out_now session.handle.machine.known → Adds old new (Write link (length out) (write_told t out)) → IfSent t (λ k. (0 < k) × (k ≤ length out))
-    → Becomes session after (λ before later. Writes before (write_told t (out_now session.handle.machine.known)) later)
-    → Goes old new session after (λ before calls later. WritesOnce link (took_moved t) before calls later)
-write_went old new session after link t out is grown count becomes seen at =
-    let b = becomes seen at in
-    let same : out ≡ out_after seen.history = is ∙ (answers_at seen session at).out in
-    record {
-      calls = write_call link seen.history (write_told t out) ∷ [];
-      after = b.0;
-      grown = subst (λ (o : List ℕ). Adds old new (Write link (length o) (write_told t out))) same grown;
-      leads = record {
-        write = write_told t out;
-        calls_are = refl;
-        writes = subst (λ (o : List ℕ). Writes seen (write_told t o) b.0) (sym is) b.1;
-        tells = took_is t out count;
-      };
-      at = b.2;
-    }
-
--- Bytes wait exactly where the handle's direction says so.
-pub waits_true : (seen : Seen) (session : Session) → IsAt seen session → (direction_now session.handle.machine.known == 3) ≡ true → is_waiting seen.history ≡ true
-waits_true seen session at h = ap (λ (d : ℕ). d == 3) (sym (answers_at seen session at).direction) ∙ h
-
-pub waits_false : (seen : Seen) (session : Session) → IsAt seen session → (direction_now session.handle.machine.known == 3) ≡ false → is_waiting seen.history ≡ false
-waits_false seen session at h = ap (λ (d : ℕ). d == 3) (sym (answers_at seen session at).direction) ∙ h
 
 -- The writes of a turn so far: whatever the others do goes on from here.
 pub record Writing (old new : Option (List Call)) (session : Session) (link : ℕ) (stirred : Bool) (seen : Seen) : Type 0 where
@@ -189,184 +93,159 @@ writing_none old session link seen at = record { calls = []; now = seen; grown =
 any_on : (xs ys : List Call) (a b : Bool) → a ≡ list_any stirs xs → b ≡ list_any stirs ys → (a || b) ≡ list_any stirs (xs ++ ys)
 any_on xs ys a b p q = ap (λ (x : Bool). x || b) p ∙ ap (λ (y : Bool). list_any stirs xs || y) q ∙ sym (list_any-append stirs xs ys)
 
-or_true : (a : Bool) → (a || true) ≡ true
-or_true true = refl
-or_true false = refl
+-- What one write moved, or none.
+module _ (link : ℕ) (m : Transfer) (seen : Seen) (own : List Call) (after : Seen) where
+  write_stirs : (answer : WriteTold) → own ≡ write_call link seen.history answer ∷ [] → told.Moved m ≡ told_write answer → is_stirring m ≡ list_any stirs own
+  write_stirs (Sent bytes) is tells =
+      let same : m ≡ moved.Bytes (length bytes) = cc tells in
+      ap is_stirring same ∙ sym (ap (list_any stirs) is)
+  write_stirs Full is tells =
+      let same : m ≡ moved.NotReady = cc tells in
+      ap is_stirring same ∙ sym (ap (list_any stirs) is)
+  write_stirs WriteFault is tells =
+      let same : m ≡ moved.Failed = cc tells in
+      ap is_stirring same ∙ sym (ap (list_any stirs) is)
 
--- a write that took some
-takes_some : (link : ℕ) (m : Transfer) (seen middle after : Seen) (own c : List Call) → is_bytes m ≡ true → is_waiting seen.history ≡ true → WritesOnce link m seen own middle → WritesAll link middle c after
-    → WritesAll link seen (own ++ c) after
-takes_some link m seen middle after own c some waiting once rest = go once.write once.calls_are once.writes once.tells
-  where
-    go : (write : WriteTold) → own ≡ write_call link seen.history write ∷ [] → Writes seen write middle → told.Moved m ≡ told_write write → WritesAll link seen (own ++ c) after
-    go (Sent bytes) is writes tells = Takes_some seen (own ++ c) after bytes middle c waiting writes rest (ap (λ (l : List Call). l ++ c) is)
-    go Full is writes tells = let same : m ≡ moved.NotReady = cc tells in absurd (false≢true (ap is_bytes (sym same) ∙ some))
-    go WriteFault is writes tells = let same : m ≡ moved.Failed = cc tells in absurd (false≢true (ap is_bytes (sym same) ∙ some))
+  wrote_stirs : (waits : Bool) → WritesOn waits (Some link) seen own after (Ok (told.Moved m)) → is_stirring m ≡ list_any stirs own
+  wrote_stirs true w = let tells : told.Moved m ≡ told_write w.0 = cc w.2 in write_stirs w.0 w.1 tells
+  wrote_stirs false w =
+      let same : m ≡ moved.Idle = cc w.2 in
+      ap is_stirring same ∙ sym (ap (list_any stirs) w.0)
 
-own_stirs : (link : ℕ) (m : Transfer) (before middle : Seen) (own : List Call) → is_bytes m ≡ true → WritesOnce link m before own middle → list_any stirs own ≡ true
-own_stirs link m before middle own some once = go once.write once.calls_are once.tells
-  where
-    go : (write : WriteTold) → own ≡ write_call link before.history write ∷ [] → told.Moved m ≡ told_write write → list_any stirs own ≡ true
-    go (Sent bytes) is tells = ap (list_any stirs) is
-    go Full is tells = let same : m ≡ moved.NotReady = cc tells in absurd (false≢true (ap is_bytes (sym same) ∙ some))
-    go WriteFault is tells = let same : m ≡ moved.Failed = cc tells in absurd (false≢true (ap is_bytes (sym same) ∙ some))
+  -- it took some, and others follow
+  write_some : (c : List Call) (end : Seen) (answer : WriteTold) → is_bytes m ≡ true → is_waiting seen.history ≡ true → own ≡ write_call link seen.history answer ∷ [] → told.Moved m ≡ told_write answer → Writes seen answer after → WritesAll link after c end
+      → WritesAll link seen (own ++ c) end
+  write_some c end (Sent bytes) some waits is tells writes rest = Takes_some seen (own ++ c) end bytes after c waits writes rest (ap (λ (l : List Call). l ++ c) is)
+  write_some c end Full some waits is tells writes rest = let same : m ≡ moved.NotReady = cc tells in absurd (false≢true (ap is_bytes (sym same) ∙ some))
+  write_some c end WriteFault some waits is tells writes rest = let same : m ≡ moved.Failed = cc tells in absurd (false≢true (ap is_bytes (sym same) ∙ some))
 
-pub writing_on : (a b c : Option (List Call)) (session session' : Session) (link : ℕ) (m : Transfer) (stirred : Bool) (seen : Seen) → is_bytes m ≡ true → Writing a b session link stirred seen → (direction_now session.handle.machine.known == 3) ≡ true
-    → Goes b c session session' (λ before calls after. WritesOnce link m before calls after) → Writing a c session' link true seen
-writing_on a b c session session' link m stirred seen bytes w some goes =
-    let went = goes w.now w.at in
-    let waiting = waits_true w.now session w.at some in
-    record {
-      calls = w.calls ++ went.calls;
-      now = went.after;
-      grown = grows_on a b c w.calls went.calls w.grown went.grown;
-      at = went.at;
-      stirred_is = sym (or_true stirred) ∙ any_on w.calls went.calls stirred true w.stirred_is (sym (own_stirs link m w.now went.after went.calls bytes went.leads));
-      goes_on = λ x after r. subst (λ (l : List Call). WritesAll link seen l after) (sym (append_assoc w.calls went.calls x))
-          (w.goes_on (went.calls ++ x) after (takes_some link m w.now went.after after went.calls x bytes waiting went.leads r));
-    }
+  wrote_some : (c : List Call) (end : Seen) (waits : Bool) → is_waiting seen.history ≡ waits → WritesOn waits (Some link) seen own after (Ok (told.Moved m)) → is_bytes m ≡ true → WritesAll link after c end → WritesAll link seen (own ++ c) end
+  wrote_some c end true on w some rest = let tells : told.Moved m ≡ told_write w.0 = cc w.2 in write_some c end w.0 some on w.1 tells w.3 rest
+  wrote_some c end false on w some rest = let same : m ≡ moved.Idle = cc w.2 in absurd (false≢true (ap is_bytes (sym same) ∙ some))
 
-pub writing_done : (a b : Option (List Call)) (session : Session) (link : ℕ) (stirred : Bool) (seen : Seen) → Writing a b session link stirred seen → (direction_now session.handle.machine.known == 3) ≡ false
-    → Went a b session (λ calls after. WritesAll link seen calls after × (stirred ≡ list_any stirs calls))
-writing_done a b session link stirred seen w none = record {
-  calls = w.calls;
-  after = w.now;
-  grown = w.grown;
-  leads = (subst (λ (l : List Call). WritesAll link seen l w.now) (append-nil w.calls) (w.goes_on [] w.now (Nothing_waits w.now [] w.now (waits_false w.now session w.at none) refl refl)), w.stirred_is);
-  at = w.at;
-}
+  -- it took none, or nothing waited
+  write_none : (answer : WriteTold) → is_bytes m ≡ false → is_waiting seen.history ≡ true → own ≡ write_call link seen.history answer ∷ [] → told.Moved m ≡ told_write answer → Writes seen answer after → WritesAll link seen own after
+  write_none (Sent bytes) none waits is tells writes = let same : m ≡ moved.Bytes (length bytes) = cc tells in absurd (false≢true (sym none ∙ ap is_bytes same))
+  write_none Full none waits is tells writes = Takes_nothing seen own after waits is writes
+  write_none WriteFault none waits is tells writes = Fails seen own after waits is writes
 
--- a write that took none
-takes_none : (link : ℕ) (m : Transfer) (seen after : Seen) (own : List Call) → is_waiting seen.history ≡ true → is_bytes m ≡ false → WritesOnce link m seen own after
-    → WritesAll link seen own after × (is_stirring m ≡ list_any stirs own)
-takes_none link m seen after own waiting none once = go m once.write none once.calls_are once.writes once.tells
-  where
-    go : (m : Transfer) (write : WriteTold) → is_bytes m ≡ false → own ≡ write_call link seen.history write ∷ [] → Writes seen write after → told.Moved m ≡ told_write write → WritesAll link seen own after × (is_stirring m ≡ list_any stirs own)
-    go m (Sent bytes) none is writes tells =
-        let same : m ≡ moved.Bytes (length bytes) = cc tells in
-        absurd (false≢true (sym none ∙ ap is_bytes same))
-    go m Full none is writes tells =
-        let same : m ≡ moved.NotReady = cc tells in
-        (Takes_nothing seen own after waiting is writes, ap is_stirring same ∙ sym (ap (list_any stirs) is))
-    go m WriteFault none is writes tells =
-        let same : m ≡ moved.Failed = cc tells in
-        (Fails seen own after waiting is writes, ap is_stirring same ∙ sym (ap (list_any stirs) is))
+  wrote_none : (waits : Bool) → is_waiting seen.history ≡ waits → WritesOn waits (Some link) seen own after (Ok (told.Moved m)) → is_bytes m ≡ false → WritesAll link seen own after
+  wrote_none true on w none = let tells : told.Moved m ≡ told_write w.0 = cc w.2 in write_none w.0 none on w.1 tells w.3
+  wrote_none false on w none = Nothing_waits seen own after on w.0 w.1
 
-pub writing_ends : (a b c : Option (List Call)) (session session' : Session) (link : ℕ) (m : Transfer) (stirred both : Bool) (seen : Seen) → is_bytes m ≡ false → both ≡ (stirred || is_stirring m)
-    → Writing a b session link stirred seen → (direction_now session.handle.machine.known == 3) ≡ true → Goes b c session session' (λ before calls after. WritesOnce link m before calls after)
-    → Went a c session' (λ calls after. WritesAll link seen calls after × (both ≡ list_any stirs calls))
-writing_ends a b c session session' link m stirred both seen none is w some goes =
-    let went = goes w.now w.at in
-    let last = takes_none link m w.now went.after went.calls (waits_true w.now session w.at some) none went.leads in
-    record {
-      calls = w.calls ++ went.calls;
-      after = went.after;
-      grown = grows_on a b c w.calls went.calls w.grown went.grown;
-      leads = (w.goes_on went.calls went.after last.0, is ∙ any_on w.calls went.calls stirred (is_stirring m) w.stirred_is last.1);
-      at = went.at;
-    }
+module _ (a b c : Option (List Call)) (session session' : Session) (link : ℕ) (m : Transfer) (stirred both : Bool) (seen : Seen) (w : Writing a b session link stirred seen) (is : both ≡ (stirred || is_stirring m))
+    (goes : Goes b c session session' (λ before calls after. WritesOn (is_waiting before.history) (Some link) before calls after (Ok (told.Moved m)))) where
+  pub writing_on : is_bytes m ≡ true → Writing a c session' link both seen
+  writing_on some =
+      let went = goes w.now w.at in
+      record {
+        calls = w.calls ++ went.calls;
+        now = went.after;
+        grown = grows_on a b c w.calls went.calls w.grown went.grown;
+        at = went.at;
+        stirred_is = is ∙ any_on w.calls went.calls stirred (is_stirring m) w.stirred_is (wrote_stirs link m w.now went.calls went.after (is_waiting w.now.history) went.leads);
+        goes_on = λ x after r. subst (λ (l : List Call). WritesAll link seen l after) (sym (append_assoc w.calls went.calls x))
+            (w.goes_on (went.calls ++ x) after (wrote_some link m w.now went.calls went.after x after (is_waiting w.now.history) refl went.leads some r));
+      }
+
+  pub writing_ends : is_bytes m ≡ false → Went a c session' (λ calls after. WritesAll link seen calls after × (both ≡ list_any stirs calls))
+  writing_ends none =
+      let went = goes w.now w.at in
+      record {
+        calls = w.calls ++ went.calls;
+        after = went.after;
+        grown = grows_on a b c w.calls went.calls w.grown went.grown;
+        leads = (
+          w.goes_on went.calls went.after (wrote_none link m w.now went.calls went.after (is_waiting w.now.history) refl went.leads none),
+          is ∙ any_on w.calls went.calls stirred (is_stirring m) w.stirred_is (wrote_stirs link m w.now went.calls went.after (is_waiting w.now.history) went.leads),
+        );
+        at = went.at;
+      }
 
 -- One turn.
 
-reads_true : (seen : Seen) (session : Session) → IsAt seen session → (direction_now session.handle.machine.known == 0) ≡ false → is_reading seen.history ≡ true
-reads_true seen session at h = ap not (ap (λ (d : ℕ). d == 0) (sym (answers_at seen session at).direction) ∙ h)
+-- What one read brought, where the handle reads.
+module _ (link : ℕ) (seen : Seen) (own : List Call) (after : Seen) where
+  read_stirs : (m : Transfer) (answer : ReadTold) → own ≡ read_call link seen.history answer ∷ [] → told.Moved m ≡ told_read answer → is_stirring m ≡ list_any stirs own
+  read_stirs m (Moved bytes) is tells =
+      let same : m ≡ moved.Bytes (length bytes) = cc tells in
+      ap is_stirring same ∙ sym (ap (list_any stirs) is)
+  read_stirs m Unready is tells =
+      let same : m ≡ moved.NotReady = cc tells in
+      ap is_stirring same ∙ sym (ap (list_any stirs) is)
+  read_stirs m Ended is tells =
+      let same : m ≡ moved.Ended = cc tells in
+      ap is_stirring same ∙ sym (ap (list_any stirs) is)
+  read_stirs m ReadFault is tells =
+      let same : m ≡ moved.Failed = cc tells in
+      ap is_stirring same ∙ sym (ap (list_any stirs) is)
 
-reads_false : (seen : Seen) (session : Session) → IsAt seen session → (direction_now session.handle.machine.known == 0) ≡ true → is_reading seen.history ≡ false
-reads_false seen session at h = ap not (ap (λ (d : ℕ). d == 0) (sym (answers_at seen session at).direction) ∙ h)
+  abbrev Answered : LineEnd → ReadTold → Type 0
+  Answered end answer = ((end ≡ Ok (told_read answer)) × Reads seen answer after) ⊎ ((end ≡ Err halt.NoMemory) × ReadsShort seen answer after)
 
-pub is_reading_true : (seen : Seen) (session : Session) → IsAt seen session → (direction_now session.handle.machine.known == 0) ≡ false → is_reading seen.history ≡ true
-is_reading_true seen session at h = reads_true seen session at h
+  read_whole : (m : Transfer) (answer : ReadTold) → own ≡ read_call link seen.history answer ∷ [] → Answered (Ok (told.Moved m)) answer → ReadsIf true link seen own after × (is_stirring m ≡ list_any stirs own)
+  read_whole m answer is (inl r) = let tells : told.Moved m ≡ told_read answer = cc r.0 in ((answer, is, r.1), read_stirs m answer is tells)
+  read_whole m answer is (inr r) = absurd (cc r.0)
 
-pub is_reading_false : (seen : Seen) (session : Session) → IsAt seen session → (direction_now session.handle.machine.known == 0) ≡ true → is_reading seen.history ≡ false
-is_reading_false seen session at h = reads_false seen session at h
+  reads_if : (m : Transfer) (b : Bool) → ReadsOn b (Some link) seen own after (Ok (told.Moved m)) → ReadsIf b link seen own after × (is_stirring m ≡ list_any stirs own)
+  reads_if m true r = read_whole m r.0 r.1 r.2
+  reads_if m false r =
+      let same : m ≡ moved.Idle = cc r.2 in
+      ((r.0, r.1), ap is_stirring same ∙ sym (ap (list_any stirs) r.0))
 
-pub turned_unread : (a b : Option (List Call)) (session session' : Session) (link : ℕ) (wrote : Bool) → (direction_now session'.handle.machine.known == 0) ≡ true
-    → Goes a b session session' (λ before calls after. WritesAll link before calls after × (wrote ≡ list_any stirs calls))
-    → Goes a b session session' (λ before calls after. TurnsOnce link wrote before calls after)
-turned_unread a b session session' link wrote none goes seen at =
-    let went = goes seen at in
-    record {
-      calls = went.calls;
-      after = went.after;
-      grown = went.grown;
-      leads = record {
-        turns = record {
-          middle = went.after;
-          written = went.calls;
-          writes = went.leads.0;
-          read = [];
-          reads = subst (λ (t : Bool). ReadsIf t link went.after [] went.after) (sym (reads_false went.after session' went.at none)) (refl, refl);
-          calls_are = sym (append-nil went.calls);
+  read_lacks : (answer : ReadTold) → Answered (Err halt.NoMemory) answer → ReadsShort seen answer after
+  read_lacks answer (inl r) = absurd (cc r.0)
+  read_lacks answer (inr r) = r.1
+
+  reads_short : (b : Bool) → is_reading seen.history ≡ b → ReadsOn b (Some link) seen own after (Err halt.NoMemory) → (answer : ReadTold) × (is_reading seen.history ≡ true) × ReadsShort seen answer after × (own ≡ read_call link seen.history answer ∷ [])
+  reads_short true on r = (r.0, on, read_lacks r.0 r.2, r.1)
+  reads_short false on r = absurd (cc r.2)
+
+module _ (a b c : Option (List Call)) (session middle session' : Session) (link : ℕ) (wrote : Bool) (r : Result Transfer NoMemory)
+    (goes : Goes a b session middle (λ before calls after. WritesAll link before calls after × (wrote ≡ list_any stirs calls)))
+    (then : Goes b c middle session' (λ before calls after. ReadsOn (is_reading before.history) (Some link) before calls after (moved_end r))) where
+  pub turned : (m : Transfer) (both : Bool) → r ≡ Ok m → both ≡ (wrote || is_stirring m) → Goes a c session session' (λ before calls after. TurnsOnce link both before calls after)
+  turned m both whole is seen at =
+      let first = goes seen at in
+      let second = then first.after first.at in
+      let read = reads_if link first.after second.calls second.after m (is_reading first.after.history)
+      (subst (λ (x : Result Transfer NoMemory). ReadsOn (is_reading first.after.history) (Some link) first.after second.calls second.after (moved_end x)) whole second.leads) in
+      record {
+        calls = first.calls ++ second.calls;
+        after = second.after;
+        grown = grows_on a b c first.calls second.calls first.grown second.grown;
+        leads = record {
+          turns = record { middle = first.after; written = first.calls; writes = first.leads.0; read = second.calls; reads = read.0; calls_are = refl };
+          stirring = is ∙ any_on first.calls second.calls wrote (is_stirring m) first.leads.1 read.1;
         };
-        stirring = went.leads.1;
-      };
-      at = went.at;
-    }
+        at = second.at;
+      }
 
-read_stirs : (link : ℕ) (m : Transfer) (before after : Seen) (own : List Call) → ReadsOnce link m before own after → is_stirring m ≡ list_any stirs own
-read_stirs link m before after own once = go m once.read once.calls_are once.tells
-  where
-    go : (m : Transfer) (read : ReadTold) → own ≡ read_call link before.history read ∷ [] → told.Moved m ≡ told_read read → is_stirring m ≡ list_any stirs own
-    go m (Moved bytes) is tells =
-        let same : m ≡ moved.Bytes (length bytes) = cc tells in
-        ap is_stirring same ∙ sym (ap (list_any stirs) is)
-    go m Unready is tells =
-        let same : m ≡ moved.NotReady = cc tells in
-        ap is_stirring same ∙ sym (ap (list_any stirs) is)
-    go m Ended is tells =
-        let same : m ≡ moved.Ended = cc tells in
-        ap is_stirring same ∙ sym (ap (list_any stirs) is)
-    go m ReadFault is tells =
-        let same : m ≡ moved.Failed = cc tells in
-        ap is_stirring same ∙ sym (ap (list_any stirs) is)
-
-pub turned : (a b c : Option (List Call)) (session middle session' : Session) (link : ℕ) (wrote both : Bool) (m : Transfer) → (direction_now middle.handle.machine.known == 0) ≡ false → both ≡ (wrote || is_stirring m)
-    → Goes a b session middle (λ before calls after. WritesAll link before calls after × (wrote ≡ list_any stirs calls))
-    → Goes b c middle session' (λ before calls after. ReadsOnce link m before calls after)
-    → Goes a c session session' (λ before calls after. TurnsOnce link both before calls after)
-turned a b c session middle session' link wrote both m reads is goes then seen at =
-    let first = goes seen at in
-    let second = then first.after first.at in
-    record {
-      calls = first.calls ++ second.calls;
-      after = second.after;
-      grown = grows_on a b c first.calls second.calls first.grown second.grown;
-      leads = record {
-        turns = record {
+  pub turned_short : (lacks : NoMemory) → r ≡ Err lacks → Goes a c session session' (λ before calls after. TurnsShort link before calls after)
+  turned_short lacks short seen at =
+      let first = goes seen at in
+      let second = then first.after first.at in
+      let read = reads_short link first.after second.calls second.after (is_reading first.after.history) refl
+      (subst (λ (x : Result Transfer NoMemory). ReadsOn (is_reading first.after.history) (Some link) first.after second.calls second.after (moved_end x)) short second.leads) in
+      record {
+        calls = first.calls ++ second.calls;
+        after = second.after;
+        grown = grows_on a b c first.calls second.calls first.grown second.grown;
+        leads = record {
           middle = first.after;
           written = first.calls;
           writes = first.leads.0;
-          read = second.calls;
-          reads = subst (λ (t : Bool). ReadsIf t link first.after second.calls second.after) (sym (is_reading_true first.after middle first.at reads)) (second.leads.read, second.leads.calls_are, second.leads.reads);
-          calls_are = refl;
+          told = read.0;
+          reading = read.1;
+          reads = read.2;
+          calls_are = ap (λ (l : List Call). first.calls ++ l) read.3;
         };
-        stirring = is ∙ any_on first.calls second.calls wrote (is_stirring m) first.leads.1 (read_stirs link m first.after second.after second.calls second.leads);
-      };
-      at = second.at;
-    }
+        at = second.at;
+      }
 
-pub turned_short : (a b c : Option (List Call)) (session middle session' : Session) (link : ℕ) (wrote : Bool) → (direction_now middle.handle.machine.known == 0) ≡ false
-    → Goes a b session middle (λ before calls after. WritesAll link before calls after × (wrote ≡ list_any stirs calls))
-    → Goes b c middle session' (λ before calls after. ReadsOnceShort link before calls after)
-    → Goes a c session session' (λ before calls after. TurnsShort link before calls after)
-turned_short a b c session middle session' link wrote reads goes then seen at =
-    let first = goes seen at in
-    let second = then first.after first.at in
-    record {
-      calls = first.calls ++ second.calls;
-      after = second.after;
-      grown = grows_on a b c first.calls second.calls first.grown second.grown;
-      leads = record {
-        middle = first.after;
-        written = first.calls;
-        writes = first.leads.0;
-        told = second.leads.read;
-        reading = is_reading_true first.after middle first.at reads;
-        reads = second.leads.reads;
-        calls_are = ap (λ (l : List Call). first.calls ++ l) second.leads.calls_are;
-      };
-      at = second.at;
-    }
+-- Bytes are left unread only where memory ran out.
+pub turned_whole : (a b : Option (List Call)) (session middle : Session) (left : List ℕ) (Leads : Seen → List Call → Seen → Type 0) → Goes a b session middle Leads → ((seen : Seen) → IsAt seen middle → left ≡ []) → (seen : Seen) → IsAt seen session → left ≡ []
+turned_whole a b session middle left Leads goes whole seen at = let first = goes seen at in whole first.after first.at
 
 -- Turn after turn.
 

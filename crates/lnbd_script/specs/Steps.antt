@@ -3,11 +3,9 @@ use Rattle.std.specs.Prelude.{◌≡◌, ◌≢◌, ◌<◌, ◌≤◌, ℕ, Boo
 use Rattle.std.specs.List.{list_any}
 use Rattle.lnbd_machine.specs.Machine.{Machine}
 use Rattle.lnbd_machine.specs.Now.{state_now, in_flight_now, direction_now}
-use Rattle.lnbd_link.specs.Call.{Call, ReadTold, WriteTold}
-use Rattle.lnbd_link.specs.declared.wires.Got.{Got}
-use Rattle.lnbd_link.specs.declared.wires.Got.TheVariants as got
-use Rattle.lnbd_link.specs.declared.wires.Took.{Took}
-use Rattle.lnbd_link.specs.declared.wires.Took.TheVariants as took
+use Rattle.lnbd_link.specs.Call.{Call}
+use Rattle.lnbd_poll.specs.declared.noticed.Noticed.{Noticed}
+use Rattle.lnbd_poll.specs.declared.noticed.Noticed.TheVariants as noticed
 use Rattle.lnbd_script.specs.declared.keeper.Keeper.{Keeper}
 use Rattle.lnbd_script.specs.declared.session.Session.{Session}
 use Rattle.lnbd_script.specs.declared.told.Linked.{Linked}
@@ -34,6 +32,7 @@ use Rattle.lnbd_link.specs.Part.{Grows, Takes, TakesFront}
 use Rattle.lnbd_lines.specs.declared.line.Line.{Line}
 use Rattle.lnbd_lines.specs.declared.line.Line.TheVariants as line
 use Rattle.lnbd_script.specs.declared.event.Event.{Event}
+use Rattle.lnbd_script.specs.declared.event.Event.TheVariants.{Link}
 use Rattle.lnbd_script.specs.declared.playing.Stop.{Stop}
 use Rattle.lnbd_script.specs.declared.playing.Stop.TheVariants as stop
 use Rattle.lnbd_script.specs.declared.playing.Unshown.{Unshown}
@@ -44,13 +43,13 @@ use Rattle.lnbd_script.specs.declared.told.Told.{Told}
 use Rattle.lnbd_script.specs.declared.told.Told.TheVariants as told
 use Rattle.lnbd_script.specs.Seen.{Seen, IsAt}
 use Rattle.lnbd_poll.specs.States.{is_negotiating}
-use Rattle.lnbd_script.specs.Turns.{Reads, ReadsShort, Writes, Turns, read_call, write_call, stirs}
+use Rattle.lnbd_script.specs.Turns.{Turns, stirs}
 use Rattle.lnbd_model.specs.declared.state.State.TheVariants as state
 use Rattle.lnbd_machine.specs.Machine.{step}
 use Rattle.lnbd_handle.specs.declared.kinds.OptFault.{OptFault}
 use Rattle.lnbd_handle.specs.declared.kinds.OptFault.TheVariants as opt
 use Rattle.lnbd_lines.specs.declared.negotiation.Opt.{Opt as Asked_option}
-use Rattle.lnbd_script.specs.Lines.{IssuesAs, asking, lacks_structured, LineEnd, told_read, told_write}
+use Rattle.lnbd_script.specs.Lines.{IssuesAs, asking, lacks_structured, LineEnd}
 use Rattle.lnbd_history.specs.Commands.{Command}
 use Rattle.lnbd_history.specs.Events.{Issue}
 use Rattle.lnbd_machine.specs.Now.{refusal_now}
@@ -59,7 +58,7 @@ use Rattle.lnbd_lines.specs.declared.command.Command.{Command as Asked}
 use Rattle.lnbd_lines.specs.declared.command.Manner.{Manner}
 use Rattle.lnbd_lines.specs.declared.command.Range.{Range}
 use Rattle.lnbd_script.specs.declared.keeper.Heeded.{Heeded}
-use Rattle.lnbd_script.specs.Kept.{Heeds, Tally, joined, tally_of}
+use Rattle.lnbd_script.specs.Kept.{Heeds, Tally, joined, or_first, tally_of}
 use Rattle.lnbd_handle.specs.Histories.{max_unretired}
 use Rattle.lnbd_handle.specs.declared.issue.IssueFault.{IssueFault}
 use Rattle.lnbd_handle.specs.declared.issue.IssueFault.TheVariants as fault
@@ -126,16 +125,32 @@ option_told (Err opt.NoMemory) = Err (record {})
 option_told (Err (opt.State now)) = Ok (told.RefusedState now)
 option_told (Err opt.NotStructured) = Ok told.RefusedUnstructured
 
-abbrev pub got_moved : Got → Moved
-got_moved (got.Bytes n) = moved.Bytes n
-got_moved got.NotReady = moved.NotReady
-got_moved got.End = moved.Ended
-got_moved got.Failed = moved.Failed
+-- what is told of what a handle and its link did
+abbrev pub moved_of : Noticed → Moved
+moved_of (noticed.Moved n) = moved.Bytes n
+moved_of noticed.NotReady = moved.NotReady
+moved_of noticed.Idle = moved.Idle
+moved_of noticed.Ended = moved.Ended
+moved_of noticed.LinkFailed = moved.Failed
+moved_of noticed.NoMemory = moved.NotReady
 
-abbrev pub took_moved : Took → Moved
-took_moved (took.Bytes n) = moved.Bytes n
-took_moved took.NotReady = moved.NotReady
-took_moved took.Failed = moved.Failed
+-- the same of a read, at whose bytes memory may run out
+abbrev pub read_answer : Noticed → Result Moved NoMemory
+read_answer (noticed.Moved n) = Ok (moved.Bytes n)
+read_answer noticed.NotReady = Ok moved.NotReady
+read_answer noticed.Idle = Ok moved.Idle
+read_answer noticed.Ended = Ok moved.Ended
+read_answer noticed.LinkFailed = Ok moved.Failed
+read_answer noticed.NoMemory = Err (record {})
+
+-- the first event after a call: a link that failed comes before what the handle met, and it stays where nothing happened
+abbrev pub noticing : Noticed → (first met : Option Event) → Option Event
+noticing (noticed.Moved n) first met = or_first first met
+noticing noticed.NotReady first met = first
+noticing noticed.Idle first met = first
+noticing noticed.Ended first met = or_first first met
+noticing noticed.LinkFailed first met = or_first first (Some Link)
+noticing noticed.NoMemory first met = or_first first met
 
 abbrev pub is_bytes : Moved → Bool
 is_bytes (moved.Bytes n) = true
@@ -151,24 +166,6 @@ is_stirring moved.NotReady = false
 is_stirring moved.Idle = false
 is_stirring moved.Ended = true
 is_stirring moved.Failed = true
-
--- one read, which moved so much
-pub record ReadsOnce (link : ℕ) (moved : Moved) (before : Seen) (calls : List Call) (after : Seen) : Type 0 where
-  pub read : ReadTold
-  pub calls_are : calls ≡ read_call link before.history read ∷ []
-  pub reads : Reads before read after
-  pub tells : told.Moved moved ≡ told_read read
-
-pub record ReadsOnceShort (link : ℕ) (before : Seen) (calls : List Call) (after : Seen) : Type 0 where
-  pub read : ReadTold
-  pub calls_are : calls ≡ read_call link before.history read ∷ []
-  pub reads : ReadsShort before read after
-
-pub record WritesOnce (link : ℕ) (moved : Moved) (before : Seen) (calls : List Call) (after : Seen) : Type 0 where
-  pub write : WriteTold
-  pub calls_are : calls ≡ write_call link before.history write ∷ []
-  pub writes : Writes before write after
-  pub tells : told.Moved moved ≡ told_write write
 
 -- a turn, in which something happened or not
 pub record TurnsOnce (link : ℕ) (stirred : Bool) (before : Seen) (calls : List Call) (after : Seen) : Type 0 where
@@ -211,9 +208,9 @@ linked_told linked.Connected = told.Connected
 linked_told linked.NotConnected = told.NotConnected
 linked_told (linked.Refused state) = told.RefusedState state
 
-abbrev pub moved_end : Result Moved Halt → LineEnd
+abbrev pub moved_end : Result Moved NoMemory → LineEnd
 moved_end (Ok moved) = Ok (told.Moved moved)
-moved_end (Err halt) = Err halt
+moved_end (Err lacks) = Err halt.NoMemory
 
 abbrev pub settled_end : Result (Unit {0}) Halt → LineEnd
 settled_end (Ok done) = Ok told.Settled

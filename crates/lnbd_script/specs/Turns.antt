@@ -1,23 +1,16 @@
 -- What one read, one write and the turn of a handle on its link do, call by call.
 use Rattle.std.specs.Prelude.{◌≡◌, ◌≤◌, ◌<◌, ℕ, Bool, true, false, not, ◌||◌, ◌==◌, List, [], ◌∷◌, ◌++◌, length, take, Some, None}
 use Rattle.lnbd_history.specs.Events.{Answer, History, Arrived, End, LinkFailed, Wrote}
-use Rattle.lnbd_history.specs.Answers.{state_after, in_flight_after, out_after, direction_after}
+use Rattle.lnbd_history.specs.Answers.{state_after, in_flight_after, out_after}
 use Rattle.lnbd_link.specs.Call.{Call, Connect, Listen, Accept, Read, Write, Pause, Shut, ReadTold, WriteTold, Moved, Unready, Ended, ReadFault, Sent, Full, WriteFault}
 use Rattle.lnbd_poll.specs.States.{is_negotiating}
 use Rattle.lnbd_poll.specs.Notices.{room_after}
+pub use Rattle.lnbd_poll.specs.Notices.{is_reading, is_waiting}
 use Rattle.lnbd_script.specs.declared.event.Event.TheVariants.{Link}
 use Rattle.lnbd_script.specs.declared.keeper.Keeper.{Keeper}
 use Rattle.lnbd_script.specs.Seen.{Seen, Follows}
 
 -- What a handle wants.
-
--- It reads, unless it was not started, is closed or dead.
-abbrev pub is_reading : History Keeper → Bool
-is_reading history = not (direction_after history == 0)
-
--- It writes: bytes wait to go out.
-abbrev pub is_waiting : History Keeper → Bool
-is_waiting history = direction_after history == 3
 
 -- It negotiates, has a command in flight, or bytes that wait to go out.
 abbrev pub is_busy : History Keeper → Bool

@@ -12,7 +12,7 @@ ghost use Rattle.lnbd_history.specs.Strict.{unknown_bits};
 ghost use Rattle.lnbd_script.specs.Acts.{reach_of};
 ghost use Rattle.lnbd_poll.specs.States.{is_opt_mode};
 ghost use Rattle.lnbd_script.specs.Lines.{Adds, AddsContext, Connects, ConnectsTo, Disconnects, AsksFor, Does, Hears, ReadsOn, Sets, SetsStrict, WritesOn, connected, has_all_contexts, is_created, is_structured, lacks_structured, setting_of, taking};
-ghost use Rattle.lnbd_script.specs.Seen.{Counts, Goes, adding};
+ghost use Rattle.lnbd_script.specs.Seen.{Counts, Goes, IsAt, Seen, adding};
 ghost use Rattle.lnbd_script.specs.Steps.{Becomes, Takes_option, halted, is_alone, is_close, linked_told, moved_end, option_told};
 ghost use Rattle.lnbd_script.specs.Turns.{is_reading, is_waiting};
 ghost use Rattle.lnbd_lines.specs.declared.line.Line.TheVariants.{ConnectUri};
@@ -29,6 +29,7 @@ use lnbd_handle::{Handle, OptFault, SetFault};
 use lnbd_lines::{Line, Opt, Switch};
 use lnbd_link::Wires;
 use lnbd_model::{NoMemory, Place, State, Target, Text};
+use lnbd_poll::Inbox;
 use std::alloc::Global;
 use std::mem::replace;
 
@@ -295,45 +296,21 @@ fn connect_to<W: Wires>(
     }
 }
 
-/// Reads once, where the handle reads.
-fn read_linked<W: Wires>(session: &mut Session, wires: &mut W, link: u32) -> Result<Moved, Halt>
-    requires linked { session.old.link ≡ Some link }
-    ensures told { Goes (W.told wires.old) (W.told wires.new) session.old session.new (λ before calls after. ReadsOn (is_reading before.history) before.link before calls after (moved_end result)) }
-    ensures counts { Counts session.old.first session.new.first (W.faults wires.old) (W.faults wires.new) (W.idles wires.old) (W.idles wires.new) }
-    ensures spoken { ¬ (result ≡ Err halt.Silent) }
-{
-    if !session.is_reading() {
-        return Ok(Moved::Idle);
-    }
-    let mut buffer = [0; 65536];
-    match session.read(wires, link, &mut buffer) {
-        Ok(moved) => Ok(moved),
-        Err(_) => Err(Halt::NoMemory),
-    }
-}
-
 /// Reads once, where the handle is connected and reads.
-fn read_once<W: Wires>(session: &mut Session, wires: &mut W) -> Result<Moved, Halt>
+fn read_once<W: Wires>(
+    session: &mut Session,
+    wires: &mut W,
+    inbox: &mut Inbox,
+) -> Result<Moved, NoMemory>
+    requires unread { inbox.old ≡ [] }
     ensures told { Goes (W.told wires.old) (W.told wires.new) session.old session.new (λ before calls after. ReadsOn (is_reading before.history) before.link before calls after (moved_end result)) }
     ensures counts { Counts session.old.first session.new.first (W.faults wires.old) (W.faults wires.new) (W.idles wires.old) (W.idles wires.new) }
-    ensures spoken { ¬ (result ≡ Err halt.Silent) }
+    ensures unread { OnOk result ((seen : Seen) → IsAt seen session.old → inbox.new ≡ []) }
 {
     match session.link {
         None => Ok(Moved::Idle),
-        Some(link) => read_linked(session, wires, link),
+        Some(link) => session.read(wires, link, inbox),
     }
-}
-
-/// Offers once what waits to go out.
-fn write_linked<W: Wires>(session: &mut Session, wires: &mut W, link: u32) -> Moved
-    requires linked { session.old.link ≡ Some link }
-    ensures told { Goes (W.told wires.old) (W.told wires.new) session.old session.new (λ before calls after. WritesOn (is_waiting before.history) before.link before calls after (Ok (told.Moved result))) }
-    ensures counts { Counts session.old.first session.new.first (W.faults wires.old) (W.faults wires.new) (W.idles wires.old) (W.idles wires.new) }
-{
-    if !session.is_waiting() {
-        return Moved::Idle;
-    }
-    session.write(wires, link)
 }
 
 /// Offers once what waits to go out, where the handle is connected.
@@ -343,7 +320,7 @@ fn write_once<W: Wires>(session: &mut Session, wires: &mut W) -> Moved
 {
     match session.link {
         None => Moved::Idle,
-        Some(link) => write_linked(session, wires, link),
+        Some(link) => session.write(wires, link),
     }
 }
 
@@ -395,18 +372,21 @@ pub(crate) fn act<W: Wires>(
     alloc: Global,
     session: &mut Session,
     wires: &mut W,
+    inbox: &mut Inbox,
     line: &Line,
 ) -> Result<Told, Halt>
     requires open { is_close line.now ≡ false }
     requires alone { reach_of line.now ≡ reach.Current }
+    requires unread { inbox.old ≡ [] }
     ensures told { Goes (W.told wires.old) (W.told wires.new) session.old session.new (λ before calls after. Does line.now before calls after result) }
     ensures spoken { ¬ (result ≡ Err halt.Silent) }
+    ensures unread { OnOk result ((seen : Seen) → IsAt seen session.old → inbox.new ≡ []) }
     ensures counts { Counts session.old.first session.new.first (W.faults wires.old) (W.faults wires.new) (W.idles wires.old) (W.idles wires.new) }
 {
     match line {
         Line::Connect(to) => Ok(Told::of_connect(connect(session, wires, to))),
         Line::ConnectUri(place) => connect_to(alloc, session, wires, place),
-        Line::Read => Told::of_read(read_once(session, wires)),
+        Line::Read => Told::of_read(read_once(session, wires, inbox)),
         Line::Write => Ok(Told::Moved(write_once(session, wires))),
         _ => act_alone(alloc, session, line),
     }

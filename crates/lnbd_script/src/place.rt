@@ -1,6 +1,6 @@
 //! One handle of a script: not used yet, open with its link, or closed.
 
-ghost use Rattle.std.specs.Prelude.{◌≡◌, ◌≤◌, IfOk, OnOk, OnErr, Err, None, true, false};
+ghost use Rattle.std.specs.Prelude.{◌≡◌, ◌≤◌, [], IfOk, OnOk, OnErr, Err, None, true, false};
 ghost use Rattle.lnbd_link.specs.Part.{Grows};
 ghost use Rattle.lnbd_script.specs.Acts.{reach_of};
 ghost use Rattle.lnbd_script.specs.Lines.{Answers, shut_calls};
@@ -19,6 +19,7 @@ use lnbd_handle::{Closed, Handle};
 use lnbd_lines::Line;
 use lnbd_link::Wires;
 use lnbd_model::NoMemory;
+use lnbd_poll::Inbox;
 use std::alloc::Global;
 use std::mem::replace;
 
@@ -184,20 +185,23 @@ impl Place {
         alloc: Global,
         first: &mut Option<Event>,
         wires: &mut W,
+        inbox: &mut Inbox,
         line: &Line,
     ) -> Result<Told, Halt>
         requires open { is_open self.old ≡ true }
         requires going { is_close line.now ≡ false }
         requires alone { reach_of line.now ≡ reach.Current }
+        requires unread { inbox.old ≡ [] }
         ensures told { GoesAt (W.told wires.old) (W.told wires.new) self.old self.new first.old first.new (λ before calls after. Answers line.now before calls after result) }
         ensures spoken { ¬ (result ≡ Err halt.Silent) }
         ensures open { is_open self.new ≡ true }
+        ensures unread { OnOk result ((held : Held) → IsHeld held self.old → inbox.new ≡ []) }
         ensures counts { Counts first.old first.new (W.faults wires.old) (W.faults wires.new) (W.idles wires.old) (W.idles wires.new) }
     {
         match self {
             Place::Open(session) => {
                 session.first = *first;
-                let told = act(alloc, session, wires, line);
+                let told = act(alloc, session, wires, inbox, line);
                 *first = session.first;
                 told
             }
@@ -211,13 +215,16 @@ impl Place {
         alloc: Global,
         first: &mut Option<Event>,
         wires: &mut W,
+        inbox: &mut Inbox,
         line: &Line,
     ) -> Result<Told, Halt>
         requires used { is_used self.old ≡ true }
         requires alone { reach_of line.now ≡ reach.Current }
+        requires unread { inbox.old ≡ [] }
         ensures told { GoesAt (W.told wires.old) (W.told wires.new) self.old self.new first.old first.new (λ before calls after. Answers line.now before calls after result) }
         ensures spoken { ¬ (result ≡ Err halt.Silent) }
         ensures asks { IfOk result (λ tells. is_question tells ≡ true → is_open self.new ≡ true) }
+        ensures unread { OnOk result ((held : Held) → IsHeld held self.old → inbox.new ≡ []) }
         ensures counts { Counts first.old first.new (W.faults wires.old) (W.faults wires.new) (W.idles wires.old) (W.idles wires.new) }
     {
         if !self.is_open() {
@@ -227,6 +234,6 @@ impl Place {
             let Over { opened, freed } = self.close(wires);
             return Ok(Told::Closed { opened, freed });
         }
-        self.act(alloc, first, wires, line)
+        self.act(alloc, first, wires, inbox, line)
     }
 }

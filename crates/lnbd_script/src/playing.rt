@@ -1,6 +1,6 @@
 //! A script from its first line to its last.
 
-ghost use Rattle.std.specs.Prelude.{◌≡◌, ◌≤◌, ◌+◌, List, IfOk, OnOk, Err, map, string_bytes, true, vec_len};
+ghost use Rattle.std.specs.Prelude.{◌≡◌, ◌≤◌, ◌+◌, [], List, IfOk, OnOk, Err, map, string_bytes, true, vec_len};
 ghost use Rattle.lnbd_lines.specs.Grammar.{max_handles};
 ghost use Rattle.lnbd_link.specs.Count.{Rises, patience};
 ghost use Rattle.lnbd_link.specs.Part.{Grows};
@@ -158,6 +158,7 @@ fn play_lines<W: Wires, O: Sink>(
     out: &mut O,
 ) -> Result<(), Stop>
     requires reached { (scene : Scene) × Stands scene sessions.old (W.idles wires.old) }
+    requires unread { sessions.old.inbox ≡ [] }
     ensures played { (scene : Scene) → Stands scene sessions.old (W.idles wires.old) → LinesPlayed lines.now scene (W.told wires.old) (W.told wires.new) (O.taken out.old) (O.taken out.new) sessions.new (W.idles wires.new) result }
     ensures silent { result ≡ Err Stop.Silent → Rises patience sessions.old.start (W.idles wires.new) }
     ensures well { OnOk result (O.faults out.new ≡ O.faults out.old) }
@@ -230,6 +231,7 @@ fn play_all<W: Wires, O: Sink>(
         first,
         start: _,
         wants: _,
+        inbox: _,
         hears: _,
     } = sessions;
     let sum = end_all(places, wires);

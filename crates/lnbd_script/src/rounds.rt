@@ -1,6 +1,6 @@
 //! Rounds over all handles of a script until none has anything left to do.
 
-ghost use Rattle.std.specs.Prelude.{◌≡◌, ◌≤◌, ◌<◌, ◌+◌, ◌++◌, ◌||◌, [], IfOk, OnErr, Err, length, true, false, vec_len, vec_capacity};
+ghost use Rattle.std.specs.Prelude.{◌≡◌, ◌≤◌, ◌<◌, ◌+◌, ◌++◌, ◌||◌, List, [], IfOk, OnErr, OnOk, Err, true, false, vec_len, vec_capacity};
 ghost use Rattle.std.specs.List.{list_any};
 ghost use Rattle.lnbd_machine.specs.Now.{direction_now, in_flight_now, state_now};
 ghost use Rattle.lnbd_link.specs.Call.{Pause};
@@ -8,9 +8,9 @@ ghost use Rattle.lnbd_link.specs.Count.{Rises, patience};
 ghost use Rattle.lnbd_link.specs.Part.{Adds};
 ghost use Rattle.lnbd_poll.specs.Held.{is_on_its_way, want_of, with_want};
 ghost use Rattle.lnbd_script.specs.Rounds.{PartShort, Round, Settles, TakesPart};
-ghost use Rattle.lnbd_script.specs.Scenes.{Scene};
+ghost use Rattle.lnbd_script.specs.Scenes.{Held, Scene};
 ghost use Rattle.lnbd_script.specs.Seen.{Blames, Counts};
-ghost use Rattle.lnbd_script.specs.Steps.{GoesAll, GoesAt, GoesOver, Stands, is_busy_place, want_now, wants_now};
+ghost use Rattle.lnbd_script.specs.Steps.{AreHeld, GoesAll, GoesAt, GoesOver, IsHeld, Stands, is_busy_place, want_now, wants_now};
 ghost use Rattle.lnbd_script.specs.Turns.{stirs};
 ghost use Rattle.lnbd_script.specs.declared.place.Place.TheVariants as place;
 ghost use Rattle.lnbd_script.specs.declared.told.Halt.TheVariants as halt;
@@ -23,6 +23,7 @@ use crate::told::Halt;
 use crate::turns::{either, turn};
 use lnbd_link::{Want, Wires, is_long};
 use lnbd_model::{NoMemory, State};
+use lnbd_poll::Inbox;
 
 /// Whether a handle negotiates, or asked for the end of its connection.
 fn is_on_its_way(state: State) -> bool
@@ -79,16 +80,16 @@ impl Place {
         &mut self,
         first: &mut Option<Event>,
         wires: &mut W,
-        buffer: &mut [u8],
+        inbox: &mut Inbox,
     ) -> Result<bool, NoMemory>
-        requires room { length buffer.old ≡ 65536 }
+        requires unread { inbox.old ≡ [] }
         ensures ok { IfOk result (λ stirred. GoesAt (W.told wires.old) (W.told wires.new) self.old self.new first.old first.new (λ before calls after. TakesPart before.link before calls after × (stirred ≡ list_any stirs calls))) }
         ensures short { OnErr result (GoesAt (W.told wires.old) (W.told wires.new) self.old self.new first.old first.new (λ before calls after. PartShort before.link before calls after)) }
         ensures counts { Counts first.old first.new (W.faults wires.old) (W.faults wires.new) (W.idles wires.old) (W.idles wires.new) }
-        ensures room { length buffer.new ≡ 65536 }
+        ensures unread { OnOk result ((held : Held) → IsHeld held self.old → inbox.new ≡ []) }
     {
         match self {
-            Place::Open(session) => session.take_part(first, wires, buffer),
+            Place::Open(session) => session.take_part(first, wires, inbox),
             Place::Unused => Ok(false),
             Place::Over(_) => Ok(false),
         }
@@ -101,19 +102,19 @@ impl Session {
         &mut self,
         first: &mut Option<Event>,
         wires: &mut W,
-        buffer: &mut [u8],
+        inbox: &mut Inbox,
     ) -> Result<bool, NoMemory>
-        requires room { length buffer.old ≡ 65536 }
+        requires unread { inbox.old ≡ [] }
         ensures ok { IfOk result (λ stirred. GoesAt (W.told wires.old) (W.told wires.new) (place.Open self.old) (place.Open self.new) first.old first.new (λ before calls after. TakesPart before.link before calls after × (stirred ≡ list_any stirs calls))) }
         ensures short { OnErr result (GoesAt (W.told wires.old) (W.told wires.new) (place.Open self.old) (place.Open self.new) first.old first.new (λ before calls after. PartShort before.link before calls after)) }
         ensures counts { Counts first.old first.new (W.faults wires.old) (W.faults wires.new) (W.idles wires.old) (W.idles wires.new) }
-        ensures room { length buffer.new ≡ 65536 }
+        ensures unread { OnOk result ((held : Held) → IsHeld held (place.Open self.old) → inbox.new ≡ []) }
     {
         match self.link {
             None => Ok(false),
             Some(link) => {
                 self.first = *first;
-                let told = turn(self, wires, link, buffer);
+                let told = turn(self, wires, link, inbox);
                 *first = self.first;
                 told
             }
@@ -158,19 +159,20 @@ fn round<W: Wires>(
     places: &mut Vec<Place>,
     first: &mut Option<Event>,
     wires: &mut W,
-    buffer: &mut [u8],
+    inbox: &mut Inbox,
 ) -> Result<bool, NoMemory>
-    requires room { length buffer.old ≡ 65536 }
+    requires reached { (handles : List Held) × AreHeld handles places.old.items }
+    requires unread { inbox.old ≡ [] }
     ensures ok { IfOk result (λ stirred. GoesAll (W.told wires.old) (W.told wires.new) places.old.items places.new.items (λ before calls after. Round true before first.old calls after first.new × (stirred ≡ list_any stirs calls))) }
     ensures short { OnErr result (GoesAll (W.told wires.old) (W.told wires.new) places.old.items places.new.items (λ before calls after. Round false before first.old calls after first.new)) }
     ensures count { vec_len places.new ≡ vec_len places.old }
     ensures counts { Counts first.old first.new (W.faults wires.old) (W.faults wires.new) (W.idles wires.old) (W.idles wires.new) }
-    ensures room { length buffer.new ≡ 65536 }
+    ensures unread { OnOk result (inbox.new ≡ []) }
 {
     let mut stirred = false;
     'places: for i in 0..places.len() {
         let place = &mut places[i];
-        match place.take_part(first, wires, buffer) {
+        match place.take_part(first, wires, inbox) {
             Ok(part) => stirred = either(stirred, part),
             Err(_) => return Err(NoMemory),
         }
@@ -196,14 +198,15 @@ impl Sessions {
     /// every peer: what may still come and go is bounded, and so is the waiting that a run bears.
     pub(crate) fn settle<W: Wires>(&mut self, wires: &mut W) -> Result<(), Halt>
         requires reached { (scene : Scene) × Stands scene self.old (W.idles wires.old) }
+        requires unread { self.old.inbox ≡ [] }
         ensures settles { GoesOver (W.told wires.old) (W.told wires.new) (W.idles wires.old) (W.idles wires.new) self.old self.new (λ before calls after. Settles before calls after result) }
         ensures silent { result ≡ Err halt.Silent → Rises patience self.old.start (W.idles wires.new) }
         ensures start { self.new.start ≡ self.old.start }
+        ensures unread { OnOk result (self.new.inbox ≡ []) }
         ensures counts { Blames self.old.first self.new.first (W.faults wires.old) (W.faults wires.new) }
     {
-        let mut buffer = [0; 65536];
         'rounds: while is_any_busy(&self.places) {
-            match round(&mut self.places, &mut self.first, wires, &mut buffer) {
+            match round(&mut self.places, &mut self.first, wires, &mut self.inbox) {
                 Ok(true) => continue,
                 Ok(false) => {
                     self.pause(wires);

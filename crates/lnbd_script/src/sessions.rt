@@ -1,6 +1,6 @@
 //! All handles of a script, which of them its lines act on, and what the run has come to.
 
-ghost use Rattle.std.specs.Prelude.{◌≡◌, ◌<◌, ◌≤◌, ℕ, IfOk, OnOk, Err, None, replicate, true, false, nat_lt, if◌then◌else◌, vec_len};
+ghost use Rattle.std.specs.Prelude.{◌≡◌, ◌<◌, ◌≤◌, ℕ, IfOk, OnOk, Err, None, [], replicate, true, false, nat_lt, if◌then◌else◌, vec_len};
 ghost use Rattle.lnbd_history.specs.Laws.{is_closed};
 ghost use Rattle.lnbd_lines.specs.Grammar.{max_handles};
 ghost use Rattle.lnbd_link.specs.Count.{Rises, patience};
@@ -19,6 +19,7 @@ use crate::told::{Halt, Told};
 use lnbd_lines::Line;
 use lnbd_link::{Want, Wires};
 use lnbd_model::NoMemory;
+use lnbd_poll::Inbox;
 use std::alloc::Global;
 
 /// How many handles a script has.
@@ -36,6 +37,8 @@ pub(crate) struct Sessions {
     pub(crate) start: u64,
     /// The room of a pause.
     pub(crate) wants: Vec<Want>,
+    /// The room of a read. Where memory runs out at what came, it keeps what the handle did not take, and the script ends.
+    pub(crate) inbox: Inbox,
     /// Whether a line of the script asks for what callbacks hear.
     pub(crate) hears: bool,
 }
@@ -56,9 +59,11 @@ impl Sessions {
     pub(crate) fn new(alloc: Global, start: u64, hears: bool) -> Result<Sessions, NoMemory>
         ensures stands { IfOk result (λ sessions. Stands beginning sessions start) }
         ensures first { IfOk result (λ sessions. sessions.first ≡ None) }
+        ensures unread { IfOk result (λ sessions. sessions.inbox ≡ []) }
         ensures start { IfOk result (λ sessions. sessions.start ≡ start) }
     {
         let wants = Vec::with_capacity(alloc, HANDLES)?;
+        let inbox = Inbox::new(alloc)?;
         let places = unused(alloc)?;
         Ok(Sessions {
             places,
@@ -66,6 +71,7 @@ impl Sessions {
             first: None,
             start,
             wants,
+            inbox,
             hears,
         })
     }
@@ -85,6 +91,7 @@ impl Sessions {
         ensures stands { (scene : Scene) (idles : ℕ) → Stands scene self.old idles → Stands scene self.new idles }
         ensures first { self.new.first ≡ self.old.first }
         ensures start { self.new.start ≡ self.old.start }
+        ensures unread { self.new.inbox ≡ self.old.inbox }
     {
         let current = self.current;
         let hears = self.hears;
@@ -108,28 +115,33 @@ impl Sessions {
         wires: &mut W,
         line: &Line,
     ) -> Result<Told, Halt>
+        requires reached { (scene : Scene) × Stands scene self.old (W.idles wires.old) }
         requires inside { self.old.current < vec_len self.old.places }
         requires used { is_used (current_place self.old) ≡ true }
+        requires unread { self.old.inbox ≡ [] }
         requires alone { reach_of line.now ≡ reach.Current }
         ensures acts { GoesOver (W.told wires.old) (W.told wires.new) (W.idles wires.old) (W.idles wires.new) self.old self.new (λ before calls after. ActsAlone line.now before calls after result) }
         ensures spoken { ¬ (result ≡ Err halt.Silent) }
         ensures asks { IfOk result (λ tells. is_question tells ≡ true → is_open (current_place self.new) ≡ true) }
         ensures start { self.new.start ≡ self.old.start }
+        ensures unread { OnOk result (self.new.inbox ≡ []) }
         ensures counts { Blames self.old.first self.new.first (W.faults wires.old) (W.faults wires.new) }
     {
         let current = self.current;
         let place = &mut self.places[current];
-        place.step(alloc, &mut self.first, wires, line)
+        place.step(alloc, &mut self.first, wires, &mut self.inbox, line)
     }
 
     /// Takes rounds over all handles for a line, unless the current one is closed.
     fn settle_line<W: Wires>(&mut self, wires: &mut W) -> Result<Told, Halt>
         requires reached { (scene : Scene) × Stands scene self.old (W.idles wires.old) }
         requires used { is_used (current_place self.old) ≡ true }
+        requires unread { self.old.inbox ≡ [] }
         ensures acts { GoesOver (W.told wires.old) (W.told wires.new) (W.idles wires.old) (W.idles wires.new) self.old self.new (λ before calls after. SettlesIf (is_closed (current_of before).history) before calls after result) }
         ensures silent { result ≡ Err halt.Silent → Rises patience self.old.start (W.idles wires.new) }
         ensures asks { IfOk result (λ tells. is_question tells ≡ false) }
         ensures start { self.new.start ≡ self.old.start }
+        ensures unread { OnOk result (self.new.inbox ≡ []) }
         ensures counts { Blames self.old.first self.new.first (W.faults wires.old) (W.faults wires.new) }
     {
         if !self.current().is_open() {
@@ -147,10 +159,12 @@ impl Sessions {
     ) -> Result<Told, Halt>
         requires reached { (scene : Scene) × Stands scene self.old (W.idles wires.old) }
         requires used { is_used (current_place self.old) ≡ true }
+        requires unread { self.old.inbox ≡ [] }
         ensures acts { GoesOver (W.told wires.old) (W.told wires.new) (W.idles wires.old) (W.idles wires.new) self.old self.new (λ before calls after. Acts line.now before calls after result) }
         ensures silent { result ≡ Err halt.Silent → Rises patience self.old.start (W.idles wires.new) }
         ensures asks { IfOk result (λ tells. is_question tells ≡ true → is_open (current_place self.new) ≡ true) }
         ensures start { self.new.start ≡ self.old.start }
+        ensures unread { OnOk result (self.new.inbox ≡ []) }
         ensures counts { Blames self.old.first self.new.first (W.faults wires.old) (W.faults wires.new) }
     {
         match Reach::of(line) {

@@ -1,10 +1,11 @@
 //! What one line of a script tells. No text is made here.
 
 ghost use Rattle.std.specs.Prelude.{◌≡◌};
-ghost use Rattle.lnbd_script.specs.Steps.{linked_told, moved_end, settled_end};
+ghost use Rattle.lnbd_script.specs.Steps.{linked_told, moved_end, moved_of, read_answer, settled_end};
 
 use lnbd_history::Completed;
-use lnbd_model::{State, Why};
+use lnbd_model::{NoMemory, State, Why};
+use lnbd_poll::Noticed;
 
 /// What one read or write did.
 #[derive(Clone, Copy, Debug, PartialEq, Eq)]
@@ -19,6 +20,31 @@ pub(crate) enum Moved {
     Ended,
     /// The link failed.
     Failed,
+}
+
+impl Moved {
+    /// What a handle and its link did. Where memory ran out nothing is told of it.
+    pub(crate) fn of(noticed: Noticed) -> Moved
+        ensures { result ≡ moved_of noticed }
+    {
+        match noticed {
+            Noticed::Moved(n) => Moved::Bytes(n),
+            Noticed::NotReady | Noticed::NoMemory => Moved::NotReady,
+            Noticed::Idle => Moved::Idle,
+            Noticed::Ended => Moved::Ended,
+            Noticed::LinkFailed => Moved::Failed,
+        }
+    }
+
+    /// What a read did, unless memory ran out.
+    pub(crate) fn of_read(noticed: Noticed) -> Result<Moved, NoMemory>
+        ensures { result ≡ read_answer noticed }
+    {
+        match noticed {
+            Noticed::NoMemory => Err(NoMemory),
+            _ => Ok(Moved::of(noticed)),
+        }
+    }
 }
 
 /// What a connect did.
@@ -89,12 +115,12 @@ impl Told {
     }
 
     /// What a read tells.
-    pub(crate) fn of_read(moved: Result<Moved, Halt>) -> Result<Told, Halt>
+    pub(crate) fn of_read(moved: Result<Moved, NoMemory>) -> Result<Told, Halt>
         ensures { result ≡ moved_end moved }
     {
         match moved {
             Ok(moved) => Ok(Told::Moved(moved)),
-            Err(halt) => Err(halt),
+            Err(_) => Err(Halt::NoMemory),
         }
     }
 

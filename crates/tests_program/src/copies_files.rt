@@ -5,7 +5,7 @@ use crate::asked::text_on;
 use crate::copies_dealt::SOURCE;
 use crate::outside::{Ended, Fault, Outside, Peers, STREAMS, played_beside, push_words};
 use crate::report::{Case, Report};
-use crate::served::{Disk, wires};
+use crate::served::{Disk, Run, wires};
 use crate::session::all_of;
 use lnbd_memnet::Schedule;
 use lnbd_model::Text;
@@ -68,19 +68,24 @@ fn push_file(
     Ok(())
 }
 
-fn store_of(alloc: Global, fails: &str) -> Result<MemoryStore, Fail> {
+/// These files, of whose calls the one of this number fails.
+pub fn store_of(
+    alloc: Global,
+    listed: &[(&str, &str)],
+    fail_at: Option<u64>,
+) -> Result<MemoryStore, Fail> {
     let mut files = Vec::new(alloc);
-    for (path, bytes) in FILES {
+    for (path, bytes) in listed {
         push_file(alloc, &mut files, path, bytes)?;
     }
-    Ok(MemoryStore::new(alloc, files, fails.parse::<u64>().ok()))
+    Ok(MemoryStore::new(alloc, files, fail_at))
 }
 
-/// Both exports, served.
-fn exports(alloc: Global) -> Result<Outside, Fail> {
+/// Both exports, served: the source has these runs.
+pub fn exports(alloc: Global, runs: &[Run]) -> Result<Outside, Fail> {
     let source = Disk {
         name: b"a",
-        runs: SOURCE,
+        runs,
         read_only: false,
     };
     let served = wires(
@@ -129,8 +134,17 @@ fn report_asks(
     Ok(())
 }
 
-/// Reports what the last of the words then holds: a file, or the export `b`.
-fn report_held(
+/// What the last of the words holds: a file, or the export `b`.
+pub fn held_at<'a>(last: &str, wires: &'a Outside, store: &'a MemoryStore) -> Option<&'a [u8]> {
+    if last.contains("://") {
+        wires.exported(1)
+    } else {
+        store.bytes_at(last.as_bytes())
+    }
+}
+
+/// Reports what the last of the words then holds.
+pub fn report_held(
     alloc: Global,
     report: &mut Report,
     case: Case,
@@ -175,7 +189,7 @@ fn copy_on(
     store: &mut MemoryStore,
     wanted: (&str, &str, &str),
 ) -> Result<(), Fail> {
-    let mut wires = exports(alloc)?;
+    let mut wires = exports(alloc, SOURCE)?;
     copy_over(
         alloc,
         report,
@@ -186,12 +200,7 @@ fn copy_on(
         (wanted.0, wanted.1),
     )?;
     let last = words.last().map(|word| word.as_str()).unwrap_or("");
-    let held = if last.contains("://") {
-        wires.exported(1)
-    } else {
-        store.bytes_at(last.as_bytes())
-    };
-    report_held(alloc, report, case, held, wanted.2)
+    report_held(alloc, report, case, held_at(last, &wires, store), wanted.2)
 }
 
 fn copy_words(
@@ -202,7 +211,7 @@ fn copy_words(
     fails: &str,
     wanted: (&str, &str, &str),
 ) -> Result<(), Fail> {
-    let mut store = store_of(alloc, fails)?;
+    let mut store = store_of(alloc, &FILES, fails.parse::<u64>().ok())?;
     copy_on(alloc, report, case, words, &mut store, wanted)
 }
 

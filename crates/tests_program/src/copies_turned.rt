@@ -2,6 +2,7 @@
 //! one's extents are asked for while the first one is copied; and what comes behind a pause as long as is borne is not told.
 
 ghost use Rattle.std.specs.Prelude.{◌≤◌, IfOk};
+ghost use Rattle.lnbd_conduct.specs.Limits.{AreLimited};
 ghost use Rattle.lnbd_copy.specs.Copier.{HasNotBegun};
 ghost use Rattle.lnbd_memnet.specs.Schedule.{Moves};
 
@@ -50,6 +51,7 @@ const TURNED: CopyOptions = CopyOptions {
 
 /// A copy between both exports, not begun.
 fn copier(alloc: Global, options: CopyOptions) -> Result<Copier, Fail>
+    requires { AreLimited options }
     ensures { IfOk result (λ copier. HasNotBegun copier) }
 {
     let from = Place {
@@ -105,6 +107,7 @@ fn run_to_end(copier: Copier, wires: &mut Outside) -> Result<Option<Summary>, Co
 }
 
 /// A copy over these wires, turn by turn, and what it came to.
+#[tactic(auto, using(crate::proofs::LimitLemmas::turned_limited))]
 fn turns(alloc: Global, wires: &mut Outside) -> Result<String, Fail> {
     let mut copier = copier(alloc, TURNED)?;
     let told = taken(&mut copier, wires);
@@ -136,6 +139,7 @@ fn turn_by_turn(alloc: Global, report: &mut Report) -> Result<(), Fail> {
 }
 
 /// The beginning of a copy over these wires, and what it came to.
+#[tactic(auto, using(crate::proofs::LimitLemmas::turned_limited))]
 fn beginning(alloc: Global, wires: &mut Outside) -> Result<String, Fail> {
     let mut copier = copier(alloc, TURNED)?;
     let told = copier.begin(wires);
@@ -160,6 +164,7 @@ fn refused(alloc: Global, report: &mut Report) -> Result<(), Fail> {
 }
 
 /// A copy that never begins ends without a call.
+#[tactic(auto, using(crate::proofs::LimitLemmas::turned_limited))]
 fn not_begun(alloc: Global, report: &mut Report) -> Result<(), Fail> {
     let case = Case {
         shows: "a copy may end before it begins",
@@ -173,6 +178,7 @@ fn not_begun(alloc: Global, report: &mut Report) -> Result<(), Fail> {
 }
 
 /// What a copy comes to whose source is silent for one pause, which counts for so much, and then breaks the protocol.
+#[tactic(auto, using(crate::proofs::LimitLemmas::turned_limited))]
 fn after_silence(alloc: Global, step: u64) -> Result<String, Fail>
     requires { 1 ≤ step }
 {
@@ -287,6 +293,7 @@ fn read_after(calls: &[Heard], link: u32, behind: usize, moved: bool) -> usize {
 }
 
 /// A copy of both windows, and what it came to.
+#[tactic(auto, using(crate::proofs::LimitLemmas::usual_limited))]
 fn copy_windows(alloc: Global, wires: &mut Outside) -> Result<String, Fail> {
     let copier = copier(alloc, USUAL)?;
     described(alloc, run_to_end(copier, wires))

@@ -19,6 +19,8 @@ mod copies_closed;
 #[cfg(test)]
 mod copies_dealt;
 #[cfg(test)]
+mod copies_failing;
+#[cfg(test)]
 mod copies_files;
 #[cfg(test)]
 mod copies_sized;

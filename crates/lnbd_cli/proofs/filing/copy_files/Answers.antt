@@ -1,4 +1,4 @@
-use Rattle.std.proofs.Common.{◌≡◌, refl, sym, subst}
+use Rattle.std.proofs.Common.{◌≡◌, inl, refl, sym, subst}
 use Rattle.lnbd_store.specs.declared.side.Side.{Side}
 use Rattle.lnbd_store.specs.declared.side.Side.TheVariants as side
 use Rattle.lnbd_cli.specs.FileCopies.{FilesEnd}
@@ -26,7 +26,7 @@ returns-in-File-Nbd-clause-ends g c =
     let ends = λ (from to : Side). FilesEnd c.args.options from to (g.W.Wires.told wires) (g.W.Wires.told went) (went ≡ wires) (S.told was) (S.told now) (S.shelf was) (S.shelf now)
     (S.given was) (S.given now) (S.taken was) (S.taken now) (now ≡ was) c.send.result in
     subst (λ (from : Side). ends from c.args.to) (sym c.in-File-Nbd.is-0)
-    (subst (λ (to : Side). ends (side.File c.in-File-Nbd.from) to) (sym c.in-File-Nbd.is-1) c.send.ensures.ends)
+    (subst (λ (to : Side). ends (side.File c.in-File-Nbd.from) to) (sym c.in-File-Nbd.is-1) (c.send.ensures.ends, inl c.send.ensures.conducts))
 
 pub returns-in-Nbd-File-clause-ends : goal.returns-in-Nbd-File-clause-ends
 returns-in-Nbd-File-clause-ends g c =
@@ -38,4 +38,4 @@ returns-in-Nbd-File-clause-ends g c =
     let ends = λ (from to : Side). FilesEnd c.args.options from to (g.W.Wires.told wires) (g.W.Wires.told went) (went ≡ wires) (S.told was) (S.told now) (S.shelf was) (S.shelf now)
     (S.given was) (S.given now) (S.taken was) (S.taken now) (now ≡ was) c.fetch.result in
     subst (λ (from : Side). ends from c.args.to) (sym c.in-Nbd-File.is-0)
-    (subst (λ (to : Side). ends (side.Nbd c.in-Nbd-File.from) to) (sym c.in-Nbd-File.is-1) c.fetch.ensures.ends)
+    (subst (λ (to : Side). ends (side.Nbd c.in-Nbd-File.from) to) (sym c.in-Nbd-File.is-1) (c.fetch.ensures.ends, inl c.fetch.ensures.conducts))

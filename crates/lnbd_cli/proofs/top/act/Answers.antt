@@ -104,6 +104,9 @@ returns-in-Selftest-clause-well g c on = absurd (subst IsOnWires c.in-Selftest.i
 pub returns-in-Selftest-clause-patient : goal.returns-in-Selftest-clause-patient
 returns-in-Selftest-clause-patient g c on = absurd (subst IsOnWires c.in-Selftest.is on)
 
+pub copy-requires : goal.copy-requires
+copy-requires g c = subst HasRoom c.in-Copy.is c.requires
+
 pub attend-requires : goal.attend-requires
 attend-requires g c = subst HasRoom c.in-Serve.is c.requires
 

@@ -1,4 +1,7 @@
-use Rattle.std.proofs.Common.{false, refl, true, arith}
+use Rattle.std.proofs.Common.{false, refl, true, arith, List, Some, subst, sym}
+use Rattle.lnbd_poll.specs.Held.{Held}
+use Rattle.lnbd_board.specs.declared.ticket.Ticket.{Ticket}
+use Rattle.lnbd_copy.specs.Deciding.{IsCalm}
 use Rattle.lnbd_copy.proofs.CauseLemmas.{goes_same, goes_then}
 use Rattle.lnbd_copy.proofs.FullLemmas.{cut_unpaused, turned_unpaused}
 use Rattle.lnbd_copy.proofs.DecidingLemmas.{decides_calm, decides_rests, decides_then}
@@ -29,6 +32,7 @@ turns-init g c = record {
   patient = λ stand. patient_none true _ _ _;
   tries = λ stand. early_none _ _;
   paced = stays_none 1 _ _ _ (omega arith);
+  calm = c.requires.calm;
 }
 
 pub turns-preserved : goal.turns-preserved
@@ -60,6 +64,7 @@ turns-preserved g c = record {
       let here = c.turns.invariant.goes.stand stand in
       early_rests _ _ _ _ _ _ c.rest.ensures.same (λ still. turned_heard _ _ _ _ c.in_ok-told.told _ _ _ _ c.in_ok-told.ensures.ok still here) c.in_ok-rest.ensures.rests
       (early_turned _ _ _ _ _ c.in_ok-told.told _ _ _ _ c.in_ok-told.ensures.ok here (c.turns.invariant.tries stand));
+  calm = subst (λ (l : List (Held Ticket)). IsCalm (Some c.args.sides) c.turn.new.board l) (sym c.rest.ensures.same) c.in_ok-told.ensures.calm;
 }
 
 pub returns-then-are_quiet-clause-quiet : goal.returns-then-are_quiet-clause-quiet
@@ -131,9 +136,6 @@ returns-in_err-rest-clause-drives g c =
 pub returns-clause-drives : goal.returns-clause-drives
 returns-clause-drives g c = goes_drive _ _ _ _ _ _ c.turns.invariant.goes
 
-pub returns-in_err-check_calm-clause-drives : goal.returns-in_err-check_calm-clause-drives
-returns-in_err-check_calm-clause-drives g c = goes_drive _ _ _ _ _ _ c.turns.invariant.goes
-
 pub returns-in_err-told-clause-decides : goal.returns-in_err-told-clause-decides
 returns-in_err-told-clause-decides g c =
     handed_on _ c.from_residual-in_err-told.result _ c.from_residual-in_err-told.ensures.1 (decides_then _ false _ _ _ _ _ _ _ _ c.turns.invariant.goes (c.in_err-told.ensures.decides false))
@@ -145,7 +147,7 @@ returns-in_err-rest-clause-decides g c =
     (decides_rests _ false _ _ _ _ _ c.in_ok-told.ensures.calm c.in_err-rest.ensures.still c.in_err-rest.ensures.free))
 
 pub returns-then-are_quiet-clause-calm : goal.returns-then-are_quiet-clause-calm
-returns-then-are_quiet-clause-calm g c = c.in_ok-check_calm.ensures
+returns-then-are_quiet-clause-calm g c = c.turns.invariant.calm
 
 pub returns-then-are_quiet-clause-tried : goal.returns-then-are_quiet-clause-tried
 returns-then-are_quiet-clause-tried g c stand = early_ends _ _ _ (c.turns.invariant.goes.stand stand) (c.if-are_quiet.ensures refl) (c.turns.invariant.tries stand)
@@ -155,9 +157,6 @@ returns-then-are_quiet-clause-tries g c stand = tries_anyhow _ _ (c.turns.invari
 
 pub returns-in_err-told-clause-tries : goal.returns-in_err-told-clause-tries
 returns-in_err-told-clause-tries g c stand = tries_any _ _ _ (c.turns.invariant.tries stand) (cut_unpaused _ _ _ _ _ _ _ _ c.in_err-told.ensures.cut (c.turns.invariant.goes.stand stand))
-
-pub returns-in_err-check_calm-clause-tries : goal.returns-in_err-check_calm-clause-tries
-returns-in_err-check_calm-clause-tries g c stand = tries_anyhow _ _ (c.turns.invariant.tries stand)
 
 pub returns-in_err-rest-clause-tries : goal.returns-in_err-rest-clause-tries
 returns-in_err-rest-clause-tries g c stand =
@@ -171,15 +170,15 @@ returns-in_err-check_idles-clause-drives g c = goes_drive _ _ _ _ _ _ c.turns.in
 
 pub returns-in_err-check_idles-clause-decides : goal.returns-in_err-check_idles-clause-decides
 returns-in_err-check_idles-clause-decides g c =
-    handed_on _ c.from_residual-in_err-check_idles.result _ c.from_residual-in_err-check_idles.ensures.1 (
-    decides_then _ false _ _ _ _ _ _ _ _ c.turns.invariant.goes (decides_calm _ false _ _ _ _ c.in_ok-check_calm.ensures c.in_err-check_idles.ensures.free))
+    handed_on _ c.from_residual.result _ c.from_residual.ensures.1 (
+    decides_then _ false _ _ _ _ _ _ _ _ c.turns.invariant.goes (decides_calm _ false _ _ _ _ c.turns.invariant.calm c.in_err-check_idles.ensures.free))
 
 pub returns-in_err-check_idles-clause-tries : goal.returns-in_err-check_idles-clause-tries
 returns-in_err-check_idles-clause-tries g c stand = tries_anyhow _ _ (c.turns.invariant.tries stand)
 
 pub returns-in_err-check_idles-clause-impatient : goal.returns-in_err-check_idles-clause-impatient
 returns-in_err-check_idles-clause-impatient g c =
-    handed_on _ c.from_residual-in_err-check_idles.result _ c.from_residual-in_err-check_idles.ensures.1 (λ stand. patient_gives _ _ _ _ _ _ c.in_err-check_idles.ensures.silent (c.turns.invariant.patient stand))
+    handed_on _ c.from_residual.result _ c.from_residual.ensures.1 (λ stand. patient_gives _ _ _ _ _ _ c.in_err-check_idles.ensures.silent (c.turns.invariant.patient stand))
 
 pub returns-then-are_quiet-clause-patient : goal.returns-then-are_quiet-clause-patient
 returns-then-are_quiet-clause-patient g c stand = patient_looked true _ _ _ _ _ c.in_ok-check_idles.ensures.well (c.turns.invariant.patient stand)
@@ -205,9 +204,6 @@ returns-then-are_quiet-clause-paces g c = stays_fewer _ _ _ _ c.turns.invariant.
 
 pub returns-clause-paces : goal.returns-clause-paces
 returns-clause-paces g c = stays_fewer _ _ _ _ c.turns.invariant.paced
-
-pub returns-in_err-check_calm-clause-paces : goal.returns-in_err-check_calm-clause-paces
-returns-in_err-check_calm-clause-paces g c = stays_fewer _ _ _ _ c.turns.invariant.paced
 
 pub returns-in_err-check_idles-clause-paces : goal.returns-in_err-check_idles-clause-paces
 returns-in_err-check_idles-clause-paces g c = stays_fewer _ _ _ _ c.turns.invariant.paced

@@ -1,4 +1,5 @@
-use Rattle.std.proofs.Common.{[], true}
+use Rattle.std.proofs.Common.{[], true, Some}
+use Rattle.lnbd_copy.specs.Deciding.{IsCalm}
 use Rattle.lnbd_copy.specs.Causes.{GoesOn}
 use Rattle.lnbd_copy.specs.Pace.{StaysPaced}
 use Rattle.lnbd_copy.specs.Patient.{StaysPatient}
@@ -25,4 +26,5 @@ invariant-turns g l = record {
   patient : Stand l.fn.handles → StaysPatient true l.fn.start.idles (g.W.Wires.told l.fn.wires) (g.W.Wires.idles l.fn.wires) (g.W.Wires.told l.wires) (g.W.Wires.idles l.wires);
   paced : StaysPaced 1 l.fn.board l.fn.handles (g.W.Wires.told l.fn.wires) (g.W.Wires.told l.wires);
   tries : Stand l.fn.handles → Tries (IsLeftEarly l.handles) (g.W.Wires.told l.fn.wires) (g.W.Wires.told l.wires);
+  calm : IsCalm (Some l.fn.sides) l.board l.handles;
 }

@@ -1,8 +1,16 @@
 use Rattle.std.proofs.Common.{ap, ◌∙◌}
 use Rattle.lnbd_conduct.specs.declared.terms.Terms.{Terms}
 use Rattle.lnbd_copy.proofs.GroundLemmas.{handed_on}
-use Rattle.lnbd_copyfile.proofs.ToFileRunLemmas.{broken_off, is_made, lacking, not_made, stored, unsynced}
+use Rattle.lnbd_connections.proofs.UseLemmas.{uses_none}
+use Rattle.lnbd_copyfile.proofs.ToFileRunLemmas.{broken_off, is_made, lacking, not_made, stored, unsynced, is_cut, stored_all}
 use Rattle.lnbd_copyfile.proofs.to_file.store_slices.Goals as goal
+use Rattle.lnbd_connections.proofs.FewLemmas.{few_same}
+use Rattle.lnbd_copyfile.specs.Sharing.{share}
+use Rattle.lnbd_copyfile.proofs.PassedRunLemmas.{passed}
+use Rattle.lnbd_copyfile.proofs.ToFilePauseLemmas.{full_stored}
+use Rattle.lnbd_copyfile.proofs.SparingLemmas.{is_spared}
+use Rattle.lnbd_copyfile.proofs.TakenLemmas.{more_lasts}
+use Rattle.lnbd_copyfile.proofs.HearingLemmas.{heard_reads}
 
 pub returns-in_err-file-clause-stopped : goal.returns-in_err-file-clause-stopped
 returns-in_err-file-clause-stopped g c =
@@ -37,3 +45,94 @@ returns-clause-makes g c at before set =
     is_made c.args.to.now c.in_ok-file.file c.args.terms.size at before _ c.take_turns.new.job _ _ _ _ _ _ _ _ _ _ _ c.in_ok-file.ensures.blank c.make.ensures.taken c.in_ok-finish.ensures.kept
     c.finish.ensures.taken (c.in_ok-take_turns.ensures.on.on at before _ _ (set c.in_ok-file.file _ _)) (ap (λ (t : Terms). t.size) (c.take_turns.ensures.terms ∙ c.requires.terms)) c.requires.size
     c.in_ok-take_turns.ensures.parting c.in_ok-take_turns.ensures.parted c.in_ok-check_well.ensures c.summary_of.ensures
+
+pub returns-in_err-take_turns-clause-asks : goal.returns-in_err-take_turns-clause-asks
+returns-in_err-take_turns-clause-asks g c at before set reads = c.take_turns.ensures.asks.on at before _ _ (set c.in_ok-file.file _ _) reads
+
+pub returns-in_err-check_well-clause-asks : goal.returns-in_err-check_well-clause-asks
+returns-in_err-check_well-clause-asks g c at before set reads = c.take_turns.ensures.asks.on at before _ _ (set c.in_ok-file.file _ _) reads
+
+pub returns-in_err-check_counts-clause-asks : goal.returns-in_err-check_counts-clause-asks
+returns-in_err-check_counts-clause-asks g c at before set reads = c.take_turns.ensures.asks.on at before _ _ (set c.in_ok-file.file _ _) reads
+
+pub returns-in_err-finish-clause-asks : goal.returns-in_err-finish-clause-asks
+returns-in_err-finish-clause-asks g c at before set reads = c.take_turns.ensures.asks.on at before _ _ (set c.in_ok-file.file _ _) reads
+
+pub returns-clause-asks : goal.returns-clause-asks
+returns-clause-asks g c at before set reads = c.take_turns.ensures.asks.on at before _ _ (set c.in_ok-file.file _ _) reads
+
+pub returns-clause-cuts : goal.returns-clause-cuts
+returns-clause-cuts g c at before set =
+    is_cut c.args.to.now c.in_ok-file.file c.args.terms.size c.args.terms.flush at before _ c.take_turns.new.job _ _ _ _ _ _ _ _ _
+    (c.in_ok-take_turns.ensures.on.on at before _ _ (set c.in_ok-file.file _ _)) (ap (λ (t : Terms). t.size) (c.take_turns.ensures.terms ∙ c.requires.terms)) c.requires.size
+    c.in_ok-take_turns.ensures.parting c.in_ok-take_turns.ensures.parted c.in_ok-check_well.ensures c.summary_of.ensures
+    (stored_all c.args.to.now c.in_ok-file.file c.args.terms.size c.args.terms.flush _ _ _ _ c.in_ok-file.ensures.made c.in_ok-take_turns.ensures.writes c.in_ok-finish.ensures.closed)
+
+pub returns-clause-spares : goal.returns-clause-spares
+returns-clause-spares g c at before set was =
+    let begins = set c.in_ok-file.file _ _ in
+    is_spared c.in_ok-file.file at c.args.terms.grain before _ c.take_turns.new.job _ _ _ _ _ _ (c.in_ok-take_turns.ensures.on.on at before _ _ begins)
+    (ap (λ (t : Terms). t.grain) (c.take_turns.ensures.terms ∙ c.requires.terms)) c.in_ok-take_turns.ensures.parting c.in_ok-take_turns.ensures.parted c.in_ok-check_well.ensures
+    (more_lasts _ _ _ _ _ _ _ _ c.take_turns.ensures.asks at c.args.terms.grain before _ _ begins was)
+
+pub returns-clause-passes : goal.returns-clause-passes
+returns-clause-passes g c at before set =
+    passed c.in_ok-file.file at before _ c.take_turns.new.job _ _ _ c.args.terms _ _ _ _ (c.in_ok-take_turns.ensures.on.on at before _ _ (set c.in_ok-file.file _ _))
+    (c.take_turns.ensures.terms ∙ c.requires.terms) c.requires.size c.requires.zeroes c.in_ok-take_turns.ensures.parting c.in_ok-take_turns.ensures.parted c.in_ok-check_well.ensures c.summary_of.ensures
+
+pub returns-in_err-file-clause-shares : goal.returns-in_err-file-clause-shares
+returns-in_err-file-clause-shares g c from sharing = few_same (share c.args.terms) from _
+
+pub returns-in_err-take_turns-clause-shares : goal.returns-in_err-take_turns-clause-shares
+returns-in_err-take_turns-clause-shares g c from sharing = c.take_turns.ensures.shares c.args.terms from sharing
+
+pub returns-in_err-check_well-clause-shares : goal.returns-in_err-check_well-clause-shares
+returns-in_err-check_well-clause-shares g c from sharing = c.take_turns.ensures.shares c.args.terms from sharing
+
+pub returns-in_err-check_counts-clause-shares : goal.returns-in_err-check_counts-clause-shares
+returns-in_err-check_counts-clause-shares g c from sharing = c.take_turns.ensures.shares c.args.terms from sharing
+
+pub returns-in_err-finish-clause-shares : goal.returns-in_err-finish-clause-shares
+returns-in_err-finish-clause-shares g c from sharing = c.take_turns.ensures.shares c.args.terms from sharing
+
+pub returns-clause-shares : goal.returns-clause-shares
+returns-clause-shares g c from sharing = c.take_turns.ensures.shares c.args.terms from sharing
+
+pub returns-in_err-file-clause-uses : goal.returns-in_err-file-clause-uses
+returns-in_err-file-clause-uses g c = uses_none _ _ _ _ _
+
+pub returns-in_err-take_turns-clause-full : goal.returns-in_err-take_turns-clause-full
+returns-in_err-take_turns-clause-full g c options at before set empty ready = full_stored options at _ before _ _ c.args.job.now c.args.board.now c.args.handles.now c.args.terms _ _ set ready c.requires.terms empty c.take_turns.ensures.full
+
+pub returns-in_err-check_well-clause-full : goal.returns-in_err-check_well-clause-full
+returns-in_err-check_well-clause-full g c options at before set empty ready = full_stored options at _ before _ _ c.args.job.now c.args.board.now c.args.handles.now c.args.terms _ _ set ready c.requires.terms empty c.take_turns.ensures.full
+
+pub returns-in_err-check_counts-clause-full : goal.returns-in_err-check_counts-clause-full
+returns-in_err-check_counts-clause-full g c options at before set empty ready = full_stored options at _ before _ _ c.args.job.now c.args.board.now c.args.handles.now c.args.terms _ _ set ready c.requires.terms empty c.take_turns.ensures.full
+
+pub returns-in_err-finish-clause-full : goal.returns-in_err-finish-clause-full
+returns-in_err-finish-clause-full g c options at before set empty ready = full_stored options at _ before _ _ c.args.job.now c.args.board.now c.args.handles.now c.args.terms _ _ set ready c.requires.terms empty c.take_turns.ensures.full
+
+pub returns-clause-full : goal.returns-clause-full
+returns-clause-full g c options at before set empty ready = full_stored options at _ before _ _ c.args.job.now c.args.board.now c.args.handles.now c.args.terms _ _ set ready c.requires.terms empty c.take_turns.ensures.full
+
+pub returns-in_err-file-clause-full : goal.returns-in_err-file-clause-full
+returns-in_err-file-clause-full g c options at before set empty ready = ready.pauses
+
+pub returns-in_err-file-clause-heard : goal.returns-in_err-file-clause-heard
+returns-in_err-file-clause-heard g c at before set heard = heard_reads at _ before _ heard
+
+pub returns-in_err-take_turns-clause-heard : goal.returns-in_err-take_turns-clause-heard
+returns-in_err-take_turns-clause-heard g c at before set heard = c.take_turns.ensures.heard.on at before _ _ (set c.in_ok-file.file _ _) heard
+
+pub returns-in_err-check_well-clause-heard : goal.returns-in_err-check_well-clause-heard
+returns-in_err-check_well-clause-heard g c at before set heard = c.take_turns.ensures.heard.on at before _ _ (set c.in_ok-file.file _ _) heard
+
+pub returns-in_err-check_counts-clause-heard : goal.returns-in_err-check_counts-clause-heard
+returns-in_err-check_counts-clause-heard g c at before set heard = c.take_turns.ensures.heard.on at before _ _ (set c.in_ok-file.file _ _) heard
+
+pub returns-in_err-finish-clause-heard : goal.returns-in_err-finish-clause-heard
+returns-in_err-finish-clause-heard g c at before set heard = c.take_turns.ensures.heard.on at before _ _ (set c.in_ok-file.file _ _) heard
+
+pub returns-clause-heard : goal.returns-clause-heard
+returns-clause-heard g c at before set heard = c.take_turns.ensures.heard.on at before _ _ (set c.in_ok-file.file _ _) heard

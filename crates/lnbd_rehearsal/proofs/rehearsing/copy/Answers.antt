@@ -1,7 +1,11 @@
 use Rattle.std.proofs.Common.{◌∙◌, ap}
 use Rattle.lnbd_plan.specs.declared.options.CopyOptions.{CopyOptions}
 use Rattle.lnbd_rehearsal.proofs.RehearsedLemmas.{conducts_between, copies_between, made_between}
+use Rattle.lnbd_rehearsal.proofs.LimitLemmas.{usual_limited}
 use Rattle.lnbd_rehearsal.proofs.rehearsing.copy.Goals as goal
+
+pub new-requires : goal.new-requires
+new-requires c = usual_limited
 
 pub returns-in-Ok-clause-copies : goal.returns-in-Ok-clause-copies
 returns-in-Ok-clause-copies c =

@@ -7,7 +7,7 @@ use Rattle.lnbd_script.proofs.TurnLemmas.{blames_on, blames_same}
 use Rattle.lnbd_script.proofs.playing.play_lines.Goals as goal
 
 pub lines-init : goal.lines-init
-lines-init g c = record { begun = λ scene s. begun_none _ scene _ _ _ _ s; still = refl; start = refl; counts = blames_same _ _ }
+lines-init g c = record { begun = λ scene s. begun_none _ scene _ _ _ _ s; still = refl; start = refl; unread = c.requires.unread; counts = blames_same _ _ }
 
 pub make_current-requires : goal.make_current-requires
 make_current-requires g c =
@@ -20,7 +20,7 @@ returns-then-is_err-clause-played g c scene s = stopped_between c.args.lines.now
 pub step-requires : goal.step-requires
 step-requires g c =
     let b = c.lines.invariant.begun c.requires.reached.0 c.requires.reached.1 in
-    record { reached = (b.middle, c.make_current.ensures.stands b.middle _ b.at); used = ok_of c.make_current.result (sym c.is_err.ensures.value ∙ c.if-is_err.false) c.make_current.ensures.used }
+    record { reached = (b.middle, c.make_current.ensures.stands b.middle _ b.at); used = ok_of c.make_current.result (sym c.is_err.ensures.value ∙ c.if-is_err.false) c.make_current.ensures.used; unread = c.make_current.ensures.unread ∙ c.lines.invariant.unread }
 
 pub current-requires : goal.current-requires
 current-requires g c =
@@ -47,6 +47,7 @@ lines-preserved g c = record {
       (shown_at (Ok tt) (g.O.Sink.taken c.lines.out) (g.O.Sink.taken c.tell.new.out) c.in-Ok.told c.current.result.now c.step.new.self _ c.current.ensures c.in_default.ensures.shown);
   still = c.in_default.ensures.well ∙ c.lines.invariant.still;
   start = c.step.ensures.start ∙ c.make_current.ensures.start ∙ c.lines.invariant.start;
+  unread = c.in-Ok.ensures.unread;
   counts = blames_on _ _ _ _ _ _ c.lines.invariant.counts
       (subst (λ (e : Option Event). Blames e c.step.new.self.first (g.W.Wires.faults c.lines.wires) (g.W.Wires.faults c.step.new.wires)) c.make_current.ensures.first c.step.ensures.counts);
 }

@@ -15,7 +15,18 @@ use Rattle.lnbd_copy.proofs.DrivenAsLemmas.{first_driven, met_driven}
 use Rattle.lnbd_copy.proofs.ToldAlikeLemmas.{quiet_same}
 use Rattle.lnbd_copy.proofs.PatientLemmas.{always_if_err, patient_any, patient_at, patient_then}
 use Rattle.lnbd_copy.proofs.LawfulLemmas.{sides_some}
+use Rattle.lnbd_copy.proofs.FewLemmas.{sides_few}
+use Rattle.lnbd_copy.proofs.CalmLemmas.{calm_two}
 use Rattle.lnbd_copy.proofs.copier.Copier.connect.Goals as goal
+
+pub dial_further-requires-clause-calm : goal.dial_further-requires-clause-calm
+dial_further-requires-clause-calm g c = calm_two c.in_ok-terms.terms.sides _ _ c.in_ok-terms.ensures.two c.in_ok-terms.ensures.calm
+
+pub set_up-requires-clause-well : goal.set_up-requires-clause-well
+set_up-requires-clause-well g c = c.in_ok-dial_further.ensures.calm.well
+
+pub dial_further-requires-clause-few : goal.dial_further-requires-clause-few
+dial_further-requires-clause-few g c = sides_few c.args.self.now c.meet.new.self _ _ c.in_ok-terms.terms c.in_ok-terms.ensures.kept c.requires.begun.limits c.in_ok-terms.ensures.met
 
 pub returns-clause-begins : goal.returns-clause-begins
 returns-clause-begins g c =
@@ -48,10 +59,6 @@ pub returns-in_err-dial_further-clause-links : goal.returns-in_err-dial_further-
 returns-in_err-dial_further-clause-links g c =
     within_met c.args.self.now c.meet.new.self _ _ _ _ c.in_ok-terms.terms c.in_ok-terms.ensures.kept c.in_ok-terms.ensures.met c.in_ok-terms.ensures.connects c.in_err-dial_further.ensures.links
 
-pub returns-in_err-check_well-clause-links : goal.returns-in_err-check_well-clause-links
-returns-in_err-check_well-clause-links g c =
-    within_told _ _ _ _ _ _ _ (told_met c.args.self.now c.meet.new.self _ _ _ _ c.in_ok-terms.terms c.in_ok-terms.ensures.kept c.in_ok-terms.ensures.met c.in_ok-terms.ensures.connects c.in_ok-dial_further.ensures.connects (connected_begins _ _ c.in_ok-terms.ensures.connected) c.in_ok-dial_further.ensures.connected)
-
 pub returns-in_err-set_up-clause-links : goal.returns-in_err-set_up-clause-links
 returns-in_err-set_up-clause-links g c =
     within_told _ _ _ _ _ _ _ (told_end _ _ _ _ _ _ _ _ _ (told_met c.args.self.now c.meet.new.self _ _ _ _ c.in_ok-terms.terms c.in_ok-terms.ensures.kept c.in_ok-terms.ensures.met c.in_ok-terms.ensures.connects c.in_ok-dial_further.ensures.connects (connected_begins _ _ c.in_ok-terms.ensures.connected) c.in_ok-dial_further.ensures.connected) (links_same _ _ _ c.in_err-set_up.ensures.links))
@@ -73,15 +80,6 @@ returns-in_err-dial_further-clause-unready g c =
 pub returns-in_err-dial_further-clause-vain : goal.returns-in_err-dial_further-clause-vain
 returns-in_err-dial_further-clause-vain g c = pauses_then _ _ _ c.in_ok-terms.ensures.vain (c.dial_further.ensures.vain c.in_ok-terms.ensures.met.stand)
 
-pub returns-in_err-check_well-clause-unready : goal.returns-in_err-check_well-clause-unready
-returns-in_err-check_well-clause-unready g c =
-    early_back c.args.self.now c.meet.new.self _ _ c.in_ok-terms.ensures.kept
-    (c.dial_further.ensures.unready (g.W.Wires.told c.args.wires.now) c.in_ok-terms.terms c.in_ok-terms.ensures.met refl c.in_ok-terms.ensures.two
-    (c.in_ok-terms.ensures.connects.on _ (links_begin _ _ c.requires.begun.held)) (early_kept c.args.self.now c.meet.new.self _ _ c.in_ok-terms.ensures.kept c.in_ok-terms.ensures.unready))
-
-pub returns-in_err-check_well-clause-vain : goal.returns-in_err-check_well-clause-vain
-returns-in_err-check_well-clause-vain g c = pauses_then _ _ _ c.in_ok-terms.ensures.vain (c.dial_further.ensures.vain c.in_ok-terms.ensures.met.stand)
-
 pub returns-in_err-set_up-clause-unready : goal.returns-in_err-set_up-clause-unready
 returns-in_err-set_up-clause-unready g c =
     early_back c.args.self.now c.meet.new.self _ _ c.in_ok-terms.ensures.kept
@@ -97,9 +95,6 @@ returns-clause-wanted g c = pauses_then _ _ _ c.in_ok-terms.ensures.wanted (c.di
 pub returns-in_err-dial_further-clause-wanted : goal.returns-in_err-dial_further-clause-wanted
 returns-in_err-dial_further-clause-wanted g c = pauses_then _ _ _ c.in_ok-terms.ensures.wanted (c.dial_further.ensures.wanted c.in_ok-terms.ensures.met.stand)
 
-pub returns-in_err-check_well-clause-wanted : goal.returns-in_err-check_well-clause-wanted
-returns-in_err-check_well-clause-wanted g c = pauses_then _ _ _ c.in_ok-terms.ensures.wanted (c.dial_further.ensures.wanted c.in_ok-terms.ensures.met.stand)
-
 pub returns-in_err-set_up-clause-wanted : goal.returns-in_err-set_up-clause-wanted
 returns-in_err-set_up-clause-wanted g c = pauses_then _ _ _ c.in_ok-terms.ensures.wanted (c.dial_further.ensures.wanted c.in_ok-terms.ensures.met.stand)
 
@@ -111,18 +106,9 @@ pub returns-in_err-dial_further-clause-little : goal.returns-in_err-dial_further
 returns-in_err-dial_further-clause-little g c =
     c.dial_further.ensures.little _ c.in_ok-terms.terms c.in_ok-terms.ensures.met refl c.in_ok-terms.ensures.unissued c.in_ok-terms.ensures.two c.in_ok-terms.ensures.little
 
-pub returns-in_err-check_well-clause-little : goal.returns-in_err-check_well-clause-little
-returns-in_err-check_well-clause-little g c =
-    c.dial_further.ensures.little _ c.in_ok-terms.terms c.in_ok-terms.ensures.met refl c.in_ok-terms.ensures.unissued c.in_ok-terms.ensures.two c.in_ok-terms.ensures.little
-
 pub returns-in_err-set_up-clause-little : goal.returns-in_err-set_up-clause-little
 returns-in_err-set_up-clause-little g c =
     c.dial_further.ensures.little _ c.in_ok-terms.terms c.in_ok-terms.ensures.met refl c.in_ok-terms.ensures.unissued c.in_ok-terms.ensures.two c.in_ok-terms.ensures.little
-
-pub returns-in_err-check_well-clause-unasked : goal.returns-in_err-check_well-clause-unasked
-returns-in_err-check_well-clause-unasked g c =
-    unasked_as _ _ _ _ _ _ (ap (λ (s : Seen). s.from) c.in_ok-terms.ensures.kept) (ap (λ (s : Seen). s.to) c.in_ok-terms.ensures.kept)
-    (c.dial_further.ensures.unasked _ c.in_ok-terms.terms c.in_ok-terms.ensures.met refl c.in_ok-terms.ensures.unissued c.in_ok-terms.ensures.two)
 
 pub returns-in_err-set_up-clause-unasked : goal.returns-in_err-set_up-clause-unasked
 returns-in_err-set_up-clause-unasked g c =
@@ -136,9 +122,6 @@ returns-clause-unasked g c =
 
 pub returns-in_err-dial_further-clause-drives : goal.returns-in_err-dial_further-clause-drives
 returns-in_err-dial_further-clause-drives g c = met_driven c.args.self.now c.meet.new.self _ _ _ c.in_ok-terms.terms c.in_ok-terms.ensures.kept c.in_ok-terms.ensures.met (c.dial_further.ensures.links c.in_ok-terms.ensures.met.stand).go.lasts (c.dial_further.ensures.drives (g.W.Wires.told c.args.wires.now) c.in_ok-terms.terms c.in_ok-terms.ensures.met refl c.in_ok-terms.ensures.two)
-
-pub returns-in_err-check_well-clause-drives : goal.returns-in_err-check_well-clause-drives
-returns-in_err-check_well-clause-drives g c = met_driven c.args.self.now c.meet.new.self _ _ _ c.in_ok-terms.terms c.in_ok-terms.ensures.kept c.in_ok-terms.ensures.met (c.dial_further.ensures.links c.in_ok-terms.ensures.met.stand).go.lasts (c.dial_further.ensures.drives (g.W.Wires.told c.args.wires.now) c.in_ok-terms.terms c.in_ok-terms.ensures.met refl c.in_ok-terms.ensures.two)
 
 pub returns-in_err-set_up-clause-drives : goal.returns-in_err-set_up-clause-drives
 returns-in_err-set_up-clause-drives g c = met_driven c.args.self.now c.meet.new.self _ _ _ c.in_ok-terms.terms c.in_ok-terms.ensures.kept c.in_ok-terms.ensures.met (c.dial_further.ensures.links c.in_ok-terms.ensures.met.stand).go.lasts (c.dial_further.ensures.drives (g.W.Wires.told c.args.wires.now) c.in_ok-terms.terms c.in_ok-terms.ensures.met refl c.in_ok-terms.ensures.two)
@@ -164,9 +147,6 @@ returns-clause-tried g c = tries_then _ _ _ c.in_ok-terms.ensures.tried (c.in_ok
 pub returns-in_err-dial_further-clause-tries : goal.returns-in_err-dial_further-clause-tries
 returns-in_err-dial_further-clause-tries g c = tries_then _ _ _ c.in_ok-terms.ensures.tried (c.dial_further.ensures.tries c.in_ok-terms.ensures.met.stand)
 
-pub returns-in_err-check_well-clause-tries : goal.returns-in_err-check_well-clause-tries
-returns-in_err-check_well-clause-tries g c = tries_then _ _ _ c.in_ok-terms.ensures.tried (c.dial_further.ensures.tries c.in_ok-terms.ensures.met.stand)
-
 pub returns-in_err-set_up-clause-tries : goal.returns-in_err-set_up-clause-tries
 returns-in_err-set_up-clause-tries g c = tries_then _ _ _ c.in_ok-terms.ensures.tried (c.dial_further.ensures.tries c.in_ok-terms.ensures.met.stand)
 
@@ -179,9 +159,6 @@ returns-in_err-dial_further-clause-impatient g c =
     handed_on _ c.from_residual-in_err-dial_further.result _ c.from_residual-in_err-dial_further.ensures.1
     (patient_then _ _ _ _ _ _ _ _ c.in_ok-terms.ensures.patient (patient_at _ _ _ _ _ _ _ (ap (λ (s : Seen). s.start.idles) c.in_ok-terms.ensures.kept) (c.in_err-dial_further.ensures.impatient c.in_ok-terms.ensures.met.stand)))
 
-pub returns-in_err-check_well-clause-impatient : goal.returns-in_err-check_well-clause-impatient
-returns-in_err-check_well-clause-impatient g c = always_if_err c.from_residual-in_err-check_well.result (λ why. patient_any _ _ _ _ _ _ (patient_then _ _ _ _ _ _ _ _ c.in_ok-terms.ensures.patient (patient_at _ _ _ _ _ _ _ (ap (λ (s : Seen). s.start.idles) c.in_ok-terms.ensures.kept) (c.in_ok-dial_further.ensures.patient c.in_ok-terms.ensures.met.stand))))
-
 pub returns-in_err-set_up-clause-impatient : goal.returns-in_err-set_up-clause-impatient
 returns-in_err-set_up-clause-impatient g c = always_if_err c.from_residual-in_err-set_up.result (λ why. patient_any _ _ _ _ _ _ (patient_then _ _ _ _ _ _ _ _ c.in_ok-terms.ensures.patient (patient_at _ _ _ _ _ _ _ (ap (λ (s : Seen). s.start.idles) c.in_ok-terms.ensures.kept) (c.in_ok-dial_further.ensures.patient c.in_ok-terms.ensures.met.stand))))
 
@@ -193,9 +170,6 @@ returns-clause-paces g c = c.dial_further.ensures.paces _ c.in_ok-terms.terms c.
 
 pub returns-in_err-dial_further-clause-paces : goal.returns-in_err-dial_further-clause-paces
 returns-in_err-dial_further-clause-paces g c = c.dial_further.ensures.paces _ c.in_ok-terms.terms c.in_ok-terms.ensures.met refl c.in_ok-terms.ensures.two c.in_ok-terms.ensures.paced
-
-pub returns-in_err-check_well-clause-paces : goal.returns-in_err-check_well-clause-paces
-returns-in_err-check_well-clause-paces g c = c.dial_further.ensures.paces _ c.in_ok-terms.terms c.in_ok-terms.ensures.met refl c.in_ok-terms.ensures.two c.in_ok-terms.ensures.paced
 
 pub returns-in_err-set_up-clause-paces : goal.returns-in_err-set_up-clause-paces
 returns-in_err-set_up-clause-paces g c = c.dial_further.ensures.paces _ c.in_ok-terms.terms c.in_ok-terms.ensures.met refl c.in_ok-terms.ensures.two c.in_ok-terms.ensures.paced

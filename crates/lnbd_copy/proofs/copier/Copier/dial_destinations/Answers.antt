@@ -13,6 +13,13 @@ use Rattle.lnbd_copy.proofs.MeetLemmas.{further_decides}
 use Rattle.lnbd_copy.proofs.PaceLemmas.{untired_then}
 use Rattle.lnbd_copy.proofs.copier.Copier.dial_destinations.Goals as goal
 
+pub dial_destination-requires-clause-few : goal.dial_destination-requires-clause-few
+dial_destination-requires-clause-few g c =
+    let many = c.further.invariant.many in
+    let less = c.further-test.true in
+    let few = c.requires.few in
+    omega (arith, many, less, few)
+
 pub further-preserved : goal.further-preserved
 further-preserved g c = record {
   kept = kept_then c.args.self.now c.further.self c.dial_destination.new.self c.further.invariant.kept c.in_ok-dial_destination.ensures.kept;
@@ -30,6 +37,7 @@ further-preserved g c = record {
   untried = untired_then _ _ _ c.further.invariant.untried c.dial_destination.ensures.untried;
   connected = connected_then _ _ _ c.further.invariant.connected c.in_ok-dial_destination.ensures.connected;
   counts = goes_then _ _ _ _ _ _ _ _ _ c.further.invariant.counts c.dial_destination.ensures.counts;
+  calm = c.in_ok-dial_destination.ensures.calm;
 }
 
 pub returns-clause-connects : goal.returns-clause-connects

@@ -20,6 +20,15 @@ use Rattle.lnbd_copy.proofs.PaceLemmas.{pace_fewer, pace_untired, untired_then}
 use Rattle.lnbd_copy.proofs.PaceMeets.{further_paced}
 use Rattle.lnbd_copy.proofs.copier.Copier.dial_further.Goals as goal
 
+pub dial_sources-requires-clause-few : goal.dial_sources-requires-clause-few
+dial_sources-requires-clause-few g c = let few = c.requires.few in omega (arith, few)
+
+pub dial_destinations-requires-clause-few : goal.dial_destinations-requires-clause-few
+dial_destinations-requires-clause-few g c =
+    let many = c.in_ok-dial_sources.ensures.many c.requires.two in
+    let few = c.requires.few in
+    omega (arith, many, few)
+
 pub returns-clause-further : goal.returns-clause-further
 returns-clause-further g c =
     let one = c.in_ok-dial_sources.ensures.further in

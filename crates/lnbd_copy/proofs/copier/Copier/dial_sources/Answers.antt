@@ -14,6 +14,13 @@ use Rattle.lnbd_copy.proofs.MeetLemmas.{further_decides}
 use Rattle.lnbd_copy.proofs.PaceLemmas.{untired_then}
 use Rattle.lnbd_copy.proofs.copier.Copier.dial_sources.Goals as goal
 
+pub dial_source-requires-clause-few : goal.dial_source-requires-clause-few
+dial_source-requires-clause-few g c =
+    let many = c.further.invariant.many c.requires.two in
+    let less = c.further-test.true in
+    let few = c.requires.few in
+    omega (arith, many, less, few)
+
 pub further-preserved : goal.further-preserved
 further-preserved g c = record {
   kept = kept_then c.args.self.now c.further.self c.dial_source.new.self c.further.invariant.kept c.in_ok-dial_source.ensures.kept;
@@ -30,6 +37,7 @@ further-preserved g c = record {
   untried = untired_then _ _ _ c.further.invariant.untried c.dial_source.ensures.untried;
   connected = connected_then _ _ _ c.further.invariant.connected c.in_ok-dial_source.ensures.connected;
   counts = goes_then _ _ _ _ _ _ _ _ _ c.further.invariant.counts c.dial_source.ensures.counts;
+  calm = c.in_ok-dial_source.ensures.calm;
 }
 
 pub returns-clause-connects : goal.returns-clause-connects

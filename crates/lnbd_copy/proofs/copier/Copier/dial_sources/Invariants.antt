@@ -1,4 +1,5 @@
-use Rattle.std.proofs.Common.{◌≡◌, ◌+◌, ◌-◌, ◌<◌, ◌≤◌, length, replicate}
+use Rattle.std.proofs.Common.{◌≡◌, ◌+◌, ◌-◌, ◌<◌, ◌≤◌, Some, length, replicate}
+use Rattle.lnbd_copy.specs.Deciding.{IsCalm}
 use Rattle.lnbd_copy.specs.Causes.{GoesOn}
 use Rattle.lnbd_copy.specs.Copier.{GoesFurther}
 use Rattle.lnbd_copy.specs.Pace.{TriesAtMost}
@@ -22,4 +23,5 @@ invariant-further g l = record {
   unissued : AreUnissued l.fn.self.held → AreUnissued l.self.held;
   connected : StaysConnected (g.W.Wires.told l.fn.wires) (g.W.Wires.told l.wires);
   counts : GoesOn (g.W.Wires.faults l.fn.wires) (g.W.Wires.faults l.wires) (g.W.Wires.idles l.fn.wires) (g.W.Wires.idles l.wires) (g.W.Wires.contents l.fn.wires) (g.W.Wires.contents l.wires);
+  calm : IsCalm (Some l.fn.sides) l.self.board l.self.held;
 }

@@ -1,4 +1,4 @@
-use Rattle.std.proofs.Common.{List, false, ◌∙◌, [], ◌∷◌, ap, sym, subst, arith, length}
+use Rattle.std.proofs.Common.{List, false, ◌∙◌, ◌<◌, [], ◌∷◌, ap, sym, subst, arith, length}
 use Rattle.lnbd_copy.specs.Agreed.{AreQuiet}
 use Rattle.lnbd_copy.specs.Copier.{Seen}
 use Rattle.lnbd_copy.proofs.AlikeLemmas.{terms_known}
@@ -6,7 +6,7 @@ use Rattle.lnbd_copy.proofs.CauseLemmas.{goes_then}
 use Rattle.lnbd_copy.proofs.CopierLemmas.{always_on_ok, dials_as, if_ok_both, if_ok_leads, kept_then, meets, two_meet}
 use Rattle.lnbd_copy.proofs.DecidedLemmas.{decided_grounded}
 use Rattle.lnbd_copy.proofs.GroundLemmas.{found_fails, found_terms, if_err_leads, handed_on}
-use Rattle.lnbd_poll.specs.Held.{Held}
+use Rattle.lnbd_poll.specs.Held.{Held, max_held}
 use Rattle.lnbd_board.specs.declared.ticket.Ticket.{Ticket}
 use Rattle.lnbd_copy.specs.Way.{Stand}
 use Rattle.lnbd_copy.proofs.PauseLemmas.{pauses_then, pauses_unpaused}
@@ -23,7 +23,25 @@ use Rattle.lnbd_copy.proofs.MeetLemmas.{begins_decided, destination_decided, sec
 use Rattle.lnbd_copy.proofs.PatientLemmas.{always_if_err, patient_any, patient_settles, patient_then, patient_unpaused}
 use Rattle.lnbd_copy.proofs.PaceLemmas.{pace_fewer, pace_untired}
 use Rattle.lnbd_copy.proofs.PaceMeets.{meet_paced, source_paced, source_tried}
+use Rattle.lnbd_copy.proofs.CalmLemmas.{calm_none}
 use Rattle.lnbd_copy.proofs.copier.Copier.meet.Goals as goal
+
+pub dial_source-requires-clause-calm : goal.dial_source-requires-clause-calm
+dial_source-requires-clause-calm g c = calm_none _ _ _ c.requires.begun.held c.requires.begun.well
+
+pub returns-clause-calm : goal.returns-clause-calm
+returns-clause-calm g c = always_on_ok c.agree.result c.in_ok-settle-2.ensures.calm
+
+pub dial_source-requires-clause-few : goal.dial_source-requires-clause-few
+dial_source-requires-clause-few g c = subst (λ (l : List (Held Ticket)). length l < max_held) (sym c.requires.begun.held) (omega arith)
+
+pub dial_destination-requires-clause-few : goal.dial_destination-requires-clause-few
+dial_destination-requires-clause-few g c =
+    let begun = subst (λ (l : List (Held Ticket)). Stand l) (sym c.requires.begun.held) none_stand in
+    let none = ap (λ (l : List (Held Ticket)). length l) c.requires.begun.held in
+    let one = c.in_ok-dial_source.ensures.dials.many in
+    let same = c.in_ok-settle.ensures.goes.many (c.in_ok-dial_source.ensures.dials.stand begun) in
+    omega (arith, none, one, same)
 
 pub returns-clause-met : goal.returns-clause-met
 returns-clause-met g c =

@@ -9,8 +9,16 @@ use Rattle.lnbd_copyfile.specs.Calls.{IsOpening, NotOpened}
 use Rattle.lnbd_copyfile.specs.Causes.{IsChanged}
 use Rattle.lnbd_copyfile.specs.FromFile.{HasNotRead, HasRead, No_file, stop_by}
 use Rattle.lnbd_copyfile.specs.OneFile.{BreaksReading, Reads}
+use Rattle.lnbd_connections.proofs.UseLemmas.{uses_nowhere}
+use Rattle.lnbd_copyfile.proofs.LinkClauses.{within_first}
 use Rattle.lnbd_copyfile.proofs.HaltLemmas.{read_then, unchanged, unread_then}
 use Rattle.lnbd_copyfile.proofs.from_file.FromFile.copy.Goals as goal
+use Rattle.lnbd_copyfile.specs.Given.{Had_not, Had_opened}
+use Rattle.lnbd_copyfile.proofs.GivenLemmas.{opens_first}
+use Rattle.lnbd_copyfile.specs.SharingFrom.{Not_settled}
+use Rattle.lnbd_connections.proofs.FewLemmas.{few_same}
+use Rattle.lnbd_copyfile.proofs.FromFilePauseLemmas.{first_unmoved, unmoved_full_from}
+use Rattle.lnbd_copy.proofs.PauseLemmas.{unpaused_none}
 
 pub returns-in-Ok-clause-stores : goal.returns-in-Ok-clause-stores
 returns-in-Ok-clause-stores g c =
@@ -40,3 +48,21 @@ returns-in-Ok-clause-changed g c =
 pub returns-in-Err-clause-stopped : goal.returns-in-Err-clause-stopped
 returns-in-Err-clause-stopped g c =
     grew_as _ _ (NotOpened c.args.from.now) (HasNotRead c.args.from.now stop.Failed) (λ calls un. No_file un refl) c.in-Err.ensures.unopened
+
+pub returns-in-Err-clause-shares : goal.returns-in-Err-clause-shares
+returns-in-Err-clause-shares g c = Not_settled (few_same 0 _ _)
+
+pub returns-in-Ok-clause-conducts : goal.returns-in-Ok-clause-conducts
+returns-in-Ok-clause-conducts g c =
+    let source = c.in-Ok.source in
+    Had_opened source.file source.size
+    (opens_first c.args.from.now source.file source.size c.carry_out.result _ _ _ c.in-Ok.ensures.opening c.carry_out.ensures.reads c.carry_out.ensures.breaks) c.carry_out.ensures.behaves
+
+pub returns-in-Err-clause-conducts : goal.returns-in-Err-clause-conducts
+returns-in-Err-clause-conducts g c = Had_not c.in-Err.ensures.unopened refl c.requires.begun.held
+
+pub returns-in-Err-clause-within : goal.returns-in-Err-clause-within
+returns-in-Err-clause-within g c = within_first _ _ _ _ _ _ _ _ _ (uses_nowhere _ _ _ _ _ _)
+
+pub returns-in-Err-clause-full : goal.returns-in-Err-clause-full
+returns-in-Err-clause-full g c = unmoved_full_from c.args.self.now.options c.args.to.now _ _ (first_unmoved c.args.to.now _ _ (unpaused_none _))

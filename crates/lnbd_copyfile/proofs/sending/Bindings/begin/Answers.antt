@@ -1,6 +1,7 @@
-use Rattle.std.proofs.Common.{[], refl, ◌∙◌, arith}
+use Rattle.std.proofs.Common.{ℕ, ◌+◌, [], refl, ap, sym, ◌∙◌, arith}
 use Rattle.lnbd_touched.proofs.GrownLemmas.{grew_both, grew_none}
 use Rattle.lnbd_copyfile.specs.OneFile.{BreaksReading, Reads}
+use Rattle.lnbd_copyfile.proofs.DealtLemmas.{deals_none, deals_then}
 use Rattle.lnbd_copyfile.proofs.OneFileLemmas.{breaks_reading_behind, reads_on}
 use Rattle.lnbd_copyfile.proofs.SendingLemmas.{begins_none, begins_short, begins_then, zeros_stay}
 use Rattle.lnbd_copyfile.proofs.sending.Bindings.begin.Goals as goal
@@ -10,6 +11,9 @@ slices-init g c = record {
   zeros = c.requires.zeros;
   windows = refl;
   begins = begins_none c.args.source.file c.args.windows.now c.args.board.now _ _;
+  deals = deals_none c.args.limit c.args.self.now c.args.board.now;
+  most = λ l. l;
+  count = sym c.count-under_way.ensures.count;
   reads = grew_none _ (Reads c.args.source.file) tt;
   later = omega arith;
   taken = refl;
@@ -24,6 +28,10 @@ slices-preserved g c =
       zeros = zeros_stay c.args.source.file c.args.windows.now c.begin_next.new.windows c.args.board.now c.begin_next.new.board _ _ _ _ c.requires.zeros all;
       windows = (all.on []).others;
       begins = all;
+      deals = deals_then c.args.limit _ _ _ _ _ _ inv.deals
+          (next.deals c.args.limit c.ranges.limit.fits (let count = inv.count in let less = c.slices-test.true in omega (arith, count, less)));
+      most = λ l. let more = next.more c.in-Ok-true.field-0-test in let count = inv.count in let less = c.slices-test.true in omega (arith, more, count, less);
+      count = next.more c.in-Ok-true.field-0-test ∙ ap (λ (n : ℕ). n + 1) inv.count;
       reads = grew_both _ _ _ (Reads c.args.source.file) (Reads c.args.source.file) (Reads c.args.source.file) (λ xs ys p q. reads_on c.args.source.file xs ys p q) inv.reads next.reads;
       later = (let f = inv.later in let h = c.begin_next.ensures.later in omega (arith, f, h));
       taken = c.begin_next.ensures.taken ∙ inv.taken;
@@ -49,3 +57,8 @@ returns-in-Err-clause-breaks g c =
 pub returns-in-Err-clause-short : goal.returns-in-Err-clause-short
 returns-in-Err-clause-short g c = λ changed.
     begins_short c.args.source.file c.args.source.size c.args.windows.now c.slices.windows c.args.board.now c.slices.board _ _ _ _ _ c.slices.invariant.begins (c.in-Err.ensures.short changed)
+
+pub returns-in-Ok-false-clause-deals : goal.returns-in-Ok-false-clause-deals
+returns-in-Ok-false-clause-deals g c =
+    deals_then c.args.limit _ _ _ _ _ _ c.slices.invariant.deals
+    (c.in-Ok-false.ensures.deals c.args.limit c.ranges.limit.fits (let count = c.slices.invariant.count in let less = c.slices-test.true in omega (arith, count, less)))

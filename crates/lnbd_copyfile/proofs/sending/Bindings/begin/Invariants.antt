@@ -1,5 +1,6 @@
-use Rattle.std.proofs.Common.{◌≡◌, ◌≤◌, not}
+use Rattle.std.proofs.Common.{◌≡◌, ◌≤◌, length, not}
 use Rattle.lnbd_touched.specs.Grown.{Grew}
+use Rattle.lnbd_copyfile.specs.Binding.{Deals}
 use Rattle.lnbd_copyfile.specs.OneFile.{Reads}
 use Rattle.lnbd_copyfile.specs.Sending.{Begins}
 use Rattle.lnbd_copyfile.proofs.sending.Bindings.begin.Given as goal
@@ -9,6 +10,9 @@ invariant-slices g l = record {
   zeros : l.windows.plan.cells.zeros ≡ not l.board.how.skip;
   windows : l.windows ≡ record l.fn.windows { plan = record l.fn.windows.plan { slices = l.windows.plan.slices } };
   begins : Begins l.source.file l.fn.windows l.windows l.fn.board l.board (g.S.Store.shelf l.fn.store) (g.S.Store.shelf l.store) (g.S.Store.given l.fn.store) (g.S.Store.given l.store);
+  deals : Deals l.limit l.fn.self l.self l.fn.board l.board;
+  most : length l.fn.board.rows ≤ l.limit → length l.board.rows ≤ l.limit;
+  count : length l.board.rows ≡ l.under_way;
   reads : Grew (g.S.Store.told l.fn.store) (g.S.Store.told l.store) (Reads l.source.file);
   later : g.S.Store.faults l.fn.store ≤ g.S.Store.faults l.store;
   taken : g.S.Store.taken l.store ≡ g.S.Store.taken l.fn.store;

@@ -4,6 +4,7 @@ use Rattle.lnbd_copyfile.specs.Jobs.{Seen}
 use Rattle.lnbd_copyfile.specs.OneFile.{BreaksWriting, Writes}
 use Rattle.lnbd_copyfile.proofs.OneFileLemmas.{breaks_writing_behind, writes_on}
 use Rattle.lnbd_copyfile.proofs.ToFileJobLemmas.{acts_none, acts_went}
+use Rattle.lnbd_copyfile.proofs.WentLemmas.{makes_last, makes_none}
 use Rattle.lnbd_copyfile.proofs.SpreadLemmas.{spreads_none, spreads_over, spreads_same, spreads_then}
 use Rattle.lnbd_copyfile.specs.Making.{HasEnded}
 use Rattle.std.specs.Prelude.{IfSome}
@@ -14,6 +15,7 @@ slices-init g c = record {
   acts = λ held. acts_none c.args.file c.args.self.now c.args.board.now held _ _;
   job = refl;
   how = refl;
+  makes = makes_none c.args.board.now.how c.args.file c.args.board.now _ _;
   spread = spreads_none c.args.self.now c.args.board.now;
   writes = grew_none _ (Writes c.args.file) tt;
   later = omega arith;
@@ -31,6 +33,7 @@ slices-preserved g c =
           c.release.ensures.others (inv.acts held) call.makes;
       job = c.release.ensures.others ∙ ap (λ (j : Seen). record j { bound = c.release.new.self.bound }) inv.job;
       how = call.how ∙ inv.how;
+      makes = makes_last c.args.board.now.how c.args.file c.args.board.now c.slices.board c.go_on.new.board _ _ _ _ _ _ inv.how inv.makes call.makes;
       spread = spreads_then c.args.self.now c.slices.self c.release.new.self c.args.board.now c.slices.board c.go_on.new.board inv.spread
           (spreads_over c.slices.self c.release.new.self c.slices.board.how c.in-Ok-Some.source c.slices.board c.go_on.new.board (ap (λ (j : Seen). j.terms) c.release.ensures.others)
           c.release.ensures.released
@@ -60,3 +63,7 @@ pub returns-in-Ok-None-clause-spread : goal.returns-in-Ok-None-clause-spread
 returns-in-Ok-None-clause-spread g c =
     spreads_then c.args.self.now c.slices.self c.slices.self c.args.board.now c.slices.board c.go_on.new.board c.slices.invariant.spread
     (spreads_same c.slices.self c.slices.self c.slices.board c.go_on.new.board refl refl (c.in-Ok-None.ensures.bound (ap (λ (o : Option ℕ). is_none o) c.in-Ok-None.field-0-is)))
+
+pub returns-in-Ok-None-clause-makes : goal.returns-in-Ok-None-clause-makes
+returns-in-Ok-None-clause-makes g c =
+    makes_last c.args.board.now.how c.args.file c.args.board.now c.slices.board c.go_on.new.board _ _ _ _ _ _ c.slices.invariant.how c.slices.invariant.makes c.in-Ok-None.ensures.makes

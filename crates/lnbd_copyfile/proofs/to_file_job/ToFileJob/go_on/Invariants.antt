@@ -2,6 +2,7 @@ use Rattle.std.proofs.Common.{◌≡◌, ◌≤◌, List}
 use Rattle.lnbd_poll.specs.Held.{Held}
 use Rattle.lnbd_board.specs.declared.ticket.Ticket.{Ticket}
 use Rattle.lnbd_touched.specs.Grown.{Grew}
+use Rattle.lnbd_copyfile.specs.Making.{MakesChanges}
 use Rattle.lnbd_copyfile.specs.OneFile.{Writes}
 use Rattle.lnbd_copyfile.specs.ToFileJob.{Acts, Spreads}
 use Rattle.lnbd_copyfile.proofs.to_file_job.ToFileJob.go_on.Given as goal
@@ -12,6 +13,7 @@ invariant-slices g l = record {
       (g.S.Store.taken l.store);
   job : l.self ≡ record l.fn.self { bound = l.self.bound };
   how : l.board.how ≡ l.fn.board.how;
+  makes : MakesChanges l.fn.board.how l.file l.fn.board l.board (g.S.Store.shelf l.fn.store) (g.S.Store.shelf l.store) (g.S.Store.taken l.fn.store) (g.S.Store.taken l.store);
   spread : Spreads l.fn.self l.self l.fn.board l.board;
   writes : Grew (g.S.Store.told l.fn.store) (g.S.Store.told l.store) (Writes l.file);
   later : g.S.Store.faults l.fn.store ≤ g.S.Store.faults l.store;

@@ -11,4 +11,4 @@ returns-clause-acts c = λ file shelf taken.
     let new : Seen = record was { is_parting = true } in
     subst (λ (j : Seen). Acts file j new c.args.board.now c.args.board.now c.args.handles.now c.part.new.handles shelf shelf taken taken) c.self.view_is
     (acts_left file was new c.args.board.now c.args.handles.now c.part.new.handles shelf taken refl
-    (subst (λ (j : Seen). IsOver j c.args.board.now) (sym c.self.view_is) (c.is_copied.ensures.over c.if-not-is_copied.false)) (c.part.ensures c.args.board.now))
+    (subst (λ (j : Seen). IsOver j c.args.board.now) (sym c.self.view_is) (c.is_copied.ensures.over c.if-not-is_copied.false)) (c.part.ensures.parts c.args.board.now))

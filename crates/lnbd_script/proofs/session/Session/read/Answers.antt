@@ -1,19 +1,14 @@
 use Rattle.std.proofs.Common.{ap}
-use Rattle.lnbd_script.proofs.TurnLemmas.{read_there, read_went, read_went_short}
+use Rattle.lnbd_script.specs.declared.session.Session.{Session}
+use Rattle.lnbd_script.proofs.CallLemmas.{counts_by, read_all, read_is}
 use Rattle.lnbd_script.proofs.session.Session.read.Goals as goal
 
-pub returns-in-Some-clause-ok : goal.returns-in-Some-clause-ok
-returns-in-Some-clause-ok g c =
-    let told = rw c.in-Some.is at c.read_placed.ensures.told in
-    let count = rw c.in-Some.is at c.read_placed.ensures.count in
-    rw c.got_moved.ensures (read_there _ _ c.args.self.now c.hear_placed.new.self c.read_placed.new.handle c.args.link c.in-Some.got c.read_placed.ensures.same told count c.hear_placed.ensures.reads)
+pub returns-clause-told : goal.returns-clause-told
+returns-clause-told g c = read_is _ _ c.args.self.now _ c.notify_read-noticed.new.handle c.notify_read-noticed.new.world c.args.link c.notify_read-noticed.result _ _ c.requires.unread c.notify_read-noticed.ensures.reads c.of_read.result c.of_read.ensures c.note.ensures
 
-pub returns-in-Ok-clause-ok : goal.returns-in-Ok-clause-ok
-returns-in-Ok-clause-ok g c =
-    let none = rw c.in-None.is at c.read_placed.ensures.none in
-    rw c.got_moved-in-Ok.ensures (read_went _ _ _ c.args.self.now c.hear.new.self c.read_placed.new.handle c.args.link _ c.read-got.result _ c.read_placed.ensures.same none.0 (ap g.W.Wires.told none.1) c.requires.room c.read-got.ensures.told c.read-got.auto.into c.read-got.ensures.count c.in-Ok.ensures.ok)
+pub returns-clause-counts : goal.returns-clause-counts
+returns-clause-counts g c =
+    counts_by c.notify_read-noticed.result _ _ c.notify_read-noticed.new.handle.machine c.notify_read-noticed.new.world _ _ _ _ (ap (λ (s : Session). s.first) c.note.ensures) c.notify_read-noticed.ensures.blames c.notify_read-noticed.ensures.faults c.notify_read-noticed.ensures.idles
 
-pub returns-in-Err-clause-short : goal.returns-in-Err-clause-short
-returns-in-Err-clause-short g c =
-    let none = rw c.in-None.is at c.read_placed.ensures.none in
-    read_went_short _ _ _ c.args.self.now c.hear.new.self c.read_placed.new.handle c.args.link _ c.read-got.result _ c.read_placed.ensures.same none.0 (ap g.W.Wires.told none.1) c.requires.room c.read-got.ensures.told c.in-Err.ensures.short
+pub returns-clause-unread : goal.returns-clause-unread
+returns-clause-unread g c = read_all _ _ c.args.self.now c.note.new.self c.notify_read-noticed.new.handle c.notify_read-noticed.new.world c.args.link c.notify_read-noticed.result _ _ c.requires.unread c.notify_read-noticed.ensures.reads c.of_read.result c.of_read.ensures

@@ -11,11 +11,11 @@ use Rattle.lnbd_script.proofs.TurnLemmas.{blames_none, blames_of, blames_on, bla
 use Rattle.lnbd_script.proofs.sessions.Sessions.settle.Goals as goal
 
 pub rounds-init : goal.rounds-init
-rounds-init g c = record { settling = λ scene s. settling_none _ _ _ scene s; counts = blames_same _ _; start = refl; room = refl }
+rounds-init g c = record { settling = λ scene s. settling_none _ _ _ scene s; counts = blames_same _ _; start = refl; unread = c.requires.unread }
 
 pub returns-then-is_long-clause-settles : goal.returns-then-is_long-clause-settles
 returns-then-is_long-clause-settles g c scene s =
-    let mid : Sessions = record { places = c.round.new.places; current = c.rounds.self.current; first = c.round.new.first; start = c.rounds.self.start; wants = c.rounds.self.wants; hears = c.rounds.self.hears } in
+    let mid : Sessions = record { places = c.round.new.places; current = c.rounds.self.current; first = c.round.new.first; start = c.rounds.self.start; wants = c.rounds.self.wants; inbox = c.round.new.inbox; hears = c.rounds.self.hears } in
     let rounded : Rounded c.rounds.self mid (g.W.Wires.idles c.rounds.wires) (g.W.Wires.idles c.round.new.wires) = record { count = c.round.ensures.count; current = refl; start = refl; room = refl; later = c.round.ensures.counts.idles_later } in
     let busy = ap (λ (ps : List Place). list_any is_busy_place ps) (sym c.deref.ensures.value) ∙ sym c.is_any_busy.ensures ∙ c.rounds-test.true in
     let paused : Paused mid c.pause.new.self = record {
@@ -43,7 +43,7 @@ returns-then-is_long-clause-silent g c e =
 
 pub returns-in-Err-clause-settles : goal.returns-in-Err-clause-settles
 returns-in-Err-clause-settles g c scene s =
-    let mid : Sessions = record { places = c.round.new.places; current = c.rounds.self.current; first = c.round.new.first; start = c.rounds.self.start; wants = c.rounds.self.wants; hears = c.rounds.self.hears } in
+    let mid : Sessions = record { places = c.round.new.places; current = c.rounds.self.current; first = c.round.new.first; start = c.rounds.self.start; wants = c.rounds.self.wants; inbox = c.round.new.inbox; hears = c.rounds.self.hears } in
     let rounded : Rounded c.rounds.self mid (g.W.Wires.idles c.rounds.wires) (g.W.Wires.idles c.round.new.wires) = record { count = c.round.ensures.count; current = refl; start = refl; room = refl; later = c.round.ensures.counts.idles_later } in
     let busy = ap (λ (ps : List Place). list_any is_busy_place ps) (sym c.deref.ensures.value) ∙ sym c.is_any_busy.ensures ∙ c.rounds-test.true in
     settling_short _ _ _ c.rounds.self mid _ _ scene (c.rounds.invariant.settling scene s) busy rounded c.in-Err.ensures.short
@@ -53,7 +53,7 @@ returns-clause-settles g c scene s = settling_done _ _ c.rounds.self _ scene (ap
 
 pub rounds-preserved : goal.rounds-preserved
 rounds-preserved g c =
-    let mid : Sessions = record { places = c.round.new.places; current = c.rounds.self.current; first = c.round.new.first; start = c.rounds.self.start; wants = c.rounds.self.wants; hears = c.rounds.self.hears } in
+    let mid : Sessions = record { places = c.round.new.places; current = c.rounds.self.current; first = c.round.new.first; start = c.rounds.self.start; wants = c.rounds.self.wants; inbox = c.round.new.inbox; hears = c.rounds.self.hears } in
     let rounded : Rounded c.rounds.self mid (g.W.Wires.idles c.rounds.wires) (g.W.Wires.idles c.round.new.wires) = record { count = c.round.ensures.count; current = refl; start = refl; room = refl; later = c.round.ensures.counts.idles_later } in
     let busy = ap (λ (ps : List Place). list_any is_busy_place ps) (sym c.deref.ensures.value) ∙ sym c.is_any_busy.ensures ∙ c.rounds-test.true in
     let paused : Paused mid c.pause.new.self = record {
@@ -69,20 +69,25 @@ rounds-preserved g c =
       counts = blames_on _ _ _ _ _ _ c.rounds.invariant.counts (blames_on _ _ _ _ _ _ (blames_of _ _ _ _ _ _ c.round.ensures.counts)
           (subst (λ (f : Option Event). Blames c.round.new.first f (g.W.Wires.faults c.round.new.wires) (g.W.Wires.faults c.pause.new.wires)) (sym paused.first) (blames_none c.round.new.first _ _ c.pause.ensures.faults)));
       start = paused.start ∙ c.rounds.invariant.start;
-      room = c.round.ensures.room;
+      unread = ap (λ (s : Sessions). s.inbox) c.pause.ensures.same ∙ c.in-Ok-false.ensures.unread;
     }
 
 pub rounds-preserved-in-Ok-true : goal.rounds-preserved-in-Ok-true
 rounds-preserved-in-Ok-true g c =
-    let mid : Sessions = record { places = c.round.new.places; current = c.rounds.self.current; first = c.round.new.first; start = c.rounds.self.start; wants = c.rounds.self.wants; hears = c.rounds.self.hears } in
+    let mid : Sessions = record { places = c.round.new.places; current = c.rounds.self.current; first = c.round.new.first; start = c.rounds.self.start; wants = c.rounds.self.wants; inbox = c.round.new.inbox; hears = c.rounds.self.hears } in
     let rounded : Rounded c.rounds.self mid (g.W.Wires.idles c.rounds.wires) (g.W.Wires.idles c.round.new.wires) = record { count = c.round.ensures.count; current = refl; start = refl; room = refl; later = c.round.ensures.counts.idles_later } in
     let busy = ap (λ (ps : List Place). list_any is_busy_place ps) (sym c.deref.ensures.value) ∙ sym c.is_any_busy.ensures ∙ c.rounds-test.true in
     record {
       settling = λ scene s. settling_on _ _ _ c.rounds.self mid _ _ scene (c.rounds.invariant.settling scene s) busy rounded c.in-Ok-true.field-0 c.in-Ok-true.ensures.ok c.in-Ok-true.field-0-test;
       counts = blames_on _ _ _ _ _ _ c.rounds.invariant.counts (blames_of _ _ _ _ _ _ c.round.ensures.counts);
       start = c.rounds.invariant.start;
-      room = c.round.ensures.room;
+      unread = c.in-Ok-true.ensures.unread;
     }
+
+pub round-requires : goal.round-requires
+round-requires g c =
+    let s = c.rounds.invariant.settling c.requires.reached.0 c.requires.reached.1 in
+    record { reached = (s.now.handles, s.at.held); unread = c.rounds.invariant.unread }
 
 pub pause-requires : goal.pause-requires
 pause-requires g c =

@@ -1,4 +1,4 @@
-use Rattle.std.proofs.Common.{◌≡◌, ◌+◌, ◌-◌, min, length}
+use Rattle.std.proofs.Common.{◌≡◌, ◌+◌, ◌-◌, [], min}
 use Rattle.lnbd_script.specs.Scenes.{Scene}
 use Rattle.lnbd_script.specs.Seen.{Blames}
 use Rattle.lnbd_script.specs.Steps.{Stands}
@@ -11,7 +11,7 @@ invariant-rounds g l = record {
   settling : (scene : Scene) → Stands scene l.fn.self (g.W.Wires.idles l.fn.wires) → Settling (g.W.Wires.told l.fn.wires) (g.W.Wires.told l.wires) l.self (g.W.Wires.idles l.wires) scene;
   counts : Blames l.fn.self.first l.self.first (g.W.Wires.faults l.fn.wires) (g.W.Wires.faults l.wires);
   start : l.self.start ≡ l.fn.self.start;
-  room : length l.buffer ≡ 65536;
+  unread : l.self.inbox ≡ [];
 }
 
 abbrev pub decreases-rounds : goal.decreases-rounds
