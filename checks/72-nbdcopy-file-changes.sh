@@ -5,12 +5,12 @@ case $program in /*) ;; *) program=$PWD/$program ;; esac
 longest=120
 size=268435456
 
-# midway FROM TO: this copy, stopped in its middle; its process is then in `copier`. (Python, since what bash has in the background ignores SIGINT.)
+# midway FROM TO WORDS ..: this copy, stopped in its middle; its process is then in `copier`. (Python, since what bash has in the background ignores SIGINT.)
 midway() {
   local word value moved
   for _ in 1 2 3; do
     "$python" -S -E -c 'import os, signal, sys; signal.signal(signal.SIGINT, signal.SIG_DFL); os.execv(sys.argv[1], sys.argv[1:])' \
-      "$program" nbdcopy --request-size 4096 "$1" "$2" >"$dir/out" 2>"$dir/err" &
+      "$program" nbdcopy --request-size 4096 "${@:3}" "$1" "$2" >"$dir/out" 2>"$dir/err" &
     copier=$!
     while kill -0 "$copier" 2>/dev/null; do
       moved=0
@@ -45,6 +45,11 @@ fresh() {
   rm -f "$dir/to"
   truncate -s $size "$dir/to.disk"
 }
+# full: the same bytes without a hole, all of which are read on the way to an export.
+full() {
+  fresh
+  { head -c 1048576 "$dir/from" && head -c $((size - 1048576)) /dev/zero; } >"$dir/full" && mv "$dir/full" "$dir/from"
+}
 fresh 2>/dev/null
 if [ "$(du -k "$dir/from" | cut -f 1)" -gt 20000 ]; then
   echo 'skipped: no holes on this file system'
@@ -58,12 +63,13 @@ is_changed() {
 }
 begin export nbdkit -f -U "$dir/export" file "$dir/to.disk" && export=$address
 for to in "$dir/to" "$export"; do
-  [ "$to" = "$export" ] && name='an export' || name='a file'
-  fresh
-  midway "$dir/from" "$to" && truncate -s 2097152 "$dir/from" && ends_soon
+  # (between two files holes are read where zeros are written)
+  [ "$to" = "$export" ] && name='an export' words=() made=full || name='a file' words=(-S 0) made=fresh
+  $made
+  midway "$dir/from" "$to" "${words[@]}" && truncate -s 2097152 "$dir/from" && ends_soon
   held "to $name, whose source is cut meanwhile" is_changed
-  fresh
-  midway "$dir/from" "$to" && echo more >>"$dir/from" && ends_soon
+  $made
+  midway "$dir/from" "$to" "${words[@]}" && echo more >>"$dir/from" && ends_soon
   [ "$to" = "$export" ] && to=$dir/to.disk
   truncate -s $size "$dir/from"
   held "to $name, whose source grows meanwhile, is of what it had" eval "ended 0 '' && same '$dir/from' '$to'"
@@ -106,9 +112,10 @@ for signal in INT TERM HUP KILL; do
   stop "$server"
   rm -f "$dir/to" "$dir/pattern"
   fresh
-  midway "$dir/from" "$dir/to" && kill -s $signal "$copier" && ends_soon
+  midway "$dir/from" "$dir/to" -S 0 && kill -s $signal "$copier" && ends_soon
   held "between two files, which SIG$signal ends" eval "signalled && [ $(stat -c %s "$dir/to") -eq $size ] && cmp -s -n 1048576 '$dir/from' '$dir/to'"
   begin target nbdkit -f -t 1 -U "$dir/target" memory $size
+  full
   midway "$dir/from" "$address" && kill -s $signal "$copier" && ends_soon
   held "from a file to an export, which SIG$signal ends, and the server goes on" eval "signalled && [ \"\$(timeout 20 nbdinfo --size '$address')\" = $size ]"
   stop "$server"

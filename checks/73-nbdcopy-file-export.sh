@@ -99,6 +99,46 @@ copy "$address" "$dir/hole"
 held 'of 1 GiB of holes' eval "ended 0 '' && [ $(stat -c %s "$dir/hole") -eq 1073741824 ] && [ $(du -k "$dir/hole" | cut -f 1) -lt 1024 ]"
 stop "$server"
 
+# Holes of a file, which are not read: they are at every edge of slices, and there are 64 GiB of them.
+"$python" -S -E - "$dir/holes" <<'PY'
+import random, sys
+drawn = random.Random(11)
+with open(sys.argv[1], 'wb') as file:
+    for _ in range(60):
+        file.seek(drawn.choice([512, 4096, 65536, 262144, 299520, 1048576]), 1)
+        file.write(drawn.randbytes(drawn.choice([512, 1024, 4096, 70144])))
+    file.truncate(file.tell() // 512 * 512 + 778240)
+PY
+holes=$(stat -c %s "$dir/holes")
+for words in '' '--allocated' '-S 0' '-S 33554432' '--request-size 4096' '-C 4 -R 2'; do
+  start to nbdkit-file "$holes"
+  # shellcheck disable=SC2086
+  copy "$dir/holes" "$address" $words
+  get "$address" "$dir/read"
+  held "of a file with holes, ${words:-no options}" eval "ended 0 '' && same '$dir/holes' '$dir/read'"
+  stop "$server"
+  rm -f "$dir/to.disk"
+done
+truncate -s 64G "$dir/long" 2>/dev/null
+if [ "$(stat -c %s "$dir/long" 2>/dev/null)" = 68719476736 ]; then
+  for at in 0 300000000 34359738368 68719476224; do head -c 512 /dev/urandom | dd of="$dir/long" bs=1 seek="$at" conv=notrunc status=none; done
+  start to nbdkit-memory 68719476736
+  began=$(date +%s%N)
+  copy "$dir/long" "$address"
+  took=$((($(date +%s%N) - began) / 1000000))
+  held 'of 64 GiB of holes' ended 0 ''
+  [ "$took" -lt 8000 ] && echo "ok: they took $took ms" || echo "failed: they took $took ms"
+  copy "$address" "$dir/back"
+  held 'of 64 GiB of holes, and back' eval "ended 0 '' && [ \$(stat -c %s '$dir/back') -eq 68719476736 ]"
+  for at in 0 300000000 34359738368 68719476224; do
+    held "of 64 GiB of holes, the bytes at $at" cmp -s -i "$at" -n 1024 "$dir/long" "$dir/back"
+  done
+  stop "$server"
+  rm -f "$dir/long" "$dir/back"
+else
+  echo 'skipped: no file of 64 GiB can be made here'
+fi
+
 # A full disk.
 mkdir "$small"
 if mount -t tmpfs -o size=2m tmpfs "$small" 2>/dev/null; then

@@ -70,6 +70,54 @@ else
   echo 'skipped: no holes on this file system'
 fi
 
+# Holes of the source, which are not read: at every edge of slices, and 64 GiB of them.
+python3 - "$dir/from" <<'PY'
+import random, sys
+drawn = random.Random(7)
+with open(sys.argv[1], 'wb') as file:
+    for _ in range(150):
+        file.seek(drawn.choice([1, 511, 4096, 65536, 262144, 300000, 1048576]), 1)
+        file.write(drawn.randbytes(drawn.choice([1, 513, 4096, 70000])))
+    file.truncate(file.tell() + 777777)
+PY
+for words in '' '-S 0' '-S 512' '-S 33554432' '--request-size 4096' '--request-size 33554432 -S 4096' '--allocated'; do
+  head -c 1000000 /dev/urandom >"$dir/to"
+  # shellcheck disable=SC2086
+  ends "holes among other bytes, ${words:-no options}" 0 '' $words "$dir/from" "$dir/to"
+  same '  each byte is there' "$dir/from" "$dir/to"
+done
+rm -f "$dir/to"
+truncate -s 64G "$dir/long" 2>/dev/null
+if [ "$(stat -c %s "$dir/long")" = 68719476736 ] && [ "$(blocks "$dir/long")" -lt 100000 ]; then
+  for at in 0 300000000 34359738368 68719476224; do head -c 512 /dev/urandom | dd of="$dir/long" bs=1 seek="$at" conv=notrunc status=none; done
+  began=$(date +%s%N)
+  ends '64 GiB of holes' 0 '' "$dir/long" "$dir/to"
+  took=$((($(date +%s%N) - began) / 1000000))
+  [ "$took" -lt 4000 ] && echo "ok: they took $took ms" || echo "failed: they took $took ms"
+  python3 - "$dir/long" "$dir/to" <<'PY'
+import os, sys
+
+def data(file):
+    """The ranges of the file that are no hole."""
+    at, size = 0, os.fstat(file).st_size
+    while at < size:
+        try:
+            begin = os.lseek(file, at, os.SEEK_DATA)
+        except OSError:
+            return
+        at = os.lseek(file, begin, os.SEEK_HOLE)
+        yield begin, at - begin
+
+one, other = (os.open(path, os.O_RDONLY) for path in sys.argv[1:])
+ranges = [*data(one), *data(other)]
+wrong = [begin for begin, count in ranges if os.pread(one, count, begin) != os.pread(other, count, begin)]
+alike = os.fstat(one).st_size == os.fstat(other).st_size and len(ranges) < 100 and not wrong
+print('ok:   each byte is there' if alike else f'failed:   {len(ranges)} ranges, other bytes at {wrong}')
+PY
+else
+  echo 'skipped: no file here is so long, or none has holes'
+fi
+
 # Words.
 head -c 5000 /dev/urandom >"$dir/from"
 cp "$dir/from" "$dir/before"
@@ -135,13 +183,13 @@ for other in "$dir/./own" "$dir/hard" "$dir/soft"; do
   same '  it is as it was' "$dir/before" "$dir/own"
 done
 
-# A copy that a signal ends.
+# A copy that a signal ends; it reads and writes zeros, which takes long.
 rm -f "$dir/to"
 truncate -s 64G "$dir/long" 2>/dev/null
 if [ "$(stat -c %s "$dir/long")" = 68719476736 ]; then
   for signal in TERM KILL; do
     rm -f "$dir/to"
-    "$program" nbdcopy "$dir/long" "$dir/to" >"$dir/out" 2>"$dir/err" &
+    "$program" nbdcopy -S 0 "$dir/long" "$dir/to" >"$dir/out" 2>"$dir/err" &
     copy=$!
     while [ "$(stat -c %s "$dir/to" 2>/dev/null)" != 68719476736 ] && kill -0 "$copy" 2>/dev/null; do sleep 0.01; done
     kill -s "$signal" "$copy"

@@ -4,7 +4,7 @@ ghost use Rattle.std.specs.Prelude.{◌≡◌, true, vec_len};
 ghost use Rattle.lnbd_model.specs.Kind.{is_read};
 ghost use Rattle.lnbd_chunks.specs.Chunk.{lies_within};
 ghost use Rattle.lnbd_structured.specs.Told.{IsInside, content_in};
-ghost use Rattle.lnbd_commands.specs.Seen.{seen_waiting};
+ghost use Rattle.lnbd_structured.specs.Waiting.{seen_waiting};
 
 use lnbd_callbacks::{Caller, Heard, Verdict};
 use lnbd_commands::{Asked, Commands, Told, Waiting};

@@ -14,7 +14,7 @@ use Rattle.lnbd_chunks.specs.declared.form.Form.TheVariants.{Empty, Data, Hole, 
 use Rattle.lnbd_chunks.specs.Chunk.{Waiting, Head, is_done, is_error, form_of, fits_length, may_come, lies_within, shows_data, shows_hole, shows_status, shows_extended_status, shows_error, shows_payload, shows_form, shows_chunk}
 use Rattle.lnbd_chunks.specs.Laws.{breach_in, breach_of}
 use Rattle.lnbd_chunks.proofs.Steady.{at_more, least, least_and, stays_chunk}
-use Rattle.lnbd_commands.specs.Takes.{MayCome}
+use Rattle.lnbd_structured.specs.Told.{MayCome}
 use Rattle.lnbd_structured.specs.Assembly.{fixed_size}
 use Rattle.lnbd_structured.specs.Told.{IsInside}
 use Rattle.lnbd_structured.proofs.BreachLemmas.{lawful, data_lies, hole_lies}

@@ -18,7 +18,7 @@ use Rattle.lnbd_chunks.specs.Laws.{breach_of}
 use Rattle.lnbd_chunks.specs.Reply.{content_size, simple_content, shows_simple, shows_chunk_for, shows_compact, shows_extended, shows_reply}
 use Rattle.lnbd_chunks.proofs.Steady.{at_more, stays_chunk}
 use Rattle.lnbd_history.specs.Arrivals.{Shown, Broken, reply, shows_frame}
-use Rattle.lnbd_commands.specs.Takes.{MayCome}
+use Rattle.lnbd_structured.specs.Told.{MayCome}
 use Rattle.lnbd_structured.specs.Assembly.{head_of}
 use Rattle.lnbd_wire.specs.declared.extended_chunk.ExtHead.{ExtHead}
 use Rattle.lnbd_arrivals.specs.Frames.{Announces, IsChunk, IsDataFront, IsFront, IsReply, IsSuccess, announced_by, data_announced, front_size, is_extended, is_structured, shows_by}

@@ -4,7 +4,7 @@ use Rattle.lnbd_records.specs.Numbers.{number_at}
 use Rattle.lnbd_chunks.specs.Chunk.{Waiting, is_done}
 use Rattle.lnbd_chunks.specs.Laws.{breach_of}
 use Rattle.lnbd_chunks.specs.Reply.{content_size, simple_content}
-use Rattle.lnbd_commands.specs.Takes.{MayCome}
+use Rattle.lnbd_structured.specs.Told.{MayCome}
 use Rattle.lnbd_history.specs.Arrivals.{Shown, Reply, Broken, shows_frame, reply}
 use Rattle.lnbd_model.specs.Kind.{is_read}
 use Rattle.lnbd_records.specs.Content.{Data}

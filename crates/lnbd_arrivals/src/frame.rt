@@ -8,8 +8,7 @@ ghost use Rattle.lnbd_chunks.specs.Chunk.{Waiting as Known};
 ghost use Rattle.lnbd_chunks.specs.Reply.{content_size};
 ghost use Rattle.lnbd_model.specs.Kind.{is_read};
 ghost use Rattle.lnbd_records.specs.Transmission.{simple_reply_magic};
-ghost use Rattle.lnbd_commands.specs.Seen.{seen_waiting};
-ghost use Rattle.lnbd_structured.specs.Asked.{waiting_in};
+ghost use Rattle.lnbd_structured.specs.Waiting.{seen_waiting};
 ghost use Rattle.lnbd_arrivals.specs.Frames.{SeenAs, is_extended, is_structured};
 ghost use Rattle.lnbd_arrivals.specs.declared.replies.Replies.TheVariants.{Extended};
 ghost use Rattle.lnbd_arrivals.specs.Heads.{IsHead, IsOther, IsSimple, magic_breach};
@@ -18,11 +17,10 @@ use crate::announced::{Announced, Carrier, data_begun};
 use crate::chunk::Chunk;
 use crate::heads::{chunk_head, head_size, simple_head};
 use crate::replies::Replies;
-use lnbd_commands::Waiting;
 use lnbd_model::{Breach, Kind};
 use lnbd_records::names::{SIMPLE_REPLY_MAGIC, STRUCTURED_REPLY_MAGIC};
 use lnbd_records::u64_at;
-use lnbd_structured::{Asked, breach_shown};
+use lnbd_structured::{Waiting, breach_shown};
 use lnbd_wire::{ExtHead, Read, SimpleHead};
 
 /// What the bytes at the front show.
@@ -70,18 +68,6 @@ fn content_size(command: &Waiting, error: u32) -> u64
         command.length
     } else {
         0
-    }
-}
-
-/// By what the chunks of a command are judged.
-fn asked(command: &Waiting) -> Asked
-    ensures { waiting_in result ≡ seen_waiting command.now }
-{
-    Asked {
-        kind: command.kind,
-        offset: command.offset,
-        length: command.length,
-        faults: u64::from(command.faults),
     }
 }
 
@@ -133,7 +119,7 @@ fn look_chunk(replies: Replies, waiting: Option<Waiting>, head: &ExtHead, bytes:
         Some(command) => {
             let extended = replies.is_extended();
             let (_, payload) = bytes.split_at(head_size(extended));
-            if let Some(breach) = breach_shown(&asked(&command), extended, head, payload) {
+            if let Some(breach) = breach_shown(&command, extended, head, payload) {
                 return Seen::Broken(breach);
             }
             if (payload.len() as u64) < head.length {

@@ -1,5 +1,5 @@
 -- Words on the code's own steps towards a map.
-use Rattle.std.specs.Prelude.{◌≡◌, ◌<◌, ◌≤◌, ◌*◌, ◌^◌, ◌⊎◌, ℕ, Bool, true, List, [], ◌∷◌, ◌++◌, Option, Some, None, Result, Ok, Err}
+use Rattle.std.specs.Prelude.{◌≡◌, ◌<◌, ◌≤◌, ◌*◌, ◌⊎◌, ℕ, Bool, true, List, [], ◌∷◌, ◌++◌, Option, Some, None, Result, Ok, Err}
 use Rattle.lnbd_model.specs.declared.export.ExportInfo.{ExportInfo}
 use Rattle.lnbd_model.specs.declared.export.Extent.{Extent}
 use Rattle.lnbd_model.specs.declared.refusal.Why.{Why}
@@ -7,7 +7,7 @@ use Rattle.lnbd_model.specs.declared.state.State.{State}
 use Rattle.lnbd_model.specs.declared.state.State.TheVariants as state
 use Rattle.lnbd_extents.specs.Lists.{with_extent}
 use Rattle.lnbd_history.specs.Answers.{state_after}
-use Rattle.lnbd_info.specs.Map.{IsMapOf}
+use Rattle.lnbd_info.specs.Map.{IsMapOf, size_end}
 use Rattle.lnbd_link.specs.Call as wire
 use Rattle.lnbd_link.specs.Part.{Grows}
 use Rattle.lnbd_poll.specs.Seen.{Seen}
@@ -42,7 +42,7 @@ pub record IsFit (plan : Plan) : Type 0 where
   pub few : plan.block ≤ max_asked
   pub blocks : (n : ℕ) × (plan.whole ≡ n * plan.block)
   pub part : plan.whole ≤ plan.size
-  pub small : plan.size < 2 ^ 63
+  pub small : plan.size < size_end
 
 -- a request that was not issued: memory ran out, or it was refused
 abbrev pub IsNotIssued : (offset length : ℕ) → (before after : Seen Surveyor) → Type 0

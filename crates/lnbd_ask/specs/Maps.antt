@@ -1,5 +1,5 @@
 -- How an export is asked what it consists of, and the map that its answers make.
-use Rattle.std.specs.Prelude.{◌≡◌, ◌<◌, ◌+◌, ◌-◌, ◌%◌, ◌==◌, ◌^◌, ◌&&◌, ◌||◌, ℕ, Bool, true, false, List, [], ◌∷◌, ◌++◌, Option, Some, None, Result, Ok, Err, bytes_eq, if◌then◌else◌, min, nat_le, nat_lt}
+use Rattle.std.specs.Prelude.{◌≡◌, ◌<◌, ◌+◌, ◌-◌, ◌%◌, ◌==◌, ◌&&◌, ◌||◌, ℕ, Bool, true, false, List, [], ◌∷◌, ◌++◌, Option, Some, None, Result, Ok, Err, bytes_eq, if◌then◌else◌, min, nat_le, nat_lt}
 use Rattle.lnbd_model.specs.declared.breach.Breach.TheVariants as breach
 use Rattle.lnbd_model.specs.declared.breach.Broken.TheVariants as broken
 use Rattle.lnbd_model.specs.declared.errors.TheConstants.{EPROTO}
@@ -23,6 +23,7 @@ use Rattle.lnbd_history.specs.History.{reading}
 use Rattle.lnbd_history.specs.Refusals.{minimum}
 use Rattle.lnbd_handle.specs.Issues.{block_status_of}
 use Rattle.lnbd_info.specs.Map.{IsMapOf}
+pub use Rattle.lnbd_info.specs.Map.{size_end}
 use Rattle.lnbd_link.specs.Call as wire
 use Rattle.lnbd_link.specs.Call.{Connect, Shut}
 use Rattle.lnbd_link.specs.Part.{Grows}
@@ -105,7 +106,7 @@ pub record IsMapTold (block size : ℕ) (all : List Asked) (map : List Extent) :
   pub asked : AreAsked block (whole_of block size) 0 all (whole_of block size)
   pub counts : IsMapOf (told_by block all ++ record { length = size - whole_of block size; flags = 0 } ∷ []) map
   pub spans : span map ≡ size
-  pub small : size < 2 ^ 63
+  pub small : size < size_end
 
 -- ---- How it is asked.
 
@@ -209,7 +210,7 @@ is_agreed context (agreed ∷ others) = bytes_eq agreed.name context || is_agree
 abbrev pub export_known : (context : List ℕ) → Option ExportInfo → Result ExportInfo Stop
 export_known context None = Err (stop.Broke breach.NoExportInfo)
 export_known context (Some info) =
-    if is_agreed context info.contexts then if nat_le (2 ^ 63) info.size then Err (stop.Broke breach.SizeTooBig) else Ok info
+    if is_agreed context info.contexts then if nat_le size_end info.size then Err (stop.Broke breach.SizeTooBig) else Ok info
     else Err stop.NoContext
 
 abbrev pub known_at : (context : List ℕ) → State → Option ExportInfo → Result ExportInfo Stop

@@ -1,8 +1,8 @@
 //! What counts of an answer to a block status, and the map that the answers make. Nothing is asked here.
 
-ghost use Rattle.std.specs.Prelude.{◌≡◌, ◌≤◌, ◌<◌, ◌+◌, ◌^◌, IfOk, OnOk, min};
+ghost use Rattle.std.specs.Prelude.{◌≡◌, ◌≤◌, ◌<◌, ◌+◌, IfOk, OnOk, min};
 ghost use Rattle.lnbd_extents.specs.Lists.{clipped, span, with_extent};
-ghost use Rattle.lnbd_ask.specs.Maps.{counting, first_flags, reached};
+ghost use Rattle.lnbd_ask.specs.Maps.{counting, first_flags, reached, size_end};
 ghost use Rattle.lnbd_ask.specs.MapSteps.{with_all};
 
 use lnbd_extents::push_joined;
@@ -31,7 +31,7 @@ fn reached(told: &[Extent], length: u64) -> u64
 
 /// Adds the extents to a map, up to this length.
 fn lay_front(map: &mut Vec<Extent>, told: &[Extent], length: u64) -> Result<(), NoMemory>
-    requires { span map.old.items + length ≤ 2 ^ 63 }
+    requires { span map.old.items + length ≤ size_end }
     ensures { OnOk result (map.new.items ≡ with_all map.old.items (clipped length told.now)) }
 {
     let mut left = length;
@@ -47,7 +47,7 @@ fn lay_front(map: &mut Vec<Extent>, told: &[Extent], length: u64) -> Result<(), 
 
 /// Adds one extent more, if it isn't empty.
 fn lay_last(map: &mut Vec<Extent>, length: u64, flags: u64) -> Result<(), NoMemory>
-    requires { span map.old.items + length ≤ 2 ^ 63 }
+    requires { span map.old.items + length ≤ size_end }
     ensures { OnOk result (map.new.items ≡ with_extent map.old.items (record { length = length; flags = flags })) }
 {
     push_joined(map, Extent { length, flags })
@@ -62,7 +62,7 @@ pub(crate) fn lay(
 ) -> Result<u64, NoMemory>
     requires some { 0 < block }
     requires fits { block ≤ length }
-    requires room { span map.old.items + length ≤ 2 ^ 63 }
+    requires room { span map.old.items + length ≤ size_end }
     ensures map { OnOk result (map.new.items ≡ with_all map.old.items (counting block length told.now)) }
     ensures passed { IfOk result (λ passed. passed ≡ span (counting block length told.now)) }
 {

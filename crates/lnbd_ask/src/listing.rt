@@ -27,11 +27,9 @@ use lnbd_history::OptAnswer;
 use lnbd_link::Wires;
 use lnbd_model::{NoMemory, Place, State};
 use lnbd_poll::Handles;
+use lnbd_records::names::OPT_LIST;
 use lnbd_waits::Halt;
 use std::alloc::Global;
-
-/// The option that asks for a server's exports (NBD protocol, "NBD_OPT_LIST").
-const OPT_LIST: u32 = 3;
 
 /// Asks for extended headers, structured replies and opt mode, and starts.
 fn begin<K>(handle: &mut Handle<K>) -> Result<(), SetFault>

@@ -1,6 +1,6 @@
 //! The map of an export: what its server tells of each of its blocks in one meta context.
 
-ghost use Rattle.std.specs.Prelude.{◌<◌, ◌≤◌, ◌≡◌, ◌-◌, ◌^◌, ℕ, [], Err, IfErr, IfOk, OnOk, Some, length};
+ghost use Rattle.std.specs.Prelude.{◌<◌, ◌≤◌, ◌≡◌, ◌-◌, ℕ, [], Err, IfErr, IfOk, OnOk, Some, length};
 ghost use Rattle.std.specs.Option.{option_copied};
 ghost use Rattle.lnbd_extents.specs.Lists.{span, with_extent};
 ghost use Rattle.lnbd_handle.specs.Histories.{max_unretired};
@@ -11,10 +11,11 @@ ghost use Rattle.lnbd_link.specs.Call.{Shut};
 ghost use Rattle.lnbd_link.specs.Count.{Rises, patience};
 ghost use Rattle.lnbd_link.specs.Part.{Adds};
 ghost use Rattle.lnbd_poll.specs.Seen.{Goes, Seen};
+ghost use Rattle.lnbd_records.specs.Limits.{max_minimum_block};
 ghost use Rattle.lnbd_standing.specs.Standing.{StandsFor};
 ghost use Rattle.lnbd_ask.specs.declared.survey.Surveyor.{Surveyor as Calls};
 ghost use Rattle.lnbd_ask.specs.Asks.{IfLink, IfSilent, begins, begun};
-ghost use Rattle.lnbd_ask.specs.Maps.{Mapped, export_known, is_agreed, known_after, known_at, least_block};
+ghost use Rattle.lnbd_ask.specs.Maps.{Mapped, export_known, is_agreed, known_after, known_at, least_block, size_end};
 ghost use Rattle.lnbd_ask.specs.MapSteps.{Discussed, IsFit, MappedOn, Talked_over, Taught, plan_of, planned};
 ghost use Rattle.lnbd_waits.specs.Waits.{Holds};
 
@@ -30,11 +31,9 @@ use lnbd_model::{
     Blocks, Breach, Context, ExportInfo, Extent, Extents, NoMemory, Place, State, Text,
 };
 use lnbd_poll::Handles;
+use lnbd_records::names::MAX_MINIMUM_BLOCK;
 use lnbd_waits::{Awaited, Halt, open, part, settle};
 use std::alloc::Global;
-
-/// The largest least block (NBD protocol, "Block size constraints").
-const MAX_MINIMUM_BLOCK: u32 = 65_536;
 
 /// The first size that no export has (libnbd: sizes are below 2^63).
 pub const SIZE_END: u64 = 1 << 63;
@@ -42,7 +41,7 @@ pub const SIZE_END: u64 = 1 << 63;
 /// The least block of an export of which this was told.
 pub fn least_block(told: Option<Blocks>) -> u64
     ensures value { result ≡ least_block (minimum told) }
-    ensures some { (0 < result) × (result ≤ 65536) }
+    ensures some { (0 < result) × (result ≤ max_minimum_block) }
 {
     match told {
         Some(blocks) => {
@@ -201,7 +200,7 @@ fn converse<W: Wires>(
     requires started { start.idles ≤ W.idles wires.old }
     requires counted { start.faults ≤ W.faults wires.old }
     ensures converses { (link : ℕ) → Holds handles.old (begins link place.now.name world.old.context) → Talked_over link place.now world.old.context (W.told wires.old) (W.told wires.new) result }
-    ensures room { IfOk result (λ map. span map ≤ 2 ^ 63) }
+    ensures room { IfOk result (λ map. span map ≤ size_end) }
     ensures filled { IfOk result (λ map. AreFilled map) }
     ensures link { IfErr result (λ told. IfLink told (λ before after. (before ≡ start.faults) × Rises 1 before after × (after ≤ W.faults wires.new))) }
     ensures silent { IfErr result (λ told. IfSilent told (λ idles. Rises patience start.idles idles × (idles ≤ W.idles wires.new))) }
@@ -246,7 +245,7 @@ fn map_on<W: Wires>(
     requires started { start.idles ≤ W.idles wires.old }
     requires counted { start.faults ≤ W.faults wires.old }
     ensures maps { MappedOn link place.now world.old.context (W.told wires.old) (W.told wires.new) result }
-    ensures room { IfOk result (λ map. span map ≤ 2 ^ 63) }
+    ensures room { IfOk result (λ map. span map ≤ size_end) }
     ensures filled { IfOk result (λ map. AreFilled map) }
     ensures link { IfErr result (λ told. IfLink told (λ before after. (before ≡ start.faults) × Rises 1 before after × (after ≤ W.faults wires.new))) }
     ensures silent { IfErr result (λ told. IfSilent told (λ idles. Rises patience start.idles idles × (idles ≤ W.idles wires.new))) }
@@ -279,7 +278,7 @@ fn dial<W: Wires>(
 ) -> Result<Extents, InfoFault>
     requires stands { StandsFor max_unretired (begun place.now.name world.old.context) handle.machine }
     ensures maps { Mapped place.now world.old.context (W.told wires.old) (W.told wires.new) result }
-    ensures room { IfOk result (λ map. span map ≤ 2 ^ 63) }
+    ensures room { IfOk result (λ map. span map ≤ size_end) }
     ensures filled { IfOk result (λ map. AreFilled map) }
     ensures link { IfErr result (λ told. IfLink told (λ before after. (before ≡ W.faults wires.old) × Rises 1 before after × (after ≤ W.faults wires.new))) }
     ensures silent { IfErr result (λ told. IfSilent told (λ idles. Rises patience (W.idles wires.old) idles × (idles ≤ W.idles wires.new))) }
@@ -321,7 +320,7 @@ fn map_for<W: Wires>(
     world: &mut Survey,
 ) -> Result<Extents, InfoFault>
     ensures maps { Mapped place.now world.old.context (W.told wires.old) (W.told wires.new) result }
-    ensures room { IfOk result (λ map. span map ≤ 2 ^ 63) }
+    ensures room { IfOk result (λ map. span map ≤ size_end) }
     ensures filled { IfOk result (λ map. AreFilled map) }
     ensures link { IfErr result (λ told. IfLink told (λ before after. (before ≡ W.faults wires.old) × Rises 1 before after × (after ≤ W.faults wires.new))) }
     ensures silent { IfErr result (λ told. IfSilent told (λ idles. Rises patience (W.idles wires.old) idles × (idles ≤ W.idles wires.new))) }
@@ -365,7 +364,7 @@ pub fn map<W: Wires>(
     ensures maps { Mapped place.now context.now (W.told wires.old) (W.told wires.new) result }
 
     // A map is of 2^63 bytes at most, and no extent of it is empty.
-    ensures room { IfOk result (λ map. span map ≤ 2 ^ 63) }
+    ensures room { IfOk result (λ map. span map ≤ size_end) }
     ensures filled { IfOk result (λ map. AreFilled map) }
 
     // The counts that rose.

@@ -24,7 +24,7 @@ module _ {K : Type 0} where
   size_known history = size_at (phase (reading history).known.turns) (export (steps (reading history).known.turns))
 
   -- The handle was told this size, and then, or later, nothing of what it asked by then waited to go out.
-  pub record WasTold (history : History K) (size : ℕ) : Type 0 where
+  pub record HasToldSize (history : History K) (size : ℕ) : Type 0 where
     pub earlier : History K
     pub since : List (Event K)
     pub is : history ≡ since ++ earlier
@@ -45,7 +45,7 @@ module _ {K : Type 0} where
     pub name : (name : List ℕ) → name_asked link.wishes ≡ Some name → name ≡ name_set history
     pub size : (size : ℕ) → size_told link ≡ Some size → (name_asked link.wishes ≡ Some (name_set history)) × (size_known history ≡ Some size)
     pub asked : 1 ≤ written history → (name_asked link.wishes ≡ Some (name_set history)) × (size_told link ≡ size_known history)
-    pub told : (size : ℕ) → WasTold history size → size_told link ≡ Some size
+    pub told : (size : ℕ) → HasToldSize history size → size_told link ≡ Some size
 
   -- A link tells of its export nothing but what the handle was told that drives it. It tells that where a request was wholly written, and where nothing waited to
   -- go out once it was told.
@@ -65,11 +65,11 @@ DrivenTell K = (limit link : ℕ) (calls : List Call) (history : History K) → 
 
 -- With an export its size was told.
 abbrev pub SizeWasTold : Type 0 → Type 0
-SizeWasTold K = (history : History K) (export : Export) → WasToldExport history export → WasTold history export.size
+SizeWasTold K = (history : History K) (export : Export) → WasToldExport history export → HasToldSize history export.size
 
 -- With a size an export of this size was told.
 abbrev pub SizesAreOfExports : Type 0 → Type 0
-SizesAreOfExports K = (history : History K) (size : ℕ) → WasTold history size → (export : Export) × WasToldExport history export × (export.size ≡ size)
+SizesAreOfExports K = (history : History K) (size : ℕ) → HasToldSize history size → (export : Export) × WasToldExport history export × (export.size ≡ size)
 
 -- What a handle was told of its export once requests may be made stays, whatever happens.
 abbrev pub ExportsStay : Type 0 → Type 0

@@ -140,7 +140,11 @@ cut_rest how s bytes piece left k =
     let f = first_left how s bytes k.at piece left k.rest in
     let size = k.size in
     let fits = f.fits in
-    record { size = k.size; at = k.at + piece.length; fits = omega (arith, size, fits); rest = f.rest }
+    record { size = k.size; data_ = k.data_; at = k.at + piece.length; fits = omega (arith, size, fits); rest = f.rest }
+
+-- It is not one of zeros.
+pub cut_data : (how : How) (s : Slice) (bytes : List ℕ) (left : List Slice) → IsCut how s bytes left → s.zero ≡ true → how.zeroes ≡ false
+cut_data how s bytes left k zero = absurd (let none = k.data_ in cc)
 
 -- The first piece lies in its slice.
 pub piece_inside : (how : How) (s : Slice) (bytes : List ℕ) (piece : Slice) (left : List Slice) → IsCut how s bytes (piece ∷ left) → IsPartOf s piece.start piece.length

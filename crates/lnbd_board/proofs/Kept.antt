@@ -31,7 +31,7 @@ fits_read : (s : Slice) (buf : List ℕ) → not (length buf == s.length) ≡ fa
 fits_read s buf f = grind (arith, nat_tests, common_steps)
 
 received_sits : (how : How) (s : Slice) (stage : Stage) (buf : List ℕ) → is_busy stage ≡ true → is_reading stage && not (length buf == s.length) ≡ false → Sits how s stage → Sits how s (received stage buf)
-received_sits how s Reading buf b f k = fits_read s buf f
+received_sits how s Reading buf b f k = (fits_read s buf f, k)
 received_sits how s Last buf b f k = tt
 received_sits how s (Came bytes) buf b f k = absurd (cc)
 received_sits how s (Writing bytes left) buf b f k = k
@@ -239,9 +239,9 @@ pub first_busy : (blank : Bool) → is_busy (first_stage blank) ≡ true
 first_busy true = refl
 first_busy false = refl
 
-pub first_sits : (how : How) (s : Slice) (blank : Bool) → Sits how s (first_stage blank)
-first_sits how s true = tt
-first_sits how s false = tt
+pub first_sits : (how : How) (s : Slice) (blank : Bool) → s.zero ≡ blank → Sits how s (first_stage blank)
+first_sits how s true is = tt
+first_sits how s false is = is
 
 -- A row went on.
 

@@ -191,9 +191,9 @@ cut_steps how n s (Holding bytes rest) left h = advances_none how n s (Holding b
 cut_steps how n s (Finished bytes) left h = advances_none how n s (Finished bytes)
 
 pub cut_sits : (how : How) (s : Slice) (stage : Stage) (left : List Slice) → Cuts how s stage left → Sits how s stage → Sits how s (cutting stage left)
-cut_sits how s Reading left h k = tt
+cut_sits how s Reading left h k = k
 cut_sits how s Last left h k = tt
-cut_sits how s (Came bytes) left h k = record { size = k; at = 0; fits = omega arith; rest = h.on bytes refl }
+cut_sits how s (Came bytes) left h k = record { size = k.0; data_ = k.1; at = 0; fits = omega arith; rest = h.on bytes refl }
 cut_sits how s (Writing bytes rest) left h k = k
 cut_sits how s (Holding bytes rest) left h k = k
 cut_sits how s (Finished bytes) left h k = tt
@@ -235,7 +235,7 @@ passes_first how piece left skip z = record {
       let f = first_left how s bytes k.at piece left k.rest in
       let size = k.size in
       let fits = f.fits in
-      record { size = k.size; at = k.at + piece.length; fits = omega (arith, size, fits); rest = f.rest };
+      record { size = k.size; data_ = k.data_; at = k.at + piece.length; fits = omega (arith, size, fits); rest = f.rest };
 }
 
 pub passes_then : (how : How) (a b c : List Slice) → Passes how a b → Passes how b c → Passes how a c

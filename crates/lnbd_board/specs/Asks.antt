@@ -47,14 +47,14 @@ pub record IsPartOf (s : Slice) (offset size : ℕ) : Type 0 where
   pub after : s.start ≤ offset
   pub before : offset + size ≤ s.start + s.length
 
--- A change is one of a part of its slice. Zeroes are asked for, with the flags that are wished, only where the destination takes that.
+-- A change is one of a part of its slice. Zeroes are asked for, with the flags that are wished, only where the destination takes that; and there no slice of zeros is written.
 abbrev pub IsChangeOf : How → Slice → Change → Type 0
-IsChangeOf how s (change.Write offset bytes) = IsPartOf s offset (length bytes)
+IsChangeOf how s (change.Write offset bytes) = IsPartOf s offset (length bytes) × (s.zero ≡ true → how.zeroes ≡ false)
 IsChangeOf how s (change.Zero offset size flags) = IsPartOf s offset size × (flags ≡ zero_flags how.allocated) × (how.zeroes ≡ true)
 
--- The first request of a slice is for its bytes.
+-- The first request of a slice is for its bytes. Those of a slice of zeros are not read.
 abbrev pub IsFirstOf : How → Slice → Ask → Type 0
-IsFirstOf how s (ask.Read offset buf) = (offset ≡ s.start) × (length buf ≡ s.length)
+IsFirstOf how s (ask.Read offset buf) = (s.zero ≡ false) × (offset ≡ s.start) × (length buf ≡ s.length)
 IsFirstOf how s (ask.Change one) = IsChangeOf how s one
 
 -- how many bytes a change writes and zeroes
@@ -99,18 +99,19 @@ pub record Goes (how : How) (n : ℕ) (asks : Option Change) (rows rows2 : List 
 
 -- What a row holds.
 
--- the bytes are those of the slice, and these pieces are left
+-- the bytes are those of the slice, which is not one of zeros, and these pieces are left
 pub record IsCut (how : How) (s : Slice) (bytes : List ℕ) (left : List Slice) : Type 0 where
   pub size : length bytes ≡ s.length
+  pub data_ : s.zero ≡ false
   pub at : ℕ
   pub fits : at ≤ length bytes
   pub rest : AreLeft how s bytes at left
 
--- What a stage holds fits the slice, and so it will when the request under way comes back.
+-- What a stage holds fits the slice, and so it will when the request under way comes back. A slice of zeros is not read.
 abbrev pub Sits : How → Slice → Stage → Type 0
-Sits how s Reading = Unit {0}
+Sits how s Reading = s.zero ≡ false
 Sits how s Last = Unit {0}
-Sits how s (Came bytes) = length bytes ≡ s.length
+Sits how s (Came bytes) = (length bytes ≡ s.length) × (s.zero ≡ false)
 Sits how s (Writing bytes left) = IsCut how s bytes left
 Sits how s (Holding bytes left) = IsCut how s bytes left
 Sits how s (Finished bytes) = Unit {0}

@@ -9,7 +9,7 @@ use Rattle.lnbd_store.specs.Shelf.{Shelf}
 use Rattle.lnbd_store.specs.declared.serving.Content.{Content}
 use Rattle.lnbd_store.specs.declared.serving.Content.TheVariants.{Made, File}
 use Rattle.lnbd_child.specs.Closing.{Leaves, WritesBack, WritesNotBack}
-use Rattle.lnbd_child.specs.Loading.{BeginsAs, Holds, IsFew, IsMade, Loads, of_file}
+use Rattle.lnbd_child.specs.Loading.{BeginsAs, Holds, IsFew, IsOfNumber, Loads, of_file}
 use Rattle.lnbd_child.specs.Reading.{HasRead, IsRead, max_file}
 use Rattle.lnbd_child.specs.Writing.{HasWritten, IsWritten, NotWritten}
 
@@ -60,8 +60,8 @@ module _ (content : Content) (path : List ℕ) (is : content ≡ File path) wher
   pub file_holds : (bytes : List ℕ) (old new : Option Shelf) → IsRead path bytes old new → Holds content bytes old new
   file_holds bytes old new read = subst (λ (k : Content). Holds k bytes old new) (sym is) read
 
-  pub not_made : IsMade content → ⊥
-  not_made made = subst IsMade is made
+  pub not_made : IsOfNumber content → ⊥
+  not_made made = subst IsOfNumber is made
 
   module _ (read_only : Bool) where
     pub locked_back : read_only ≡ true → (bytes : List ℕ) → WritesBack content read_only bytes []

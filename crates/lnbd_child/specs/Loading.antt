@@ -15,9 +15,9 @@ use Rattle.lnbd_child.specs.declared.reading.Unread.TheVariants as unread
 use Rattle.lnbd_child.specs.Reading.{HasRead, IsRead, NotRead, max_file}
 
 -- a number gives the contents, and no file is asked for
-abbrev pub IsMade : Content → Type 0
-IsMade (Made seed n) = Unit {0}
-IsMade (File path) = ⊥
+abbrev pub IsOfNumber : Content → Type 0
+IsOfNumber (Made seed n) = Unit {0}
+IsOfNumber (File path) = ⊥
 
 -- what a number gives is at most as long as a file may be
 abbrev pub IsFew : Content → Type 0

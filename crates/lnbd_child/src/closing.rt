@@ -7,7 +7,7 @@ ghost use Rattle.lnbd_child.specs.Causes.{Because, Ends, Never, Rose};
 ghost use Rattle.lnbd_child.specs.Child.{answer_of};
 ghost use Rattle.lnbd_child.specs.Closing.{Closed, Closes, Leaves, WritesBack, WritesNotBack, answered};
 ghost use Rattle.lnbd_child.specs.Grown.{Grew};
-ghost use Rattle.lnbd_child.specs.Loading.{IsMade};
+ghost use Rattle.lnbd_child.specs.Loading.{IsOfNumber};
 ghost use Rattle.lnbd_child.specs.Serving.{is_done};
 
 use crate::child::{Attended, answer_of};
@@ -23,7 +23,7 @@ fn write_back<S: Store>(asked: &Serving, bytes: &[u8], store: &mut S) -> Result<
     ensures back { OnOk result (Grew (S.told store.old) (S.told store.new) (WritesBack asked.now.content asked.now.read_only bytes.now)) }
     ensures leaves { OnOk result (Leaves asked.now.content asked.now.read_only bytes.now (S.shelf store.old) (S.shelf store.new)) }
     ensures unwritten { OnErr result (Grew (S.told store.old) (S.told store.new) (WritesNotBack asked.now.content asked.now.read_only bytes.now)) }
-    ensures untouched { IsMade asked.now.content → store.new ≡ store.old }
+    ensures untouched { IsOfNumber asked.now.content → store.new ≡ store.old }
     ensures failed { OnErr result (Rises 1 (S.faults store.old) (S.faults store.new)) }
     ensures later { S.faults store.old ≤ S.faults store.new }
 {
@@ -62,7 +62,7 @@ pub(crate) fn close<S: Store, O: Sink>(
     ensures closes { Closed (S.told store.old) (S.told store.new) (O.taken out.old) (O.taken out.new) (Closes asked.now attended bytes.now result) }
     ensures leaves { is_done result ≡ true → Leaves asked.now.content asked.now.read_only bytes.now (S.shelf store.old) (S.shelf store.new) }
     ensures answer { is_done result ≡ true → result ≡ answer_of attended.served attended.ended }
-    ensures untouched { IsMade asked.now.content → store.new ≡ store.old }
+    ensures untouched { IsOfNumber asked.now.content → store.new ≡ store.old }
     ensures cause { IfErr result (Because ⊥ (Unit {0}) (Ends (Rises 1 (O.faults out.old) (O.faults out.new))) (Rose S.faults store.old store.new) Never) }
     ensures later { S.faults store.old ≤ S.faults store.new }
     ensures printing { O.faults out.old ≤ O.faults out.new }

@@ -5,7 +5,7 @@ ghost use Rattle.lnbd_store.specs.Shelf.{Shelf};
 ghost use Rattle.lnbd_store.specs.declared.serving.Content.TheVariants.{Made};
 ghost use Rattle.lnbd_child.specs.Causes.{Because, Lacks, Never, Rose};
 ghost use Rattle.lnbd_child.specs.Grown.{Grew};
-ghost use Rattle.lnbd_child.specs.Loading.{Begins, Holds, IsFew, IsMade, Loads, NotLoaded, NotLoadedFile, of_file};
+ghost use Rattle.lnbd_child.specs.Loading.{Begins, Holds, IsFew, IsOfNumber, Loads, NotLoaded, NotLoadedFile, of_file};
 ghost use Rattle.lnbd_child.specs.Reading.{HasRead, IsRead};
 
 use crate::fault::RunFault;
@@ -60,7 +60,7 @@ pub(crate) fn load<S: Store>(
     ensures loads { IfOk result (λ start. Grew (S.told store.old) (S.told store.new) (Loads asked.now.content start.bytes)) }
     ensures held { IfOk result (λ start. Holds asked.now.content start.bytes (S.shelf store.old) (S.shelf store.new)) }
     ensures unloaded { IfErr result (λ why. Grew (S.told store.old) (S.told store.new) (NotLoaded asked.now.content why)) }
-    ensures untouched { IsMade asked.now.content → store.new ≡ store.old }
+    ensures untouched { IsOfNumber asked.now.content → store.new ≡ store.old }
     ensures changed { (n end : ℕ) → result ≡ Err (RunFault.Changed n end) → (now : Shelf) → S.shelf store.new ≡ Some now → ⊥ }
     ensures cause { IfErr result (Because (Unit {0}) ⊥ Lacks (Rose S.faults store.old store.new) Never) }
     ensures later { S.faults store.old ≤ S.faults store.new }

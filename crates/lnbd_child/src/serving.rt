@@ -7,7 +7,7 @@ ghost use Rattle.lnbd_serve.specs.Steps.{Went};
 ghost use Rattle.lnbd_store.specs.Shelf.{Shelf};
 ghost use Rattle.lnbd_child.specs.Causes.{Because, Cuts, Never, Rose, IsLong};
 ghost use Rattle.lnbd_child.specs.Hosting.{Attends, Hosts, Serves, Worked, running_of};
-ghost use Rattle.lnbd_child.specs.Loading.{IsFew, IsMade};
+ghost use Rattle.lnbd_child.specs.Loading.{IsFew, IsOfNumber};
 ghost use Rattle.lnbd_child.specs.Serving.{Did, Goes, RunsChild, ServesFile, is_done};
 
 use crate::child::{Attended, Running, start, wait};
@@ -153,7 +153,7 @@ pub fn serve_child<W: Wires, O: Sink, S: Store, P: Spawner>(
 
     // Where no program is asked for the spawner is as it was, and where no file is, the store.
     ensures alone { asked.now.run ≡ [] → spawn.new ≡ spawn.old }
-    ensures untouched { IsMade asked.now.content → store.new ≡ store.old }
+    ensures untouched { IsOfNumber asked.now.content → store.new ≡ store.old }
 
     // The counts, and what a fault comes from.
     ensures link { (before after : ℕ) → result ≡ Err (RunFault.Serve (ServeFault.Link before after)) → Rose W.faults wires.old wires.new before after }

@@ -15,7 +15,8 @@ use Rattle.lnbd_cli.specs.Beside.{IsBesideDone, is_all_done, is_beside_status}
 use Rattle.lnbd_cli.specs.Calls.{IsPlayDone, is_calls_status}
 use Rattle.lnbd_cli.specs.Copies.{IsCopyDone, is_copy_status}
 use Rattle.lnbd_cli.specs.Dumps.{IsDumpDone, is_dump_status}
-use Rattle.lnbd_cli.specs.Duplicates.{AreUntold, IsDuplicateDone, is_duplicate_status}
+use Rattle.lnbd_copyfile.specs.FileCopy.{AreUntold}
+use Rattle.lnbd_cli.specs.Duplicates.{IsDuplicateDone, is_duplicate_status}
 use Rattle.lnbd_cli.specs.FileCopies.{is_files_status, is_mixed_status}
 use Rattle.lnbd_store.specs.declared.side.Side.{Side}
 use Rattle.lnbd_store.specs.declared.side.Side.TheVariants as side

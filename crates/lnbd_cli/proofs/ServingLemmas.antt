@@ -7,7 +7,7 @@ use Rattle.lnbd_store.specs.Shelf.{Shelf}
 use Rattle.lnbd_store.specs.declared.serving.Content.{Content}
 use Rattle.lnbd_store.specs.declared.serving.Content.TheVariants.{Made, File}
 use Rattle.lnbd_store.specs.declared.serving.Serving.{Serving}
-use Rattle.lnbd_child.specs.Loading.{IsFew, IsMade}
+use Rattle.lnbd_child.specs.Loading.{IsFew, IsOfNumber}
 use Rattle.lnbd_cli.specs.declared.serving.Service.{Service}
 use Rattle.lnbd_cli.specs.Asks.{is_alone}
 use Rattle.lnbd_cli.specs.Beside.{FileServed, ProgramRan, is_all_done, is_beside_status}
@@ -66,7 +66,7 @@ module _ {W O S P : Type 0} (told : W → Option (List Call)) (wires wires' : W)
 
   -- what was done for a file or beside a program
   pub beside : (s : Serving) → is_alone s.content s.run ≡ false → RunsBeside s told wires wires' taken out out' moved store store' deeds spawn spawn' end → is_beside_status (status_of end) ≡ true
-      → (IsMade s.content → store' ≡ store) → (s.run ≡ [] → spawn' ≡ spawn)
+      → (IsOfNumber s.content → store' ≡ store) → (s.run ≡ [] → spawn' ≡ spawn)
       → (is_all_done (status_of end) ≡ true → FileServed s (told wires) (told wires') (shelf store) (shelf store') (status_of end))
       → (is_all_done (status_of end) ≡ true → ProgramRan s (deeds spawn) (deeds spawn') (status_of end))
       → ServeDid told wires wires' taken out out' moved shelf store store' deeds spawn spawn' end s

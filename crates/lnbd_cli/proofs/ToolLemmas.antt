@@ -5,7 +5,7 @@ use Rattle.std.specs.Prelude.{IsErrOf}
 use Rattle.std.specs.declared.alloc.Global.{Global}
 use Rattle.lnbd_args.specs.Tools.{Asks, IsContent, IsCopyOptions, IsSize}
 use Rattle.lnbd_args.specs.Words.{Part, Word}
-use Rattle.lnbd_child.specs.Loading.{IsFew, IsMade}
+use Rattle.lnbd_child.specs.Loading.{IsFew, IsOfNumber}
 use Rattle.lnbd_conduct.specs.Limits.{AreLimited, IsPowerWithin}
 use Rattle.lnbd_spawn.specs.declared.deed.Deed.{Deed}
 use Rattle.lnbd_store.specs.Call.{Call as Move}
@@ -30,7 +30,8 @@ use Rattle.lnbd_cli.specs.Copies as copies
 use Rattle.lnbd_cli.specs.Dumps as dumps
 use Rattle.lnbd_cli.specs.Duplicates as duplicates
 use Rattle.lnbd_cli.specs.FileCopies as files
-use Rattle.lnbd_cli.specs.FileCopies.{AreFileSides, FilesEnd, is_files_status}
+use Rattle.lnbd_copyfile.specs.FileCopy.{AreFileSides}
+use Rattle.lnbd_cli.specs.FileCopies.{FilesEnd, is_files_status}
 use Rattle.lnbd_cli.specs.Did.{AsksNoFile, AsksNoProgram, Did, HasRoom, IsOnWires, NeverReads}
 use Rattle.lnbd_cli.specs.Informs as informs
 use Rattle.lnbd_cli.specs.Serves as serves
@@ -75,20 +76,18 @@ copy_limits parts options are = record {
     looked (inr some) = inr (record { power = some.1; at_least = some.0; at_most = are.sparse.0.at_most })
 
 -- what words may ask to be copied where a side is a file
-file_sides : (words : List Word) (options : CopyOptions) (from to : Side) → Asks words (asked.FileCopy options from to) → AreFileSides options from to
+file_sides : (words : List Word) (options : CopyOptions) (from to : Side) → Asks words (asked.FileCopy options from to) → AreFileSides from to
 file_sides words options (side.Nbd from) (side.Nbd to) asks = asks.5
 file_sides words options (side.Nbd from) (side.File to) asks = tt
 file_sides words options (side.File from) (side.Nbd to) asks = tt
-file_sides words options (side.File from) (side.File to) asks =
-    let some = asks.2.4.1.request_size.0.at_least in
-    ((λ e. asks.2.4.2.apart asks.3.0 (sym asks.3.1 ∙ e ∙ asks.4.1)), omega (arith, some))
+file_sides words options (side.File from) (side.File to) asks = λ e. asks.2.4.2.apart asks.3.0 (sym asks.3.1 ∙ e ∙ asks.4.1)
 
 pub room : (words : List Word) (a : Asked) → Asks words a → HasRoom a
 room words asked.Calls asks = tt
 room words (asked.Info what json place) asks = tt
 room words (asked.Serve s) asks = few asks.1.2.hosts.parts s.content asks.1.2.hosts.serves.content_is
 room words (asked.Copy options from to) asks = copy_limits asks.2.2 options asks.2.4.1
-room words (asked.FileCopy options from to) asks = file_sides words options from to asks
+room words (asked.FileCopy options from to) asks = (copy_limits asks.2.2 options asks.2.4.1, file_sides words options from to asks)
 room words (asked.Dump place offset length) asks = tt
 room words (asked.Selftest seed size) asks = tt
 
@@ -119,7 +118,7 @@ no_file words asked.Calls asks other = tt
 no_file words (asked.Info what json place) asks other = tt
 no_file words (asked.Serve s) asks other = made s.content (λ file. other (inl (s, asks, file)))
   where
-    made : (content : Content) → ¬ IsFile content → IsMade content
+    made : (content : Content) → ¬ IsFile content → IsOfNumber content
     made (Made seed size) none = tt
     made (File path) none = absurd (none tt)
 no_file words (asked.Copy options from to) asks other = tt

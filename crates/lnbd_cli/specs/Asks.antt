@@ -8,9 +8,7 @@ use Rattle.lnbd_cli.specs.declared.ending.Fault.{Fault}
 use Rattle.lnbd_cli.specs.declared.ending.Fault.TheVariants as fault
 use Rattle.lnbd_cli.specs.declared.copying.Transfer.{Transfer}
 use Rattle.lnbd_cli.specs.declared.dumping.Excerpt.{Excerpt}
-use Rattle.lnbd_cli.specs.declared.duplicating.Duplication.{Duplication}
-use Rattle.lnbd_cli.specs.declared.filing.Download.{Download}
-use Rattle.lnbd_cli.specs.declared.filing.Upload.{Upload}
+use Rattle.lnbd_copyfile.specs.FileCopy.{Download, Duplication, Upload}
 use Rattle.lnbd_cli.specs.declared.hearing.Question.{Question}
 use Rattle.lnbd_cli.specs.declared.selftesting.Trial.{Trial}
 use Rattle.lnbd_cli.specs.declared.serving.Service.{Service}

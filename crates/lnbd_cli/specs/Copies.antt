@@ -36,7 +36,7 @@ WasMade options from to calls = (summary : Summary) × IsMade options from to su
 
 -- The calls of a copy that came to its end, be it from a place to itself: it connected to both places as often as its options and what both sides told say, each connect
 -- gave a link, and each link was left well.
-pub record HasParted (options : CopyOptions) (from to : Place) (calls : List Call) : Type 0 where
+pub record CameToEnd (options : CopyOptions) (from to : Place) (calls : List Call) : Type 0 where
   pub connects : ConnectsAsTold options from to calls
   pub connected : AllConnected calls
   pub driven : AreDriven calls
@@ -48,7 +48,7 @@ pub record HasCopied (asked : Transfer) (told told' : Option (List Call)) : Type
   pub copied : asked.from ≢ asked.to → Copies asked.from asked.to asked.options.destination_is_zero told told'
   pub made : asked.from ≢ asked.to → GrewBy (WasMade asked.options asked.from asked.to) told told'
   pub conduct : GrewBy (Conducts asked.options asked.from asked.to) told told'
-  pub parted : GrewBy (HasParted asked.options asked.from asked.to) told told'
+  pub parted : GrewBy (CameToEnd asked.options asked.from asked.to) told told'
 
 -- It did not come to its end, for a fault on the grounds that the calls show by which this transcript grew; these conduct such a copy until it is broken off, and before the
 -- event that decided nothing had come for which it ends.

@@ -4,7 +4,7 @@ use Rattle.std.specs.declared.alloc.Global.{Global}
 use Rattle.lnbd_args.specs.declared.asked.Asked.{Asked}
 use Rattle.lnbd_args.specs.declared.asked.Asked.TheVariants as asked
 use Rattle.lnbd_link.specs.Call.{Call}
-use Rattle.lnbd_child.specs.Loading.{IsFew, IsMade}
+use Rattle.lnbd_child.specs.Loading.{IsFew, IsOfNumber}
 use Rattle.lnbd_conduct.specs.Limits.{AreLimited}
 use Rattle.lnbd_spawn.specs.declared.deed.Deed.{Deed}
 use Rattle.lnbd_store.specs.Call.{Call as Move}
@@ -13,7 +13,8 @@ use Rattle.lnbd_store.specs.declared.serving.Serving.{Serving}
 use Rattle.lnbd_cli.specs.Asks.{Ask, is_alone}
 use Rattle.lnbd_cli.specs.Beside.{FileServed, ProgramRan, is_all_done}
 use Rattle.lnbd_cli.specs.Calls.{HoldsScript}
-use Rattle.lnbd_cli.specs.FileCopies.{AreFileSides, HasExport}
+use Rattle.lnbd_copyfile.specs.FileCopy.{AreFileSides}
+use Rattle.lnbd_cli.specs.FileCopies.{HasExport}
 use Rattle.lnbd_cli.specs.Ends.{End, status_of}
 use Rattle.lnbd_cli.specs.Hosts.{ServeDoes}
 use Rattle.lnbd_cli.specs.Runs.{RunsCalls, RunsCopy, RunsDump, RunsFiles, RunsInfo, RunsSelftest, is_known}
@@ -49,7 +50,7 @@ Accepts (asked.Selftest seed size) left end = (size ≤ most_tested → status_o
 abbrev pub AsksNoFile : Asked → Type 0
 AsksNoFile asked.Calls = Unit {0}
 AsksNoFile (asked.Info what json place) = Unit {0}
-AsksNoFile (asked.Serve s) = IsMade s.content
+AsksNoFile (asked.Serve s) = IsOfNumber s.content
 AsksNoFile (asked.Copy options from to) = Unit {0}
 AsksNoFile (asked.FileCopy options from to) = ⊥
 AsksNoFile (asked.Dump place offset length) = Unit {0}
@@ -91,13 +92,13 @@ abbrev pub DidAsked : {I W O S P : Type 0} → List (String Global) → (left : 
 DidAsked words left input input' told wires wires' taken out out' moved shelf gave took store store' deeds spawn spawn' end =
     (asked : Asked) → Ask words asked → Did left input input' told wires wires' taken out out' moved shelf gave took store store' deeds spawn spawn' end asked
 
--- What is to be served fits in memory, the options of a copy between two exports are within their limits, and the sides of another copy are those that it can have.
+-- What is to be served fits in memory, the options of a copy are within their limits, and the sides of one of which a side is a file are those that it can have.
 abbrev pub HasRoom : Asked → Type 0
 HasRoom asked.Calls = Unit {0}
 HasRoom (asked.Info what json place) = Unit {0}
 HasRoom (asked.Serve s) = IsFew s.content
 HasRoom (asked.Copy options from to) = AreLimited options
-HasRoom (asked.FileCopy options from to) = AreFileSides options from to
+HasRoom (asked.FileCopy options from to) = AreLimited options × AreFileSides from to
 HasRoom (asked.Dump place offset length) = Unit {0}
 HasRoom (asked.Selftest seed size) = Unit {0}
 

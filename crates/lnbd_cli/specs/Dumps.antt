@@ -2,7 +2,7 @@
 use Rattle.std.specs.Prelude.{◌≡◌, ◌⊎◌, ◌∷◌, ℕ, Bool, true, List, [], Option, Ok, Err}
 use Rattle.lnbd_link.specs.Call.{Call}
 use Rattle.lnbd_dump.specs.Conduct.{Dumped}
-use Rattle.lnbd_dump.specs.Shown.{Shows, ShowsFront, WasTold}
+use Rattle.lnbd_dump.specs.Shown.{Shows, ShowsFront, WasToldByte}
 use Rattle.lnbd_dump.specs.declared.fault.DumpFault.{DumpFault}
 use Rattle.lnbd_dump.specs.declared.fault.DumpFault.TheVariants as dumping
 use Rattle.lnbd_reel.specs.Said.{Shown, ShownFront}
@@ -27,13 +27,13 @@ TellsDumpFault (dumping.Uneven size block) told = told ≡ fault.Rule (ruling.Un
 pub record AllShown (e : Excerpt) (told told' : Option (List Call)) (taken taken' : Option (List ℕ)) : Type 0 where
   pub count : ℕ
   pub dumped : Dumped e.place e.offset e.length told told' (Ok count)
-  pub shown : Shown (WasTold e.place told told') e.offset count taken taken'
+  pub shown : Shown (WasToldByte e.place told told') e.offset count taken taken'
   pub shows : Shows e.place e.offset e.length count told told' taken taken'
 
 -- It was broken off, for this that the calls show: a front was shown of what they told, and over such an export of the dump of its bytes.
 pub record PartShown (e : Excerpt) (told told' : Option (List Call)) (taken taken' : Option (List ℕ)) (why : DumpFault) : Type 0 where
   pub dumped : Dumped e.place e.offset e.length told told' (Err why)
-  pub front : ShownFront (WasTold e.place told told') e.offset taken taken'
+  pub front : ShownFront (WasToldByte e.place told told') e.offset taken taken'
   pub fronts : ShowsFront e.place e.offset e.length told told' taken taken'
 
 -- How a run of nbddump ends; Uncalled and Unprinted say that nothing was called and that nothing was printed.

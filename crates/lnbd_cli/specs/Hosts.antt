@@ -7,7 +7,7 @@ use Rattle.lnbd_store.specs.Shelf.{Shelf}
 use Rattle.lnbd_store.specs.declared.serving.Content.{Content}
 use Rattle.lnbd_store.specs.declared.serving.Content.TheVariants.{Made, File}
 use Rattle.lnbd_store.specs.declared.serving.Serving.{Serving}
-use Rattle.lnbd_child.specs.Loading.{IsMade}
+use Rattle.lnbd_child.specs.Loading.{IsOfNumber}
 use Rattle.lnbd_cli.specs.declared.serving.Service.{Service}
 use Rattle.lnbd_cli.specs.declared.serving.Task.{Task}
 use Rattle.lnbd_cli.specs.declared.serving.Task.TheVariants as task
@@ -37,7 +37,7 @@ pub record ServeDid {W O S P : Type 0} (told : W → Option (List Call)) (wires 
     (moved : S → Option (List Move)) (shelf : S → Option Shelf) (store store' : S) (deeds : P → Option (List Deed)) (spawn spawn' : P) (end : End) (s : Serving) : Type 0 where
   pub does : ServeDoes s.content s.run s told wires wires' taken out out' moved store store' deeds spawn spawn' end
   pub known : is_serving_known s.content s.run (status_of end) ≡ true
-  pub store_same : IsMade s.content → store' ≡ store
+  pub store_same : IsOfNumber s.content → store' ≡ store
   pub spawn_same : s.run ≡ [] → spawn' ≡ spawn
   pub file : is_alone s.content s.run ≡ false → is_all_done (status_of end) ≡ true → FileServed s (told wires) (told wires') (shelf store) (shelf store') (status_of end)
   pub child : is_alone s.content s.run ≡ false → is_all_done (status_of end) ≡ true → ProgramRan s (deeds spawn) (deeds spawn') (status_of end)

@@ -15,9 +15,7 @@ use Rattle.lnbd_store.specs.declared.side.Side.{Side}
 use Rattle.lnbd_course.specs.Asks.{GrewBy}
 use Rattle.lnbd_cli.specs.declared.copying.Transfer.{Transfer}
 use Rattle.lnbd_cli.specs.declared.dumping.Excerpt.{Excerpt}
-use Rattle.lnbd_cli.specs.declared.duplicating.Duplication.{Duplication}
-use Rattle.lnbd_cli.specs.declared.filing.Download.{Download}
-use Rattle.lnbd_cli.specs.declared.filing.Upload.{Upload}
+use Rattle.lnbd_copyfile.specs.FileCopy.{Download, DownloadConducts, Duplication, Upload, UploadConducts}
 use Rattle.lnbd_cli.specs.declared.hearing.Question.{Question}
 use Rattle.lnbd_cli.specs.declared.selftesting.Trial.{Trial}
 use Rattle.lnbd_cli.specs.declared.serving.Service.{Service}
@@ -27,7 +25,7 @@ use Rattle.lnbd_cli.specs.Calls.{CallsEnds, HoldsScript, is_calls_status}
 use Rattle.lnbd_cli.specs.Copies.{CopyEnds, is_copy_status}
 use Rattle.lnbd_cli.specs.Dumps.{DumpEnds, is_dump_status}
 use Rattle.lnbd_cli.specs.Duplicates.{DuplicateEnds}
-use Rattle.lnbd_cli.specs.FileCopies.{DownloadConducts, DownloadEnds, FilesEnd, UploadConducts, UploadEnds, is_files_status}
+use Rattle.lnbd_cli.specs.FileCopies.{DownloadEnds, FilesEnd, UploadEnds, is_files_status}
 use Rattle.lnbd_cli.specs.Ends.{End, IsPatient, IsReported, IsSound, Prints}
 use Rattle.lnbd_cli.specs.Informs.{InfoEnds, is_info_status}
 use Rattle.lnbd_cli.specs.Serves.{ServeEnds, is_serve_status}

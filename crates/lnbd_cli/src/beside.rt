@@ -2,7 +2,7 @@
 
 ghost use Rattle.std.specs.Prelude.{◌≡◌, [], Err, OnOk, true};
 ghost use Rattle.lnbd_link.specs.Count.{Rises, patience};
-ghost use Rattle.lnbd_child.specs.Loading.{IsFew, IsMade};
+ghost use Rattle.lnbd_child.specs.Loading.{IsFew, IsOfNumber};
 ghost use Rattle.lnbd_cli.specs.Beside.{FileServed, ProgramRan, TellsChild, TellsRunFault, is_all_done, is_beside_status};
 ghost use Rattle.lnbd_cli.specs.Ends.{status_of};
 ghost use Rattle.lnbd_cli.specs.Runs.{RunsBeside};
@@ -58,7 +58,7 @@ pub(crate) fn serve_beside<W: Wires, O: Sink, S: Store, P: Spawner>(
     ensures file { is_all_done (status_of result) ≡ true → FileServed asked.now (W.told wires.old) (W.told wires.new) (S.shelf store.old) (S.shelf store.new) (status_of result) }
     ensures child { is_all_done (status_of result) ≡ true → ProgramRan asked.now (P.told spawn.old) (P.told spawn.new) (status_of result) }
     ensures known { is_beside_status (status_of result) ≡ true }
-    ensures store { IsMade asked.now.content → store.new ≡ store.old }
+    ensures store { IsOfNumber asked.now.content → store.new ≡ store.old }
     ensures spawner { asked.now.run ≡ [] → spawn.new ≡ spawn.old }
     ensures link { result ≡ Err fault.Link → Rises 1 (W.faults wires.old) (W.faults wires.new) }
     ensures silent { result ≡ Err fault.Silent → Rises patience (W.idles wires.old) (W.idles wires.new) }

@@ -7,7 +7,6 @@ mod calling;
 mod copying;
 mod counts;
 mod dumping;
-mod duplicating;
 mod ending;
 mod filing;
 mod hearing;

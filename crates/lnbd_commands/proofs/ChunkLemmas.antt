@@ -18,7 +18,8 @@ use Rattle.lnbd_commands.specs.Commands.{Commands, waiting_at}
 use Rattle.lnbd_commands.specs.Lands.{Landing, Hears, TellableAt, IsLiveRow, EndsAs, known_of, lacking, told_row}
 use Rattle.lnbd_commands.specs.Rows.{changed}
 use Rattle.lnbd_commands.specs.Sound.{IsSound}
-use Rattle.lnbd_commands.specs.Takes.{IsChunk, MayCome, TakesUnder}
+use Rattle.lnbd_commands.specs.Takes.{IsChunk, TakesUnder}
+use Rattle.lnbd_structured.specs.Told.{MayCome}
 use Rattle.lnbd_commands.proofs.MarkLemmas.{row_of, unkept}
 use Rattle.lnbd_commands.proofs.RealLemmas.{or_none}
 use Rattle.lnbd_commands.proofs.ReplyLemmas.{Flying, flying_row, none_of}

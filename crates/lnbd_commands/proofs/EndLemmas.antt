@@ -18,7 +18,8 @@ use Rattle.lnbd_commands.specs.Completes.{Completes, EndsByChunk, EndsByLoss, En
 use Rattle.lnbd_commands.specs.Lands.{Landing, IsCounted, reply_item}
 use Rattle.lnbd_commands.specs.Rows.{ended, landed, unanswered}
 use Rattle.lnbd_commands.specs.Sound.{IsSound}
-use Rattle.lnbd_commands.specs.Takes.{MayCome, Takes, TakesUnder}
+use Rattle.lnbd_commands.specs.Takes.{Takes, TakesUnder}
+use Rattle.lnbd_structured.specs.Told.{MayCome}
 use Rattle.lnbd_commands.proofs.AlikeLemmas.{Alike, alike_lost, alike_reply, alike_same}
 use Rattle.lnbd_commands.proofs.ChunkLemmas.{admitted_told, bytes_end, failure_end, live_told, still_sound, still_takes}
 use Rattle.lnbd_commands.proofs.LoseLemmas.{no_first_acts}

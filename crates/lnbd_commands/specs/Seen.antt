@@ -1,14 +1,8 @@
 -- What plain values stand for.
 use Rattle.std.specs.Prelude.{Option, Some, None}
-use Rattle.lnbd_chunks.specs.Chunk.{Waiting}
 use Rattle.lnbd_outcome.specs.Hearing.{Hearing, Chunk, Extents}
 use Rattle.lnbd_commands.specs.declared.flight.Hearing.{Hearing as ToldTo}
 use Rattle.lnbd_commands.specs.declared.flight.Hearing.TheVariants as to
-use Rattle.lnbd_commands.specs.declared.row.Waiting.{Waiting as Told}
-
--- what is known of a command in flight
-abbrev pub seen_waiting : Told → Waiting
-seen_waiting told = record { kind = told.kind; offset = told.offset; length = told.length; faults = told.faults }
 
 -- what a callback is told, if it is told something
 abbrev pub told_to : ToldTo → Option Hearing

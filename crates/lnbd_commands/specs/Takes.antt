@@ -1,8 +1,8 @@
 -- What a call on commands does to the table machine.
-use Rattle.std.specs.Prelude.{◌≡◌, ℕ, ◌<◌, Bool, List, ◌++◌, length, true, false, Option, Some, None}
+use Rattle.std.specs.Prelude.{◌≡◌, ℕ, Bool, List, ◌++◌, length, true, Option, Some, None}
 use Rattle.lnbd_model.specs.declared.export.Context.{Context as MetaContext}
 use Rattle.lnbd_records.specs.Content.{Content}
-use Rattle.lnbd_structured.specs.Told.{IsInside}
+use Rattle.lnbd_structured.specs.Told.{MayCome}
 use Rattle.lnbd_callbacks.specs.Calls.{Call}
 use Rattle.lnbd_history.specs.Events.{Answer}
 use Rattle.lnbd_chunks.specs.Chunk.{Waiting}
@@ -39,11 +39,6 @@ pub record TakesUnder {K World : Type 0} (contexts : List MetaContext) (steps : 
   pub does : (state : State K) → state.talk.contexts ≡ contexts → (more : List Answer) (made : List (Call K)) →
       part (record { state = with_commands old state; answers = answers ++ more; calls = made })
       ≡ record { state = with_commands new state; answers = more; calls = made ++ calls }
-
--- A chunk may come for a command in flight: its content lies in what was asked, and only the last may come after 1,024 faults.
-pub record MayCome (known : Waiting) (content : Content) (last : Bool) : Type 0 where
-  pub inside : IsInside known content
-  pub few : last ≡ false → known.faults < 1024
 
 abbrev pub IsChunk : Option Waiting → Content → (last : Bool) → Type 0
 IsChunk None content last = ⊥

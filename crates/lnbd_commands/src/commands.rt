@@ -13,16 +13,17 @@ ghost use Rattle.lnbd_commands.specs.Contents.{IsSpare, bytes_in};
 ghost use Rattle.lnbd_commands.specs.Faulty.{HasAsked, faulty_at};
 ghost use Rattle.lnbd_commands.specs.Flights.{has_first};
 ghost use Rattle.lnbd_commands.specs.Rows.{flight_of_row, is_read_row};
-ghost use Rattle.lnbd_commands.specs.Seen.{seen_waiting};
+ghost use Rattle.lnbd_structured.specs.Waiting.{seen_waiting};
 ghost use Rattle.lnbd_commands.specs.Takes.{IsReply, Takes, TakesReply};
 
 use crate::content::Content;
-use crate::row::{Row, Waiting};
+use crate::row::Row;
 use crate::rows::{end_by_loss, end_by_reply};
 use lnbd_callbacks::{Caller, Desk};
 use lnbd_history::Peeked;
 use lnbd_inflight::Table;
 use lnbd_model::{NoMemory, Note};
+use lnbd_structured::Waiting;
 use std::alloc::Global;
 use std::marker::Model;
 

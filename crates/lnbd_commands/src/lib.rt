@@ -18,5 +18,5 @@ mod telling;
 pub use close::Closed;
 pub use commands::Commands;
 pub use laws::files_by_parts;
-pub use lnbd_structured::Told;
-pub use row::{Asked, Waiting};
+pub use lnbd_structured::{Told, Waiting};
+pub use row::Asked;

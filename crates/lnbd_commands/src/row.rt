@@ -12,14 +12,16 @@ ghost use Rattle.lnbd_commands.specs.Completes.{answered};
 ghost use Rattle.lnbd_commands.specs.Contents.{FitsIn, IsSpare, brought_in, bytes_in};
 ghost use Rattle.lnbd_commands.specs.Flights.{IsLiveFlight, completing, flight_count, has_first};
 ghost use Rattle.lnbd_commands.specs.Lands.{EndsAs, Hears, IsLiveRow, IsWhole, lacking, lost, reply_bad, reply_failure, reply_hearing};
-ghost use Rattle.lnbd_commands.specs.Seen.{seen_waiting, told_to};
+ghost use Rattle.lnbd_commands.specs.Seen.{told_to};
+ghost use Rattle.lnbd_structured.specs.Waiting.{seen_waiting};
 
 use crate::content::{Content, spare_of};
 use crate::flight::{Flight, Hearing, complete};
 use lnbd_callbacks::{Caller, Desk, Heard, Verdict};
 use lnbd_history::Completed;
 use lnbd_model::{Bytes, Contexts, ENOTCONN, EPROTO, Failure, Kind, NoMemory, Origin, told_error};
-use lnbd_structured::Assembly;
+use lnbd_simple::{Settled, settle};
+use lnbd_structured::{Assembly, Waiting};
 use std::alloc::Global;
 use std::marker::Model;
 use std::mem::replace;
@@ -43,18 +45,6 @@ pub struct Asked<K> {
     pub first: Option<K>,
     /// The completion callback.
     pub done: K,
-}
-
-/// What is known of a command in flight.
-#[derive(Clone, Copy, Debug, PartialEq, Eq)]
-pub struct Waiting {
-    pub kind: Kind,
-    /// In bytes.
-    pub offset: u64,
-    /// In bytes.
-    pub length: u64,
-    /// How many of its chunks were errors or had a content fault.
-    pub faults: u32,
 }
 
 /// What the completion callback kept: an error, 0 for none, and the bytes.
@@ -500,18 +490,16 @@ impl<K: Caller> Row<K> {
         }
     }
 
-    /// Whether a simple reply with this error, of the right size, has a content fault.
+    /// Whether a simple reply with this error, of the right size, has a content fault: what was told before is told again, or it fails its command
+    /// and tells no error. One to a read that structured replies forbid was a breach, and never comes here.
     fn is_bad(&self, error: u32) -> bool
         requires { self.now.kept ≡ None }
         ensures { result ≡ reply_bad self.now error }
     {
-        if error != 0 {
-            return false;
-        }
-        match self.kind {
-            Kind::Read => self.assembly.is_told_twice(),
-            Kind::BlockStatus => true,
-            Kind::Write | Kind::Flush | Kind::Trim | Kind::Cache | Kind::Zero => false,
+        match settle(self.kind, false, error) {
+            Settled::Done => matches!(self.kind, Kind::Read) && self.assembly.is_told_twice(),
+            Settled::Failed(_) => error == 0,
+            Settled::Broke(_) => false,
         }
     }
 }

@@ -5,6 +5,7 @@ use Rattle.lnbd_link.specs.Call as wire
 use Rattle.lnbd_plan.specs.declared.options.CopyOptions.{CopyOptions}
 use Rattle.lnbd_conduct.specs.Connects.{ConnectsWithin, AreDrivenBy}
 use Rattle.lnbd_conduct.specs.Changes.{Behaves}
+use Rattle.lnbd_conduct.specs.Fewest.{SlicesGoToFewest}
 use Rattle.lnbd_conduct.specs.Waiting.{WantsAll, WroteLittle, PausesAreFull, WaitsWell}
 use Rattle.lnbd_usage.specs.Links.{LinksAreKept}
 use Rattle.lnbd_conduct.specs.Pauses.{KeepsPace, PausesWithin, WantsOnlyFull, TriedBefore, WantsOnlyEmpty, WantsSome}
@@ -19,6 +20,8 @@ pub record Conducts (options : CopyOptions) (from to : Place) (calls : List wire
   pub behaves : from ≢ to → Behaves options from to calls
   -- and at each pause as much was under way as may be
   pub pauses : from ≢ to → PausesAreFull options from to calls
+  -- and slices went to the connections with the fewest
+  pub fewest : from ≢ to → SlicesGoToFewest options from to calls
   -- it waited only for what handles wait for, and to write only where a write took nothing
   pub waits : AtEachPause WaitsWell calls
   pub writes : AtEachPause WantsOnlyFull calls

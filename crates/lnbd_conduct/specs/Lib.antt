@@ -13,6 +13,7 @@ pub mod Changes
 pub mod Slices
 pub mod Pauses
 pub mod Waiting
+pub mod Fewest
 pub mod Conduct
 pub mod Made
 pub mod Decided

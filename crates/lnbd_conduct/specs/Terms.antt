@@ -4,6 +4,7 @@ use Rattle.lnbd_model.specs.declared.export.Blocks.{Blocks}
 use Rattle.lnbd_model.specs.declared.export.ExportInfo.{ExportInfo}
 use Rattle.lnbd_records.specs.Limits.{max_minimum_block, max_data}
 use Rattle.lnbd_records.specs.Flags.{flag_read_only, flag_send_write_zeroes, flag_send_flush}
+pub use Rattle.lnbd_records.specs.Flags.{flag_can_multi_conn}
 use Rattle.lnbd_records.specs.Numbers.{has_bit}
 use Rattle.lnbd_plan.specs.declared.fault.Rule.{Rule}
 use Rattle.lnbd_plan.specs.declared.options.CopyOptions.{CopyOptions}
@@ -43,10 +44,14 @@ unfoldable pub greatest_power : (exponent most : ℕ) → ℕ
 greatest_power zero most = 1
 greatest_power (suc exponent) most = if nat_le (2 ^ suc exponent) most then 2 ^ suc exponent else greatest_power exponent most
 
--- Slices of data are cut at multiples of the cell: the greatest power of two that is no larger than a request may be, by the options and for both sides (`max_data` is 2 ^ 25), or
+-- `max_data` is this power of two
+abbrev pub max_exponent : ℕ
+max_exponent = 25
+
+-- Slices of data are cut at multiples of the cell: the greatest power of two that is no larger than a request may be, by the options and for both sides, or
 -- the grain, where that is larger.
 abbrev pub cell : CopyOptions → (source destination : ExportInfo) → ℕ
-cell options source destination = max (greatest_power 25 (min options.request_size (limit source destination))) (grain source destination)
+cell options source destination = max (greatest_power max_exponent (min options.request_size (limit source destination))) (grain source destination)
 
 -- The blocks that are looked at for zeros are as large as the options say, and no smaller than the destination's least block. None are looked at, and the size is 0, where the
 -- options say 0, or where the blocks would be larger than a cell.
@@ -75,10 +80,6 @@ max_zeroes = 134217728
 -- slices of zeros are cut at its multiples
 abbrev pub zero_cell : CopyOptions → (source destination : ExportInfo) → ℕ
 zero_cell options source destination = if takes_zeroes destination then max_zeroes else cell options source destination
-
--- an export may have many connections (NBD protocol, "Transmission flags")
-abbrev pub flag_can_multi_conn : ℕ
-flag_can_multi_conn = 256
 
 -- how many connections a side has: as many as the options say where it tells that it may have many, or else one
 abbrev pub connections : CopyOptions → ExportInfo → ℕ

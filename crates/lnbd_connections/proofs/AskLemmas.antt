@@ -1,11 +1,9 @@
 -- What the calls of a step show as asked, handles were asked before it.
-use Rattle.std.proofs.Common.{◌≡◌, ◌≤◌, ◌⊎◌, inl, inr, ℕ, Bool, true, false, ◌&&◌, List, [], ◌∷◌, ◌++◌, length, Option, Some, None, Result, Ok, Err, slice_get, nat_le, refl, ap, sym, subst, ◌∙◌, append-nil, if◌then◌else◌}
+use Rattle.std.proofs.Common.{◌≡◌, ◌≤◌, ◌⊎◌, inl, inr, ℕ, Bool, true, false, ◌&&◌, List, [], ◌∷◌, ◌++◌, length, Option, Some, None, Result, Ok, Err, nat_le, refl, ap, sym, subst, ◌∙◌, append-nil, if◌then◌else◌}
 use Rattle.std.proofs.lemmas.Bool.{cases_eq, false≢true}
 use Rattle.std.specs.Option.{option_map}
 use Rattle.std.specs.Prelude.{IfOk, OnErr}
-use Rattle.lnbd_callbacks.specs.Steps.{OneByOne}
 use Rattle.lnbd_model.specs.declared.target.Place.{Place}
-use Rattle.lnbd_model.specs.declared.target.Target.{Target}
 use Rattle.lnbd_link.specs.Call as wire
 use Rattle.lnbd_link.specs.Numbers.{is_given}
 use Rattle.lnbd_link.specs.Part.{Adds}
@@ -20,8 +18,7 @@ use Rattle.lnbd_records.specs.Limits.{max_text}
 use Rattle.lnbd_standing.specs.Standing.{StandsFor}
 use Rattle.lnbd_asked.specs.Driven.{outcome_after, written}
 use Rattle.lnbd_asked.specs.Link.{Nobody}
-use Rattle.lnbd_asked.specs.Transcript.{Dealt, asked_on, bare, dealt_with, is_name, is_of, is_target, name_asked, on_link, only_if, size_told}
-use Rattle.lnbd_poll.specs.Alone.{AreApart, calls_on}
+use Rattle.lnbd_asked.specs.Transcript.{Dealt, asked_on, bare, is_name, is_of, is_target, name_asked, on_link, only_if, size_told}
 use Rattle.lnbd_poll.specs.Held.{AreAt, Held}
 use Rattle.lnbd_poll.specs.Seen.{Seen}
 use Rattle.lnbd_poll.specs.Seen as poll
@@ -42,20 +39,20 @@ use Rattle.lnbd_tracks.proofs.Under.{found}
 use Rattle.lnbd_course.specs.Asks.{AreOwnLinks}
 use Rattle.lnbd_course.specs.Failed.{AllStand}
 use Rattle.lnbd_course.specs.Far.{Far}
-use Rattle.lnbd_course.specs.FarCourse.{FarCourse, IsSettled, every}
+use Rattle.lnbd_course.specs.FarCourse.{FarCourse, IsSettled}
+use Rattle.lnbd_course.specs.Spares.{ReadsNoZeros}
 use Rattle.lnbd_course.proofs.Address.{given_stays, is_called, is_there, target_stays}
 use Rattle.lnbd_course.proofs.Failing.{there_or_apart}
 use Rattle.lnbd_course.proofs.Holding.{not_before, one_has}
 use Rattle.lnbd_course.proofs.Later.{told_later}
 use Rattle.lnbd_course.proofs.Parts.{all_run, none_unread, run_of, turn_runs}
 use Rattle.lnbd_course.proofs.Quiet.{dealt_stays, links_stay}
+use Rattle.lnbd_course.proofs.Spared.{parts_spare_far}
 use Rattle.lnbd_course.proofs.Turning.{Turned, steps, turns_all}
 use Rattle.lnbd_course.proofs.Unread.{AsksSo, drives_asks}
 use Rattle.lnbd_conduct.specs.Begun.{opened}
 use Rattle.lnbd_conduct.specs.Told.{Told}
 use Rattle.lnbd_copy.specs.Faults.{GoesIdly}
-use Rattle.lnbd_copy.specs.Way.{Stand}
-use Rattle.lnbd_copy.proofs.DialLemmas.{last_free}
 use Rattle.lnbd_copy.proofs.FailLemmas.{all_stand}
 use Rattle.lnbd_copy.proofs.IdleLemmas.{StaysIdly, idly_adds, idly_none, idly_then, told_idly}
 use Rattle.lnbd_copy.proofs.TurnLemmas.{none_some, since_on, some_same, told_map}
@@ -208,6 +205,8 @@ module _ (far : Far) (way : Way) (now now' : board.Seen) (calls part : List wire
     stands = b.course.stood.stood.stands well;
     flushes = b.course.stood.stood.counted.flushes;
     numbered = b.course.stood.stood.numbered;
+    spares = λ made is block plan. parts_spare_far made way.at way.size way.how way.slices now now' calls part before after ending block way.asked way.known
+        (subst (λ (f : Far). FarCourse f way.at way.size way.how way.slices now calls before way.asked way.known) is b) well turns stands plan;
   }
 
 -- So it is with what was asked between two turns,
@@ -228,6 +227,7 @@ asks_stay far way flushing calls more quiet none a = record {
   stands = a.stands;
   flushes = a.flushes;
   numbered = a.numbered;
+  spares = λ made is block plan. subst (ReadsNoZeros block) (sym (dealt_stays calls more quiet none way.at)) (a.spares made is block plan);
 }
   where
     told : (size : Option ℕ) → WasSettled way.at size calls → WasSettled way.at size (calls ++ more)

@@ -32,6 +32,7 @@ use Rattle.std.proofs.Common.{
   subst,
   ◌∙◌,
   length-append,
+  arith,
 }
 use Rattle.std.proofs.lemmas.Bool.{false≢true}
 use Rattle.lnbd_callbacks.specs.Steps.{OneByOne}
@@ -97,9 +98,10 @@ use Rattle.lnbd_copy.proofs.HeardLemmas.{none_given}
 use Rattle.lnbd_copy.proofs.HeldLemmas.{held_event, held_more, held_on}
 use Rattle.lnbd_copy.proofs.PartLemmas as parting
 use Rattle.lnbd_copy.proofs.TurnLemmas.{since_on, some_same, told_on, turns_led}
-use Rattle.lnbd_connections.specs.Bound.{Binds, BindsMore, DrivesFirst, IsBound, IsDriving}
+use Rattle.lnbd_connections.specs.Bound.{Binds, BindsMore, DrivesFirst, IsBound, IsDriving, KeepsFirst}
 use Rattle.lnbd_connections.specs.Way.{IsUnderWay, Way, with_slices}
 use Rattle.lnbd_connections.proofs.BoundLemmas.{asks_on, on_event, on_none, on_turned, rows_on}
+use Rattle.lnbd_connections.proofs.FirstLemmas.{first_called, first_dialed, first_none, first_turned}
 
 none_some : {A : Type 0} (one : A) → None ≡ Some one → ⊥
 none_some one e = cc
@@ -375,7 +377,8 @@ driving_first source far way now calls link extents handle on new short stands =
 -- Steps.
 
 pub binds_same : (now : board.Seen) (held : List (Held Ticket)) (told : Option (List wire.Call)) → Binds now held told now held told
-binds_same now held told = record { on = λ source far way start s told. told; drives = λ extents far way start s told. told }
+binds_same now held told =
+    record { on = λ source far way start s told. told; drives = λ extents far way start s told. told; first = λ extents far way start s told. told }
 
 pub binds_then : (now now2 now3 : board.Seen) (held held2 held3 : List (Held Ticket)) (a b c : Option (List wire.Call)) → (Stand held → Stand held2) → Binds now held a now2 held2 b →
     Binds now2 held2 b now3 held3 c →
@@ -383,33 +386,36 @@ pub binds_then : (now now2 now3 : board.Seen) (held held2 held3 : List (Held Tic
 binds_then now now2 now3 held held2 held3 a b c stand one two = record {
   on = λ source far way start s told. two.on source far way start (stand s) (one.on source far way start s told);
   drives = λ extents far way start s told. two.drives extents far way start (stand s) (one.drives extents far way start s told);
+  first = λ extents far way start s told. two.first extents far way start (stand s) (one.first extents far way start s told);
 }
 
-pub turned_binds : (a b : Option (List wire.Call)) (f g : ℕ) (turn : Turn) (now now' : board.Seen) (held held' : List (Held Ticket)) →
-    poll.Goes a b (λ seens. AreAt held seens) (λ seens. AreAt held' seens) (λ before calls after. TurnsWhole (OneByOne board.Files) f g turn before now calls after now') →
-    Binds now held a now' held' b
-turned_binds a b f g turn now now' held held' goes = record {
-  on = λ source far way start s told. record {
+module _ (a b : Option (List wire.Call)) (f g : ℕ) (turn : Turn) (now now' : board.Seen) (held held' : List (Held Ticket))
+    (goes : poll.Goes a b (λ seens. AreAt held seens) (λ seens. AreAt held' seens) (λ before calls after. TurnsWhole (OneByOne board.Files) f g turn before now calls after now')) where
+  -- what each turn of the handles brings about, the turn does
+  told_turned : {Is Is' : List wire.Call → Type 0} (seens : (calls : List wire.Call) → Is calls → List (Seen Ticket)) (at : (calls : List wire.Call) (is : Is calls) → AreAt held (seens calls is)) →
+      ((calls : List wire.Call) (is : Is calls) (part : List wire.Call) (after : List (Seen Ticket)) (moved : Option ℕ) →
+      Turns (OneByOne board.Files) (seens calls is) now part after now' (Whole moved) → AreAt held' after → Is' (calls ++ part)) → (start : Option (List wire.Call)) → Stand held →
+      Told start a Is → Told start b Is'
+  told_turned seens at leads start s told = record {
     since = λ all is.
         let first = (goes s.seens s.at).grown all is in
         let since = told.since first.0 first.1 in
-        let went = goes since.is.seens since.is.at in
+        let went = goes (seens since.calls since.is) (at since.calls since.is) in
         let grown = went.grown all is in
         let same : grown.0 ≡ first.0 = some_same grown.0 first.0 (sym grown.1 ∙ first.1) in
         since_on start first.0 all went.calls (grown.2 ∙ ap (λ (l : List wire.Call). l ++ went.calls) same) since
-        (bound_turned source far way now since.calls held since.is now' went.calls held' went.after went.leads.moved went.leads.turns went.at);
-  };
-  drives = λ extents far way start s told. record {
-    since = λ all is.
-        let first = (goes s.seens s.at).grown all is in
-        let since = told.since first.0 first.1 in
-        let went = goes since.is.seens since.is.at in
-        let grown = went.grown all is in
-        let same : grown.0 ≡ first.0 = some_same grown.0 first.0 (sym grown.1 ∙ first.1) in
-        since_on start first.0 all went.calls (grown.2 ∙ ap (λ (l : List wire.Call). l ++ went.calls) same) since
-        (driving_turned extents far way now since.calls held since.is now' went.calls held' went.after went.leads.moved went.leads.turns went.at);
-  };
-}
+        (leads since.calls since.is went.calls went.after went.leads.moved went.leads.turns went.at);
+  }
+
+  pub turned_binds : Binds now held a now' held' b
+  turned_binds = record {
+    on = λ source far way. told_turned (λ calls is. is.seens) (λ calls is. is.at)
+        (λ calls is part after moved turns at. bound_turned source far way now calls held is now' part held' after moved turns at);
+    drives = λ extents far way. told_turned (λ calls is. is.seens) (λ calls is. is.at)
+        (λ calls is part after moved turns at. driving_turned extents far way now calls held is now' part held' after moved turns at);
+    first = λ extents far way. told_turned (λ calls is. is.seens) (λ calls is. is.at)
+        (λ calls is part after moved turns at. first_turned extents far way now calls held is now' part held' after moved turns at);
+  }
 
 pub turned_binds_ok : (a b : Option (List wire.Call)) (f g : ℕ) (r : Result Turn CopyFault) (now now' : board.Seen) (held held' : List (Held Ticket)) →
     IfOk r (λ turn. poll.Goes a b (λ seens. AreAt held seens) (λ seens. AreAt held' seens) (λ before calls after. TurnsWhole (OneByOne board.Files) f g turn before now calls after now')) →
@@ -424,12 +430,25 @@ paused_binds a b wants now held held' same adds = subst (λ (l : List (Held Tick
       told;
   drives = λ extents far way start s told. told_on start a b (wire.Pause wants) adds (λ calls on. driving_called extents far way now calls held on (wire.Pause wants ∷ []) (λ link. refl) (λ link.
       refl)) told;
+  first = λ extents far way start s told. told_on start a b (wire.Pause wants) adds (λ calls on. first_called extents far way now calls held on (wire.Pause wants ∷ []) (λ link. refl) (λ link.
+      refl)) told;
 })
 
 -- One connection more.
 module _ (a b c : Option (List wire.Call)) (place : Place) (now : board.Seen) (held held' : List (Held Ticket)) (link : ℕ) (extents : Bool) (handle : Machine Ticket)
     (adds : Adds a b (wire.Connect place.to (Some link))) (fresh : (calls : List wire.Call) → a ≡ Some calls → is_given link calls ≡ false) (told_is : c ≡ b) (short : length place.name ≤ max_text)
     (stands : StandsFor max_unretired (opened place.name extents) handle) (held_is : held' ≡ held ++ record { link = link; handle = handle; inbox = [] } ∷ []) where
+  -- what stands with the call stands behind it
+  told_dialed : {Is Is' : List wire.Call → Type 0} (start : Option (List wire.Call)) →
+      ((calls : List wire.Call) → Is calls → is_given link calls ≡ false → Is' (calls ++ wire.Connect place.to (Some link) ∷ [])) → Told start a Is → Told start b Is'
+  told_dialed start leads told = record {
+    since = λ all told_all.
+        let grown = adds all told_all in
+        let since = told.since grown.0 grown.1 in
+        let free = last_free link since.before since.calls (subst (λ (l : List wire.Call). is_given link l ≡ false) since.now (fresh grown.0 grown.1)) in
+        since_on start grown.0 all (wire.Connect place.to (Some link) ∷ []) grown.2 since (leads since.calls since.is free);
+  }
+
   bound_at : (source : Bool) (far : Far) (way : Way) (calls : List wire.Call) → way.at ≡ place → IsBound source far way now calls held → is_given link calls ≡ false →
       IsBound source far way now (calls ++ wire.Connect place.to (Some link) ∷ []) (held ++ record { link = link; handle = handle; inbox = [] } ∷ [])
   bound_at source far way calls is on free =
@@ -437,15 +456,18 @@ module _ (a b c : Option (List wire.Call)) (place : Place) (now : board.Seen) (h
       (bound_dialed source far way now calls held on link extents handle free (subst (λ (p : Place). length p.name ≤ max_text) (sym is) short)
       (subst (λ (p : Place). StandsFor max_unretired (opened p.name extents) handle) (sym is) stands))
 
+  keeps_at : (asked : Bool) (far : Far) (way : Way) (calls : List wire.Call) → way.at ≡ place → KeepsFirst asked far way now calls held → (length held ≡ 0 → extents ≡ asked) →
+      is_given link calls ≡ false → KeepsFirst asked far way now (calls ++ wire.Connect place.to (Some link) ∷ []) (held ++ record { link = link; handle = handle; inbox = [] } ∷ [])
+  keeps_at asked far way calls is on only free =
+      subst (λ (p : Place). KeepsFirst asked far way now (calls ++ wire.Connect p.to (Some link) ∷ []) (held ++ record { link = link; handle = handle; inbox = [] } ∷ [])) is
+      (first_dialed asked far way now calls held on link extents handle free (subst (λ (p : Place). length p.name ≤ max_text) (sym is) short)
+      (subst (λ (p : Place). StandsFor max_unretired (opened p.name extents) handle) (sym is) stands) only)
+
   pub dialed_binds : BindsMore place now held a held' c
   dialed_binds = subst (λ (t : Option (List wire.Call)). BindsMore place now held a held' t) (sym told_is) (subst (λ (l : List (Held Ticket)). BindsMore place now held a l b) (sym held_is) (record {
-    on = λ source far way start is told. record {
-      since = λ all told_all.
-          let grown = adds all told_all in
-          let since = told.since grown.0 grown.1 in
-          let free = last_free link since.before since.calls (subst (λ (l : List wire.Call). is_given link l ≡ false) since.now (fresh grown.0 grown.1)) in
-          since_on start grown.0 all (wire.Connect place.to (Some link) ∷ []) grown.2 since (bound_at source far way since.calls is since.is free);
-    };
+    on = λ source far way start is. told_dialed start (λ calls on free. bound_at source far way calls is on free);
+    more = simp length-append (omega arith);
+    first = λ asked far way start is some. told_dialed start (λ calls on free. keeps_at asked far way calls is on (λ none. absurd (omega (arith, some, none))) free);
   }))
 
   first_at : (source : Bool) (far : Far) (way : Way) (calls : List wire.Call) → way.at ≡ place → IsBound source far way now calls [] → is_given link calls ≡ false →
@@ -458,27 +480,28 @@ module _ (a b c : Option (List wire.Call)) (place : Place) (now : board.Seen) (h
   pub dialed_drives : DrivesFirst place extents now held a held' c
   dialed_drives = subst (λ (t : Option (List wire.Call)). DrivesFirst place extents now held a held' t) (sym told_is) (record {
     on = λ source far way start is none told.
-        subst (λ (l : List (Held Ticket)). Told start b (λ calls. IsDriving extents far way now calls l)) (sym (held_is ∙ ap (λ (l : List (Held Ticket)). l ++ record {
-          link = link;
-          handle =
-              handle;
-          inbox = [];
-        } ∷ []) none)) (record {
-          since = λ all told_all.
-              let grown = adds all told_all in
-              let since = told.since grown.0 grown.1 in
-              let free = last_free link since.before since.calls (subst (λ (l : List wire.Call). is_given link l ≡ false) since.now (fresh grown.0 grown.1)) in
-              since_on start grown.0 all (wire.Connect place.to (Some link) ∷ []) grown.2 since
-              (first_at source far way since.calls is (subst (λ (l : List (Held Ticket)). IsBound source far way now since.calls l) none since.is) free);
-        });
+        subst (λ (l : List (Held Ticket)). Told start b (λ calls. IsDriving extents far way now calls l))
+        (sym (held_is ∙ ap (λ (l : List (Held Ticket)). l ++ record { link = link; handle = handle; inbox = [] } ∷ []) none))
+        (told_dialed start (λ calls on free. first_at source far way calls is (subst (λ (l : List (Held Ticket)). IsBound source far way now calls l) none on) free) told);
+    first = λ source far way start is none told.
+        subst (λ (l : List (Held Ticket)). Told start b (λ calls. KeepsFirst extents far way now calls l)) (sym held_is)
+        (told_dialed start
+        (λ calls on free. keeps_at extents far way calls is
+        (subst (λ (l : List (Held Ticket)). KeepsFirst extents far way now calls l) (sym none)
+        (first_none source extents far way now calls (subst (λ (l : List (Held Ticket)). IsBound source far way now calls l) none on))) (λ e. refl) free) told);
   })
 
 pub more_none : (place : Place) (now : board.Seen) (held : List (Held Ticket)) (told : Option (List wire.Call)) → BindsMore place now held told held told
-more_none place now held told = record { on = λ source far way start is told. told }
+more_none place now held told = record { on = λ source far way start is told. told; more = omega arith; first = λ extents far way start is some told. told }
 
 pub more_then : (place : Place) (now now2 : board.Seen) (held held2 held3 : List (Held Ticket)) (a b c : Option (List wire.Call)) → now2 ≡ now → BindsMore place now held a held2 b →
     BindsMore place now2 held2 b held3 c →
     BindsMore place now held a held3 c
 more_then place now now2 held held2 held3 a b c same one last =
     let two = subst (λ (s : board.Seen). BindsMore place s held2 b held3 c) same last in
-    record { on = λ source far way start is told. two.on source far way start is (one.on source far way start is told) }
+    let longer = one.more in
+    record {
+      on = λ source far way start is told. two.on source far way start is (one.on source far way start is told);
+      more = (let last = two.more in omega (arith, longer, last));
+      first = λ extents far way start is some told. two.first extents far way start is (omega (arith, longer, some)) (one.first extents far way start is some told);
+    }

@@ -3,8 +3,9 @@ pub mod StepLemmas
 pub mod AlikeLemmas
 pub mod AskLemmas
 pub mod FewFronts
+pub mod FirstLemmas
 pub mod BoundLemmas
 pub mod BoundWay
 pub mod FewLemmas
-pub mod UnmovedLemmas
+pub mod UnreadyLemmas
 pub mod UseLemmas

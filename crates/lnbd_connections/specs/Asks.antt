@@ -14,7 +14,9 @@ use Rattle.lnbd_board.specs.Requests.{Request, Under}
 use Rattle.lnbd_board.specs.Rows.{Stands}
 use Rattle.lnbd_course.specs.Asks.{AreOwnLinks}
 use Rattle.lnbd_course.specs.Counted.{flushes_of}
-use Rattle.lnbd_course.specs.Far.{AreNumbered, Far, destination_of, done_by, source_of}
+use Rattle.lnbd_course.specs.Far.{AreNumbered, Far, ToFile, destination_of, done_by, source_of}
+use Rattle.lnbd_course.specs.Spared.{PlansToSpare}
+use Rattle.lnbd_course.specs.Spares.{ReadsNoZeros}
 use Rattle.lnbd_conduct.specs.Told.{Told}
 use Rattle.lnbd_copy.specs.Faults.{GoesIdly}
 use Rattle.lnbd_copy.specs.Way.{Stand}
@@ -26,7 +28,8 @@ abbrev pub WasSettled : Place → Option ℕ → List wire.Call → Type 0
 WasSettled at None calls = Unit {0}
 WasSettled at (Some size) calls = WasToldSize (dealt_with at calls) size
 
--- On links of their own these calls ask the export nothing but what the rows of a board say, and to flush once where the board says so.
+-- On links of their own these calls ask the export nothing but what the rows of a board say, and to flush once where the board says so. Where it is copied to a file no READ covers a block that one
+-- answer told as zero whole, if such blocks are planned as zero.
 pub record Asks (far : Far) (way : Way) (flushing : Bool) (calls : List wire.Call) : Type 0 where
   pub links : AreOwnLinks way.at way.at calls
   pub told : WasSettled way.at way.size calls
@@ -36,6 +39,7 @@ pub record Asks (far : Far) (way : Way) (flushing : Bool) (calls : List wire.Cal
   pub stands : Stands way.how way.slices rows (source_of far asked) (destination_of far asked)
   pub flushes : flushes_of (destination_of far asked) ≡ cond flushing 1 0
   pub numbered : AreNumbered 0 (done_by far)
+  pub spares : (made : List Request) → far ≡ ToFile made → (block : ℕ) → PlansToSpare block way.slices way.asked way.known → ReadsNoZeros block (dealt_with way.at calls)
 
 -- A step with calls on the wires asks nothing, wherever on its way the copy was: what its calls show as asked, handles were asked before it; or no link is read, written or made in it.
 pub record AsksNone (now : board.Seen) (held : List (Held Ticket)) (told told' : Option (List wire.Call)) : Type 0 where

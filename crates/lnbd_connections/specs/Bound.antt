@@ -1,5 +1,5 @@
 -- On which connection each request of a slice is, in a copy of which one side is a file. All of this stands between the steps of the code: no claim names it.
-use Rattle.std.specs.Prelude.{◌≡◌, ◌==◌, ℕ, Bool, List, [], length, Option, Some, None, slice_get}
+use Rattle.std.specs.Prelude.{◌≡◌, ◌==◌, ◌<◌, ◌≤◌, ℕ, Bool, false, List, [], length, Option, Some, None, slice_get}
 use Rattle.lnbd_model.specs.declared.target.Place.{Place}
 use Rattle.lnbd_link.specs.Call as wire
 use Rattle.lnbd_poll.specs.Held.{Held, AreAt}
@@ -10,8 +10,10 @@ use Rattle.lnbd_course.specs.Far.{Far}
 use Rattle.lnbd_course.specs.FarCourse.{FarCourse, every}
 use Rattle.lnbd_course.specs.Spread.{AllCount}
 use Rattle.lnbd_course.specs.UnderWay.{AllHeld}
+use Rattle.lnbd_conduct.specs.Begun.{opened}
 use Rattle.lnbd_conduct.specs.Told.{Told}
 use Rattle.lnbd_copy.specs.Driven.{AllDriveOn}
+use Rattle.lnbd_copy.specs.Statuses.{FirstBegan, IsFirst}
 use Rattle.lnbd_copy.specs.Way.{Stand, connection_on}
 use Rattle.lnbd_connections.specs.Way.{Way}
 
@@ -36,23 +38,38 @@ pub record IsDriving (extents : Bool) (far : Far) (way : Way) (now : board.Seen)
   pub stands : FarCourse far way.at way.size way.how way.slices now calls seens way.asked way.known
   pub drives : AllDriveOn extents way.at way.at every calls seens
 
--- A step with calls on the wires leaves both so.
+-- Or the first of its handles has the first link that the calls gave, and began by asking for extents where they are wanted.
+pub record KeepsFirst (extents : Bool) (far : Far) (way : Way) (now : board.Seen) (calls : List wire.Call) (held : List (Held Ticket)) : Type 0 where
+  pub seens : List (Seen Ticket)
+  pub at : AreAt held seens
+  pub stands : FarCourse far way.at way.size way.how way.slices now calls seens way.asked way.known
+  pub first : IsFirst false calls seens
+  pub began : FirstBegan false (opened way.at.name extents) seens
+
+-- A step with calls on the wires leaves each of them so.
 pub record Binds (now : board.Seen) (held : List (Held Ticket)) (told : Option (List wire.Call)) (now' : board.Seen) (held' : List (Held Ticket)) (told' : Option (List wire.Call)) : Type 0 where
   pub on : (source : Bool) (far : Far) (way : Way) (start : Option (List wire.Call)) → Stand held →
       Told start told (λ calls. IsBound source far way now calls held) → Told start told' (λ calls. IsBound source far way now' calls held')
   pub drives : (extents : Bool) (far : Far) (way : Way) (start : Option (List wire.Call)) → Stand held →
       Told start told (λ calls. IsDriving extents far way now calls held) → Told start told' (λ calls. IsDriving extents far way now' calls held')
+  pub first : (extents : Bool) (far : Far) (way : Way) (start : Option (List wire.Call)) → Stand held →
+      Told start told (λ calls. KeepsFirst extents far way now calls held) → Told start told' (λ calls. KeepsFirst extents far way now' calls held')
 
--- Further connections to this place leave the former so, if that is where the export is.
+-- Further connections to this place leave the former so, if that is where the export is, and the first handle the first, if there is one.
 pub record BindsMore (place : Place) (now : board.Seen) (held : List (Held Ticket)) (told : Option (List wire.Call)) (held' : List (Held Ticket)) (told' : Option (List wire.Call)) : Type 0 where
   pub on : (source : Bool) (far : Far) (way : Way) (start : Option (List wire.Call)) → way.at ≡ place →
       Told start told (λ calls. IsBound source far way now calls held) → Told start told' (λ calls. IsBound source far way now calls held')
+  pub more : length held ≤ length held'
+  pub first : (extents : Bool) (far : Far) (way : Way) (start : Option (List wire.Call)) → way.at ≡ place → 0 < length held →
+      Told start told (λ calls. KeepsFirst extents far way now calls held) → Told start told' (λ calls. KeepsFirst extents far way now calls held')
 
 -- And the first one drives its link so, which asks for extents or not.
 pub record DrivesFirst (place : Place) (extents : Bool) (now : board.Seen) (held : List (Held Ticket)) (told : Option (List wire.Call)) (held' : List (Held Ticket)) (told' : Option (List
     wire.Call)) : Type 0 where
   pub on : (source : Bool) (far : Far) (way : Way) (start : Option (List wire.Call)) → way.at ≡ place → held ≡ [] →
       Told start told (λ calls. IsBound source far way now calls held) → Told start told' (λ calls. IsDriving extents far way now calls held')
+  pub first : (source : Bool) (far : Far) (way : Way) (start : Option (List wire.Call)) → way.at ≡ place → held ≡ [] →
+      Told start told (λ calls. IsBound source far way now calls held) → Told start told' (λ calls. KeepsFirst extents far way now calls held')
 
 -- What is done with handles that asks nothing of their connections leaves the former so.
 pub record BindsStill (now : board.Seen) (held held' : List (Held Ticket)) : Type 0 where

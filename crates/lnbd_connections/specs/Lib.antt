@@ -4,5 +4,5 @@ pub mod Alike
 pub mod Asks
 pub mod Few
 pub mod Bound
-pub mod Unmoved
+pub mod Unready
 pub mod Uses

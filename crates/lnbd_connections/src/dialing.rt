@@ -14,7 +14,7 @@ ghost use Rattle.lnbd_copy.specs.Way.{Stand};
 ghost use Rattle.lnbd_connections.specs.Bound.{Binds, BindsMore, DrivesFirst};
 ghost use Rattle.lnbd_connections.specs.Few.{StaysFew};
 ghost use Rattle.lnbd_connections.specs.Steps.{Dials, Goes};
-ghost use Rattle.lnbd_connections.specs.Unmoved.{PausesUnmoved};
+ghost use Rattle.lnbd_connections.specs.Unready.{AwaitsMore, KeepsAwaiting, PausesUnready};
 ghost use Rattle.lnbd_copy.specs.Pauses.{Unpaused};
 ghost use Rattle.lnbd_connections.specs.Uses.{Rests, Uses, UsesTo};
 ghost use Rattle.lnbd_copy.specs.Connects.{StaysConnected};
@@ -24,7 +24,7 @@ ghost use Rattle.lnbd_connections.specs.Way.{IsUnderWay, Way};
 use crate::turning::{rest, take_turn};
 use lnbd_board::{Board, Ticket};
 use lnbd_copy::{
-    Counts, MAX_TURNS, are_quiet, check_calm, check_idles, hold, info_of, is_same, open,
+    Counts, MAX_TURNS, are_quiet, check_calm, check_idles, check_loud, hold, info_of, is_same, open,
 };
 use lnbd_link::Wires;
 use lnbd_model::{Broken, Place};
@@ -55,6 +55,7 @@ pub fn dial<W: Wires>(
     ensures drives { OnOk result (DrivesFirst place.now extents board.old handles.old (W.told wires.old) handles.new (W.told wires.new)) }
     ensures few { (most : ℕ) (start : Option (List Call)) → StaysFew most start (W.told wires.old) (W.told wires.new) }
     ensures unpaused { Unpaused (W.told wires.old) (W.told wires.new) }
+    ensures awaits { OnOk result (AwaitsMore place.now extents board.old handles.old (W.told wires.old) board.new handles.new (W.told wires.new)) }
     ensures board { OnOk result (board.new ≡ board.old) }
     ensures causes { IfErr result (λ told. HasCause start (W.faults wires.new) (W.idles wires.new) told) }
     ensures counts { GoesOn (W.faults wires.old) (W.faults wires.new) (W.idles wires.old) (W.idles wires.new) (W.contents wires.old) (W.contents wires.new) }
@@ -91,6 +92,7 @@ pub fn dial_further<W: Wires>(
     ensures binds { OnOk result (BindsMore place.now board.old handles.old (W.told wires.old) handles.new (W.told wires.new)) }
     ensures few { (most : ℕ) (start : Option (List Call)) → StaysFew most start (W.told wires.old) (W.told wires.new) }
     ensures unpaused { Unpaused (W.told wires.old) (W.told wires.new) }
+    ensures awaits { OnOk result (AwaitsMore place.now false board.old handles.old (W.told wires.old) board.new handles.new (W.told wires.new)) }
     ensures board { OnOk result (board.new ≡ board.old) }
     ensures causes { IfErr result (λ told. HasCause start (W.faults wires.new) (W.idles wires.new) told) }
     ensures counts { GoesOn (W.faults wires.old) (W.faults wires.new) (W.idles wires.old) (W.idles wires.new) (W.contents wires.old) (W.contents wires.new) }
@@ -119,7 +121,7 @@ fn check_alike(handles: &Handles<Ticket>) -> Result<(), CopyFault>
     Ok(())
 }
 
-/// Waits where nothing happened in a turn.
+/// Waits where nothing happened in a turn and a connection still negotiates, or has something to write.
 #[tactic(auto, using(crate::proofs::FewLemmas::few_same))]
 fn rest_after<W: Wires>(
     handles: &mut Handles<Ticket>,
@@ -128,7 +130,8 @@ fn rest_after<W: Wires>(
     told: Turn,
 ) -> Result<(), CopyFault>
     requires counted { start.idles ≤ W.idles wires.old }
-    ensures unmoved { (now : Seen) → now.error ≡ None → PausesUnmoved now handles.old (W.told wires.old) (W.told wires.new) }
+    ensures unready { (now : Seen) → PausesUnready now handles.old (W.told wires.old) (W.told wires.new) }
+    ensures awaits { OnOk result ((now : Seen) → KeepsAwaiting now handles.old (W.told wires.old) now handles.new (W.told wires.new)) }
     ensures rests { Rests (told ≡ turned.Still) start.idles handles.old (W.told wires.old) (W.idles wires.old) handles.new (W.told wires.new) (W.idles wires.new) }
     ensures goes { OnOk result ((now : Seen) → Goes now handles.old (W.told wires.old) now handles.new (W.told wires.new)) }
     ensures binds { OnOk result ((now : Seen) → Binds now handles.old (W.told wires.old) now handles.new (W.told wires.new)) }
@@ -138,7 +141,10 @@ fn rest_after<W: Wires>(
     ensures asks { GoesIdly (W.told wires.old) (W.told wires.new) }
 {
     match told {
-        Turn::Still => rest(handles, wires, start),
+        Turn::Still => {
+            check_loud(handles)?;
+            rest(handles, wires, start)
+        }
         Turn::Moved(_) => Ok(()),
     }
 }
@@ -158,7 +164,8 @@ pub fn settle<W: Wires>(
     requires faults { start.faults ≤ W.faults wires.old }
     requires idles { start.idles ≤ W.idles wires.old }
     ensures uses { Stand handles.old → Uses true start.idles [] handles.old (W.told wires.old) (W.idles wires.old) handles.new (W.told wires.new) (W.idles wires.new) }
-    ensures unmoved { PausesUnmoved board.old handles.old (W.told wires.old) (W.told wires.new) }
+    ensures unready { PausesUnready board.old handles.old (W.told wires.old) (W.told wires.new) }
+    ensures awaits { OnOk result (KeepsAwaiting board.old handles.old (W.told wires.old) board.new handles.new (W.told wires.new)) }
     ensures settles { OnOk result (Stand handles.old → Uses false start.idles [] handles.old (W.told wires.old) (W.idles wires.old) handles.new (W.told wires.new) (W.idles wires.new)) }
     ensures goes { OnOk result (Goes board.old handles.old (W.told wires.old) board.new handles.new (W.told wires.new)) }
     ensures binds { OnOk result (Binds board.old handles.old (W.told wires.old) board.new handles.new (W.told wires.new)) }

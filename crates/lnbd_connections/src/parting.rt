@@ -11,6 +11,7 @@ ghost use Rattle.lnbd_connections.specs.Uses.{Uses};
 
 use lnbd_board::{Board, Ticket};
 use lnbd_copy::has_parted;
+use lnbd_handle::Closed;
 use lnbd_link::Wires;
 use lnbd_poll::Handles;
 
@@ -25,9 +26,15 @@ pub fn part(handles: &mut Handles<Ticket>)
     }
 }
 
-/// Closes a handle and shuts its link.
-fn hang_up<W: Wires>(handles: &mut Handles<Ticket>, board: &mut Board, wires: &mut W, index: usize)
+/// Closes a handle and shuts its link. What is left of its commands: each callback that was admitted was freed.
+fn hang_up<W: Wires>(
+    handles: &mut Handles<Ticket>,
+    board: &mut Board,
+    wires: &mut W,
+    index: usize,
+) -> Closed
     requires { index < length handles.old }
+    ensures freed { result.opened ≡ result.freed }
     ensures unpaused { Unpaused (W.told wires.old) (W.told wires.new) }
     ensures uses { (first : ℕ) → Uses false first [] handles.old (W.told wires.old) (W.idles wires.old) handles.new (W.told wires.new) (W.idles wires.new) }
     ensures leaves { Leaves board.old handles.old (W.told wires.old) board.new handles.new (W.told wires.new) }
@@ -37,8 +44,9 @@ fn hang_up<W: Wires>(handles: &mut Handles<Ticket>, board: &mut Board, wires: &m
     ensures fewer { length handles.new + 1 ≡ length handles.old }
 {
     let (link, handle) = handles.take(index);
-    let _ = handle.close(board);
+    let closed = handle.close(board);
     wires.shut(link);
+    closed
 }
 
 /// Hangs up where a connection has parted. How many did.
@@ -62,7 +70,7 @@ pub fn shut_parted<W: Wires>(
     'handles: for passed in 0..count {
         let index = count - 1 - passed;
         if has_parted(handles, index) {
-            hang_up(handles, board, wires, index);
+            let _ = hang_up(handles, board, wires, index);
             shut += 1;
         }
     }
@@ -81,6 +89,6 @@ pub fn shut_all<W: Wires>(handles: &mut Handles<Ticket>, board: &mut Board, wire
     ensures asks { GoesIdly (W.told wires.old) (W.told wires.new) }
 {
     'handles: while !handles.is_empty() {
-        hang_up(handles, board, wires, 0);
+        let _ = hang_up(handles, board, wires, 0);
     }
 }

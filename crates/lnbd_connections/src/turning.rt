@@ -17,6 +17,7 @@ ghost use Rattle.lnbd_connections.specs.Asks.{AsksNone};
 ghost use Rattle.lnbd_connections.specs.Bound.{Binds};
 ghost use Rattle.lnbd_connections.specs.Few.{HasFew, StaysFew};
 ghost use Rattle.lnbd_connections.specs.Steps.{Goes};
+ghost use Rattle.lnbd_connections.specs.Unready.{KeepsAwaiting};
 ghost use Rattle.lnbd_connections.specs.Uses.{Rests, Uses};
 ghost use Rattle.lnbd_poll.specs.declared.noticed.Turn.TheVariants as turned;
 ghost use Rattle.lnbd_connections.specs.Way.{Way};
@@ -50,6 +51,7 @@ pub fn take_turn<W: Wires>(
         → StaysFew most start (W.told wires.old) (W.told wires.new) }
     ensures well { OnOk result (board.new.error ≡ None) }
     ensures unpaused { Stand handles.old → Unpaused (W.told wires.old) (W.told wires.new) }
+    ensures awaits { OnOk result (KeepsAwaiting board.old handles.old (W.told wires.old) board.new handles.new (W.told wires.new)) }
     ensures causes { IfErr result (λ told. HasCause start (W.faults wires.new) (W.idles wires.new) told) }
     ensures counts { GoesOn (W.faults wires.old) (W.faults wires.new) (W.idles wires.old) (W.idles wires.new) (W.contents wires.old) (W.contents wires.new) }
     ensures asks { AsksNone board.old handles.old (W.told wires.old) (W.told wires.new) }
@@ -71,6 +73,7 @@ pub fn rest<W: Wires>(
     requires counted { start.idles ≤ W.idles wires.old }
     ensures pauses { OnOk result (Adds (W.told wires.old) (W.told wires.new) (Pause (wants_now handles.old))) }
     ensures still { OnErr result (W.told wires.new ≡ W.told wires.old) }
+    ensures same { handles.new ≡ handles.old }
     ensures links { LinksGo [] handles.old (W.told wires.old) handles.new (W.told wires.new) }
     ensures rests { Rests (Unit {0}) start.idles handles.old (W.told wires.old) (W.idles wires.old) handles.new (W.told wires.new) (W.idles wires.new) }
     ensures goes { OnOk result ((now : Seen) → Goes now handles.old (W.told wires.old) now handles.new (W.told wires.new)) }

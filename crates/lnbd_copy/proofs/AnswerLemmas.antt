@@ -51,7 +51,7 @@ module _ (way : Way) (size : ℕ) (has : ℕ → Bool) (now : board.Seen) (calls
   answered_first range asked mapped p inside unread =
       let sides = (links_are_of_sides way.from way.to size way.how has way.slices now calls sized two).0 in
       let source = sides_are_of_source way.from way.to way.how has way.slices now calls sized.course sides in
-      let told = subst (λ (o : Option (ℕ × ℕ)). course.Told way.how has way.slices now calls [] o (known_of way)) asked s.told in
+      let told = subst (λ (o : Option (ℕ × ℕ)). course.ToldCourse way.how has way.slices now calls [] o (known_of way)) asked s.told in
       record {
         before = calls;
         after = [];

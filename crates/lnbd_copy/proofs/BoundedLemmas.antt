@@ -68,7 +68,7 @@ module _ (way : Way) (now : board.Seen) (calls : List wire.Call) (held : List (H
   on_has_few reads changes two sources destinations = record { source = side_few two true reads sources; destination = side_few two false changes destinations }
 
 -- Where no slice is begun and not over there is none.
-over_has_few : (reads changes : ℕ) (parting : Bool) (way : Way) (now : board.Seen) (calls : List wire.Call) (held : List (Held Ticket)) → IsUnderWay parting way now calls held → now.error ≡ None → now.rows ≡ [] → AreFewOnEach reads changes way.from way.to calls
+pub over_has_few : (reads changes : ℕ) (parting : Bool) (way : Way) (now : board.Seen) (calls : List wire.Call) (held : List (Held Ticket)) → IsUnderWay parting way now calls held → now.error ≡ None → now.rows ≡ [] → AreFewOnEach reads changes way.from way.to calls
 over_has_few reads changes parting way now calls held on well over = record { source = on_each reads way.from; destination = on_each changes way.to }
   where
     on_each : (most : ℕ) (place : Place) (link : ℕ) → FewOn most link (dealt_with place calls)

@@ -20,7 +20,7 @@ use Rattle.lnbd_conduct.specs.Grounds.{IsShown}
 use Rattle.lnbd_conduct.specs.declared.sides.Sides.{Sides}
 use Rattle.lnbd_copy.specs.Deciding.{IsCalm}
 use Rattle.lnbd_copy.specs.Grounds.{Happens}
-use Rattle.lnbd_copy.specs.ToldAlike.{AreAlike, AreFitting, IsAlikeAt, IsUntold}
+use Rattle.lnbd_copy.specs.ToldAlike.{AreAlike, AreFitting, IsAlikeAt, IsUnsettled}
 use Rattle.lnbd_copy.proofs.TurnLemmas.{none_some}
 
 abbrev Negotiates : History Ticket → Type 0
@@ -117,7 +117,7 @@ module _ (sides : Sides) (held : List (Held Ticket)) (one : Held Ticket) (fresh 
     ];
   }
 
-  untold_with : IsUntold held → IsUntold (held ++ one ∷ [])
+  untold_with : IsUnsettled held → IsUnsettled (held ++ one ∷ [])
   untold_with (inr (inl first)) = inr (inl (happens_more Negotiates 0 held one first))
   untold_with (inr (inr second)) = inr (inr (happens_more Negotiates 1 held one second))
   untold_with (inl few) = elim (cases_lt (length held) 1) [

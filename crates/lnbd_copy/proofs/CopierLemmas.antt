@@ -34,7 +34,8 @@ use Rattle.lnbd_copy.proofs.ConnectedLemmas.{connected_begins, connected_none, c
 use Rattle.lnbd_copy.proofs.DialLemmas.{nothing_is_on, settled}
 use Rattle.lnbd_copy.proofs.FiledLemmas.{filed_none, filed_then}
 use Rattle.lnbd_copy.proofs.LastLemmas.{terms_later, lasts_none, lasts_then}
-use Rattle.lnbd_copy.proofs.SpreadLemmas.{begins_dealt}
+use Rattle.lnbd_copy.proofs.SpreadLemmas.{begins_dealt, begins_fit}
+use Rattle.lnbd_copy.proofs.FewestLemmas.{begins_dealt_on}
 use Rattle.lnbd_copy.proofs.TurnLemmas.{told_begins}
 use Rattle.lnbd_copy.proofs.UnendedLemmas.{ended_wanting}
 
@@ -320,12 +321,12 @@ all_heard way extents flush now calls held silent unended on = record {
     not_true false e = refl
 
 -- What is settled begins.
-pub begins_job : (copy : Seen) (start told : Option (List wire.Call)) (terms : Terms) (j : job.Seen) (now : board.Seen) (extents : Bool) → (met : HasMet copy start told terms) → copy.board.error ≡ None → now.rows ≡ [] → now.begun ≡ 0 → HasNotCounted now → now.how ≡ terms.how → j.terms ≡ terms → j.phase ≡ Copying → AreDealt terms.limit terms.sides j.bound [] →
+pub begins_job : (copy : Seen) (start told : Option (List wire.Call)) (terms : Terms) (j : job.Seen) (now : board.Seen) (extents : Bool) → (met : HasMet copy start told terms) → copy.board.error ≡ None → now.error ≡ None → now.rows ≡ [] → now.begun ≡ 0 → HasNotCounted now → now.how ≡ terms.how → j.terms ≡ terms → j.phase ≡ Copying → AreDealt terms.limit terms.sides j.bound [] →
     (extents ≡ false → (calls : List wire.Call) → IsOn (beginning copy (Some terms.size) terms.how terms.sides) copy.board calls copy.held → FirstAgreedNone copy.options.extents copy.from calls) →
     ((calls : List wire.Call) → IsOn (beginning copy (Some terms.size) terms.how terms.sides) copy.board calls copy.held → AllAlike copy.options.extents copy.from copy.to met.settled.source met.settled.destination calls) →
     ((way : Way) (b : board.Seen) → way.size ≡ Some terms.size → b.how ≡ terms.how → way.how ≡ terms.how → way.sides ≡ terms.sides → way.slices ≡ [] → way.asked ≡ None → ((block p : ℕ) → way.whole block p ≡ false) → b.flushing ≡ false → (extents ≡ false → (grain p : ℕ) → way.heard grain p ≡ true) → ((p : ℕ) → way.reach p ≡ false) → way.ended ≡ false → way.flush ≡ terms.flush → way.queries ≡ 0 → job.IsJob j way b) → MayGoOn j copy.held →
     IsOnItsWay start told (record copy { board = now; job = Some j })
-begins_job copy start told terms j now extents met well empty new uncounted writes same copying dealt silent alike is may =
+begins_job copy start told terms j now extents met well sound empty new uncounted writes same copying dealt silent alike is may =
     let before = beginning copy (Some terms.size) terms.how terms.sides in
     let way : Way = record before { heard = λ grain p. not extents; flush = terms.flush } in
     record {
@@ -346,6 +347,9 @@ begins_job copy start told terms j now extents met well empty new uncounted writ
           met.on;
       settled = subst (HasSettled copy.options copy.from copy.to start told) (sym same) (record { first = met.settled; all = told_as start told alike met.on });
       spread = begins_dealt j terms now same empty dealt;
+      fit = begins_fit j now empty;
+      dealt = begins_dealt_on j.terms.sides now empty new;
       connected = met.connected;
       may = may;
+      well = sound;
     }

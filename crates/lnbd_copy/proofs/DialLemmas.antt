@@ -146,12 +146,12 @@ sided_more sides has seens last apart sided = λ index seen is. go index seen (l
 module _ (how : How) (has : ℕ → Bool) (slices : List Slice) (now : board.Seen) (calls : List wire.Call) (seens : List (Seen Ticket)) (asked : Option (ℕ × ℕ)) (zero : course.Known) where
   -- what was told as zero stays with a last handle of this history
   abbrev Ends : ℕ → History Ticket → Type 0
-  Ends link history = course.Told how has slices now calls (seens ++ record { link = link; history = history; unread = [] } ∷ []) asked zero
+  Ends link history = course.ToldCourse how has slices now calls (seens ++ record { link = link; history = history; unread = [] } ∷ []) asked zero
 
   ends_more : (link : ℕ) (history : History Ticket) (event : Event Ticket) → IsSetting history event → Ends link history → Ends link (event ∷ history)
   ends_more link history event sets ends =
       let last : Seen Ticket = record { link = link; history = history; unread = [] } in
-      subst (λ (l : List (Seen Ticket)). course.Told how has slices now calls l asked zero) (last_event seens last event)
+      subst (λ (l : List (Seen Ticket)). course.ToldCourse how has slices now calls l asked zero) (last_event seens last event)
       (others_tell how has slices now calls (seens ++ last ∷ []) asked zero (length seens) last event ends (last_there seens last) sets.inward sets.unasked sets.still sets.spelled sets.mode)
 
   ends_all : (link : ℕ) (history : History Ticket) → AreSettings history → Ends link [] → Ends link history

@@ -31,7 +31,7 @@ all_is_done j way now calls held is over well answered on two =
     record {
       carried = ended_carries way.from way.to j.terms.size way.how on.has way.slices now calls j.windows.plan.cells is.planned.parts between over.rows well planned two;
       done = ended_are_all_done way.from way.to j.terms.size way.how on.has way.slices now calls (known_of way) between
-          (subst (λ (o : Option (ℕ × ℕ)). course.Told way.how on.has way.slices now calls [] o (known_of way)) unasked s.told) over.rows well answered two;
+          (subst (λ (o : Option (ℕ × ℕ)). course.ToldCourse way.how on.has way.slices now calls [] o (known_of way)) unasked s.told) over.rows well answered two;
       whole = all_finished j way now calls is on.has s well two planned over;
     }
 

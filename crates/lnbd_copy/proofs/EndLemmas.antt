@@ -39,14 +39,16 @@ use Rattle.lnbd_course.proofs.Ending.{carrying_copies}
 use Rattle.lnbd_course.proofs.Placed.{ended_carries, links_are_of_sides}
 use Rattle.lnbd_course.proofs.Sparing.{ended_spares}
 use Rattle.lnbd_course.proofs.Telling.{known_was_told, sides_are_of_source}
+use Rattle.lnbd_copy.specs.Fewest.{HaveBeenDealt, TakesFewest, account_of}
 use Rattle.lnbd_copy.specs.declared.job.Phase.{Phase}
 use Rattle.lnbd_copy.specs.declared.job.Phase.TheVariants.{Copying, Flushing, Parting}
+use Rattle.lnbd_conduct.specs.Fewest.{no_slices}
 use Rattle.lnbd_conduct.specs.declared.terms.Terms.{Terms}
 use Rattle.lnbd_copy.specs.Agreed.{IsWished}
 use Rattle.lnbd_copy.specs.Copier.{HasJob, HasTurned, IsDone, IsOnItsWay, Seen}
 use Rattle.lnbd_copy.specs.declared.copier.Progress.{Progress}
 use Rattle.lnbd_copy.specs.declared.copier.Progress.TheVariants.{Finished, Moved, Still}
-use Rattle.lnbd_copy.specs.Dealt.{HasDealt, Spreads}
+use Rattle.lnbd_copy.specs.Dealt.{HasDealt, HasFit, Spreads}
 use Rattle.lnbd_copy.specs.Driven.{HasEnded}
 use Rattle.lnbd_conduct.specs.Driven.{AreLeft}
 use Rattle.lnbd_conduct.specs.Connects.{AreLeftBy}
@@ -67,7 +69,8 @@ use Rattle.lnbd_copy.proofs.ConnectedLemmas.{gives_connected, goes_connected}
 use Rattle.lnbd_copy.proofs.CopierLemmas.{told_as}
 use Rattle.lnbd_copy.proofs.AlikeLemmas.{settled_later}
 use Rattle.lnbd_copy.proofs.PartLemmas.{on_leaving}
-use Rattle.lnbd_copy.proofs.SpreadLemmas.{dealt_filed}
+use Rattle.lnbd_copy.proofs.SpreadLemmas.{dealt_filed, fit_filed}
+use Rattle.lnbd_copy.proofs.FewestLemmas.{deals_step, dealt_on_filed}
 use Rattle.lnbd_copy.proofs.SettledLemmas.{same_calls, same_rest, settled_with}
 use Rattle.lnbd_copy.proofs.WholeLemmas.{way_whole}
 
@@ -116,8 +119,8 @@ is_past Parting parts = refl
 
 module _ (copy : Seen) (start : Option (List wire.Call)) where
   -- A turn of the handles.
-  pub after_turn : (now : board.Seen) (held : List (Held Ticket)) (a b : Option (List wire.Call)) → ((j : job.Seen) → MayGoOn j copy.held → MayGoOn j held) → Goes copy.board copy.held a now held b → IsOnItsWay start a copy → IsOnItsWay start b (record copy { held = held; board = now })
-  after_turn now held a b still goes on = record {
+  pub after_turn : (now : board.Seen) (held : List (Held Ticket)) (a b : Option (List wire.Call)) → ((j : job.Seen) → MayGoOn j copy.held → MayGoOn j held) → (copy.board.error ≡ None → now.error ≡ None) → Goes copy.board copy.held a now held b → IsOnItsWay start a copy → IsOnItsWay start b (record copy { held = held; board = now })
+  after_turn now held a b still sound goes on = record {
     stand = goes.stand on.stand;
     job = on.job;
     there = on.there;
@@ -132,14 +135,17 @@ module _ (copy : Seen) (start : Option (List wire.Call)) where
     on = goes.on (job.is_parting on.job.phase) on.way start on.stand on.on;
     settled = settled_later copy.options copy.from copy.to start a b on.job.terms (goes.gives on.stand) on.settled;
     spread = dealt_filed on.job copy.board now (goes.filed on.stand) on.spread;
+    fit = fit_filed on.job copy.board now (goes.filed on.stand) on.fit;
+    dealt = dealt_on_filed on.job.terms.sides copy.board now (goes.filed on.stand) on.dealt;
     connected = (goes_connected copy.board now copy.held held a b goes on.stand).on start on.connected;
     may = still on.job on.may;
+    well = sound on.well;
   }
 
   -- The job goes on.
-  pub after_act : (j j' : job.Seen) (now : board.Seen) (held : List (Held Ticket)) (told : Option (List wire.Call)) → copy.job ≡ Some j → j'.terms ≡ j.terms → (length copy.board.rows ≤ j.terms.limit → length now.rows ≤ j.terms.limit) → job.is_parting j.phase ≡ false → job.Acts j j' copy.board now copy.held held → Spreads j j' copy.board now → MayGoOn j' held →
+  pub after_act : (j j' : job.Seen) (now : board.Seen) (held : List (Held Ticket)) (told : Option (List wire.Call)) → copy.job ≡ Some j → j'.terms ≡ j.terms → (length copy.board.rows ≤ j.terms.limit → length now.rows ≤ j.terms.limit) → job.is_parting j.phase ≡ false → job.Acts j j' copy.board now copy.held held → Spreads j j' copy.board now → TakesFewest j.terms.sides copy.board now → MayGoOn j' held → now.error ≡ None →
       IsOnItsWay start told copy → IsOnItsWay start told (record copy { held = held; board = now; job = Some j' })
-  after_act j j' now held told there terms few going acts spreads may on =
+  after_act j j' now held told there terms few going acts spreads takes may well on =
       let same : on.job ≡ j = some_same on.job j (sym on.there ∙ there) in
       let acted = acts.on on.way (subst (λ (x : job.Seen). job.IsJob x on.way copy.board) same on.is) in
       record {
@@ -159,8 +165,11 @@ module _ (copy : Seen) (start : Option (List wire.Call)) where
             on.on;
         settled = subst (HasSettled copy.options copy.from copy.to start told) (ap (λ (x : job.Seen). x.terms) same ∙ sym terms) on.settled;
         spread = spreads.on (subst (λ (x : job.Seen). HasDealt x copy.board) same on.spread);
+        fit = spreads.fit (subst (λ (x : job.Seen). HasFit x copy.board) same on.fit);
+        dealt = subst (λ (t : Terms). HaveBeenDealt t.sides now) (sym terms) (deals_step j.terms.sides no_slices (account_of copy.board) (account_of now) (subst (λ (x : job.Seen). HaveBeenDealt x.terms.sides copy.board) same on.dealt) takes);
         connected = on.connected;
         may = may;
+        well = well;
       }
 
   -- Connections part.
@@ -186,8 +195,11 @@ module _ (copy : Seen) (start : Option (List wire.Call)) where
             (leaves.on on.way start (on.is.asked ∙ ap (λ (b : Bool). if b then windows.wanted on.job.windows else None) over.heard) over.rows (told_as start a (λ calls is. subst (λ (p : Bool). IsUnderWay p on.way copy.board calls copy.held) parting is) on.on));
         settled = settled_later copy.options copy.from copy.to start a b on.job.terms leaves.gives on.settled;
         spread = dealt_filed on.job copy.board now leaves.filed on.spread;
+        fit = fit_filed on.job copy.board now leaves.filed on.fit;
+        dealt = dealt_on_filed on.job.terms.sides copy.board now leaves.filed on.dealt;
         connected = (gives_connected a b leaves.gives).on start on.connected;
-        may = λ other. absurd (other (is_past on.job.phase parting));
+        may = record { act = λ other. absurd (other (is_past on.job.phase parting)); live = leaves.live on.may.live };
+        well = leaves.well on.stand on.well;
       }
 
 -- The job goes on, whatever it is at.
@@ -201,11 +213,11 @@ same_way copy start told j j' now held there one two three on =
     (subst (λ (b : board.Seen). IsOnItsWay start told (record copy { board = b; job = Some j' })) (sym two)
     (subst (λ (o : Option job.Seen). IsOnItsWay start told (record copy { job = o })) (there ∙ ap (λ (x : job.Seen). Some x) (sym one)) on))
 
-pub after_acting : (copy : Seen) (start told : Option (List wire.Call)) (j j' : job.Seen) (now : board.Seen) (held : List (Held Ticket)) → copy.job ≡ Some j → j'.terms ≡ j.terms → (length copy.board.rows ≤ j.terms.limit → length now.rows ≤ j.terms.limit) → job.Acts j j' copy.board now copy.held held → Spreads j j' copy.board now → MayGoOn j' held →
+pub after_acting : (copy : Seen) (start told : Option (List wire.Call)) (j j' : job.Seen) (now : board.Seen) (held : List (Held Ticket)) → copy.job ≡ Some j → j'.terms ≡ j.terms → (length copy.board.rows ≤ j.terms.limit → length now.rows ≤ j.terms.limit) → job.Acts j j' copy.board now copy.held held → Spreads j j' copy.board now → TakesFewest j.terms.sides copy.board now → MayGoOn j' held → now.error ≡ None →
     (j.phase ≡ Parting → (j' ≡ j) × (now ≡ copy.board) × (held ≡ copy.held)) → IsOnItsWay start told copy → IsOnItsWay start told (record copy { held = held; board = now; job = Some j' })
-after_acting copy start told j j' now held there terms few acts spreads may parted on = elim (cases_bool (job.is_parting j.phase)) [
+after_acting copy start told j j' now held there terms few acts spreads takes may well parted on = elim (cases_bool (job.is_parting j.phase)) [
   | inl parts ↦ (let same = parted (is_past j.phase parts) in same_way copy start told j j' now held there same.0 same.1 same.2 on)
-  | inr going ↦ after_act copy start j j' now held told there terms few going acts spreads may on
+  | inr going ↦ after_act copy start j j' now held told there terms few going acts spreads takes may well on
 ]
 
 -- From turn to turn.
@@ -268,10 +280,13 @@ planned_whole j way now calls is over has s two =
 -- What is under way is settled.
 
 pub has_job : (start told : Option (List wire.Call)) (copy : Seen) → IsOnItsWay start told copy → HasJob copy
-has_job start told copy on = record { job = on.job; there = on.there; writes = on.is.writes; may = on.may; spread = on.spread }
+has_job start told copy on = record { job = on.job; there = on.there; writes = on.is.writes; well = on.well; may = on.may; spread = on.spread; fit = on.fit }
 
 pub job_dealt : (copy : Seen) (j : job.Seen) → HasJob copy → copy.job ≡ Some j → HasDealt j copy.board
 job_dealt copy j has there = subst (λ (x : job.Seen). HasDealt x copy.board) (some_same has.job j (sym has.there ∙ there)) has.spread
+
+pub job_fit : (copy : Seen) (j : job.Seen) → HasJob copy → copy.job ≡ Some j → HasFit j copy.board
+job_fit copy j has there = subst (λ (x : job.Seen). HasFit x copy.board) (some_same has.job j (sym has.there ∙ there)) has.fit
 
 pub job_may : (copy : Seen) (j : job.Seen) → HasJob copy → copy.job ≡ Some j → MayGoOn j copy.held
 job_may copy j has there = subst (λ (x : job.Seen). MayGoOn x copy.held) (some_same has.job j (sym has.there ∙ there)) has.may
@@ -335,7 +350,7 @@ way_spares j way now calls is over has s well two =
     let b = between_sized way j.terms.size has now calls is.size s in
     let sides = (links_are_of_sides way.from way.to j.terms.size way.how has way.slices now calls b two).0 in
     let unasked : way.asked ≡ None = is.asked ∙ ap (λ (b : Bool). if b then windows.wanted j.windows else None) over.heard in
-    let told = subst (λ (o : Option (ℕ × ℕ)). course.Told way.how has way.slices now calls [] o (known_of way)) unasked s.told in
+    let told = subst (λ (o : Option (ℕ × ℕ)). course.ToldCourse way.how has way.slices now calls [] o (known_of way)) unasked s.told in
     let ends = over.planned in
     let sized = is.ends in
     subst (λ (block : ℕ). ReadsNoZeros block (dealt_with way.from calls)) is.grain
@@ -356,7 +371,7 @@ way_all_done : (j : job.Seen) (way : Way) (now : board.Seen) (calls : List wire.
 way_all_done j way now calls is over parts has s well two =
     let unasked : way.asked ≡ None = is.asked ∙ ap (λ (b : Bool). if b then windows.wanted j.windows else None) over.heard in
     ended_are_all_done way.from way.to j.terms.size way.how has way.slices now calls (known_of way) (between_sized way j.terms.size has now calls is.size s)
-    (subst (λ (o : Option (ℕ × ℕ)). course.Told way.how has way.slices now calls [] o (known_of way)) unasked s.told) over.rows well (answered j.terms.flush refl) two
+    (subst (λ (o : Option (ℕ × ℕ)). course.ToldCourse way.how has way.slices now calls [] o (known_of way)) unasked s.told) over.rows well (answered j.terms.flush refl) two
   where
     answered : (flush : Bool) → j.terms.flush ≡ flush → now.flushing ≡ true → now.flushed ≡ true
     answered true wanted flushing = is.flushed (is_past j.phase parts) wanted

@@ -13,10 +13,11 @@ use Rattle.lnbd_board.specs.Files.{Files, Hears, came_with, filed_done, is_map, 
 use Rattle.lnbd_board.specs.Files as board
 use Rattle.lnbd_copy.specs.Way.{Filed}
 use Rattle.lnbd_copy.proofs.BoundLemmas.{rows_bound}
+use Rattle.lnbd_copy.proofs.FitLemmas.{rows_fit}
 use Rattle.lnbd_copy.proofs.UnderWayLemmas.{rows_many}
 
 pub filed_none : (now : board.Seen) → Filed now now
-filed_none now = record { how = refl; begun = refl; none = λ e. e; many = refl; error = λ e. e; read = refl; written = refl; zeroed = refl; flushing = refl; flushed = λ e. e; reads = refl; writes = refl }
+filed_none now = record { how = refl; begun = refl; none = λ e. e; many = refl; error = λ e. e; read = refl; written = refl; zeroed = refl; flushing = refl; flushed = λ e. e; reads = refl; writes = refl; fit = λ size cells fit. fit }
 
 pub filed_then : (a b c : board.Seen) → Filed a b → Filed b c → Filed a c
 filed_then a b c one two = record {
@@ -32,6 +33,7 @@ filed_then a b c one two = record {
   flushed = λ e. two.flushed (one.flushed e);
   reads = two.reads ∙ one.reads;
   writes = two.writes ∙ one.writes;
+  fit = λ size cells fit. two.fit size cells (one.fit size cells fit);
 }
 
 filed_same : (old new : board.Seen) → new ≡ old → Filed old new
@@ -53,7 +55,7 @@ no_content (Some first) error e = go (error == 71) e
     go false e = e
 
 error_filed : (old : board.Seen) (told : Option ℕ) → (told ≡ None → old.error ≡ None) → Filed old (record old { error = told })
-error_filed old told earlier = record { how = refl; begun = refl; none = λ e. e; many = refl; error = earlier; read = refl; written = refl; zeroed = refl; flushing = refl; flushed = λ e. e; reads = refl; writes = refl }
+error_filed old told earlier = record { how = refl; begun = refl; none = λ e. e; many = refl; error = earlier; read = refl; written = refl; zeroed = refl; flushing = refl; flushed = λ e. e; reads = refl; writes = refl; fit = λ size cells fit. fit }
 
 slice_filed : (unfit : Bool) (n : ℕ) (buf : List ℕ) (old : board.Seen)
     → Filed old (if unfit then record old { error = or_error old.error 71 } else record old { rows = rows_with (value_at n old.rows) n buf old.rows; came = came_with (value_at n old.rows) n old.came })
@@ -71,20 +73,21 @@ slice_filed false n buf old = record {
   flushed = λ e. e;
   reads = rows_bound (λ row. row.source) (λ row stage. refl) n buf old.rows;
   writes = rows_bound (λ row. row.destination) (λ row stage. refl) n buf old.rows;
+  fit = λ size cells fit. rows_fit size cells n buf old.rows fit;
 }
 
 done_filed : (by : Ticket) (buf : List ℕ) (old : board.Seen) → Filed old (filed_done by buf old)
 done_filed (ticket.Slice n) buf old = slice_filed (is_unfit (value_at n old.rows) buf) n buf old
-done_filed ticket.Extents buf old = record { how = refl; begun = refl; none = λ e. e; many = refl; error = λ e. e; read = refl; written = refl; zeroed = refl; flushing = refl; flushed = λ e. e; reads = refl; writes = refl }
-done_filed ticket.Flush buf old = record { how = refl; begun = refl; none = λ e. e; many = refl; error = λ e. e; read = refl; written = refl; zeroed = refl; flushing = refl; flushed = λ e. refl; reads = refl; writes = refl }
+done_filed ticket.Extents buf old = record { how = refl; begun = refl; none = λ e. e; many = refl; error = λ e. e; read = refl; written = refl; zeroed = refl; flushing = refl; flushed = λ e. e; reads = refl; writes = refl; fit = λ size cells fit. fit }
+done_filed ticket.Flush buf old = record { how = refl; begun = refl; none = λ e. e; many = refl; error = λ e. e; read = refl; written = refl; zeroed = refl; flushing = refl; flushed = λ e. refl; reads = refl; writes = refl; fit = λ size cells fit. fit }
 
 completed_filed : (well : Bool) (by : Ticket) (error : ℕ) (buf : List ℕ) (old : board.Seen) → Filed old (if well then filed_done by buf old else record old { error = content_first old.error error })
 completed_filed true by error buf old = done_filed by buf old
 completed_filed false by error buf old = error_filed old (content_first old.error error) (no_content old.error error)
 
 hears_filed : (is : Bool) (entries : List Extent) (old new : board.Seen) → Hears is entries old new → Filed old new
-hears_filed true entries old new (inl e) = subst (Filed old) (sym e.1) (record { how = refl; begun = refl; none = λ e. e; many = refl; error = λ e. e; read = refl; written = refl; zeroed = refl; flushing = refl; flushed = λ e. e; reads = refl; writes = refl })
-hears_filed true entries old new (inr e) = subst (Filed old) (sym e) (record { how = refl; begun = refl; none = λ e. e; many = refl; error = λ e. e; read = refl; written = refl; zeroed = refl; flushing = refl; flushed = λ e. e; reads = refl; writes = refl })
+hears_filed true entries old new (inl e) = subst (Filed old) (sym e.1) (record { how = refl; begun = refl; none = λ e. e; many = refl; error = λ e. e; read = refl; written = refl; zeroed = refl; flushing = refl; flushed = λ e. e; reads = refl; writes = refl; fit = λ size cells fit. fit })
+hears_filed true entries old new (inr e) = subst (Filed old) (sym e) (record { how = refl; begun = refl; none = λ e. e; many = refl; error = λ e. e; read = refl; written = refl; zeroed = refl; flushing = refl; flushed = λ e. e; reads = refl; writes = refl; fit = λ size cells fit. fit })
 hears_filed false entries old new e = filed_same old new e
 
 call_filed : (old new : board.Seen) (call : Call Ticket) → Files old call new → Filed old new

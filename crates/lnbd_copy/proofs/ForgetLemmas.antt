@@ -12,19 +12,21 @@ use Rattle.lnbd_board.specs.declared.ticket.Ticket.{Ticket}
 use Rattle.lnbd_copy.specs.Forgetting.{Forgets, NoneKeepNotes}
 use Rattle.lnbd_copy.specs.Job.{Acts, Seen}
 use Rattle.lnbd_board.specs.Files as board
+use Rattle.lnbd_copy.proofs.LiveLemmas.{live_event}
 use Rattle.lnbd_copy.proofs.PartLemmas.{event_on, happens}
 use Rattle.lnbd_copy.proofs.UnendedLemmas.{ended_event}
 
 pub forgets_none : (held : List (Held Ticket)) → Forgets held held
-forgets_none held = record { stand = λ s. s; on = λ way now calls on. on }
+forgets_none held = record { stand = λ s. s; live = λ l. l; on = λ way now calls on. on }
 
 pub forgets_then : (a b c : List (Held Ticket)) → Forgets a b → Forgets b c → Forgets a c
-forgets_then a b c one two = record { stand = λ s. two.stand (one.stand s); on = λ way now calls on. two.on way now calls (one.on way now calls on) }
+forgets_then a b c one two = record { stand = λ s. two.stand (one.stand s); live = λ l. two.live (one.live l); on = λ way now calls on. two.on way now calls (one.on way now calls on) }
 
 -- One of them does.
 pub forgets_one : (index : ℕ) (held : List (Held Ticket)) (handle handle' : Machine Ticket) → ForEach handle (Adds ClearLog handle') → option_map (λ held. held.handle) (slice_get held index) ≡ Some handle → Forgets held (with_handle held index handle')
 forgets_one index held handle handle' adds is = record {
   stand = λ s. record { seens = with_event index ClearLog s.seens; at = (happens handle handle' ClearLog index held s.seens adds is s.at).at };
+  live = λ l. record { seens = with_event index ClearLog l.seens; at = (happens handle handle' ClearLog index held l.seens adds is l.at).at; alive = live_event ClearLog (λ before alive. alive) index l.seens l.alive };
   on = λ way now calls on.
       event_on way now calls held (with_handle held index handle') index ClearLog on (happens handle handle' ClearLog index held on.seens adds is on.at)
       (record { inward = refl; unasked = refl; still = refl; spelled = tt; mode = refl }) refl refl (λ before. refl) (λ before none. none)

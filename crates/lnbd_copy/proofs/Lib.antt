@@ -6,9 +6,11 @@ pub mod SettledLemmas
 pub mod UnderWayLemmas
 pub mod BoundLemmas
 pub mod SpreadLemmas
+pub mod FewestLemmas
 pub mod HandleLemmas
 pub mod AskedLemmas
 pub mod WindowLemmas
+pub mod FitLemmas
 pub mod SparedLemmas
 pub mod ToldLemmas
 pub mod FiledLemmas
@@ -27,6 +29,7 @@ pub mod AnswerLemmas
 pub mod TurnLemmas
 pub mod DialLemmas
 pub mod IdleLemmas
+pub mod LiveLemmas
 pub mod PartLemmas
 pub mod SideLemmas
 pub mod WayLemmas
@@ -69,6 +72,7 @@ pub mod TriedCalls
 pub mod TriedTurns
 pub mod TriedLemmas
 pub mod PausedLemmas
+pub mod AccountLemmas
 pub mod MadeLemmas
 pub mod BindingLemmas
 pub mod BoundedLemmas
@@ -95,5 +99,6 @@ pub mod PaceTurns
 pub mod PaceMeets
 pub mod ReadyLemmas
 pub mod LawfulLemmas
+pub mod LimitLemmas
 pub mod FewLemmas
 pub mod CalmLemmas

@@ -29,6 +29,7 @@ use Rattle.lnbd_copy.proofs.FiledLemmas.{filed_none, filed_then}
 use Rattle.lnbd_copy.proofs.FirstLemmas.{adds_none, gives_none, gives_then}
 use Rattle.lnbd_copy.proofs.LastLemmas.{lasts_adds, lasts_none, lasts_then}
 use Rattle.lnbd_copy.proofs.HeldLemmas.{held_event}
+use Rattle.lnbd_copy.proofs.LiveLemmas.{disconnect_lives, live_event, live_without}
 use Rattle.lnbd_copy.proofs.BindingLemmas.{bound_event}
 use Rattle.lnbd_copy.proofs.BegunLemmas.{event_first}
 use Rattle.lnbd_copy.proofs.DrivenLemmas.{drive_event, drive_without}
@@ -44,7 +45,7 @@ use Rattle.lnbd_copy.proofs.TurnLemmas.{SameLinks, called, links_stay, none_some
 -- No handle is asked.
 
 pub parts_none : (now : board.Seen) (held : List (Held Ticket)) → Parts now held held
-parts_none now held = record { stand = λ s. s; on = λ way calls ended on. on }
+parts_none now held = record { stand = λ s. s; live = λ l. l; on = λ way calls ended on. on }
 
 -- With what happened on a handle.
 
@@ -110,6 +111,7 @@ parts : (now : board.Seen) (index : ℕ) (held : List (Held Ticket)) (handle han
     → Parts now held (with_handle held index handle')
 parts now index held handle handle' adds is = record {
   stand = λ s. record { seens = with_event index Disconnect s.seens; at = (happens handle handle' Disconnect index held s.seens adds is s.at).at };
+  live = λ l. record { seens = with_event index Disconnect l.seens; at = (happens handle handle' Disconnect index held l.seens adds is l.at).at; alive = live_event Disconnect disconnect_lives index l.seens l.alive };
   on = λ way calls ended on.
       event_on way now calls held (with_handle held index handle') index Disconnect on (happens handle handle' Disconnect index held on.seens adds is on.at)
       (record { inward = refl; unasked = refl; still = refl; spelled = tt; mode = refl }) refl refl (λ before. refl) (λ before none. none)
@@ -120,6 +122,7 @@ stays : (now : board.Seen) (index : ℕ) (held : List (Held Ticket)) (handle han
     → Parts now held (with_handle held index handle')
 stays now index held handle handle' same is = record {
   stand = λ s. record { seens = s.seens; at = still handle handle' index held s.seens same is s.at };
+  live = λ l. record { seens = l.seens; at = still handle handle' index held l.seens same is l.at; alive = l.alive };
   on = λ way calls ended on. record {
     has = on.has;
     seens = on.seens;
@@ -146,7 +149,7 @@ parts_or_not now index held handle handle' (Ok done) is adds = parts now index h
 parts_or_not now index held handle handle' (Err why) is same = stays now index held handle handle' same is
 
 pub parts_then : (now : board.Seen) (held held2 held3 : List (Held Ticket)) → Parts now held held2 → Parts now held2 held3 → Parts now held held3
-parts_then now held held2 held3 one two = record { stand = λ s. two.stand (one.stand s); on = λ way calls ended on. two.on way calls ended (one.on way calls ended on) }
+parts_then now held held2 held3 one two = record { stand = λ s. two.stand (one.stand s); live = λ l. two.live (one.live l); on = λ way calls ended on. two.on way calls ended (one.on way calls ended on) }
 
 -- A handle is taken out.
 
@@ -225,9 +228,11 @@ hung_up way now now' calls held index taken parted is unasked filed unanswered n
 
 -- A handle is taken out and closed, and its link is shut.
 pub leaves_one : (a b : Option (List wire.Call)) (now now' : board.Seen) (held held' : List (Held Ticket)) (index : ℕ) (one : ℕ × Machine Ticket) → option_map {U = ℕ × Machine Ticket} (λ held. (held.link, held.handle)) (slice_get held index) ≡ Some one
-    → held' ≡ take index held ++ drop (index + 1) held → Filed now now' → ForEach one.1 (λ history. now'.flushed ≡ now.flushed) → Adds a b (wire.Shut one.0) → Happens HasParted index held → Leaves now held a now' held' b
-leaves_one a b now now' held held' index one is held_is filed unanswered adds parted = subst (λ (l : List (Held Ticket)). Leaves now held a now' l b) (sym held_is) (record {
+    → held' ≡ take index held ++ drop (index + 1) held → Filed now now' → ForEach one.1 (λ history. now'.flushed ≡ now.flushed) → ForEach one.1 (λ history. now'.error ≡ now.error) → Adds a b (wire.Shut one.0) → Happens HasParted index held → Leaves now held a now' held' b
+leaves_one a b now now' held held' index one is held_is filed unanswered unfailed adds parted = subst (λ (l : List (Held Ticket)). Leaves now held a now' l b) (sym held_is) (record {
   stand = λ s. record { seens = take index s.seens ++ drop (index + 1) s.seens; at = without_at index held s.seens s.at };
+  live = λ l. record { seens = take index l.seens ++ drop (index + 1) l.seens; at = without_at index held l.seens l.at; alive = live_without index l.seens l.alive };
+  well = λ s none. (let there = stood index held s.seens one is s.at in unfailed there.seen.history there.stands ∙ none);
   filed = filed;
   on = λ way start unasked none told. told_on start a b (wire.Shut one.0) adds
       (λ calls on. called true way now' calls (wire.Shut one.0 ∷ []) (take index held ++ drop (index + 1) held) (λ n. refl) (λ n. refl) (hung_up way now now' calls held index one parted is unasked filed unanswered none on)) told;
@@ -236,11 +241,13 @@ leaves_one a b now now' held held' index one is held_is filed unanswered adds pa
 })
 
 pub leaves_none : (now : board.Seen) (held : List (Held Ticket)) (told : Option (List wire.Call)) → Leaves now held told now held told
-leaves_none now held told = record { stand = λ s. s; filed = filed_none now; on = λ way start unasked none is. is; lasts = lasts_none told; gives = gives_none told }
+leaves_none now held told = record { stand = λ s. s; live = λ l. l; well = λ s none. none; filed = filed_none now; on = λ way start unasked none is. is; lasts = lasts_none told; gives = gives_none told }
 
 pub leaves_then : (now now2 now3 : board.Seen) (held held2 held3 : List (Held Ticket)) (a b c : Option (List wire.Call)) → Leaves now held a now2 held2 b → Leaves now2 held2 b now3 held3 c → Leaves now held a now3 held3 c
 leaves_then now now2 now3 held held2 held3 a b c one two = record {
   stand = λ s. two.stand (one.stand s);
+  live = λ l. two.live (one.live l);
+  well = λ s none. two.well (one.stand s) (one.well s none);
   filed = filed_then now now2 now3 one.filed two.filed;
   on = λ way start unasked none told. two.on way start unasked (one.filed.none none) (one.on way start unasked none told);
   lasts = lasts_then a b c one.lasts two.lasts;

@@ -60,11 +60,11 @@ range_was_passed way size planned told now calls held settled asked ahead once m
         let unread = unread_behind way size on.has now calls settled alone well two planned.plan.slices planned.plan.cells told planned.plan.end once p (omega (arith, starts, low, ahead)) in
         elim (or_cases (said_in is_told range.0 now.told p) (nat_lt p (range.0 + grain)) (and_right (within range p) (said_in is_told range.0 now.told p || nat_lt p (range.0 + grain)) here)) [
           | inl reaches ↦
-              let stood = subst (λ (o : Option (ℕ × ℕ)). course.Told way.how on.has way.slices now calls on.seens o (known_of way)) is on.stands.told in
+              let stood = subst (λ (o : Option (ℕ × ℕ)). course.ToldCourse way.how on.has way.slices now calls on.seens o (known_of way)) is on.stands.told in
               inl (inl (so_now way.from p (WasTold way.from p) calls
               (heard_were_told way.from way.how on.has way.slices now calls on.seens range (known_of way) stood well mapped (all_stand held on.seens on.at) on.all sides.source source p
               (both_true (within range p) (said_in is_told range.0 now.told p) inside reaches)) unread))
           | inr near ↦
-              let stood = subst (λ (o : Option (ℕ × ℕ)). course.Told way.how on.has way.slices now calls [] o (known_of way)) is alone.told in
+              let stood = subst (λ (o : Option (ℕ × ℕ)). course.ToldCourse way.how on.has way.slices now calls [] o (known_of way)) is alone.told in
               inl (inr (so_now way.from p (WasFirst grain way.from p) calls (heard_were_first way.from way.how on.has way.slices now calls range (known_of way) stood mapped source grain p inside (ltb-true p (range.0 + grain) near)) unread))
         ]

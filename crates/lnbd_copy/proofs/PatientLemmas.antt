@@ -12,8 +12,7 @@ use Rattle.lnbd_link.specs.declared.wires.Want.{Want}
 use Rattle.lnbd_plan.specs.declared.fault.CopyFault.{CopyFault}
 use Rattle.lnbd_copy.specs.Copier.{IsOnItsWay}
 use Rattle.lnbd_copy.specs.Copier as copier
-use Rattle.lnbd_conduct.specs.Decided.{IsDecided, is_of_memory}
-use Rattle.lnbd_copy.specs.Deciding.{IsCalm}
+use Rattle.lnbd_conduct.specs.Decided.{IsDecided}
 use Rattle.lnbd_conduct.specs.Grounds.{needs_no_ground}
 use Rattle.lnbd_copy.specs.Patient.{HasWaited, PausesLess, StaysPatient, may_end_waiting}
 use Rattle.lnbd_conduct.specs.Pauses.{PausesWithin, pauses_in}
@@ -22,6 +21,7 @@ use Rattle.lnbd_copy.specs.Pauses.{Unpaused}
 use Rattle.lnbd_conduct.specs.Told.{Told}
 use Rattle.lnbd_copy.proofs.CopierLemmas.{told_as}
 use Rattle.lnbd_copy.proofs.DecidingLemmas.{was_decided, way_calm}
+use Rattle.lnbd_copy.proofs.ReadyLemmas.{live_alive}
 use Rattle.lnbd_copy.proofs.TurnLemmas.{goes_none, since_on, told_begins}
 
 -- Among calls.
@@ -164,7 +164,7 @@ few_stay Few start a b unpaused told = record {
 }
 
 -- A copy on its way that waits no longer ends by the first event.
-pub looked_decided : (copy : copier.Seen) (start told : Option (List wire.Call)) (why : CopyFault) → (is_of_memory why ≡ false → IsCalm None copy.board copy.held) → needs_no_ground why ≡ true → IsOnItsWay start told copy → IsDecided start told copy.options copy.from copy.to why
-looked_decided copy start told why calm free on = record {
-  on = λ other. (was_decided copy.options copy.from copy.to why start told free (way_calm copy start told told copy.board copy.held (goes_none _ _ _) (calm other) on)).on other;
+pub looked_decided : (copy : copier.Seen) (start told : Option (List wire.Call)) (why : CopyFault) → needs_no_ground why ≡ true → IsOnItsWay start told copy → IsDecided start told copy.options copy.from copy.to why
+looked_decided copy start told why free on = record {
+  on = λ other. (was_decided copy.options copy.from copy.to why start told free (way_calm copy start told told copy.board copy.held (goes_none _ _ _) (record { alive = live_alive copy.held on.may.live; well = on.well; fit = tt }) on)).on other;
 }

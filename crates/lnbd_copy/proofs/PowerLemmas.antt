@@ -1,5 +1,5 @@
 -- The greatest power of two that is no larger than a number.
-use Rattle.std.proofs.Common.{◌≡◌, ◌<◌, ◌≤◌, ◌*◌, ◌^◌, ◌+◌, ◌⊎◌, inl, inr, ℕ, zero, suc, Bool, true, false, nat_le, if◌then◌else◌, refl, ap, sym, subst, ◌∙◌, arith}
+use Rattle.std.proofs.Common.{◌≡◌, ◌<◌, ◌≤◌, ◌*◌, ◌^◌, ◌+◌, ◌⊎◌, inl, inr, max, ℕ, zero, suc, Bool, true, false, nat_le, if◌then◌else◌, refl, ap, sym, subst, ◌∙◌, arith}
 use Rattle.std.proofs.lemmas.Bool.{le-leb, leb-false, leb-true, lt-leb}
 use Rattle.std.proofs.lemmas.Nat.{pow_pos}
 use Rattle.std.proofs.Math.Nat.{pow-succ'}
@@ -40,6 +40,19 @@ power_some zero most = omega arith
 power_some (suc exponent) most = elim (cases_le (2 ^ suc exponent) most) [
   | inl e ↦ subst (λ (n : ℕ). 0 < n) (sym (power_more exponent most e)) (pow_pos (suc exponent))
   | inr e ↦ subst (λ (n : ℕ). 0 < n) (sym (power_same exponent most e)) (power_some exponent most)
+]
+
+-- It is no larger than the number, but where it is 1.
+
+below_max : (power most : ℕ) → power ≤ most → power ≤ max most 1
+below_max power most fits = omega (arith, fits)
+
+pub power_most : (exponent most : ℕ) → greatest_power exponent most ≤ max most 1
+unfolding greatest_power
+power_most zero most = omega arith
+power_most (suc exponent) most = elim (cases_le (2 ^ suc exponent) most) [
+  | inl e ↦ subst (λ (n : ℕ). n ≤ max most 1) (sym (power_more exponent most e)) (below_max (2 ^ suc exponent) most (leb-true (2 ^ suc exponent) most e))
+  | inr e ↦ subst (λ (n : ℕ). n ≤ max most 1) (sym (power_same exponent most e)) (power_most exponent most)
 ]
 
 -- It is the greatest, where the next power of two is larger.

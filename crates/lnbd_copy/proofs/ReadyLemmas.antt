@@ -40,7 +40,10 @@ use Rattle.lnbd_poll.specs.Turned.{TurnsWhole}
 use Rattle.lnbd_poll.specs.Turns.{Whole}
 use Rattle.lnbd_callbacks.specs.Steps.{OneByOne}
 use Rattle.lnbd_drives.specs.Driving.{with_event}
+use Rattle.lnbd_plan.specs.declared.cells.Cells.{Cells}
+use Rattle.lnbd_plan.specs.declared.grid.Slice.{Slice}
 use Rattle.lnbd_board.specs.declared.how.How.{How}
+use Rattle.lnbd_board.specs.declared.row.Row.{Row}
 use Rattle.lnbd_board.specs.declared.ask.Ask.{Ask}
 use Rattle.lnbd_board.specs.declared.ask.Ask.TheVariants as ask
 use Rattle.lnbd_board.specs.declared.ticket.Ticket.{Ticket}
@@ -59,9 +62,11 @@ use Rattle.lnbd_copy.specs.declared.job.Phase.{Phase as At}
 use Rattle.lnbd_copy.specs.declared.job.Phase.TheVariants.{Copying, Flushing, Parting}
 use Rattle.lnbd_copy.specs.Asked.{IsAsked}
 use Rattle.lnbd_copy.specs.Dealing.{IsAskedFirst, IsAskedOf}
-use Rattle.lnbd_copy.specs.Deciding.{AreAlive}
+use Rattle.lnbd_copy.specs.Deciding.{AreAlive, IsAliveAt}
 use Rattle.lnbd_copy.specs.Job as work
-use Rattle.lnbd_copy.specs.Ready.{AreReadyFor, HasContext, IsReadyFor, MayAct, MayAsk, MayGoOn, StaysReady, told_on}
+use Rattle.lnbd_copy.specs.Ready.{AllLive, AreLive, AreReadyFor, HasContext, IsReadyFor, MayAct, MayAsk, MayBegin, MayCopy, MayGoOn, MayServe, StaysReady, told_on}
+use Rattle.lnbd_copy.specs.Way.{Stand}
+use Rattle.lnbd_copy.specs.Windows.{AllFit, IsFit}
 use Rattle.lnbd_copy.specs.Windows as windows
 use Rattle.lnbd_copy.proofs.AliveLemmas.{alive_there}
 use Rattle.lnbd_copy.proofs.DrivenTurns.{AllBrought, AreOfLink, Brought, turns_brought}
@@ -234,6 +239,13 @@ may_still sides zeroes flush asks held held' stays may = record {
   writes = may.writes;
   zeroing = may.zeroing;
   flushing = may.flushing;
+  size = may.size;
+  cells = may.cells;
+  room = may.room;
+  room' = may.room';
+  reads = may.reads;
+  written = may.written;
+  zeroed = may.zeroed;
   ready = stays.on sides asks may.source may.destination may.ready;
 }
 
@@ -306,16 +318,19 @@ first_ready sides source destination n (ask.Change one) held held' asked = of_si
 -- A job's handles.
 
 pub may_act_still : (job job' : work.Seen) (held held' : List (Held Ticket)) → job'.terms ≡ job.terms → windows.wanted job'.windows ≡ windows.wanted job.windows → StaysReady held held' → MayAct job held → MayAct job' held'
-may_act_still job job' held held' terms wanted stays act = record {
+unfolding may_still
+may_act_still job job' held held' terms wanted stays act = subst (λ (t : Terms). MayAct (record job' { terms = t }) held') (sym terms) (record {
   asks = act.asks;
-  may = subst (λ (t : Terms). MayAsk t.sides t.how.zeroes t.flush act.asks held') (sym terms) (may_still job.terms.sides job.terms.how.zeroes job.terms.flush act.asks held held' stays act.may);
+  may = may_still job.terms.sides job.terms.how.zeroes job.terms.flush act.asks held held' stays act.may;
+  size = act.size;
+  cells = act.cells;
   wanted = λ some. act.wanted (ap (λ (o : Option (ℕ × ℕ)). is_some o) (sym wanted) ∙ some);
-}
+})
 
-pub may_go_still : (job : work.Seen) (held held' : List (Held Ticket)) → StaysReady held held' → MayGoOn job held → MayGoOn job held'
-may_go_still job held held' stays may = λ going. may_act_still job job held held' refl refl stays (may going)
+pub may_go_still : (job : work.Seen) (held held' : List (Held Ticket)) → StaysReady held held' → (AreLive held → AreLive held') → MayGoOn job held → MayGoOn job held'
+may_go_still job held held' stays lives may = record { act = λ going. may_act_still job job held held' refl refl stays (may.act going); live = lives may.live }
 
--- Handles that may be asked are not dead.
+-- Handles that are not dead:
 
 none_held : (one : Held Ticket) → None ≡ Some one → ⊥
 none_held one e = cc
@@ -326,22 +341,43 @@ some_held one other e = cc
 ready_dead : (why : Cause) → state.Ready ≡ state.Dead why → ⊥
 ready_dead why e = cc
 
-all_alive : (infos : ℕ → ExportInfo) (held : List (Held Ticket)) (seens : List (Seen Ticket)) → AreAt held seens → ((index : ℕ) (seen : Seen Ticket) → slice_get seens index ≡ Some seen → IsReadyFor (infos index) seen.history) →
-    (index : ℕ) (one : Held Ticket) → slice_get held index ≡ Some one → ForEach one.handle IsAlive
-all_alive infos [] seens at each index one there = absurd (none_held one there)
-all_alive infos (first ∷ held) [] at each index one there = absurd at
-all_alive infos (first ∷ held) (seen ∷ seens) at each zero one there =
+-- none that stands for a history is,
+live_at : (held : List (Held Ticket)) (seens : List (Seen Ticket)) → AreAt held seens → AllLive seens → (index : ℕ) (one : Held Ticket) → slice_get held index ≡ Some one → ForEach one.handle IsAlive
+live_at [] seens at live index one there = absurd (none_held one there)
+live_at (first ∷ held) [] at live index one there = absurd at
+live_at (first ∷ held) (seen ∷ seens) at live zero one there =
     subst (λ (h : Held Ticket). ForEach h.handle IsAlive) (some_held first one there)
-    (λ history stands why dead.
-    ready_dead why (sym (each 0 seen refl).shown.ready ∙ sym (stands_right max_unretired seen.history first.handle at.0.stands).state ∙ (stands_right max_unretired history first.handle stands).state ∙ dead))
-all_alive infos (first ∷ held) (seen ∷ seens) at each (suc index) one there = all_alive (λ i. infos (suc i)) held seens at.1 (λ i s e. each (suc i) s e) index one there
+    (λ history stands why dead. live.0 why (sym (stands_right max_unretired seen.history first.handle at.0.stands).state ∙ (stands_right max_unretired history first.handle stands).state ∙ dead))
+live_at (first ∷ held) (seen ∷ seens) at live (suc index) one there = live_at held seens at.1 live.1 index one there
+
+pub live_alive : (held : List (Held Ticket)) → AreLive held → AreAlive held
+live_alive held live = record { at = λ index. record { each = λ one there. live_at held live.seens live.at live.alive index one there } }
+
+-- and where none is that is held, none that stands for a history is;
+alive_seens : (held : List (Held Ticket)) (seens : List (Seen Ticket)) → AreAt held seens → ((index : ℕ) → IsAliveAt index held) → AllLive seens
+alive_seens [] [] at alive = tt
+alive_seens [] (seen ∷ seens) at alive = absurd at
+alive_seens (first ∷ held) [] at alive = absurd at
+alive_seens (first ∷ held) (seen ∷ seens) at alive = (alive_there (first ∷ held) (seen ∷ seens) 0 seen at refl (alive 0), alive_seens held seens at.1 (λ index. record { each = λ one there. (alive (suc index)).each one there }))
+
+pub alive_live : (held : List (Held Ticket)) → Stand held → AreAlive held → AreLive held
+alive_live held stand alive = record { seens = stand.seens; at = stand.at; alive = alive_seens held stand.seens stand.at alive.at }
+
+-- and none that may be asked.
+all_live : (infos : ℕ → ExportInfo) (seens : List (Seen Ticket)) → ((index : ℕ) (seen : Seen Ticket) → slice_get seens index ≡ Some seen → IsReadyFor (infos index) seen.history) → AllLive seens
+all_live infos [] each = tt
+all_live infos (seen ∷ seens) each = (λ why dead. ready_dead why (sym (each 0 seen refl).shown.ready ∙ dead), all_live (λ i. infos (suc i)) seens (λ i s e. each (suc i) s e))
+
+pub may_live : (job : work.Seen) (held : List (Held Ticket)) → MayAct job held → AreLive held
+may_live job held act =
+    let ready = act.may.ready in
+    record { seens = ready.seens; at = ready.at; alive = all_live (λ i. told_on act.may.source act.may.destination (is_source job.terms.sides i)) ready.seens ready.each }
 
 pub may_alive : (job : work.Seen) (held : List (Held Ticket)) → MayAct job held → AreAlive held
-may_alive job held act = record {
-  at = λ index. record {
-    each = λ one there. all_alive (λ i. told_on act.may.source act.may.destination (is_source job.terms.sides i)) held act.may.ready.seens act.may.ready.at act.may.ready.each index one there;
-  };
-}
+may_alive job held act = live_alive held (may_live job held act)
+
+pub may_go : (job : work.Seen) (held : List (Held Ticket)) → MayAct job held → MayGoOn job held
+may_go job held act = record { act = λ going. act; live = may_live job held act }
 
 -- While a job copies, or its destination is flushed, the connections don't part.
 
@@ -353,17 +389,31 @@ flushing_goes phase flushing parting = let e : Flushing ≡ Parting = sym flushi
 
 -- extents were heard
 pub may_act_heard : (job job' : work.Seen) (held : List (Held Ticket)) → job'.terms ≡ job.terms → (windows.wanted job.windows ≡ None → job'.windows ≡ job.windows) → MayAct job held → MayAct job' held
-may_act_heard job job' held terms unwanted act = record {
-  asks = act.asks;
-  may = subst (λ (t : Terms). MayAsk t.sides t.how.zeroes t.flush act.asks held) (sym terms) act.may;
-  wanted = λ some. go (windows.wanted job.windows) refl some;
-}
+may_act_heard job job' held terms unwanted act = subst (λ (t : Terms). MayAct (record job' { terms = t }) held) (sym terms) (record { asks = act.asks; may = act.may; size = act.size; cells = act.cells; wanted = λ some. go (windows.wanted job.windows) refl some })
   where
     go : (o : Option (ℕ × ℕ)) → windows.wanted job.windows ≡ o → is_some (windows.wanted job'.windows) ≡ true → act.asks ≡ true
     go None none some = act.wanted (ap (λ (w : windows.Seen). is_some (windows.wanted w)) (sym (unwanted none)) ∙ some)
     go (Some range) is some = act.wanted (ap (λ (o : Option (ℕ × ℕ)). is_some o) is)
 
 -- Within the steps of a job's bindings.
-pub may_here : (sides sides' : Sides) (how how' : How) (held held' : List (Held Ticket)) → sides' ≡ sides → how' ≡ how → StaysReady held held' → MayAsk sides how.zeroes false false held → MayAsk sides' how'.zeroes false false held'
-may_here sides sides' how how' held held' same writes stays may =
-    subst (λ (s : Sides). MayAsk s how'.zeroes false false held') (sym same) (subst (λ (h : How). MayAsk sides h.zeroes false false held') (sym writes) (may_still sides how.zeroes false false held held' stays may))
+module _ (sides sides' : Sides) (how how' : How) (held held' : List (Held Ticket)) (same : sides' ≡ sides) (writes : how' ≡ how) (stays : StaysReady held held') where
+  pub serve_here : (rows rows' : List (ℕ × Row)) → ((size : ℕ) (cells : Cells) → AllFit size cells rows → AllFit size cells rows') → MayServe sides how.zeroes rows held → MayServe sides' how'.zeroes rows' held'
+  unfolding may_still
+  serve_here rows rows' fits serve =
+      subst (λ (s : Sides). MayServe s how'.zeroes rows' held') (sym same)
+      (subst (λ (h : How). MayServe sides h.zeroes rows' held') (sym writes)
+      (record { may = may_still sides how.zeroes false false held held' stays serve.may; fit = fits serve.may.size serve.may.cells serve.fit }))
+
+  pub begin_here : (planned planned' : windows.Seen) → planned'.size ≡ planned.size → planned'.plan.cells ≡ planned.plan.cells → MayBegin sides how.zeroes planned held → MayBegin sides' how'.zeroes planned' held'
+  unfolding may_still
+  begin_here planned planned' size cells begin =
+      subst (λ (s : Sides). MayBegin s how'.zeroes planned' held') (sym same)
+      (subst (λ (h : How). MayBegin sides h.zeroes planned' held') (sym writes)
+      (record { may = may_still sides how.zeroes false false held held' stays begin.may; size = begin.size ∙ sym size; cells = begin.cells ∙ sym cells }))
+
+-- One slice of those that are planned.
+pub copy_of : (sides : Sides) (zeroes : Bool) (planned : windows.Seen) (slice : Slice) (held : List (Held Ticket)) → IsFit planned.size planned.plan.cells slice → MayBegin sides zeroes planned held → MayCopy sides zeroes slice held
+copy_of sides zeroes planned slice held fit begin = record {
+  may = begin.may;
+  fit = subst (λ (n : ℕ). IsFit n begin.may.cells slice) (sym begin.size) (subst (λ (c : Cells). IsFit planned.size c slice) (sym begin.cells) fit);
+}

@@ -15,13 +15,15 @@ use Rattle.lnbd_board.specs.Bound.{IsFewest}
 use Rattle.lnbd_board.specs.Files as board
 use Rattle.lnbd_conduct.specs.declared.sides.Sides.{Sides}
 use Rattle.lnbd_conduct.specs.declared.terms.Terms.{Terms}
+use Rattle.lnbd_conduct.specs.Slices.{cells_of}
 use Rattle.lnbd_copy.specs.Bound.{Bound, on_destination, on_source}
 use Rattle.lnbd_copy.specs.Copier.{IsOnItsWay, Seen}
-use Rattle.lnbd_copy.specs.Dealt.{AreDealt, Deals, HasDealt, HaveDealt, IsDealt, Spreads}
+use Rattle.lnbd_copy.specs.Dealt.{AreDealt, Deals, HasDealt, HasFit, HaveDealt, IsDealt, Spreads}
 use Rattle.lnbd_copy.specs.Job as work
 use Rattle.lnbd_copy.specs.Spread.{AreSpread, AreSpreadBy}
 use Rattle.lnbd_copy.specs.UnderWay.{HasAsked, IsPast}
 use Rattle.lnbd_copy.specs.Way.{Filed, Way}
+use Rattle.lnbd_copy.specs.Windows.{AllFit}
 use Rattle.lnbd_copy.proofs.BoundLemmas.{bound_with, bound_within, dealt_none, side_begins, side_ends}
 
 module _ (limit : ℕ) (sides : Sides) where
@@ -94,23 +96,27 @@ module _ (limit : ℕ) (sides : Sides) where
 -- Jobs.
 
 pub spreads_none : (j : work.Seen) (now : board.Seen) → Spreads j j now now
-spreads_none j now = record { on = λ dealt. dealt }
+spreads_none j now = record { on = λ dealt. dealt; fit = λ fit. fit }
 
 pub spreads_same : (j j' : work.Seen) (now now' : board.Seen) → j'.terms ≡ j.terms → j'.bound ≡ j.bound → now'.rows ≡ now.rows → Spreads j j' now now'
 spreads_same j j' now now' terms bound rows = record {
   on = λ dealt. subst (λ (t : Terms). AreDealt t.limit t.sides j'.bound now'.rows) (sym terms)
       (subst (λ (b : Bound). AreDealt j.terms.limit j.terms.sides b now'.rows) (sym bound)
       (subst (λ (l : List (ℕ × Row)). AreDealt j.terms.limit j.terms.sides j.bound l) (sym rows) dealt));
+  fit = λ fit. subst (λ (t : Terms). AllFit t.size (cells_of t) now'.rows) (sym terms) (subst (λ (l : List (ℕ × Row)). AllFit j.terms.size (cells_of j.terms) l) (sym rows) fit);
 }
 
 pub spreads_then : (a b c : work.Seen) (x y z : board.Seen) → Spreads a b x y → Spreads b c y z → Spreads a c x z
-spreads_then a b c x y z first second = record { on = λ dealt. second.on (first.on dealt) }
+spreads_then a b c x y z first second = record { on = λ dealt. second.on (first.on dealt); fit = λ fit. second.fit (first.fit fit) }
 
 -- Its bindings deal its slices.
-pub spreads_deals : (j j' : work.Seen) (sides : Sides) (now now' : board.Seen) → j'.terms ≡ j.terms → sides ≡ j.terms.sides → Deals j.terms.limit sides j.bound j'.bound now.rows now'.rows → Spreads j j' now now'
-spreads_deals j j' sides now now' terms same deals =
+pub spreads_deals : (j j' : work.Seen) (sides : Sides) (now now' : board.Seen) → j'.terms ≡ j.terms → sides ≡ j.terms.sides → Deals j.terms.limit sides j.bound j'.bound now.rows now'.rows → (HasFit j now → HasFit j now') → Spreads j j' now now'
+spreads_deals j j' sides now now' terms same deals fits =
     let deals' : Deals j.terms.limit j.terms.sides j.bound j'.bound now.rows now'.rows = subst (λ (s : Sides). Deals j.terms.limit s j.bound j'.bound now.rows now'.rows) same deals in
-    record { on = λ dealt. subst (λ (t : Terms). AreDealt t.limit t.sides j'.bound now'.rows) (sym terms) (deals'.on dealt) }
+    record {
+      on = λ dealt. subst (λ (t : Terms). AreDealt t.limit t.sides j'.bound now'.rows) (sym terms) (deals'.on dealt);
+      fit = λ fit. subst (λ (t : Terms). AllFit t.size (cells_of t) now'.rows) (sym terms) (fits fit);
+    }
 
 pub job_deals : (j : work.Seen) (sides : Sides) (now : board.Seen) → sides ≡ j.terms.sides → HasDealt j now → HaveDealt sides j.bound now.rows
 job_deals j sides now same dealt = record { limit = j.terms.limit; dealt = subst (λ (s : Sides). AreDealt j.terms.limit s j.bound now.rows) (sym same) dealt }
@@ -134,10 +140,10 @@ over_within how sides bound n source destination told old mid is goes have =
 
 -- Slices go on, extents are heard and asked for, and slices are begun.
 pub spreads_all : (j0 j1 j2 j3 j4 : work.Seen) (b0 b1 b3 b4 : board.Seen) → Spreads j0 j1 b0 b1 → j2.terms ≡ j1.terms → j2.bound ≡ j1.bound → HasAsked j2 j3 b1 b3 → Spreads j3 j4 b3 b4 → Spreads j0 j4 b0 b4
-spreads_all j0 j1 j2 j3 j4 b0 b1 b3 b4 gone terms bound asked begun = record {
-  on = λ dealt. begun.on ((spreads_same j2 j3 b1 b3 (ap (λ (j : work.Seen). j.terms) asked.job) (ap (λ (j : work.Seen). j.bound) asked.job) (ap (λ (s : board.Seen). s.rows) asked.board)).on
-      ((spreads_same j1 j2 b1 b1 terms bound refl).on (gone.on dealt)));
-}
+spreads_all j0 j1 j2 j3 j4 b0 b1 b3 b4 gone terms bound asked begun =
+    spreads_then j0 j1 j4 b0 b1 b4 gone
+    (spreads_then j1 j2 j4 b1 b1 b4 (spreads_same j1 j2 b1 b1 terms bound refl)
+    (spreads_then j2 j3 j4 b1 b3 b4 (spreads_same j2 j3 b1 b3 (ap (λ (j : work.Seen). j.terms) asked.job) (ap (λ (j : work.Seen). j.bound) asked.job) (ap (λ (s : board.Seen). s.rows) asked.board)) begun))
 
 -- Then all are asked to part, or the destination is flushed.
 pub spreads_past : (j0 j4 j5 : work.Seen) (b0 b4 b5 : board.Seen) → Spreads j0 j4 b0 b4 → j5.terms ≡ j4.terms → j5.bound ≡ j4.bound → IsPast j5 b4 b5 → Spreads j0 j5 b0 b5
@@ -179,9 +185,9 @@ pub on_ok_three : {X Y A B C D : Type 0} (r : Result X Y) → (A → B → C →
 on_ok_three (Ok value) f a b c = f a b c
 on_ok_three (Err fault) f a b c = tt
 
-pub on_ok_four : {X Y A B C D E : Type 0} (r : Result X Y) → (A → B → C → D → E) → OnOk r A → OnOk r B → OnOk r C → OnOk r D → OnOk r E
-on_ok_four (Ok value) f a b c d = f a b c d
-on_ok_four (Err fault) f a b c d = tt
+pub on_ok_six : {X Y A B C D E F G : Type 0} (r : Result X Y) → (A → B → C → D → E → F → G) → OnOk r A → OnOk r B → OnOk r C → OnOk r D → OnOk r E → OnOk r F → OnOk r G
+on_ok_six (Ok value) f a b c d e g = f a b c d e g
+on_ok_six (Err fault) f a b c d e g = tt
 
 -- The copy goes on.
 
@@ -189,7 +195,13 @@ on_ok_four (Err fault) f a b c d = tt
 pub dealt_filed : (j : work.Seen) (now now' : board.Seen) → Filed now now' → HasDealt j now → HasDealt j now'
 dealt_filed j now now' filed dealt = dealt_alike j.terms.limit j.terms.sides j.bound now.rows now'.rows filed.reads filed.writes dealt
 
+pub fit_filed : (j : work.Seen) (now now' : board.Seen) → Filed now now' → HasFit j now → HasFit j now'
+fit_filed j now now' filed fit = filed.fit j.terms.size (cells_of j.terms) fit
+
 -- A copy begins without slices.
+pub begins_fit : (j : work.Seen) (now : board.Seen) → now.rows ≡ [] → HasFit j now
+begins_fit j now empty = subst (λ (l : List (ℕ × Row)). AllFit j.terms.size (cells_of j.terms) l) (sym empty) tt
+
 pub begins_dealt : (j : work.Seen) (terms : Terms) (now : board.Seen) → j.terms ≡ terms → now.rows ≡ [] → AreDealt terms.limit terms.sides j.bound [] → HasDealt j now
 begins_dealt j terms now same empty dealt = subst (λ (t : Terms). AreDealt t.limit t.sides j.bound now.rows) (sym same) (subst (λ (l : List (ℕ × Row)). AreDealt terms.limit terms.sides j.bound l) (sym empty) dealt)
 

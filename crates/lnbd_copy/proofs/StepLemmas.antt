@@ -33,7 +33,7 @@ module _ (way : Way) (has : ℕ → Bool) where
   pub nothing_stands : (now : board.Seen) → way.size ≡ None → way.slices ≡ [] → way.asked ≡ None → ((p : ℕ) → way.zero p ≡ false) → now.rows ≡ [] → HasNotCounted now → Stands way has now [] []
   nothing_stands now unsettled none unasked unknown empty uncounted = record {
     between = subst (λ (o : Option ℕ). Between way.from way.to o way.how has way.slices now [] []) (sym unsettled) (subst (λ (l : List Slice). Between way.from way.to None way.how has l now [] []) (sym none) (nothing_is_between way.from way.to way.how has now empty uncounted));
-    told = subst (λ (o : Option (ℕ × ℕ)). course.Told way.how has way.slices now [] [] o (known_of way)) (sym unasked) (subst (λ (l : List Slice). course.Told way.how has l now [] [] None (known_of way)) (sym none) (nothing_is_told way.how has now (known_of way) empty uncounted unknown));
+    told = subst (λ (o : Option (ℕ × ℕ)). course.ToldCourse way.how has way.slices now [] [] o (known_of way)) (sym unasked) (subst (λ (l : List Slice). course.ToldCourse way.how has l now [] [] None (known_of way)) (sym none) (nothing_is_told way.how has now (known_of way) empty uncounted unknown));
   }
 
   pub settling_stands : (how : How) (now now' : board.Seen) (calls : List wire.Call) (seens : List (Seen Ticket)) → way.slices ≡ [] → way.asked ≡ None → Stands way has now calls seens → now.rows ≡ [] → now.error ≡ None → now.flushing ≡ false → now'.rows ≡ [] → HasNotCounted now' →
@@ -41,9 +41,9 @@ module _ (way : Way) (has : ℕ → Bool) where
   settling_stands how now now' calls seens none unasked s empty well unflushed empty' uncounted = record {
     between = subst (λ (l : List Slice). Between way.from way.to way.size how has l now' calls seens) (sym none)
         (settling_keeps_between way.from way.to way.size way.how how has now now' calls seens (subst (λ (l : List Slice). Between way.from way.to way.size way.how has l now calls seens) none s.between) empty well unflushed empty' uncounted);
-    told = subst (λ (o : Option (ℕ × ℕ)). course.Told how has way.slices now' calls seens o (known_of way)) (sym unasked) (subst (λ (l : List Slice). course.Told how has l now' calls seens None (known_of way)) (sym none)
+    told = subst (λ (o : Option (ℕ × ℕ)). course.ToldCourse how has way.slices now' calls seens o (known_of way)) (sym unasked) (subst (λ (l : List Slice). course.ToldCourse how has l now' calls seens None (known_of way)) (sym none)
         (settling_tells way.how how has now now' calls seens (known_of way)
-        (subst (λ (o : Option (ℕ × ℕ)). course.Told way.how has [] now calls seens o (known_of way)) unasked (subst (λ (l : List Slice). course.Told way.how has l now calls seens way.asked (known_of way)) none s.told)) empty well unflushed empty' uncounted));
+        (subst (λ (o : Option (ℕ × ℕ)). course.ToldCourse way.how has [] now calls seens o (known_of way)) unasked (subst (λ (l : List Slice). course.ToldCourse way.how has l now calls seens way.asked (known_of way)) none s.told)) empty well unflushed empty' uncounted));
   }
 
   pub turns_stand : (now now' : board.Seen) (calls part : List wire.Call) (before after : List (Seen Ticket)) (moved : Option ℕ) → Stands way has now calls before → Turns (OneByOne board.Files) before now part after now' (Whole moved) →
@@ -80,7 +80,7 @@ module _ (way : Way) (has : ℕ → Bool) where
       ListensTo range command → now'.told ≡ [] → now'.mapped ≡ false → Stands (record way { asked = Some range }) has now' calls (with_event index (Issue command) seens)
   extents_ask_stand now now' calls seens range index seen command none s there side spells asks asked blank unmapped = record {
     between = source_asks_keep_between way.from way.to way.size way.how has way.slices way.slices now now' calls seens index seen command s.between there side spells asks;
-    told = extents_ask_tell way.how has way.slices way.slices now now' calls seens range (known_of way) index seen command (subst (λ (o : Option (ℕ × ℕ)). course.Told way.how has way.slices now calls seens o (known_of way)) none s.told) there side spells asks asked blank unmapped;
+    told = extents_ask_tell way.how has way.slices way.slices now now' calls seens range (known_of way) index seen command (subst (λ (o : Option (ℕ × ℕ)). course.ToldCourse way.how has way.slices now calls seens o (known_of way)) none s.told) there side spells asks asked blank unmapped;
   }
 
   pub board_moves_stand : (now now' : board.Seen) (calls : List wire.Call) (seens : List (Seen Ticket)) → Stands way has now calls seens → (now'.error ≡ None → now.error ≡ None) → CountsSame now now' →
@@ -95,7 +95,7 @@ module _ (way : Way) (has : ℕ → Bool) where
       ((source destination : List Request) → Keeps way.how now.rows source destination now'.rows source destination) → Stands way has now' calls seens
   unasked_moves_stand now now' calls seens none s earlier same keeps = record {
     between = board_moves_keep_between way.from way.to way.size way.how has way.slices now now' calls seens s.between earlier same keeps;
-    told = subst (λ (o : Option (ℕ × ℕ)). course.Told way.how has way.slices now' calls seens o (known_of way)) (sym none) (unasked_moves_tell way.how has way.slices now now' calls seens (known_of way) (subst (λ (o : Option (ℕ × ℕ)). course.Told way.how has way.slices now calls seens o (known_of way)) none s.told) earlier same keeps);
+    told = subst (λ (o : Option (ℕ × ℕ)). course.ToldCourse way.how has way.slices now' calls seens o (known_of way)) (sym none) (unasked_moves_tell way.how has way.slices now now' calls seens (known_of way) (subst (λ (o : Option (ℕ × ℕ)). course.ToldCourse way.how has way.slices now calls seens o (known_of way)) none s.told) earlier same keeps);
   }
 
   pub others_stand : (now : board.Seen) (calls : List wire.Call) (seens : List (Seen Ticket)) (index : ℕ) (seen : Seen Ticket) (event : Event Ticket) → Stands way has now calls seens → slice_get seens index ≡ Some seen →
@@ -110,7 +110,7 @@ module _ (way : Way) (has : ℕ → Bool) where
       ((p : ℕ) → way.reach p ≡ true → reach p ≡ true) → ((p : ℕ) → holds_told range now p ≡ true → reach p ≡ true) → Stands (record way { asked = None; zero = known; whole = whole; reach = reach }) has now calls seens
   hearing_stands now calls seens range known whole reach asked s mapped short knows more holds further reaches = record {
     between = s.between;
-    told = hearing_tells way.how has way.slices now calls seens range (known_of way) (record { zero = known; whole = whole; reach = reach }) (subst (λ (o : Option (ℕ × ℕ)). course.Told way.how has way.slices now calls seens o (known_of way)) asked s.told) mapped short knows more holds further reaches;
+    told = hearing_tells way.how has way.slices now calls seens range (known_of way) (record { zero = known; whole = whole; reach = reach }) (subst (λ (o : Option (ℕ × ℕ)). course.ToldCourse way.how has way.slices now calls seens o (known_of way)) asked s.told) mapped short knows more holds further reaches;
   }
 
   -- Where no extents are waited for, fewer positions may be known.
@@ -118,7 +118,7 @@ module _ (way : Way) (has : ℕ → Bool) where
       ((p : ℕ) → way.reach p ≡ true → reach p ≡ true) → Stands (record way { zero = known; whole = whole; asked = None; reach = reach }) has now calls seens
   unheard_stands now calls seens known whole reach none s fewer more further = record {
     between = s.between;
-    told = fewer_tell way.how has way.slices now calls seens None (known_of way) (record { zero = known; whole = whole; reach = reach }) (subst (λ (o : Option (ℕ × ℕ)). course.Told way.how has way.slices now calls seens o (known_of way)) none s.told) fewer more further;
+    told = fewer_tell way.how has way.slices now calls seens None (known_of way) (record { zero = known; whole = whole; reach = reach }) (subst (λ (o : Option (ℕ × ℕ)). course.ToldCourse way.how has way.slices now calls seens o (known_of way)) none s.told) fewer more further;
   }
 
   pub taking_stands : (now : board.Seen) (calls : List wire.Call) (seens : List (Seen Ticket)) (index : ℕ) (seen : Seen Ticket) (limit : ℕ) (handle : Machine Ticket) → Stands way has now calls seens → slice_get seens index ≡ Some seen →

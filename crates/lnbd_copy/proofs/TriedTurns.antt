@@ -1,5 +1,5 @@
 -- A turn that took place tries the link of each handle in its direction, where all that was read has arrived.
-use Rattle.std.proofs.Common.{◌≡◌, ◌||◌, ◌==◌, ◌≤◌, not, ℕ, zero, suc, Bool, true, false, List, [], ◌∷◌, ◌++◌, length, Option, Some, None, if◌then◌else◌, refl, ap, sym, subst, ◌∙◌, arith}
+use Rattle.std.proofs.Common.{◌≡◌, ◌||◌, ◌==◌, ◌≤◌, ◌-◌, not, ℕ, zero, suc, Bool, true, false, List, [], ◌∷◌, ◌++◌, length, Option, Some, None, if◌then◌else◌, refl, ap, sym, subst, ◌∙◌, arith}
 use Rattle.std.proofs.lemmas.Bool.{eq-eqb, false≢true, ne_eqb}
 use Rattle.std.proofs.lemmas.List.Folds.{list_any-append}
 use Rattle.std.specs.List.{list_any}
@@ -7,16 +7,15 @@ use Rattle.lnbd_callbacks.specs.Calls.{Call}
 use Rattle.lnbd_history.specs.Answers.{direction_after, direction_of, is_living, out_after}
 use Rattle.lnbd_history.specs.Events.{History}
 use Rattle.lnbd_history.specs.History.{reading}
-use Rattle.lnbd_machine.specs.Machine.{machine}
 use Rattle.lnbd_machine.specs.Now.{direction_now, in_flight_now, state_now}
 use Rattle.lnbd_model.specs.declared.state.State.{State}
 use Rattle.lnbd_standing.proofs.Standing.{stands_right}
-use Rattle.lnbd_handle.specs.Placing.{place_size}
 use Rattle.lnbd_link.specs.Call as wire
 use Rattle.lnbd_link.specs.Call.{Read, Write, ReadTold, Moved, Unready, Ended, ReadFault, WriteTold}
 use Rattle.lnbd_link.specs.declared.wires.Want.{Want}
 use Rattle.lnbd_poll.specs.declared.noticed.Noticed.{Noticed}
 use Rattle.lnbd_poll.specs.declared.noticed.Noticed.TheVariants as noticed
+use Rattle.lnbd_poll.specs.Coming.{data_to_come_after}
 use Rattle.lnbd_poll.specs.Held.{Held, AreAt, is_wanting, want_of, wants_now, with_want}
 use Rattle.lnbd_poll.specs.Notices.{Hears, ReadsIf, ReadsOn, WritesIf, is_reading, is_waiting, room_of}
 use Rattle.lnbd_poll.specs.Seen.{Seen, IsAt}
@@ -110,7 +109,7 @@ module _ {K World : Type 0} (steps : World → List (Call K) → World → Type 
   reads_busy true notice before after world world' calls r = on before.unread r
     where
       on : (unread : List ℕ) → ReadsOn steps unread notice before world calls after world' → list_any is_idle calls ≡ false
-      on [] r = ap (list_any is_idle) r.1 ∙ ap (λ (b : Bool). b || false) (room_some (place_size (machine before.history)))
+      on [] r = ap (list_any is_idle) r.1 ∙ ap (λ (b : Bool). b || false) (room_some (data_to_come_after before.history - 1))
       on (byte ∷ bytes) r = ap (list_any is_idle) r.0
 
   one_busy : (notice : Noticed) (before : Seen K) (world : World) (calls : List wire.Call) (after : Seen K) (world' : World) (moved : Option ℕ) → TurnsOne steps notice before world calls after world' moved → list_any is_idle calls ≡ false

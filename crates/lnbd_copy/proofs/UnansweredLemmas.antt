@@ -99,16 +99,16 @@ module _ (j : work.Seen) (way : Way) (now : board.Seen) (calls : List wire.Call)
   was_passed p low = subst (λ (g : ℕ). WasPassed way.extents g way.from p calls) is.grain (on.hears.passed well two j.windows.grain p (is.heard.before p low))
 
   -- Where no extents are waited for none are asked for.
-  asks_for_none : j.asked ≡ false → AsksForNone way.from calls
+  pub asks_for_none : j.asked ≡ false → AsksForNone way.from calls
   asks_for_none none =
       let unasked : way.asked ≡ None = is.asked ∙ ap (λ (b : Bool). if b then windows.wanted j.windows else None) none in
-      none_are_awaited way.from way.how on.has way.slices now calls (known_of way) (subst (λ (o : Option (ℕ × ℕ)). course.Told way.how on.has way.slices now calls [] o (known_of way)) unasked alone.told) well of_source
+      none_are_awaited way.from way.how on.has way.slices now calls (known_of way) (subst (λ (o : Option (ℕ × ℕ)). course.ToldCourse way.how on.has way.slices now calls [] o (known_of way)) unasked alone.told) well of_source
 
-  planned_to : ArePlannedTo way.extents j.windows.plan.end way.from j.terms.size j.terms.grain (cells_of j.terms) (way.slices ++ j.windows.plan.slices) calls
+  pub planned_to : ArePlannedTo way.extents j.windows.plan.end way.from j.terms.size j.terms.grain (cells_of j.terms) (way.slices ++ j.windows.plan.slices) calls
   planned_to = whole.planned_to j way now calls is on.has alone well two (on.hears.answered well two) (on.hears.passed well two)
 
   -- Once all slices are over nothing is under way, and nothing is left.
-  full_over : work.IsOver j now → IsFull way.extents j.terms way.from way.to calls
+  abbrev pub full_over : work.IsOver j now → IsFull way.extents j.terms way.from way.to calls
   full_over over =
       let ended = ended_are_begun way.from way.to j.terms.size way.how on.has way.slices now calls between over.rows well two in
       let none : length j.windows.plan.slices ≡ 0 = ap (λ (l : List Slice). length l) over.handed in
@@ -128,12 +128,12 @@ module _ (j : work.Seen) (way : Way) (now : board.Seen) (calls : List wire.Call)
       }
 
 -- While slices are copied.
-module _ (j : work.Seen) (way : Way) (now : board.Seen) (calls : List wire.Call) (held : List (Held Ticket)) (is : work.IsJob j way now) (full : state.IsFull j now) (well : now.error ≡ None) (on : IsOn way now calls held) (written : NoneForWriting (wants_now held)) (two : way.from ≢ way.to) where
+module _ (j : work.Seen) (way : Way) (now : board.Seen) (calls : List wire.Call) (held : List (Held Ticket)) (is : work.IsJob j way now) (full : state.WorksInFull j now) (well : now.error ≡ None) (on : IsOn way now calls held) (written : NoneForWriting (wants_now held)) (two : way.from ≢ way.to) where
   -- extents are awaited of this range
   awaits : (range : ℕ × ℕ) → way.asked ≡ Some range → AreAwaited j.asked now → AsksExtentsOf range way.from calls
   awaits range e awaited =
       quiet_asks way.from way.to way.size way.how on.has way.slices now calls on.seens range (known_of way) on.stands.between
-      (subst (λ (o : Option (ℕ × ℕ)). course.Told way.how on.has way.slices now calls on.seens o (known_of way)) e on.stands.told) well awaited.untold (all_stand held on.seens on.at) (none_writes held on.seens on.at written) on.all two
+      (subst (λ (o : Option (ℕ × ℕ)). course.ToldCourse way.how on.has way.slices now calls on.seens o (known_of way)) e on.stands.told) well awaited.untold (all_stand held on.seens on.at) (none_writes held on.seens on.at written) on.all two
 
   -- what is asked for was not told yet
   asked_untold : is_some way.asked ≡ true → now.mapped ≡ false
@@ -147,7 +147,7 @@ module _ (j : work.Seen) (way : Way) (now : board.Seen) (calls : List wire.Call)
   told_reached =
       told_are_known way.from way.how on.has way.slices now calls on.seens way.asked (known_of way) on.stands.told well asked_untold (all_stand held on.seens on.at) on.all (of_source j way now calls held false is on well two)
 
-  window_untold : j.windows.plan.end < j.terms.size → IsUntold way.from (min (j.windows.plan.end + window) j.terms.size - 1) calls
+  pub window_untold : j.windows.plan.end < j.terms.size → IsUntold way.from (min (j.windows.plan.end + window) j.terms.size - 1) calls
   window_untold left told =
       let ends = is.ends in
       let p : ℕ = min (j.windows.plan.end + window) j.terms.size - 1 in
@@ -164,7 +164,7 @@ module _ (j : work.Seen) (way : Way) (now : board.Seen) (calls : List wire.Call)
       omega (arith, far, low, grain)
 
   -- a range is wanted only of a window that is left
-  window_left : is_some (windows.wanted j.windows) ≡ true → j.windows.plan.end < j.terms.size
+  pub window_left : is_some (windows.wanted j.windows) ≡ true → j.windows.plan.end < j.terms.size
   window_left some =
       let ends = is.ends in
       let ahead = is.heard.planned in
@@ -172,7 +172,7 @@ module _ (j : work.Seen) (way : Way) (now : board.Seen) (calls : List wire.Call)
       omega (arith, ends, ahead, below)
 
   -- Extents are awaited: they are asked for of what is left of the window under way.
-  asks_for_window : is_some (windows.wanted j.windows) ≡ true → AreAwaited j.asked now → AsksForWindow way.extents j.windows.plan.end way.from j.terms.size j.terms.grain calls
+  pub asks_for_window : is_some (windows.wanted j.windows) ≡ true → AreAwaited j.asked now → AsksForWindow way.extents j.windows.plan.end way.from j.terms.size j.terms.grain calls
   asks_for_window some awaited =
       let ends = is.ends in
       let wanted : windows.wanted j.windows ≡ Some (j.windows.at, windows.window_end j.windows - j.windows.at) = wanted_is j.windows some in
@@ -188,7 +188,7 @@ module _ (j : work.Seen) (way : Way) (now : board.Seen) (calls : List wire.Call)
         passed = λ p from_start low. was_passed j way now calls held false is on well two p low;
       }
 
-  full_copying : IsFull way.extents j.terms way.from way.to calls
+  abbrev pub full_copying : IsFull way.extents j.terms way.from way.to calls
   full_copying = record {
     begun = way.slices;
     left = j.windows.plan.slices;
@@ -211,13 +211,13 @@ module _ (j : work.Seen) (way : Way) (now : board.Seen) (calls : List wire.Call)
     ] refl;
   }
 
-copies_or : (phase : Phase) → (phase ≡ Copying) ⊎ (phase ≢ Copying)
+pub copies_or : (phase : Phase) → (phase ≡ Copying) ⊎ (phase ≢ Copying)
 copies_or Copying = inl refl
 copies_or Flushing = inr (λ e. cc e)
 copies_or Parting = inr (λ e. cc e)
 
 -- Whatever the copy is at.
-is_full : (j : work.Seen) (way : Way) (now : board.Seen) (calls : List wire.Call) (held : List (Held Ticket)) → work.IsJob j way now → (j.phase ≡ Copying → state.IsFull j now) → now.error ≡ None → IsUnderWay (work.is_parting j.phase) way now calls held → NoneForWriting (wants_now held) →
+is_full : (j : work.Seen) (way : Way) (now : board.Seen) (calls : List wire.Call) (held : List (Held Ticket)) → work.IsJob j way now → (j.phase ≡ Copying → state.WorksInFull j now) → now.error ≡ None → IsUnderWay (work.is_parting j.phase) way now calls held → NoneForWriting (wants_now held) →
     way.from ≢ way.to → IsFull way.extents j.terms way.from way.to calls
 is_full j way now calls held is busy well on written two = elim (copies_or j.phase) [
   | inl copying ↦ full_copying j way now calls held is (busy copying) well (subst (λ (p : Bool). IsUnderWay p way now calls held) (ap work.is_parting copying) on) written two

@@ -23,7 +23,7 @@ use Rattle.lnbd_copy.specs.Bound.{Bound}
 use Rattle.lnbd_copy.specs.Copier.{IsOnItsWay, IsParting, Seen}
 use Rattle.lnbd_copy.specs.Dealing.{HasBegun}
 use Rattle.lnbd_copy.specs.Job as work
-use Rattle.lnbd_copy.specs.UnderWay.{AreAwaited, Fills, HasAsked, HasBegunOne, HasFilled, HasLooked, HaveLooked, IsBusy, IsFull, IsPast, IsWantedOf, Refills, unfinished}
+use Rattle.lnbd_copy.specs.UnderWay.{AreAwaited, Fills, HasAsked, HasBegunOne, HasFilled, HasLooked, HaveLooked, IsBusy, WorksInFull, IsPast, IsWantedOf, Refills, unfinished}
 use Rattle.lnbd_copy.specs.Windows as windows
 
 -- A row that something came for is a row still.
@@ -230,7 +230,7 @@ busy_after copy start told j j' now there refills on =
     record {
       full = λ one is copying.
           let same' : j' ≡ one = job_same j' one is in
-          subst (λ (x : work.Seen). IsFull x now) same' (refills.full most (ap (λ (x : work.Seen). x.phase) same' ∙ copying));
+          subst (λ (x : work.Seen). WorksInFull x now) same' (refills.full most (ap (λ (x : work.Seen). x.phase) same' ∙ copying));
     }
 
 parts_not : (phase : Phase) → work.is_parting phase ≡ true → phase ≢ Copying

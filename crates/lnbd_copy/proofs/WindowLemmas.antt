@@ -1,7 +1,8 @@
 -- Windows are planned one behind the other, and what they hold as zero was told so.
-use Rattle.std.proofs.Common.{◌≡◌, ◌<◌, ◌≤◌, ℕ, suc, eqb-true, ltb-true, leb-true, ◌+◌, ◌-◌, ◌^◌, ◌⊎◌, ◌&&◌, ◌||◌, not, Bool, true, false, List, [], ◌∷◌, ◌++◌, Option, Some, None, refl, ap, sym, subst, ◌∙◌, inl, inr, arith, cond, nat_lt, nat_le, if◌then◌else◌, min, drop, nat_eq, bit_and, length, get_or}
+use Rattle.std.proofs.Common.{◌≡◌, ◌<◌, ◌≤◌, ℕ, suc, eqb-true, ltb-true, leb-true, ◌+◌, ◌-◌, ◌%◌, ◌^◌, ◌⊎◌, ◌&&◌, ◌||◌, not, Bool, true, false, List, [], ◌∷◌, ◌++◌, Option, Some, None, refl, ap, sym, subst, ◌∙◌, inl, inr, arith, cond, nat_lt, nat_le, if◌then◌else◌, min, drop, nat_eq, bit_and, length, get_or}
 use Rattle.std.proofs.Math.Seq.{drop-cons}
-use Rattle.std.proofs.lemmas.Bool.{cases_lt, false≢true}
+use Rattle.std.proofs.Math.Nat.{mod-lt}
+use Rattle.std.proofs.lemmas.Bool.{cases_lt, eq-eqb, false≢true}
 use Rattle.std.proofs.lemmas.Grind.{common_steps}
 use Rattle.std.proofs.lemmas.List.{append_assoc, append-nil}
 use Rattle.lnbd_model.specs.declared.export.Extent.{Extent}
@@ -11,9 +12,10 @@ use Rattle.lnbd_extents.specs.Lists.{flags_at, span}
 use Rattle.lnbd_extents.proofs.ListLaws.{flags_at_left, flags_at_right}
 use Rattle.lnbd_plan.specs.declared.grid.Slice.{Slice}
 use Rattle.lnbd_plan.specs.declared.cells.Cells.{Cells}
-use Rattle.lnbd_plan.specs.Plans.{Planned, window_slices, copied, is_cut}
+use Rattle.lnbd_plan.specs.Plans.{AreCells, Planned, window_slices, copied, is_cut, is_multiple}
 use Rattle.lnbd_plan.specs.Slices.{slices_of}
-use Rattle.lnbd_plan.specs.Laws.{Window, windows_slices, windows_end, told_by, LieBetween}
+use Rattle.lnbd_plan.specs.Laws.{Window, windows_slices, windows_end, told_by, AreWhole, IsWhole, LieBetween}
+use Rattle.lnbd_plan.proofs.GridLaws.{end_begins}
 use Rattle.lnbd_plan.proofs.LongestLaws.{longest}
 use Rattle.lnbd_plan.proofs.OnceLaws.{ends_up}
 use Rattle.lnbd_asked.specs.Transcript.{is_zero, zero_in}
@@ -92,22 +94,46 @@ may_copy true b e z = refl
 may_copy false true e z = e
 may_copy false false e z = z
 
-fit_lie : (zeros : Bool) (a e : ℕ) (ss : List Slice) → LieBetween a e ss → e ≤ 2 ^ 63 → AreFit zeros (copied zeros ss)
-fit_lie zeros a e [] lie room = tt
-fit_lie zeros a e (s ∷ ss) lie room =
-    let begins = lie.0 in
-    let up = ends_up (a + s.length) e ss lie.2 in
-    let rest = fit_lie zeros (a + s.length) e ss lie.2 room in
-    elim (zeros || not s.zero)
-    as (λ b. zeros || not s.zero ≡ b → AreFit zeros (cond b (s ∷ copied zeros ss) (copied zeros ss)))
-    [ true ↦ λ is. (record { room = omega arith; copied = may_copy zeros s.zero is }, rest) | false ↦ λ is. rest ] refl
+-- where none but the first position of a slice is a multiple of its cell, it is no longer than that
+few_uncut : (cell start length : ℕ) → 0 < cell → ((p : ℕ) → start < p → p < start + length → is_multiple cell p ≡ false) → length ≤ cell
+few_uncut cell start length some uncut = elim (cases_lt cell length) [
+  | inl more ↦
+      let small : start % cell < cell = mod-lt start some in
+      let next : ℕ = start + (cell - start % cell) in
+      let cut : is_multiple cell next ≡ true = eq-eqb (next % cell) 0 (end_begins cell start some) in
+      absurd (false≢true (sym (uncut next (omega (arith, small)) (omega (arith, small, more))) ∙ cut))
+  | inr few ↦ few
+]
 
-fit_window : (cells : Cells) (told : ℕ → Bool) (start n : ℕ) → start + n ≤ 2 ^ 63 → AreFit cells.zeros (window_slices cells told start n)
-fit_window cells told start n room = fit_lie cells.zeros start (start + n) (slices_of told (is_cut cells told) start n) (longest told (is_cut cells told) start n).between room
+slice_few : (cells : Cells) (told : ℕ → Bool) (s : Slice) → AreCells cells → IsWhole told (is_cut cells told) s → s.length ≤ (if s.zero then cells.zero_cell else cells.cell)
+slice_few cells told s some whole = go s.zero refl
+  where
+    uncut : (zero : Bool) → s.zero ≡ zero → (p : ℕ) → s.start < p → p < s.start + s.length → (if zero then is_multiple cells.zero_cell p else is_multiple cells.cell p) ≡ false
+    uncut zero is p after before = ap (λ (b : Bool). if b then is_multiple cells.zero_cell p else is_multiple cells.cell p) (sym (whole.alike p (omega (arith, after)) before ∙ is)) ∙ whole.uncut p after before
 
-fit_both : (zeros : Bool) (a b : List Slice) → AreFit zeros a → AreFit zeros b → AreFit zeros (a ++ b)
-fit_both zeros [] b fit more = more
-fit_both zeros (s ∷ a) b fit more = (fit.0, fit_both zeros a b fit.1 more)
+    go : (zero : Bool) → s.zero ≡ zero → s.length ≤ (if zero then cells.zero_cell else cells.cell)
+    go true is = few_uncut cells.zero_cell s.start s.length some.1 (uncut true is)
+    go false is = few_uncut cells.cell s.start s.length some.0 (uncut false is)
+
+module _ (size : ℕ) (cells : Cells) (told : ℕ → Bool) (some : AreCells cells) (room : size ≤ 2 ^ 63) where
+  fit_lie : (a e : ℕ) (ss : List Slice) → LieBetween a e ss → AreWhole told (is_cut cells told) ss → e ≤ size → AreFit size cells (copied cells.zeros ss)
+  fit_lie a e [] lie whole inside = tt
+  fit_lie a e (s ∷ ss) lie whole inside =
+      let begins = lie.0 in
+      let up = ends_up (a + s.length) e ss lie.2 in
+      let rest = fit_lie (a + s.length) e ss lie.2 whole.1 inside in
+      elim (cells.zeros || not s.zero)
+      as (λ b. cells.zeros || not s.zero ≡ b → AreFit size cells (cond b (s ∷ copied cells.zeros ss) (copied cells.zeros ss))) [
+        | true ↦ λ is. (record { some = lie.1; within = omega (arith, begins, up, inside); room = omega (arith, begins, up, inside, room); few = slice_few cells told s some whole.0; copied = may_copy cells.zeros s.zero is }, rest)
+        | false ↦ λ is. rest
+      ] refl
+
+  fit_window : (start n : ℕ) → start + n ≤ size → AreFit size cells (window_slices cells told start n)
+  fit_window start n inside = let runs = longest told (is_cut cells told) start n in fit_lie start (start + n) (slices_of told (is_cut cells told) start n) runs.between runs.whole inside
+
+fit_both : (size : ℕ) (cells : Cells) (a b : List Slice) → AreFit size cells a → AreFit size cells b → AreFit size cells (a ++ b)
+fit_both size cells [] b fit more = more
+fit_both size cells (s ∷ a) b fit more = (fit.0, fit_both size cells a b fit.1 more)
 
 -- With a window more the windows are kept.
 pub window_kept : (plan new : Planned) (start at size grain n last : ℕ) (held : List (ℕ × ℕ)) → AreKept plan start at size grain → start + n ≡ last → last ≤ size →
@@ -118,7 +144,9 @@ window_kept plan new start at size grain n last held kept ends inside is = recor
   inside = inside;
   room = kept.room;
   some = kept.some;
-  fit = subst (λ (p : Planned). AreFit p.cells.zeros p.slices) (sym is) (fit_both plan.cells.zeros plan.slices _ kept.fit (fit_window plan.cells (holds held) start n (omega (arith, kept.room, ends, inside))));
+  cells = subst (λ (p : Planned). AreCells p.cells) (sym is) kept.cells;
+  fit = subst (λ (p : Planned). AreFit size p.cells p.slices) (sym is)
+      (fit_both size plan.cells plan.slices _ kept.fit (fit_window size plan.cells (holds held) kept.cells kept.room start n (omega (arith, ends, inside))));
   left = λ some. omega (arith, some);
 }
 

@@ -1,6 +1,6 @@
 -- What the first handle of each side was told.
 use Rattle.std.specs.Prelude.{◌≡◌, ◌<◌, ◌≤◌, ℕ, false, List, Some, slice_get}
-use Rattle.lnbd_asked.specs.Exports.{WasTold}
+use Rattle.lnbd_asked.specs.Exports.{HasToldSize}
 use Rattle.lnbd_handle.specs.Histories.{ForEach}
 use Rattle.lnbd_history.specs.Answers.{direction_after, state_after}
 use Rattle.lnbd_machine.specs.Machine.{Machine}
@@ -25,7 +25,7 @@ AreQuiet held = (index : ℕ) (one : Held Ticket) → slice_get held index ≡ S
 pub record HasTold (index size : ℕ) (seens : List (Seen Ticket)) : Type 0 where
   pub seen : Seen Ticket
   pub there : slice_get seens index ≡ Some seen
-  pub told : WasTold seen.history size
+  pub told : HasToldSize seen.history size
 
 -- So it is from wherever the handles stood.
 pub record Tells (index size : ℕ) (held : List (Held Ticket)) : Type 0 where

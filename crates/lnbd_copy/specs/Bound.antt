@@ -1,7 +1,8 @@
 -- Which connections the slices of a copy are bound to that are begun and not over, and how many of them it counts for each.
-use Rattle.std.specs.Prelude.{ℕ, ◌+◌, ◌==◌, List, [], ◌∷◌, cond}
+use Rattle.std.specs.Prelude.{ℕ, List, [], ◌∷◌}
 use Rattle.lnbd_board.specs.declared.row.Row.{Row}
 use Rattle.lnbd_conduct.specs.declared.sides.Sides.{Sides}
+pub use Rattle.lnbd_conduct.specs.Fewest.{bound_to}
 
 -- the connection that each row is bound to, of the side where it is this one
 abbrev pub bound_by : (on : Row → ℕ) → List (ℕ × Row) → List ℕ
@@ -13,11 +14,6 @@ on_source rows = bound_by (λ row. row.source) rows
 
 abbrev pub on_destination : List (ℕ × Row) → List ℕ
 on_destination rows = bound_by (λ row. row.destination) rows
-
--- how many of these are this connection
-abbrev pub bound_to : (connection : ℕ) → List ℕ → ℕ
-bound_to connection [] = 0
-bound_to connection (one ∷ bound) = cond (one == connection) 1 0 + bound_to connection bound
 
 -- How many slices are bound to each connection, by the connections' numbers.
 pub record Bound : Type 0 where

@@ -23,9 +23,10 @@ use Rattle.lnbd_copy.specs.Agreed.{IsWished}
 use Rattle.lnbd_conduct.specs.Limits.{AreLimited}
 use Rattle.lnbd_conduct.specs.Links.{AllConnected}
 use Rattle.lnbd_copy.specs.Connects.{StaysConnected}
-use Rattle.lnbd_copy.specs.Dealt.{HasDealt}
+use Rattle.lnbd_copy.specs.Dealt.{HasDealt, HasFit}
 use Rattle.lnbd_copy.specs.Job as work
 use Rattle.lnbd_conduct.specs.Connects.{AreLeftBy}
+use Rattle.lnbd_copy.specs.Fewest.{HaveBeenDealt}
 use Rattle.lnbd_copy.specs.Firsts.{KnowBoth}
 use Rattle.lnbd_copy.specs.Lasting.{Lasts}
 use Rattle.lnbd_copy.specs.Ready.{MayGoOn}
@@ -116,25 +117,32 @@ pub record IsOnItsWay (start told : Option (List wire.Call)) (copy : Seen) : Typ
   pub on : Told start told (λ calls. IsUnderWay (work.is_parting job.phase) way copy.board calls copy.held)
   -- it is made as both sides told
   pub settled : HasSettled copy.options copy.from copy.to start told job.terms
-  -- the slices that are begun and not over are spread over its connections
+  -- the slices that are begun and not over are spread over its connections, and are such as its terms settle
   pub spread : HasDealt job copy.board
+  pub fit : HasFit job copy.board
+  -- each went to the connections with the fewest
+  pub dealt : HaveBeenDealt job.terms.sides copy.board
   -- each connect gave a link
   pub connected : Told start told AllConnected
-  -- until its connections part no rule refuses what is asked, but those on how many commands there are, and on the range of one
+  -- until its connections part no rule refuses what is asked, but those on how many commands there are, on how many bytes one has, and on whole blocks; and none is dead
   pub may : MayGoOn job copy.held
+  -- no error was told
+  pub well : copy.board.error ≡ None
 
 -- It has begun and goes on, where this transcript is told now.
 pub record IsGoing (told : Option (List wire.Call)) (copy : Seen) : Type 0 where
   pub start : Option (List wire.Call)
   pub on : IsOnItsWay start told copy
 
--- What is under way is settled, its board writes so, its slices are spread over its connections, and what it asks may be asked.
+-- What is under way is settled, its board writes so and was told of no error, its slices are spread over its connections, and what it asks may be asked.
 pub record HasJob (copy : Seen) : Type 0 where
   pub job : work.Seen
   pub there : copy.job ≡ Some job
   pub writes : copy.board.how ≡ job.terms.how
+  pub well : copy.board.error ≡ None
   pub may : MayGoOn job copy.held
   pub spread : HasDealt job copy.board
+  pub fit : HasFit job copy.board
 
 -- Its connections part.
 pub record IsParting (copy : Seen) : Type 0 where

@@ -6,6 +6,8 @@ use Rattle.lnbd_conduct.specs.declared.sides.Sides.{Sides}
 use Rattle.lnbd_copy.specs.Bound.{Bound, bound_to, on_destination, on_source}
 use Rattle.lnbd_copy.specs.Job as work
 use Rattle.lnbd_copy.specs.Spread.{IsSpread}
+use Rattle.lnbd_copy.specs.Windows.{AllFit}
+use Rattle.lnbd_conduct.specs.Slices.{cells_of}
 
 -- These are spread over so many connections, and for each the count is how many of them are bound to it.
 pub record IsDealt (limit count : ℕ) (counts bound : List ℕ) : Type 0 where
@@ -26,9 +28,14 @@ pub record Deals (limit : ℕ) (sides : Sides) (old new : Bound) (rows rows' : L
 abbrev pub HasDealt : work.Seen → board.Seen → Type 0
 HasDealt job now = AreDealt job.terms.limit job.terms.sides job.bound now.rows
 
+-- The slices with rows are such as its terms settle.
+abbrev pub HasFit : work.Seen → board.Seen → Type 0
+HasFit job now = AllFit job.terms.size (cells_of job.terms) now.rows
+
 -- A step of a job leaves it so.
 pub record Spreads (old new : work.Seen) (now now' : board.Seen) : Type 0 where
   pub on : HasDealt old now → HasDealt new now'
+  pub fit : HasFit old now → HasFit new now'
 
 -- So it is of these rows, whatever the limit.
 pub record HaveDealt (sides : Sides) (bound : Bound) (rows : List (ℕ × Row)) : Type 0 where

@@ -82,6 +82,7 @@ pub record IsJob (job : Seen) (way : Way) (now : board.Seen) : Type 0 where
 -- What was settled of a copy holds of its windows and of the connections that slices are bound to.
 pub record IsSettled (terms : Terms) (planned : windows.Seen) (sides : Sides) : Type 0 where
   pub size : planned.size ≡ terms.size
+  pub cells : planned.plan.cells ≡ cells_of terms
   pub zeros : planned.plan.cells.zeros ≡ not terms.how.skip
   pub bound : sides ≡ terms.sides
 

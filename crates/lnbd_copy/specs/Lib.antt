@@ -19,6 +19,7 @@ pub mod UnderWay
 pub mod Awaiting
 pub mod Spread
 pub mod Dealt
+pub mod Fewest
 pub mod Opening
 pub mod Leaving
 pub mod Ready

@@ -34,12 +34,12 @@ pub record AreAlike (sides : Sides) (held : List (Held Ticket)) : Type 0 where
   pub at : (index : ℕ) → index < length held → IsAlikeAt sides index held
 
 -- The first connection of one side negotiates still, or isn't made yet.
-abbrev pub IsUntold : List (Held Ticket) → Type 0
-IsUntold held = (length held < 2) ⊎ (Happens (λ history. state_after history ≡ state.Negotiating) 0 held ⊎ Happens (λ history. state_after history ≡ state.Negotiating) 1 held)
+abbrev pub IsUnsettled : List (Held Ticket) → Type 0
+IsUnsettled held = (length held < 2) ⊎ (Happens (λ history. state_after history ≡ state.Negotiating) 0 held ⊎ Happens (λ history. state_after history ≡ state.Negotiating) 1 held)
 
 -- Or all rules hold between what both were told.
 abbrev pub AreFitting : List (Held Ticket) → Type 0
-AreFitting held = IsUntold held ⊎ Finds None held
+AreFitting held = IsUnsettled held ⊎ Finds None held
 
 -- So it is while connections are made, so many of each side at most.
 abbrev pub AreHeldFit : Option Sides → List (Held Ticket) → Type 0

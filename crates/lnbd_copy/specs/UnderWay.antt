@@ -22,7 +22,7 @@ IsWantedOf planned = planned.plan.end < planned.size → is_some (windows.wanted
 -- As many slices are begun and not over as may be, or all that are planned; each of them has a request unanswered. Where fewer are planned than may be under
 -- way, and windows are left, extents are awaited; and where windows are left a range is wanted. Extents
 -- that are asked for were not told yet.
-pub record IsFull (job : work.Seen) (now : board.Seen) : Type 0 where
+pub record WorksInFull (job : work.Seen) (now : board.Seen) : Type 0 where
   pub slices : length now.rows ≡ min job.terms.limit (unfinished job.windows now)
   pub requests : busy now.rows ≡ length now.rows
   pub extents : unfinished job.windows now < job.terms.limit → is_some (windows.wanted job.windows) ≡ true → AreAwaited job.asked now
@@ -31,7 +31,7 @@ pub record IsFull (job : work.Seen) (now : board.Seen) : Type 0 where
 
 -- So it is while slices are copied.
 pub record IsBusy (job : Option work.Seen) (now : board.Seen) : Type 0 where
-  pub full : (one : work.Seen) → job ≡ Some one → one.phase ≡ Copying → IsFull one now
+  pub full : (one : work.Seen) → job ≡ Some one → one.phase ≡ Copying → WorksInFull one now
 
 -- Steps.
 
@@ -78,7 +78,7 @@ pub record HasFilled (old new : work.Seen) (now now' : board.Seen) : Type 0 wher
 -- With no more under way than may be, a step of a job leaves no more, and all that may be while slices are copied.
 pub record Refills (old new : work.Seen) (now now' : board.Seen) : Type 0 where
   pub most : length now.rows ≤ old.terms.limit → length now'.rows ≤ old.terms.limit
-  pub full : length now.rows ≤ old.terms.limit → new.phase ≡ Copying → IsFull new now'
+  pub full : length now.rows ≤ old.terms.limit → new.phase ≡ Copying → WorksInFull new now'
 
 -- the connections part, or the destination is flushed: no slice more is begun
 pub record IsPast (job : work.Seen) (now now' : board.Seen) : Type 0 where

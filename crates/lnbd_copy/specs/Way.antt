@@ -8,6 +8,7 @@ use Rattle.lnbd_history.specs.Events.{History}
 use Rattle.lnbd_history.specs.History.{request}
 use Rattle.lnbd_poll.specs.Held.{Held, AreAt}
 use Rattle.lnbd_poll.specs.Seen.{Seen}
+use Rattle.lnbd_plan.specs.declared.cells.Cells.{Cells}
 use Rattle.lnbd_plan.specs.declared.grid.Slice.{Slice}
 use Rattle.lnbd_board.specs.declared.how.How.{How}
 use Rattle.lnbd_board.specs.declared.row.Row.{Row}
@@ -29,6 +30,7 @@ use Rattle.lnbd_copy.specs.Firsts.{KnowBoth}
 use Rattle.lnbd_copy.specs.Giving.{GivesNone}
 use Rattle.lnbd_copy.specs.Lasting.{Lasts}
 use Rattle.lnbd_copy.specs.Statuses.{Hears}
+use Rattle.lnbd_copy.specs.Windows.{AllFit}
 use Rattle.lnbd_conduct.specs.Sides.{is_source, connection_of}
 use Rattle.lnbd_conduct.specs.Told.{Told}
 
@@ -108,7 +110,7 @@ known_of way = record { zero = way.zero; whole = way.whole; reach = way.reach }
 -- of its side's export, and the positions known as zero were told so.
 pub record Stands (way : Way) (has : ℕ → Bool) (now : board.Seen) (calls : List wire.Call) (seens : List (Seen Ticket)) : Type 0 where
   pub between : Between way.from way.to way.size way.how has way.slices now calls seens
-  pub told : course.Told way.how has way.slices now calls seens way.asked (known_of way)
+  pub told : course.ToldCourse way.how has way.slices now calls seens way.asked (known_of way)
 
 -- Where all was asked and done when a copy's board was this, it came to rest by these calls. (A size has 64 bits, the two exports are two, and no error was told.)
 abbrev pub HasRested : (from to : Place) → Option ℕ → Option board.Seen → List wire.Call → Type 0
@@ -180,6 +182,8 @@ pub record Filed (old new : board.Seen) : Type 0 where
   -- each slice is bound to the connections that it was
   pub reads : on_source new.rows ≡ on_source old.rows
   pub writes : on_destination new.rows ≡ on_destination old.rows
+  -- and fits as it did
+  pub fit : (size : ℕ) (cells : Cells) → AllFit size cells old.rows → AllFit size cells new.rows
 
 -- A step with calls on the wires keeps a copy on its way, if its handles stand for histories: so many stand still, and the board has what their callbacks were told.
 pub record Goes (now : board.Seen) (held : List (Held Ticket)) (told : Option (List wire.Call)) (now' : board.Seen) (held' : List (Held Ticket)) (told' : Option (List wire.Call)) : Type 0 where

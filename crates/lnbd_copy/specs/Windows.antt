@@ -4,8 +4,10 @@ use Rattle.lnbd_model.specs.declared.export.Extent.{Extent}
 use Rattle.lnbd_extents.specs.Positions.{within, holds}
 use Rattle.lnbd_asked.specs.Transcript.{zero_in}
 use Rattle.lnbd_plan.specs.declared.grid.Slice.{Slice}
-use Rattle.lnbd_plan.specs.Plans.{Planned}
+use Rattle.lnbd_plan.specs.Plans.{AreCells, Planned}
+use Rattle.lnbd_plan.specs.declared.cells.Cells.{Cells}
 use Rattle.lnbd_plan.specs.Laws.{Window, windows_slices, windows_end, told_by}
+use Rattle.lnbd_board.specs.declared.row.Row.{Row}
 use Rattle.lnbd_conduct.specs.Slices.{window, AreFullWindows}
 
 -- What is known of the windows of a copy.
@@ -47,14 +49,22 @@ pub record IsPlanned (windows : Seen) (zero : ℕ → Bool) (slices : List Slice
   pub under_way : (p : ℕ) → holds windows.zero p ≡ true → zero p ≡ true
   pub whole : AreFullWindows windows.size 0 parts
 
--- A slice that may be begun: it lies where an export's bytes can be, and it is zero only where zeros are copied.
-pub record IsFit (zeros : Bool) (slice : Slice) : Type 0 where
+-- A slice that may be begun: it has bytes, ends with the source or before, where an export's bytes can be, is no longer than the cell of its kind, and is zero only where zeros are copied.
+pub record IsFit (size : ℕ) (cells : Cells) (slice : Slice) : Type 0 where
+  pub some : 0 < slice.length
+  pub within : slice.start + slice.length ≤ size
   pub room : slice.start + slice.length ≤ 2 ^ 63
-  pub copied : slice.zero ≡ true → zeros ≡ true
+  pub few : slice.length ≤ (if slice.zero then cells.zero_cell else cells.cell)
+  pub copied : slice.zero ≡ true → cells.zeros ≡ true
 
-abbrev pub AreFit : Bool → List Slice → Type 0
-AreFit zeros [] = Unit {0}
-AreFit zeros (slice ∷ slices) = IsFit zeros slice × AreFit zeros slices
+abbrev pub AreFit : (size : ℕ) → Cells → List Slice → Type 0
+AreFit size cells [] = Unit {0}
+AreFit size cells (slice ∷ slices) = IsFit size cells slice × AreFit size cells slices
+
+-- So do the slices that have rows.
+abbrev pub AllFit : (size : ℕ) → Cells → List (ℕ × Row) → Type 0
+AllFit size cells [] = Unit {0}
+AllFit size cells (x ∷ rows) = IsFit size cells x.1.slice × AllFit size cells rows
 
 -- What the windows keep of where the one under way begins, how far it is told, the source's size and its blocks.
 pub record AreKept (plan : Planned) (start at size grain : ℕ) : Type 0 where
@@ -63,6 +73,7 @@ pub record AreKept (plan : Planned) (start at size grain : ℕ) : Type 0 where
   pub inside : at ≤ size
   pub room : size ≤ 2 ^ 63
   pub some : 0 < grain
-  pub fit : AreFit plan.cells.zeros plan.slices
+  pub cells : AreCells plan.cells
+  pub fit : AreFit size plan.cells plan.slices
   -- the window under way is not told whole, if there is one
   pub left : start < size → at < min (start + window) size

@@ -13,7 +13,7 @@ ghost use Rattle.lnbd_conduct.specs.Grounds.{AreSame, IsShown};
 ghost use Rattle.lnbd_copy.specs.Ready.{HasContext};
 ghost use Rattle.lnbd_copy.specs.Settled.{FindsTerms};
 ghost use Rattle.lnbd_conduct.specs.Answered.{HasNoContext};
-ghost use Rattle.lnbd_copy.specs.ToldAlike.{AreAlike, AreFitting, FindsUnfit, IsAlikeAt, IsUntold};
+ghost use Rattle.lnbd_copy.specs.ToldAlike.{AreAlike, AreFitting, FindsUnfit, IsAlikeAt, IsUnsettled};
 
 use crate::counts::of_failure;
 use crate::terms::{broken_rule, settled};
@@ -159,7 +159,7 @@ pub(crate) fn check_alike(handles: &Handles<Ticket>, sides: Sides) -> Result<(),
 /// Whether the first connection of each side has negotiated.
 fn have_both_told(handles: &Handles<Ticket>) -> bool
     ensures both { result ≡ true → 1 < length handles.now }
-    ensures still { result ≡ false → IsUntold handles.now }
+    ensures still { result ≡ false → IsUnsettled handles.now }
 {
     if handles.len() < 2 {
         return false;

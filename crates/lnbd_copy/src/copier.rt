@@ -4,6 +4,7 @@ ghost use Rattle.std.specs.Prelude.{◌≡◌, ◌≢◌, ◌<◌, ◌≤◌, �
 ghost use Rattle.lnbd_link.specs.Call.{Call, Pause};
 ghost use Rattle.lnbd_link.specs.Count.{Rises, patience};
 ghost use Rattle.lnbd_link.specs.Part.{Adds};
+ghost use Rattle.lnbd_board.specs.Files.{Seen as Kept};
 ghost use Rattle.lnbd_poll.specs.Held.{max_held, wants_now};
 ghost use Rattle.lnbd_poll.specs.declared.noticed.Turn.TheVariants as turned;
 ghost use Rattle.lnbd_course.specs.Asks.{HasAskedOnce};
@@ -14,19 +15,21 @@ ghost use Rattle.lnbd_copy.specs.Connects.{LinksGoAsTold, LinksGoWithin, StaysCo
 ghost use Rattle.lnbd_conduct.specs.Connects.{one_each, AreDrivenBy};
 ghost use Rattle.lnbd_copy.specs.declared.copier.Progress.TheVariants as progress;
 ghost use Rattle.lnbd_copy.specs.Copier.{GoesFurther, HasJob, HasMet, HasMetOnce, HasNotBegun, HasTurned, IsGoing, IsOnItsWay, IsParting, Seen};
-ghost use Rattle.lnbd_conduct.specs.Decided.{IsDecided, is_of_memory};
-ghost use Rattle.lnbd_copy.specs.Deciding.{AreAlive, DecidesFurther, DecidesOn, GoesShut, IsCalm, WasUntroubledAs};
+ghost use Rattle.lnbd_conduct.specs.Decided.{IsDecided};
+ghost use Rattle.lnbd_copy.specs.Deciding.{DecidesFurther, DecidesOn, GoesShut, IsCalm, WasUntroubledAs};
 ghost use Rattle.lnbd_conduct.specs.Driven.{AreDrivenTo};
 ghost use Rattle.lnbd_copy.specs.Ended.{EndsWell};
 ghost use Rattle.lnbd_copy.specs.Driving.{DrivesFurther, DrivesOn, DrivesOneMore};
 ghost use Rattle.lnbd_copy.specs.Faults.{AreUnissued, AsksNone, AsksNothing, GoesIdly, StaysFresh, StaysUnasked};
 ghost use Rattle.lnbd_conduct.specs.Changes.{Behaves};
 ghost use Rattle.lnbd_conduct.specs.Limits.{AreLimited};
+ghost use Rattle.lnbd_copy.specs.Fewest.{GoesToFewest, LeavesFewer};
 ghost use Rattle.lnbd_copy.specs.Flushed.{HasFlushed};
 ghost use Rattle.lnbd_copy.specs.Grounds.{AllSame, Lasts};
 ghost use Rattle.lnbd_conduct.specs.Grounds.{IsGrounded, needs_no_ground};
 ghost use Rattle.lnbd_conduct.specs.declared.terms.Terms.{Terms as Settled};
 ghost use Rattle.lnbd_conduct.specs.Waiting.{WantsAll, WroteHandshakes, WroteLittle, WaitsWell};
+ghost use Rattle.lnbd_copy.specs.Job.{Seen as Task};
 ghost use Rattle.lnbd_copy.specs.Links.{HaveSameLinks, LinksGo, LinksGoTo, LinksStand};
 ghost use Rattle.lnbd_copy.specs.Little.{StaysLittle};
 ghost use Rattle.lnbd_copy.specs.Moving.{HasMoved, SomethingHappens, Stirs, TurnsInVain};
@@ -49,14 +52,14 @@ ghost use Rattle.lnbd_copy.specs.Way.{Goes, Stand};
 ghost use Rattle.lnbd_conduct.specs.Told.{Told};
 ghost use Rattle.lnbd_conduct.specs.Sides.{is_source};
 
-use crate::agreeing::{agree, check_well, tells_extents};
+use crate::agreeing::{agree, tells_extents};
 use crate::counts::{Counts, check_counts, check_idles};
 use crate::dialing::{dial, settle, wait};
 use crate::job::Job;
 use crate::parting::{shut_all, shut_parted};
 use crate::telling::progress_of;
 use crate::terms::UNKNOWN;
-use crate::turning::{check_alive, check_calm, turn};
+use crate::turning::turn;
 use lnbd_board::{Board, Ticket};
 use lnbd_conduct::{ONE_EACH, Sides, Terms};
 use lnbd_link::Wires;
@@ -139,20 +142,16 @@ impl Copier {
         // What the wires had counted is kept.
         ensures began { self.new.start ≡ record { faults = W.faults wires.old; idles = W.idles wires.old } }
         ensures kept { self.new ≡ record self.old { start = self.new.start; held = self.new.held; board = self.new.board; job = self.new.job } }
-
         // All connections stand, and nothing is copied yet; or none is held any more.
         ensures begins { OnOk result (IsOnItsWay (W.told wires.old) (W.told wires.new) self.new) }
         ensures shut { OnErr result (self.new.held ≡ []) }
-
         // Nothing is asked in it, whatever it comes to.
         ensures unasked { Told (W.told wires.old) (W.told wires.new) (AsksNothing self.old.from self.old.to) }
         // One handle drove each link that it made, as a copy does, each side's as often as the options and what both told say, and it read and wrote no other.
         ensures drives { Told (W.told wires.old) (W.told wires.new) (AreDrivenBy self.old.options self.old.from self.old.to) }
-
         // Its links are kept, and it connected to its two places alone, as often as its options and what both sides told say, and each connect gave a link; or not that often where it failed.
         ensures links { LinksGoWithin self.old.options self.old.from self.old.to self.old.held (W.told wires.old) self.new.held (W.told wires.new) }
         ensures connects { OnOk result (LinksGoAsTold self.old.options self.old.from self.old.to self.old.held (W.told wires.old) self.new.held (W.told wires.new)) }
-
         // Whatever came of it, it paused only while a connection negotiated, unless it waited to write.
         ensures unready { Told (W.told wires.old) (W.told wires.new) (AtEachPause (IsOpeningPause self.old.options.extents self.old.from self.old.to)) }
         // At each pause a link was wanted for writing only where a write on it took nothing, and nothing happened since on any link.
@@ -175,17 +174,13 @@ impl Copier {
         ensures paced { OnOk result (Told (W.told wires.old) (W.told wires.new) (IsPaced 1)) }
         // What can be asked at first was asked of the handles, and nothing is to be asked until something comes.
         ensures awaits { OnOk result (Told (W.told wires.old) (W.told wires.new) (λ calls. AwaitsAll self.new.job self.new.board)) }
-
         // What the calls show of a fault.
         ensures grounds { IfErr result (λ told. IsGrounded (W.told wires.old) (W.told wires.new) self.old.options.extents self.old.from self.old.to told) }
-
         // The first event decided it for which a copy ends: before that nothing of the kind had come.
         ensures decides { IfErr result (λ told. IsDecided (W.told wires.old) (W.told wires.new) self.old.options self.old.from self.old.to told) }
-
         // The wires counted each of its pauses, of which there were no more than are borne; and where it ends neither by silence nor for want of memory, fewer.
         ensures patient { OnOk result (Told (W.told wires.old) (W.told wires.new) (HasWaited false (W.idles wires.old) (W.idles wires.new))) }
         ensures impatient { IfErr result (λ told. Told (W.told wires.old) (W.told wires.new) (HasWaited (may_end_waiting told) (W.idles wires.old) (W.idles wires.new))) }
-
         // The counts, and what they show of a fault.
         ensures causes { IfErr result (λ told. HasCause self.new.start (W.faults wires.new) (W.idles wires.new) told) }
         ensures counts { GoesOn (W.faults wires.old) (W.faults wires.new) (W.idles wires.old) (W.idles wires.new) (W.contents wires.old) (W.contents wires.new) }
@@ -507,7 +502,6 @@ impl Copier {
         requires faults { self.old.start.faults ≤ W.faults wires.old }
         requires idles { self.old.start.idles ≤ W.idles wires.old }
         ensures kept { self.new ≡ record self.old { held = self.new.held; board = self.new.board; job = self.new.job } }
-
         // It goes on, or it is finished and has copied; or no connection is held any more.
         ensures turns { IfOk result (λ told. (start : Option (List Call)) → IsOnItsWay start (W.told wires.old) self.old → HasTurned start (W.told wires.new) self.new told) }
         ensures shut { OnErr result (self.new.held ≡ []) }
@@ -515,24 +509,24 @@ impl Copier {
         ensures sums { IfOk result (λ told. (start : Option (List Call)) → IsOnItsWay start (W.told wires.old) self.old → HasSummed start (W.told wires.new) self.new told) }
         // Then no flush was asked for before all else was done, and one at most.
         ensures flushes { IfOk result (λ told. (start : Option (List Call)) → IsOnItsWay start (W.told wires.old) self.old → HasFlushed start (W.told wires.new) self.new told) }
-
         // While slices are copied, as much is under way as may be.
         ensures busy { OnOk result (IsBusy self.new.job self.new.board) }
         // On no connection are more slices begun and not over than the limit divided by the number of its side's, rounded up.
         ensures spread { OnOk result (AreSpread self.new.job self.new.board) }
+        // No error was told.
+        // Each slice that it began went to the connection of each side to which the fewest were bound then, of those begun and not over.
+        ensures fewest { OnOk result (GoesToFewest self.old.job self.new.job self.old.board self.new.board) }
         // By its calls as much is unanswered then, where a pause for its connections would want no link for writing.
         ensures under_way { OnOk result ((start : Option (List Call)) → IsOnItsWay start (W.told wires.old) self.old → self.new.from ≢ self.new.to → HasAllAsked start (W.told wires.new) self.new) }
         // On no connection more is unanswered than its share of what may be.
         ensures shares { OnOk result ((start : Option (List Call)) → IsOnItsWay start (W.told wires.old) self.old → self.new.from ≢ self.new.to → Told start (W.told wires.new) (IsShared self.new.options self.new.from self.new.to)) }
         // By its calls little was written on the links that a pause for its connections would want.
         ensures little { OnOk result ((start : Option (List Call)) → IsOnItsWay start (W.told wires.old) self.old → Told start (W.told wires.new) (λ calls. WroteLittle self.new.options.extents self.new.from self.new.to calls (wants_now self.new.held))) }
-
         // Nothing was asked twice so far, and nothing past the source's end.
         ensures asks { OnOk result ((start : Option (List Call)) → IsOnItsWay start (W.told wires.old) self.old → self.new.from ≢ self.new.to → Told start (W.told wires.new) (HasAskedOnce self.new.options.allocated self.new.options.destination_is_zero self.new.from self.new.to)) }
         // Each position that was read so far was read after a block status had been answered for it, or the source's first
         // connection agreed no meta context, though base:allocation had been asked for where extents are wanted.
         ensures answered { OnOk result ((start : Option (List Call)) → IsOnItsWay start (W.told wires.old) self.old → self.new.from ≢ self.new.to → Told start (W.told wires.new) (ReadsAreAnswered self.new.options.extents self.new.from)) }
-
         // It doesn't pause. Each link for which its handles waited was tried in it, unless it failed.
         ensures unpaused { Unpaused (W.told wires.old) (W.told wires.new) }
         ensures tries { OnOk result ((start : Option (List Call)) → IsOnItsWay start (W.told wires.old) self.old → TriesAll self.old.held (W.told wires.old) (W.told wires.new)) }
@@ -545,14 +539,12 @@ impl Copier {
         ensures awaits { OnOk result ((start : Option (List Call)) → IsOnItsWay start (W.told wires.old) self.old → Told start (W.told wires.new) (λ calls. AwaitsAll self.new.job self.new.board)) }
         // Whatever it comes to, no link is tried in vain twice in it.
         ensures once { (start : Option (List Call)) → IsOnItsWay start (W.told wires.old) self.old → TriesAtMost 1 (W.told wires.old) (W.told wires.new) }
-
         // Its links are kept, whether it goes on or not.
         ensures links { LinksGo [] self.old.held (W.told wires.old) self.new.held (W.told wires.new) }
         // Whatever it comes to, one handle drove each link that the copy made so far, as a copy does, and it read and wrote no other.
         ensures drives { (start : Option (List Call)) → IsOnItsWay start (W.told wires.old) self.old → Told start (W.told wires.new) (AreDrivenBy self.old.options self.old.from self.old.to) }
         // Whatever it comes to, nothing was asked twice in it, and each READ was answered for before.
         ensures fair { (start : Option (List Call)) → IsOnItsWay start (W.told wires.old) self.old → self.old.from ≢ self.old.to → Told start (W.told wires.old) (Behaves self.old.options self.old.from self.old.to) → Told start (W.told wires.new) (Behaves self.old.options self.old.from self.old.to) }
-
         // What the calls show of a fault.
         ensures grounds { IfErr result (λ told. (start : Option (List Call)) → IsOnItsWay start (W.told wires.old) self.old → IsGrounded start (W.told wires.new) self.old.options.extents self.old.from self.old.to told) }
         // The first event decided it for which a copy ends: before that nothing of the kind had come.
@@ -582,6 +574,7 @@ impl Copier {
         ensures sums { IfOk result (λ told. (start : Option (List Call)) → IsOnItsWay start (W.told wires.old) self.old → HasSummed start (W.told wires.new) self.new told) }
         ensures busy { OnOk result (IsBusy self.new.job self.new.board) }
         ensures spread { OnOk result (AreSpread self.new.job self.new.board) }
+        ensures fewest { OnOk result (GoesToFewest self.old.job self.new.job self.old.board self.new.board) }
         ensures under_way { OnOk result ((start : Option (List Call)) → IsOnItsWay start (W.told wires.old) self.old → self.new.from ≢ self.new.to → HasAllAsked start (W.told wires.new) self.new) }
         ensures shares { OnOk result ((start : Option (List Call)) → IsOnItsWay start (W.told wires.old) self.old → self.new.from ≢ self.new.to → Told start (W.told wires.new) (IsShared self.new.options self.new.from self.new.to)) }
         ensures little { OnOk result ((start : Option (List Call)) → IsOnItsWay start (W.told wires.old) self.old → Told start (W.told wires.new) (λ calls. WroteLittle self.new.options.extents self.new.from self.new.to calls (wants_now self.new.held))) }
@@ -608,7 +601,6 @@ impl Copier {
         let moved = self.take_turn(wires)?;
         let acted = self.act()?;
         let parted = self.part(wires);
-        check_well(&self.board)?;
         if self.is_finished() {
             check_counts(wires, self.start)?;
             return Ok(Progress::Finished(self.summary()));
@@ -624,6 +616,7 @@ impl Copier {
         ensures kept { self.new ≡ record self.old { held = self.new.held; board = self.new.board } }
         ensures on { OnOk result ((start : Option (List Call)) → IsOnItsWay start (W.told wires.old) self.old → IsOnItsWay start (W.told wires.new) self.new) }
         ensures well { OnOk result (self.new.board.error ≡ None) }
+        ensures leaves { OnOk result (Stand self.old.held → LeavesFewer self.old.board self.new.board) }
         ensures unpaused { Stand self.old.held → Unpaused (W.told wires.old) (W.told wires.new) }
         ensures tries { OnOk result ((start : Option (List Call)) → IsOnItsWay start (W.told wires.old) self.old → TriesAll self.old.held (W.told wires.old) (W.told wires.new)) }
         ensures still { IfOk result (λ told. told ≡ turned.Still → Stand self.old.held → TurnsInVain self.new.held (W.told wires.old) (W.told wires.new)) }
@@ -639,27 +632,8 @@ impl Copier {
         ensures decides { IfErr result (λ told. (start : Option (List Call)) → IsOnItsWay start (W.told wires.old) self.old → IsDecided start (W.told wires.new) self.old.options self.old.from self.old.to told) }
         ensures untroubled { OnOk result ((start : Option (List Call)) → IsOnItsWay start (W.told wires.old) self.old → Told start (W.told wires.new) (WasUntroubledAs self.old.options self.old.from self.old.to)) }
     {
-        check_well(&self.board)?;
-        self.check_parting()?;
         let moved = turn(&mut self.handles, &mut self.board, wires, self.start, None)?;
         Ok(moved)
-    }
-
-    /// No connection is dead. Until they part each may make requests, and none is looked at. One that is dead then would count as want of
-    /// memory: the turn in which it died has ended the copy.
-    fn check_parting(&self) -> Result<(), NoMemory>
-        requires job { HasJob self.now }
-        ensures alive { OnOk result (AreAlive self.now.held) }
-    {
-        match &self.job {
-            Some(job) => {
-                if job.is_parting() {
-                    return check_alive(&self.handles);
-                }
-                Ok(())
-            }
-            None => unreachable!(),
-        }
     }
 
     /// Asks for whatever can be asked for now. Whether anything was, or the copy went on in another way.
@@ -670,6 +644,7 @@ impl Copier {
         ensures kept { self.new ≡ record self.old { held = self.new.held; board = self.new.board; job = self.new.job } }
         ensures on { OnOk result ((start told : Option (List Call)) → IsOnItsWay start told self.old → IsOnItsWay start told self.new) }
         ensures busy { OnOk result ((start told : Option (List Call)) → IsOnItsWay start told self.old → IsBusy self.new.job self.new.board) }
+        ensures fewest { OnOk result (GoesToFewest self.old.job self.new.job self.old.board self.new.board) }
         ensures still { IfOk result (λ acted. acted ≡ false → self.new.held ≡ self.old.held) }
         ensures acted { IfOk result (λ acted. acted ≡ true → self.new.board ≡ self.old.board → self.new.job ≢ self.old.job) }
         ensures awaits { OnOk result ((start told : Option (List Call)) → IsOnItsWay start told self.old → Told start told (λ calls. AwaitsAll self.new.job self.new.board)) }
@@ -698,6 +673,7 @@ impl Copier {
         ensures kept { self.new ≡ record self.old { held = self.new.held; board = self.new.board } }
         ensures on { (start : Option (List Call)) → IsOnItsWay start (W.told wires.old) self.old → IsOnItsWay start (W.told wires.new) self.new }
         ensures busy { IsBusy self.old.job self.old.board → IsBusy self.new.job self.new.board }
+        ensures fewest { (job : Option Task) (first : Kept) → GoesToFewest job self.old.job first self.old.board → GoesToFewest job self.new.job first self.new.board }
         ensures awaits { AwaitsAll self.old.job self.old.board → AwaitsAll self.new.job self.new.board }
         ensures unpaused { Unpaused (W.told wires.old) (W.told wires.new) }
         ensures still { result ≡ 0 → (self.new.held ≡ self.old.held) × (wires.new ≡ wires.old) × (self.new.board ≡ self.old.board) }
@@ -732,23 +708,15 @@ impl Copier {
         self.board.summary(size)
     }
 
-    /// The wires waited for as long as is borne, if so. That something else had come before, for which the copy ends, would count as want
-    /// of memory: it has ended the copy.
+    /// The wires waited for as long as is borne, if so.
     pub(crate) fn check_patience<W: Wires>(&self, wires: &W) -> Result<(), CopyFault>
         requires idles { self.now.start.idles ≤ W.idles wires.now }
         ensures well { OnOk result (¬ Rises patience self.now.start.idles (W.idles wires.now)) }
         ensures causes { IfErr result (λ told. HasCause self.now.start (W.faults wires.now) (W.idles wires.now) told) }
         ensures free { IfErr result (λ told. needs_no_ground told ≡ true) }
         ensures silent { IfErr result (λ told. may_end_waiting told ≡ true) }
-        ensures calm { IfErr result (λ told. is_of_memory told ≡ false → IsCalm None self.now.board self.now.held) }
     {
-        match check_idles(wires, self.start) {
-            Ok(()) => Ok(()),
-            Err(silent) => {
-                check_calm(&self.handles, &self.board, None)?;
-                Err(silent)
-            }
-        }
+        check_idles(wires, self.start)
     }
 
     /// Waits, unless that was borne for as long as it is.

@@ -7,14 +7,17 @@ ghost use Rattle.lnbd_board.specs.Board.{risen};
 ghost use Rattle.lnbd_board.specs.Bound.{IsFewest};
 ghost use Rattle.lnbd_board.specs.declared.ticket.Ticket.TheVariants as ticket;
 ghost use Rattle.lnbd_course.specs.Orders.{command_of};
+ghost use Rattle.lnbd_plan.specs.declared.cells.Cells.{Cells};
 ghost use Rattle.lnbd_copy.specs.Asked.{IsAsked};
-ghost use Rattle.lnbd_copy.specs.Dealt.{Deals, HaveDealt};
+ghost use Rattle.lnbd_copy.specs.Dealt.{AreDealt, Deals, HaveDealt};
 ghost use Rattle.lnbd_copy.specs.Dealing.{Begins, HasBegun, HasGoneOn, IsAskedFirst, IsAskedOf};
+ghost use Rattle.lnbd_copy.specs.Fewest.{AddsFewest, LeavesFewer};
 ghost use Rattle.lnbd_copy.specs.Links.{HaveSameLinks};
-ghost use Rattle.lnbd_copy.specs.Ready.{IsExpected, MayAsk, MayTake, MayTakeFirst, StaysReady, is_measured};
+ghost use Rattle.lnbd_copy.specs.Ready.{IsExpected, MayBegin, MayCopy, MayServe, MayTake, MayTakeFirst, StaysReady, is_measured};
 ghost use Rattle.lnbd_conduct.specs.Sides.{is_source};
 ghost use Rattle.lnbd_copy.specs.UnderWay.{Fills, HasBegunOne, HasLooked, HaveLooked};
 ghost use Rattle.lnbd_copy.specs.Way.{Keeps};
+ghost use Rattle.lnbd_copy.specs.Windows.{AllFit, IsFit};
 
 use crate::windows::Windows;
 use lnbd_board::{Ask, Board, Bound, Change, Next, Ticket};
@@ -46,7 +49,7 @@ impl Model for Bindings {
     ghost invariant = { λ b. (length b.source ≡ b.sides.source) × (length b.destination ≡ b.sides.destination) × (0 < b.sides.source) × (0 < b.sides.destination) };
 }
 
-/// Why a command was not issued that its handle may be asked: memory ran out, or too many are not retired, or its range breaks a rule, which
+/// Why a command was not issued that its handle may be asked: memory ran out; or too many are not retired, or it has no whole blocks, which
 /// counts as that. No clause says yet that these don't come.
 fn of_memory(fault: IssueFault<Ticket>) -> NoMemory
     requires { IsExpected fault }
@@ -61,16 +64,20 @@ fn of_memory(fault: IssueFault<Ticket>) -> NoMemory
     }
 }
 
-/// A command that is refused by how many there are, or by its range.
+/// A command that is refused by how many there are, or by its blocks.
 fn by_measure(why: Why) -> NoMemory
     requires { is_measured why ≡ true }
 {
     match why {
-        Why::TooMany(_) | Why::ZeroSize | Why::TooBig(_) | Why::Bounds(_) | Why::Align(_) => {
-            NoMemory
-        }
-        Why::NotReady(_) | Why::Dead(_) | Why::Closing | Why::Unsupported(_) | Why::BadFlags(_) =>
-            unreachable!(),
+        Why::TooMany(_) | Why::Align(_) => NoMemory,
+        Why::NotReady(_)
+        | Why::Dead(_)
+        | Why::Closing
+        | Why::Unsupported(_)
+        | Why::BadFlags(_)
+        | Why::ZeroSize
+        | Why::TooBig(_)
+        | Why::Bounds(_) => unreachable!(),
     }
 }
 
@@ -293,14 +300,14 @@ impl Bindings {
     }
 
     /// Asks what comes next of all slices that something came for. How many requests were made, and slices came to their end.
-    #[tactic(auto, using(crate::proofs::LinkLemmas::same_none, crate::proofs::LinkLemmas::same_then))]
+    #[tactic(auto, using(crate::proofs::FewestLemmas::fewer_none, crate::proofs::LinkLemmas::same_none, crate::proofs::LinkLemmas::same_then))]
     pub(crate) fn go_on(
         &mut self,
         alloc: Global,
         handles: &mut Handles<Ticket>,
         board: &mut Board,
     ) -> Result<usize, NoMemory>
-        requires may { MayAsk self.old.sides board.old.how.zeroes false false handles.old }
+        requires may { MayServe self.old.sides board.old.how.zeroes board.old.rows handles.old }
         requires dealt { HaveDealt self.old.sides self.old.bound board.old.rows }
         ensures sides { self.new.sides ≡ self.old.sides }
         ensures others { OnOk result (HasGoneOn board.old board.new) }
@@ -310,7 +317,9 @@ impl Bindings {
         ensures same { IfOk result (λ done. done ≡ 0 → board.new ≡ board.old) }
         ensures still { IfOk result (λ done. done ≡ 0 → handles.new ≡ handles.old) }
         ensures dealt { OnOk result ((limit : ℕ) → Deals limit self.old.sides self.old.bound self.new.bound board.old.rows board.new.rows) }
+        ensures leaves { OnOk result (LeavesFewer board.old board.new) }
         ensures ready { OnOk result (StaysReady handles.old handles.new) }
+        ensures fits { OnOk result ((size : ℕ) (cells : Cells) → AllFit size cells board.old.rows → AllFit size cells board.new.rows) }
         ensures links { HaveSameLinks handles.old handles.new }
     {
         let mut done: usize = 0;
@@ -328,7 +337,7 @@ impl Bindings {
         handles: &mut Handles<Ticket>,
         board: &mut Board,
     ) -> Result<bool, NoMemory>
-        requires may { MayAsk self.old.sides board.old.how.zeroes false false handles.old }
+        requires may { MayServe self.old.sides board.old.how.zeroes board.old.rows handles.old }
         requires dealt { HaveDealt self.old.sides self.old.bound board.old.rows }
         ensures sides { self.new.sides ≡ self.old.sides }
         ensures others { OnOk result (HasGoneOn board.old board.new) }
@@ -338,7 +347,9 @@ impl Bindings {
         ensures fewer { IfOk result (λ went. went ≡ true → length board.new.came < length board.old.came) }
         ensures still { IfOk result (λ went. went ≡ false → handles.new ≡ handles.old) }
         ensures dealt { OnOk result ((limit : ℕ) → Deals limit self.old.sides self.old.bound self.new.bound board.old.rows board.new.rows) }
+        ensures leaves { OnOk result (LeavesFewer board.old board.new) }
         ensures ready { OnOk result (StaysReady handles.old handles.new) }
+        ensures fits { OnOk result ((size : ℕ) (cells : Cells) → AllFit size cells board.old.rows → AllFit size cells board.new.rows) }
         ensures links { HaveSameLinks handles.old handles.new }
     {
         let next = board.next(alloc)?;
@@ -417,7 +428,7 @@ impl Bindings {
         limit: u64,
     ) -> Result<usize, NoMemory>
         requires zeros { windows.old.plan.cells.zeros ≡ not board.old.how.skip }
-        requires may { MayAsk self.old.sides board.old.how.zeroes false false handles.old }
+        requires may { MayBegin self.old.sides board.old.how.zeroes windows.old handles.old }
         ensures sides { self.new.sides ≡ self.old.sides }
         ensures windows { windows.new ≡ record windows.old { plan = record windows.old.plan { slices = windows.new.plan.slices } } }
         ensures begins { OnOk result (Begins board.old.how self.old.sides windows.old windows.new board.old board.new handles.old handles.new) }
@@ -426,7 +437,9 @@ impl Bindings {
         ensures none { IfOk result (λ done. (length board.old.rows < limit → length windows.old.plan.slices ≡ 0) → done ≡ 0) }
         ensures still { IfOk result (λ done. done ≡ 0 → handles.new ≡ handles.old) }
         ensures dealt { OnOk result (Deals limit self.old.sides self.old.bound self.new.bound board.old.rows board.new.rows) }
+        ensures fewest { OnOk result (AreDealt limit self.old.sides self.old.bound board.old.rows → AddsFewest self.old.sides board.old board.new) }
         ensures ready { OnOk result (StaysReady handles.old handles.new) }
+        ensures fits { OnOk result (AllFit windows.old.size windows.old.plan.cells board.old.rows → AllFit windows.old.size windows.old.plan.cells board.new.rows) }
         ensures links { HaveSameLinks handles.old handles.new }
     {
         let mut done: usize = 0;
@@ -440,7 +453,7 @@ impl Bindings {
     }
 
     /// Begins the next slice that is planned, if there is one. Whether there was.
-    #[tactic(auto, using(crate::proofs::LinkLemmas::same_none, crate::proofs::LinkLemmas::same_then))]
+    #[tactic(auto, using(crate::proofs::FewestLemmas::all_add_none, crate::proofs::LinkLemmas::same_none, crate::proofs::LinkLemmas::same_then))]
     fn begin_next(
         &mut self,
         alloc: Global,
@@ -449,7 +462,7 @@ impl Bindings {
         windows: &mut Windows,
     ) -> Result<bool, NoMemory>
         requires zeros { windows.old.plan.cells.zeros ≡ not board.old.how.skip }
-        requires may { MayAsk self.old.sides board.old.how.zeroes false false handles.old }
+        requires may { MayBegin self.old.sides board.old.how.zeroes windows.old handles.old }
         ensures sides { self.new.sides ≡ self.old.sides }
         ensures windows { windows.new ≡ record windows.old { plan = record windows.old.plan { slices = windows.new.plan.slices } } }
         ensures begins { OnOk result (Begins board.old.how self.old.sides windows.old windows.new board.old board.new handles.old handles.new) }
@@ -457,7 +470,9 @@ impl Bindings {
         ensures begun { IfOk result (λ begun. begun ≡ true → board.new.begun ≡ board.old.begun + 1) }
         ensures still { IfOk result (λ begun. begun ≡ false → handles.new ≡ handles.old) }
         ensures dealt { OnOk result ((limit : ℕ) → limit < 2 ^ 64 → length board.old.rows < limit → Deals limit self.old.sides self.old.bound self.new.bound board.old.rows board.new.rows) }
+        ensures fewest { OnOk result (HaveDealt self.old.sides self.old.bound board.old.rows → AddsFewest self.old.sides board.old board.new) }
         ensures ready { OnOk result (StaysReady handles.old handles.new) }
+        ensures fits { OnOk result (AllFit windows.old.size windows.old.plan.cells board.old.rows → AllFit windows.old.size windows.old.plan.cells board.new.rows) }
         ensures links { HaveSameLinks handles.old handles.new }
     {
         match windows.next() {
@@ -480,14 +495,16 @@ impl Bindings {
     ) -> Result<(), NoMemory>
         requires room { slice.start + slice.length ≤ 2 ^ 63 }
         requires copied { slice.zero ≡ true → board.old.how.skip ≡ false }
-        requires may { MayAsk self.old.sides board.old.how.zeroes false false handles.old }
+        requires may { MayCopy self.old.sides board.old.how.zeroes slice handles.old }
         ensures sides { self.new.sides ≡ self.old.sides }
         ensures others { OnOk result (HasBegun board.old board.new) }
         ensures keeps { OnOk result (Keeps board.old.how self.old.sides (slice ∷ []) board.old board.new handles.old handles.new) }
         ensures more { OnOk result (length board.new.rows ≡ length board.old.rows + 1) }
         ensures begun { OnOk result (board.new.begun ≡ board.old.begun + 1) }
         ensures dealt { OnOk result ((limit : ℕ) → limit < 2 ^ 64 → length board.old.rows < limit → Deals limit self.old.sides self.old.bound self.new.bound board.old.rows board.new.rows) }
+        ensures fewest { OnOk result (HaveDealt self.old.sides self.old.bound board.old.rows → AddsFewest self.old.sides board.old board.new) }
         ensures ready { OnOk result (StaysReady handles.old handles.new) }
+        ensures fits { OnOk result ((size : ℕ) (cells : Cells) → IsFit size cells slice → AllFit size cells board.old.rows → AllFit size cells board.new.rows) }
         ensures links { HaveSameLinks handles.old handles.new }
     {
         let number = board.begun();

@@ -7,12 +7,13 @@ ghost use Rattle.lnbd_board.specs.declared.ticket.Ticket.{Ticket as Tag};
 ghost use Rattle.lnbd_board.specs.Files.{Seen as Kept};
 ghost use Rattle.lnbd_board.specs.Rows.{busy};
 ghost use Rattle.lnbd_copy.specs.Awaiting.{AreToAsk, HasNothingToAsk};
-ghost use Rattle.lnbd_copy.specs.Dealt.{AreDealt, HasDealt, Spreads};
+ghost use Rattle.lnbd_copy.specs.Dealt.{AreDealt, HasDealt, HasFit, Spreads};
 ghost use Rattle.lnbd_copy.specs.Heard.{IsHeardTo};
 ghost use Rattle.lnbd_copy.specs.Reached.{IsToldTo};
 ghost use Rattle.lnbd_conduct.specs.Slices.{cells_of};
 ghost use Rattle.lnbd_copy.specs.UnderWay.{HasAsked, HasFilled, HaveLooked, IsPast, IsWantedOf, Refills, unfinished};
 ghost use Rattle.lnbd_copy.specs.Dealing.{HasGoneOn};
+ghost use Rattle.lnbd_copy.specs.Fewest.{AddsFewest, LeavesFewer, TakesFewest};
 ghost use Rattle.lnbd_copy.specs.Leaving.{Parts};
 ghost use Rattle.lnbd_copy.specs.Links.{HaveSameLinks};
 ghost use Rattle.lnbd_copy.specs.Forgetting.{NoneKeepNotes};
@@ -120,9 +121,11 @@ impl Job {
         requires how { board.old.how ≡ self.old.terms.how }
         requires well { board.old.error ≡ None }
         requires dealt { HasDealt self.old board.old }
+        requires fit { HasFit self.old board.old }
         requires may { MayGoOn self.old handles.old }
         ensures acts { OnOk result (Acts self.old self.new board.old board.new handles.old handles.new) }
         ensures terms { self.new.terms ≡ self.old.terms }
+        ensures well { OnOk result (board.new.error ≡ None) }
         ensures onward { self.old.phase ≢ phase.Copying → self.new.phase ≢ phase.Copying }
         ensures parting { self.old.phase ≡ phase.Parting → (self.new ≡ self.old) × (board.new ≡ board.old) × (handles.new ≡ handles.old) }
         ensures acted { IfOk result (λ acted. acted ≡ true → HasChanged self.old self.new board.old board.new) }
@@ -132,6 +135,7 @@ impl Job {
         ensures still { IfOk result (λ acted. acted ≡ false → handles.new ≡ handles.old) }
         ensures forgets { IfOk result (λ acted. acted ≡ true → NoneKeepNotes handles.new) }
         ensures spread { OnOk result (Spreads self.old self.new board.old board.new) }
+        ensures fewest { OnOk result (TakesFewest self.old.terms.sides board.old board.new) }
         ensures may { OnOk result (MayGoOn self.new handles.new) }
         ensures links { HaveSameLinks handles.old handles.new }
     {
@@ -144,7 +148,7 @@ impl Job {
 
     /// Slices are copied, the flush is waited for, or nothing is asked any more. Whether anything was asked, or the copy went on in another
     /// way.
-    #[tactic(auto, using(crate::proofs::JobLemmas::acts_none, crate::proofs::UnderWayLemmas::parting_none, crate::proofs::UnderWayLemmas::past_none, crate::proofs::SpreadLemmas::spreads_none, crate::proofs::SpreadLemmas::spreads_same, crate::proofs::LinkLemmas::same_none))]
+    #[tactic(auto, using(crate::proofs::JobLemmas::acts_none, crate::proofs::UnderWayLemmas::parting_none, crate::proofs::UnderWayLemmas::past_none, crate::proofs::SpreadLemmas::spreads_none, crate::proofs::SpreadLemmas::spreads_same, crate::proofs::FewestLemmas::takes_none, crate::proofs::LinkLemmas::same_none))]
     fn proceed(
         &mut self,
         alloc: Global,
@@ -154,9 +158,11 @@ impl Job {
         requires how { board.old.how ≡ self.old.terms.how }
         requires well { board.old.error ≡ None }
         requires dealt { HasDealt self.old board.old }
+        requires fit { HasFit self.old board.old }
         requires may { MayGoOn self.old handles.old }
         ensures acts { OnOk result (Acts self.old self.new board.old board.new handles.old handles.new) }
         ensures terms { self.new.terms ≡ self.old.terms }
+        ensures well { OnOk result (board.new.error ≡ None) }
         ensures onward { self.old.phase ≢ phase.Copying → self.new.phase ≢ phase.Copying }
         ensures parting { self.old.phase ≡ phase.Parting → (self.new ≡ self.old) × (board.new ≡ board.old) × (handles.new ≡ handles.old) }
         ensures acted { IfOk result (λ acted. acted ≡ true → HasChanged self.old self.new board.old board.new) }
@@ -165,6 +171,7 @@ impl Job {
         ensures full { OnOk result (Refills self.old self.new board.old board.new) }
         ensures still { IfOk result (λ acted. acted ≡ false → handles.new ≡ handles.old) }
         ensures spread { OnOk result (Spreads self.old self.new board.old board.new) }
+        ensures fewest { OnOk result (TakesFewest self.old.terms.sides board.old board.new) }
         ensures may { OnOk result (MayGoOn self.new handles.new) }
         ensures links { HaveSameLinks handles.old handles.new }
     {
@@ -187,15 +194,18 @@ impl Job {
         requires well { board.old.error ≡ None }
         requires copying { self.old.phase ≡ phase.Copying }
         requires dealt { HasDealt self.old board.old }
+        requires fit { HasFit self.old board.old }
         requires may { MayAct self.old handles.old }
         ensures acts { OnOk result (Acts self.old self.new board.old board.new handles.old handles.new) }
         ensures terms { self.new.terms ≡ self.old.terms }
+        ensures well { OnOk result (board.new.error ≡ None) }
         ensures acted { IfOk result (λ acted. acted ≡ true → HasChanged self.old self.new board.old board.new) }
         ensures awaits { OnOk result (board.old.flushed ≡ false → HasNothingToAsk self.new board.new) }
         ensures idle { IfOk result (λ acted. HasNothingToAsk self.old board.old → acted ≡ false) }
         ensures full { OnOk result (Refills self.old self.new board.old board.new) }
         ensures still { IfOk result (λ acted. acted ≡ false → handles.new ≡ handles.old) }
         ensures spread { OnOk result (Spreads self.old self.new board.old board.new) }
+        ensures fewest { OnOk result (TakesFewest self.old.terms.sides board.old board.new) }
         ensures may { OnOk result (MayGoOn self.new handles.new) }
         ensures links { HaveSameLinks handles.old handles.new }
     {
@@ -220,6 +230,7 @@ impl Job {
         requires how { board.old.how ≡ self.old.terms.how }
         requires copying { self.old.phase ≡ phase.Copying }
         requires dealt { HasDealt self.old board.old }
+        requires fit { HasFit self.old board.old }
         requires may { MayAct self.old handles.old }
         ensures acts { OnOk result (Acts self.old self.new board.old board.new handles.old handles.new) }
         ensures how { OnOk result (board.new.how ≡ board.old.how) }
@@ -230,6 +241,7 @@ impl Job {
         ensures still { IfOk result (λ done. done ≡ 0 → handles.new ≡ handles.old) }
         ensures job { self.new ≡ record self.old { bound = self.new.bound } }
         ensures spread { OnOk result (Spreads self.old self.new board.old board.new) }
+        ensures leaves { OnOk result (LeavesFewer board.old board.new) }
         ensures may { OnOk result (MayAct self.new handles.new) }
         ensures links { HaveSameLinks handles.old handles.new }
     {
@@ -308,6 +320,7 @@ impl Job {
         ensures planned { result ≡ false → self.now.asked ≡ false → self.now.terms.limit ≤ unfinished self.now.windows board.now }
         ensures whole { result ≡ false → self.now.asked ≡ false → self.now.windows.at ≤ self.now.windows.plan.end }
         ensures wanted { IsWantedOf self.now.windows }
+        ensures ahead { self.now.windows.plan.end ≤ self.now.windows.at }
     {
         let planned = self.windows.left().saturating_add(board.count() as u64);
         !self.asked && (self.windows.is_under_way() || planned < self.terms.limit)
@@ -332,6 +345,7 @@ impl Job {
         ensures still { IfOk result (λ done. done ≡ 0 → handles.new ≡ handles.old) }
         ensures phase { self.new.phase ≡ self.old.phase }
         ensures spread { OnOk result (Spreads self.old self.new board.old board.new) }
+        ensures fewest { OnOk result (HasDealt self.old board.old → AddsFewest self.old.terms.sides board.old board.new) }
         ensures may { OnOk result (MayAct self.new handles.new) }
         ensures links { HaveSameLinks handles.old handles.new }
     {
@@ -360,8 +374,10 @@ impl Job {
         requires may { MayAct self.old handles.old }
         ensures acts { OnOk result (Acts self.old self.new board.old board.new handles.old handles.new) }
         ensures terms { self.new.terms ≡ self.old.terms }
+        ensures well { OnOk result (board.new.error ≡ None) }
         ensures past { OnOk result (IsPast self.new board.old board.new) }
         ensures flushed { OnOk result (board.new.flushed ≡ board.old.flushed) }
+        ensures begun { OnOk result (board.new.begun ≡ board.old.begun) }
         ensures bound { self.new.bound ≡ self.old.bound }
         ensures may { OnOk result (MayGoOn self.new handles.new) }
         ensures links { HaveSameLinks handles.old handles.new }

@@ -27,6 +27,7 @@ pub use dialing::{MAX_TURNS, hold, wait};
 pub use laws::vain_writes_are_last;
 pub use opening::open;
 pub use parting::has_parted;
-pub use terms::{CAN_MULTI_CONN, SEND_FLUSH, SEND_WRITE_ZEROES, UNKNOWN, broken_rule, settled};
+pub use terms::{UNKNOWN, broken_rule, settled};
 pub use turning::{check_calm, turn};
+pub use wanting::check_loud;
 pub use windows::{Wanted, Windows};

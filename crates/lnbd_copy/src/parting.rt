@@ -13,6 +13,7 @@ ghost use Rattle.lnbd_copy.specs.Pauses.{Unpaused};
 ghost use Rattle.lnbd_copy.specs.Links.{HaveSameLinks, LinksGo};
 
 use lnbd_board::{Board, Ticket};
+use lnbd_handle::Closed;
 use lnbd_link::Wires;
 use lnbd_model::State;
 use lnbd_poll::Handles;
@@ -41,10 +42,16 @@ pub fn has_parted(handles: &Handles<Ticket>, index: usize) -> bool
     }
 }
 
-/// Closes a handle and shuts its link.
+/// Closes a handle and shuts its link. What is left of its commands: each callback that was admitted was freed.
 #[tactic(auto, using(crate::proofs::FiledLemmas::calls_filed, crate::proofs::PartLemmas::leaves_one, crate::proofs::LastLemmas::lasts_adds, crate::proofs::IdleLemmas::idly_shut, crate::proofs::PauseLemmas::unpaused_adds, crate::proofs::MovingLemmas::happens_shut, crate::proofs::DecidingLemmas::shut_one))]
-fn hang_up<W: Wires>(handles: &mut Handles<Ticket>, board: &mut Board, wires: &mut W, index: usize)
+fn hang_up<W: Wires>(
+    handles: &mut Handles<Ticket>,
+    board: &mut Board,
+    wires: &mut W,
+    index: usize,
+) -> Closed
     requires { index < length handles.old }
+    ensures freed { result.opened ≡ result.freed }
     ensures leaves { Happens HasParted index handles.old → Leaves board.old handles.old (W.told wires.old) board.new handles.new (W.told wires.new) }
     ensures counts { GoesOn (W.faults wires.old) (W.faults wires.new) (W.idles wires.old) (W.idles wires.new) (W.contents wires.old) (W.contents wires.new) }
     ensures fewer { length handles.new + 1 ≡ length handles.old }
@@ -56,8 +63,9 @@ fn hang_up<W: Wires>(handles: &mut Handles<Ticket>, board: &mut Board, wires: &m
     ensures shuts { GoesShut (W.told wires.old) (W.told wires.new) }
 {
     let (link, handle) = handles.take(index);
-    let _ = handle.close(board);
+    let closed = handle.close(board);
     wires.shut(link);
+    closed
 }
 
 /// Hangs up where a connection has parted. How many did.
@@ -82,7 +90,7 @@ pub(crate) fn shut_parted<W: Wires>(
     'handles: for passed in 0..count {
         let index = count - 1 - passed;
         if has_parted(handles, index) {
-            hang_up(handles, board, wires, index);
+            let _ = hang_up(handles, board, wires, index);
             shut += 1;
         }
     }
@@ -102,6 +110,6 @@ pub(crate) fn shut_all<W: Wires>(handles: &mut Handles<Ticket>, board: &mut Boar
     ensures shuts { GoesShut (W.told wires.old) (W.told wires.new) }
 {
     'handles: while !handles.is_empty() {
-        hang_up(handles, board, wires, 0);
+        let _ = hang_up(handles, board, wires, 0);
     }
 }

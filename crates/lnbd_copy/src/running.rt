@@ -18,6 +18,7 @@ ghost use Rattle.lnbd_conduct.specs.Connects.{ConnectsAsTold, ConnectsWithin, Ar
 ghost use Rattle.lnbd_copy.specs.Copier.{HasNotBegun, IsDone};
 ghost use Rattle.lnbd_conduct.specs.Decided.{IsDecided};
 ghost use Rattle.lnbd_conduct.specs.Changes.{Behaves};
+ghost use Rattle.lnbd_conduct.specs.Fewest.{SlicesGoToFewest};
 ghost use Rattle.lnbd_conduct.specs.Grounds.{IsGrounded};
 ghost use Rattle.lnbd_conduct.specs.Made.{IsMade};
 ghost use Rattle.lnbd_conduct.specs.Waiting.{WantsAll, WroteLittle, PausesAreFull, WaitsWell};
@@ -84,6 +85,7 @@ impl Copier {
         ensures flushes { self.from ≢ self.to → IfOk result (λ told. GrewBy (FlushesLast self.from self.to told) (W.told wires.old) (W.told wires.new)) }
         ensures flushed { self.from ≢ self.to → OnOk result (GrewBy (FlushesWanted self.options self.from self.to) (W.told wires.old) (W.told wires.new)) }
         ensures pauses { self.from ≢ self.to → GrewBy (PausesAreFull self.options self.from self.to) (W.told wires.old) (W.told wires.new) }
+        ensures fewest { self.from ≢ self.to → GrewBy (SlicesGoToFewest self.options self.from self.to) (W.told wires.old) (W.told wires.new) }
         ensures driven { OnOk result (GrewBy AreDriven (W.told wires.old) (W.told wires.new)) }
         ensures drives { GrewBy (AreDrivenBy self.options self.from self.to) (W.told wires.old) (W.told wires.new) }
         ensures left { OnOk result (GrewBy (AreLeftBy self.options self.from self.to) (W.told wires.old) (W.told wires.new)) }
@@ -125,6 +127,7 @@ impl Copier {
         ensures flushes { IfOk result (λ told. self.new.from ≢ self.new.to → Told (W.told wires.old) (W.told wires.new) (FlushesLast self.new.from self.new.to told)) }
         ensures fair { self.old.from ≢ self.old.to → Told (W.told wires.old) (W.told wires.new) (Behaves self.old.options self.old.from self.old.to) }
         ensures pauses { self.new.from ≢ self.new.to → Told (W.told wires.old) (W.told wires.new) (PausesAreFull self.new.options self.new.from self.new.to) }
+        ensures fewest { self.new.from ≢ self.new.to → Told (W.told wires.old) (W.told wires.new) (SlicesGoToFewest self.new.options self.new.from self.new.to) }
         ensures writes { Told (W.told wires.old) (W.told wires.new) (AtEachPause WantsOnlyFull) }
         ensures reads { Told (W.told wires.old) (W.told wires.new) (AtEachPause WantsOnlyEmpty) }
         ensures waits { Told (W.told wires.old) (W.told wires.new) (AtEachPause WaitsWell) }

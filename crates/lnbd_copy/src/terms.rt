@@ -5,7 +5,7 @@ ghost use Rattle.std.specs.Prelude.{◌≡◌, ◌<◌, ◌≤◌, ◌*◌, ◌/
 ghost use Rattle.lnbd_records.specs.Limits.{max_data, max_minimum_block};
 ghost use Rattle.lnbd_records.specs.Numbers.{has_bit};
 ghost use Rattle.lnbd_copy.specs.Agreed.{IsWished};
-ghost use Rattle.lnbd_conduct.specs.Terms.{IsLimited, max_under_way, broken_rule, connections, greatest_power, least_block, most_bytes, sparse_block};
+ghost use Rattle.lnbd_conduct.specs.Terms.{IsLimited, max_under_way, broken_rule, connections, greatest_power, least_block, max_exponent, most_bytes, sparse_block};
 ghost use Rattle.lnbd_conduct.specs.Settled.{AreSettledBy};
 ghost use Rattle.lnbd_copy.specs.Terms.{IsGreatestPower};
 
@@ -13,6 +13,10 @@ use lnbd_board::How;
 use lnbd_conduct::{Sides, Terms};
 use lnbd_model::{Blocks, ExportInfo};
 use lnbd_plan::{CopyOptions, Rule};
+use lnbd_records::names::{
+    FLAG_CAN_MULTI_CONN, FLAG_READ_ONLY, FLAG_SEND_FLUSH, FLAG_SEND_WRITE_ZEROES, MAX_DATA,
+    MAX_MINIMUM_BLOCK,
+};
 
 /// How a copy writes while nothing is known of the destination.
 pub const UNKNOWN: How = How {
@@ -21,21 +25,6 @@ pub const UNKNOWN: How = How {
     zeroes: false,
     allocated: false,
 };
-
-/// Flags of an export (NBD protocol, "Transmission flags").
-const READ_ONLY: u16 = 2;
-
-pub const SEND_FLUSH: u16 = 4;
-
-pub const SEND_WRITE_ZEROES: u16 = 64;
-
-pub const CAN_MULTI_CONN: u16 = 256;
-
-/// The largest least block (NBD protocol, "Block size constraints").
-const MAX_MINIMUM_BLOCK: u32 = 65_536;
-
-/// The most bytes of a read or a write.
-const MAX_DATA: u32 = 33_554_432;
 
 /// The most bytes of a request that zeroes.
 pub(crate) const MAX_ZEROES: u64 = 134_217_728;
@@ -85,7 +74,7 @@ pub fn broken_rule(source: &ExportInfo, destination: &ExportInfo) -> Option<Rule
 {
     let minimum = least_block(source.blocks).max(least_block(destination.blocks));
     let maximum = most_bytes(source.blocks).min(most_bytes(destination.blocks));
-    if destination.flags & READ_ONLY != 0 {
+    if destination.flags & FLAG_READ_ONLY != 0 {
         return Some(Rule::ReadOnly);
     }
     if destination.size < source.size {
@@ -109,7 +98,7 @@ pub fn broken_rule(source: &ExportInfo, destination: &ExportInfo) -> Option<Rule
 /// The greatest power of two that is no larger than this; 1 where none is.
 fn greatest_power(most: u32) -> u32
     requires { most ≤ max_data }
-    ensures value { result ≡ greatest_power 25 most }
+    ensures value { result ≡ greatest_power max_exponent most }
     ensures some { 0 < result }
     ensures greatest { 0 < most → IsGreatestPower most result }
 {
@@ -128,7 +117,7 @@ fn connections(info: &ExportInfo, options: CopyOptions) -> u32
     ensures value { result ≡ connections options info.now }
     ensures some { 0 < result }
 {
-    if has(info, CAN_MULTI_CONN) {
+    if has(info, FLAG_CAN_MULTI_CONN) {
         return options.connections.max(1);
     }
     1
@@ -171,7 +160,7 @@ pub fn settled(options: CopyOptions, source: &ExportInfo, destination: &ExportIn
         source: connections(source, options),
         destination: connections(destination, options),
     };
-    let zeroes = has(destination, SEND_WRITE_ZEROES);
+    let zeroes = has(destination, FLAG_SEND_WRITE_ZEROES);
     Terms {
         size: source.size,
         grain,
@@ -185,6 +174,6 @@ pub fn settled(options: CopyOptions, source: &ExportInfo, destination: &ExportIn
         },
         sides,
         limit: most_begun(options, sides, cell),
-        flush: options.flush && has(destination, SEND_FLUSH),
+        flush: options.flush && has(destination, FLAG_SEND_FLUSH),
     }
 }

@@ -39,7 +39,7 @@ fn check_state(handles: &Handles<Ticket>, index: usize) -> Result<(), CopyFault>
 }
 
 /// No connection is dead. One that is would count as want of memory: the turn in which it died has ended the copy.
-pub(crate) fn check_alive(handles: &Handles<Ticket>) -> Result<(), NoMemory>
+fn check_alive(handles: &Handles<Ticket>) -> Result<(), NoMemory>
     ensures { OnOk result (AreAlive handles.now) }
 {
     'handles: for index in 0..handles.len() {

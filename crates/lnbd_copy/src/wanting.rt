@@ -4,29 +4,14 @@ ghost use Rattle.std.specs.Prelude.{◌≡◌, ◌≢◌, ◌⊎◌, [], true, O
 ghost use Rattle.lnbd_handle.specs.Histories.{ForEach};
 ghost use Rattle.lnbd_history.specs.Answers.{direction_after, state_after};
 ghost use Rattle.lnbd_model.specs.declared.state.State.TheVariants as state;
-ghost use Rattle.lnbd_poll.specs.Held.{is_on_its_way, wants_now};
+ghost use Rattle.lnbd_poll.specs.Held.{wants_now};
 ghost use Rattle.lnbd_copy.specs.Unready.{IsLoud};
 ghost use Rattle.lnbd_copy.specs.Waits.{AreUnparted};
-ghost use Rattle.lnbd_copy.specs.Wanted.{IsWanting};
 
 use lnbd_board::Ticket;
 use lnbd_handle::Handle;
 use lnbd_model::{NoMemory, State};
-use lnbd_poll::Handles;
-
-/// Whether a handle negotiates, or asked for the end of its connection.
-fn is_on_its_way(state: State) -> bool
-    ensures { result ≡ is_on_its_way state }
-{
-    matches!(state, State::Negotiating | State::Closing)
-}
-
-/// Whether a handle waits for its link.
-fn is_wanting(handle: &Handle<Ticket>) -> bool
-    ensures { result ≡ true → IsWanting handle.now.machine }
-{
-    is_on_its_way(handle.state()) || handle.in_flight() != 0 || handle.is_waiting()
-}
+use lnbd_poll::{Handles, is_wanting};
 
 /// Some handle waits for its link. A pause for handles of which none does would never end, and so would count as want of memory: none
 /// is made.
@@ -50,7 +35,7 @@ fn is_loud(handle: &Handle<Ticket>) -> bool
 
 /// Some connection negotiates still, or has something to write: that is waited for before a copy begins. That none does, where not all
 /// are ready and none is dead, would count as want of memory.
-pub(crate) fn check_loud(handles: &Handles<Ticket>) -> Result<(), NoMemory>
+pub fn check_loud(handles: &Handles<Ticket>) -> Result<(), NoMemory>
     ensures { OnOk result (IsLoud handles.now) }
 {
     'handles: for index in 0..handles.len() {

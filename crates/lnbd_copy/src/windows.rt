@@ -7,6 +7,7 @@ ghost use Rattle.lnbd_extents.specs.Positions.{within, holds};
 ghost use Rattle.lnbd_extents.specs.Lists.{flags_at, AreJoined};
 ghost use Rattle.lnbd_asked.specs.Transcript.{is_zero};
 ghost use Rattle.lnbd_tracks.specs.Saying.{is_told};
+ghost use Rattle.lnbd_conduct.specs.Slices.{window};
 ghost use Rattle.lnbd_copy.specs.Spared.{HaveOneFlag, IsInside, whole_within};
 ghost use Rattle.lnbd_copy.specs.Windows.{zero_within};
 
@@ -14,14 +15,12 @@ use lnbd_conduct::Terms;
 use lnbd_extents::{Ranges, push_joined};
 use lnbd_model::{Extent, NoMemory};
 use lnbd_plan::{Plan, Slice};
+use lnbd_records::names::STATE_ZERO;
 use std::alloc::Global;
 use std::marker::Model;
 
 /// The bytes of a window, and the most of which extents are asked for at once.
 const WINDOW: u64 = 134_217_728;
-
-/// The flag of base:allocation that says that bytes read as zeroes (NBD protocol, "base:allocation metadata context").
-const ZERO: u64 = 2;
 
 /// A range of the source whose extents are to be asked for.
 #[derive(Clone, Copy, Debug, PartialEq, Eq)]
@@ -58,7 +57,7 @@ impl Windows {
     ghost use Rattle.lnbd_copy.specs.Heard.{IsHeardTo, passed_heard};
     ghost use Rattle.lnbd_copy.specs.Reached.{IsToldTo, told_heard};
     ghost use Rattle.lnbd_copy.specs.Spared.{IsSpared, whole_heard};
-    ghost use Rattle.lnbd_copy.specs.Windows.{wanted, zero_heard, IsPlanned};
+    ghost use Rattle.lnbd_copy.specs.Windows.{wanted, zero_heard, IsFit, IsPlanned};
 
     /// No window yet.
     pub fn new(alloc: Global, terms: Terms) -> Windows
@@ -167,6 +166,7 @@ impl Windows {
         ensures some { IsSome result ↔ (0 < length self.old.plan.slices) }
         ensures others { self.new ≡ record self.old { plan = record self.old.plan { slices = self.new.plan.slices } } }
         ensures room { IfSome result (λ slice. slice.start + slice.length ≤ 2 ^ 63) }
+        ensures fits { IfSome result (λ slice. IsFit self.old.size self.old.plan.cells slice) }
         ensures copied { IfSome result (λ slice. slice.zero ≡ true → self.old.plan.cells.zeros ≡ true) }
     {
         self.plan.next()
@@ -176,6 +176,7 @@ impl Windows {
     pub fn left(&self) -> u64
         ensures left { result ≡ length self.now.plan.slices }
         ensures wanted { self.now.plan.end < self.now.size → is_some (wanted self.now) ≡ true }
+        ensures ahead { self.now.plan.end ≤ self.now.at }
     {
         self.plan.left()
     }
@@ -184,13 +185,13 @@ impl Windows {
 /// Where the window ends that begins here.
 fn end_of(start: u64, size: u64) -> u64
     requires { start ≤ size }
-    ensures end { result ≡ min (start + 134217728) size }
+    ensures end { result ≡ min (start + window) size }
     ensures order { (start ≤ result) × (result ≤ size) }
 {
     start + WINDOW.min(size - start)
 }
 
-/// What was told, with ZERO as the one flag, equal neighbours joined, up to so many bytes.
+/// What was told, with STATE_ZERO as the one flag, equal neighbours joined, up to so many bytes.
 fn joined(alloc: Global, told: &[Extent], most: u64) -> Result<Vec<Extent>, NoMemory>
     requires { most ≤ 2 ^ 63 }
     ensures told { IfOk result (λ list. (p : ℕ) → is_zero (flags_at list.items p) ≡ true → is_zero (flags_at told.now p) ≡ true) }
@@ -208,7 +209,7 @@ fn joined(alloc: Global, told: &[Extent], most: u64) -> Result<Vec<Extent>, NoMe
             &mut list,
             Extent {
                 length,
-                flags: extent.flags & ZERO,
+                flags: extent.flags & STATE_ZERO,
             },
         )?;
         left -= length;
@@ -238,7 +239,7 @@ fn hold_zeroes(
     let mut reached: u64 = 0;
     'extents: for extent in told {
         let length = extent.length.min(most - reached);
-        if extent.flags & ZERO != 0 {
+        if extent.flags & STATE_ZERO != 0 {
             hold_blocks(zero, from + reached, length, grain)?;
         }
         reached += length;

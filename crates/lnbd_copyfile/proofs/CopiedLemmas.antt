@@ -20,7 +20,6 @@ use Rattle.lnbd_course.specs.Asks.{GrewBy}
 use Rattle.lnbd_course.specs.Far.{FromFile}
 use Rattle.lnbd_course.specs.FarCourse.{FarCourse}
 use Rattle.lnbd_course.specs.FarEnds.{HasAskedOnceFar, SummarizesFar}
-use Rattle.lnbd_course.specs.FarLaws.{IsReadWhole}
 use Rattle.lnbd_course.specs.Flushes.{IsUnflushed, OneFlushes}
 use Rattle.lnbd_course.proofs.FarEnding.{ended_are_all_done_far, ended_asks_once_far, ended_flushed_far, ended_flushes_once_far, ended_sums_far, ended_unflushed_far}
 use Rattle.lnbd_conduct.specs.Told.{AtSome}
@@ -33,6 +32,7 @@ use Rattle.lnbd_copyfile.specs.declared.from_file_job.Phase.TheVariants.{Copying
 use Rattle.lnbd_copyfile.specs.FlushedLast.{CameToRestFrom, FlushesLastFrom}
 use Rattle.lnbd_copyfile.specs.FromFile.{HasAskedFrom, HasCopied, HasSummedFrom, IsGivenBy, size_of}
 use Rattle.lnbd_copyfile.specs.FromFileJob.{IsJob, IsOver, Seen}
+use Rattle.lnbd_copyfile.specs.Holes.{IsReadWhole}
 use Rattle.lnbd_copyfile.specs.OneSide.{IsCopiedFrom}
 use Rattle.lnbd_copyfile.specs.Shown.{FlushesWantedFrom}
 use Rattle.lnbd_copyfile.proofs.FarLemmas.{from_file_is_copied}
@@ -43,17 +43,14 @@ no_skip true e = refl
 no_skip false e = absurd (false≢true (sym e))
 
 -- All of the file was read.
-read_whole : (job : Seen) (way : Way) (now : board.Seen) → (is : IsJob job way now) → IsOver job now → IsReadWhole way.how job.windows.plan.cells is.planned.parts job.terms.size way.slices
-read_whole job way now is over = record {
+read_whole : (job : Seen) (zero : ℕ → Bool) (way : Way) (now : board.Seen) → (is : IsJob job zero way now) → IsOver job now →
+    IsReadWhole way.how job.windows.plan.cells is.planned.parts zero job.terms.size way.slices
+read_whole job zero way now is over = record {
   are = sym (append-nil way.slices) ∙ ap (λ (l : List Slice). way.slices ++ l) (sym over.handed) ∙ is.planned.are;
   whole = is.planned.end ∙ over.planned;
-  untold = λ p. none (told_by 0 is.planned.parts p) (is.planned.told p);
+  told = is.planned.told;
   left_out = λ none. ap (λ (h : How). h.skip) is.how ∙ no_skip job.terms.how.skip (sym (ap (λ (c : Cells). c.zeros) is.cells) ∙ none);
 }
-  where
-    none : (b : Bool) → (b ≡ true → false ≡ true) → b ≡ false
-    none true f = absurd (false≢true (f refl))
-    none false f = refl
 
 no_seens : (seens : List (poll.Seen Ticket)) → AreAt {K = Ticket} [] seens → seens ≡ []
 no_seens [] at = refl
@@ -76,6 +73,9 @@ module _ (options : CopyOptions) (path : List ℕ) (to : Place) (summary : Summa
   abbrev read : List Request
   read = h.copied.going.read
 
+  abbrev zero : ℕ → Bool
+  zero = h.copied.going.zero
+
   abbrev room : ℕ
   room = h.copied.going.is.room
 
@@ -91,8 +91,8 @@ module _ (options : CopyOptions) (path : List ℕ) (to : Place) (summary : Summa
   over : IsOver job now
   over = h.copied.going.is.over (λ copying. parting_past (sym h.copied.ended.parting ∙ copying))
 
-  whole : IsReadWhole way.how cells parts job.terms.size way.slices
-  whole = read_whole job way now h.copied.going.is over
+  whole : IsReadWhole way.how cells parts zero job.terms.size way.slices
+  whole = read_whole job zero way now h.copied.going.is over
 
   ends_so : (calls : List wire.Call) → IsUnderWay (FromFile read) way now calls h.copied.copy.held → Ends calls
   ends_so calls on =
@@ -112,21 +112,21 @@ module _ (options : CopyOptions) (path : List ℕ) (to : Place) (summary : Summa
   -- the summary is of the whole file
   sized : (calls : List wire.Call) → Ends calls → size_of summary ≡ job.terms.size
   sized calls ends =
-      let few = from_file_fits read to job.terms.size room way.how way.slices now calls None way.known cells parts ends h.copied.ended.well whole in
+      let few = from_file_fits read to job.terms.size room way.how way.slices now calls None way.known cells parts zero ends h.copied.ended.well whole in
       ap size_of h.copied.ended.summary_is ∙ (omega (arith, few))
 
   pub copied_holds : GrewBy (λ calls. Goes old new (IsCopiedFrom path (size_of summary) to options.destination_is_zero calls)) start told
   copied_holds = in_the_end (λ calls ends.
       subst (λ (n : ℕ). Goes old new (IsCopiedFrom path n to options.destination_is_zero calls)) (sym (sized calls ends ∙ h.copied.size_))
       (subst (λ (b : Bool). Goes old new (IsCopiedFrom path h.size to b calls)) skips
-      (from_file_is_copied path h.file h.size room read to way.how way.slices now calls None way.known cells parts old h.opened new
-      h.source h.copied.going.touched ends over.rows h.copied.ended.well
-      (subst (λ (n : ℕ). IsReadWhole way.how cells parts n way.slices) h.copied.size_ whole)
+      (from_file_is_copied path h.file h.size room read to way.how way.slices now calls None way.known cells parts zero old h.opened new
+      h.source h.copied.going.touched h.copied.going.holes ends over.rows h.copied.ended.well
+      (subst (λ (n : ℕ). IsReadWhole way.how cells parts zero n way.slices) h.copied.size_ whole)
       (subst (λ (n : ℕ). n ≤ room) h.copied.size_ h.copied.going.is.fits))))
 
   pub copied_sums : GrewBy (λ calls. IsGivenBy summary given given') start told
   copied_sums = in_the_end (λ calls ends.
-      let given = from_file_is_summed read to job.terms.size room way.how way.slices now calls None way.known cells parts _ _
+      let given = from_file_is_summed read to job.terms.size room way.how way.slices now calls None way.known cells parts zero _ _
       ends h.copied.ended.well whole (let few = h.copied.few in let same = h.copied.size_ in omega (arith, few, same)) h.copied.going.gave in
       let all = sized calls ends in
       let reads : summary.read ≡ now.read = ap (λ (s : Summary). s.read) h.copied.ended.summary_is in

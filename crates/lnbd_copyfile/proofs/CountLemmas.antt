@@ -49,6 +49,13 @@ none_told f written p n none are =
     let z = count_alike false p n in
     omega (arith, are, k, z)
 
+-- where all are, nothing is
+pub all_told : (f : ℕ → Bool) (p n : ℕ) → ((q : ℕ) → p ≤ q → q < p + n → f q ≡ true) → AreCounted f 0 p n
+all_told f p n all =
+    let k = count_same f (λ q. true) p n all in
+    let z = count_alike true p n in
+    omega (arith, k, z)
+
 pub counted_few : (f : ℕ → Bool) (written p n : ℕ) → AreCounted f written p n → written ≤ n
 counted_few f written p n are = omega (arith, are)
 
@@ -80,7 +87,7 @@ counted_pieces told cut at end n (piece ∷ pieces) is between whole =
     let here = count_alike piece.zero at l in
     omega (arith, rest, split, alike, here, e)
 
-block_told : (block start : ℕ) (bytes : List ℕ) (q : ℕ) → (block == 0) ≡ false → in_zero_block block start bytes q ≡ is_zero_at block start bytes q
+pub block_told : (block start : ℕ) (bytes : List ℕ) (q : ℕ) → (block == 0) ≡ false → in_zero_block block start bytes q ≡ is_zero_at block start bytes q
 block_told block start bytes q some = ap (λ (b : Bool). not b && in_zero_block block start bytes q) (sym some)
 
 no_block : (block start : ℕ) (bytes : List ℕ) (q : ℕ) → block ≡ 0 → is_zero_at block start bytes q ≡ false

@@ -2,11 +2,13 @@
 use Rattle.std.proofs.Common.{◌≡◌, ◌<◌, ◌-◌, ◌+◌, ◌^◌, ℕ, Bool, true, false, List, [], ◌∷◌, ◌++◌, length, replicate, slice_index, slice_set, refl, ap, sym, subst, ◌∙◌, if◌then◌else◌, length-append}
 use Rattle.lnbd_keyed.specs.Keyed.{value_at}
 use Rattle.lnbd_plan.specs.declared.grid.Slice.{Slice}
+use Rattle.lnbd_poll.specs.Held.{Held}
 use Rattle.lnbd_board.specs.declared.ask.Change.{Change}
 use Rattle.lnbd_board.specs.declared.how.How.{How}
 use Rattle.lnbd_board.specs.declared.next.Next.{Next}
 use Rattle.lnbd_board.specs.declared.next.Next.TheVariants as next
 use Rattle.lnbd_board.specs.declared.row.Row.{Row}
+use Rattle.lnbd_board.specs.declared.ticket.Ticket.{Ticket}
 use Rattle.lnbd_board.specs.Board.{AsksOn, EndsRow, IsNext, first_row, risen}
 use Rattle.lnbd_board.specs.Bound.{IsFewest}
 use Rattle.lnbd_board.specs.Files as board
@@ -20,7 +22,7 @@ use Rattle.lnbd_store.specs.Shelf.{Shelf}
 use Rattle.std.proofs.Common.{Option}
 use Rattle.lnbd_copyfile.specs.Binding.{Deals, Spreads}
 use Rattle.lnbd_copyfile.specs.FromFileJob.{Seen}
-use Rattle.lnbd_copyfile.specs.Loading.{HasLoaded}
+use Rattle.lnbd_copyfile.specs.Loading.{BeginsSlice, Was_asked, Was_read}
 use Rattle.lnbd_copyfile.specs.Sending.{BeginsOne}
 
 pub dealt_begins : (limit count : ℕ) (bound : List ℕ) → bound ≡ replicate count 0 → IsDealt limit count bound []
@@ -61,7 +63,7 @@ deals_over limit how n source destination told old new a b is ends released = re
       (released (subst (λ (m : ℕ). destination < m) (sym dealt.many) here)) dealt;
 }
 
--- One begins, and what was read of it came at once.
+-- One begins, and what was read of it came at once, or it asks for a change.
 
 completed_destinations : (n : ℕ) (bytes : List ℕ) (next after : board.Seen) → Completes n bytes next after → on_destination after.rows ≡ on_destination next.rows
 completed_destinations n bytes next after c = ap (λ (s : board.Seen). on_destination s.rows) (c.1.1 ∙ c.1.0.1) ∙ go (is_unfit (value_at n next.rows) bytes)
@@ -73,14 +75,19 @@ completed_destinations n bytes next after c = ap (λ (s : board.Seen). on_destin
     go true = refl
     go false = rows_bound (λ row. row.destination) (λ row stage. refl) n bytes next.rows
 
-module _ (file : ℕ) (slice : Slice) (now now' : board.Seen) (a b : Option Shelf) (given given' : ℕ) (begins : BeginsOne file slice now now' a b given given') where
-  loaded : HasLoaded file slice 0 begins.destination [] now now' a b given given'
-  loaded = begins.loads.on []
+module _ (file : ℕ) (slice : Slice) (now now' : board.Seen) (held held' : List (Held Ticket)) (a b : Option Shelf) (given given' : ℕ)
+    (begins : BeginsOne file slice now now' held held' a b given given') where
+  row_so : BeginsSlice file slice 0 begins.destination now now' held held' a b given given' →
+      on_destination now'.rows ≡ on_destination (now.rows ++ (now.begun, first_row slice 0 begins.destination) ∷ [])
+  row_so (Was_read loads same) =
+      let loaded = loads.on [] in
+      completed_destinations now.begun loaded.bytes loaded.next now' loaded.came ∙ ap (λ (s : board.Seen). on_destination s.rows) loaded.begun
+  row_so (Was_asked has shelf gave) = ap (λ (s : board.Seen). on_destination s.rows) has.begun.row
 
   pub one_more : length now'.rows ≡ length now.rows + 1
   one_more =
       let bound : on_destination now'.rows ≡ on_destination now.rows ++ begins.destination ∷ [] =
-      completed_destinations now.begun loaded.bytes loaded.next now' loaded.came ∙ ap (λ (s : board.Seen). on_destination s.rows) loaded.begun
+      row_so begins.begins
       ∙ bound_append (λ row. row.destination) now.rows ((now.begun, first_row slice 0 begins.destination) ∷ []) in
       sym (bound_many (λ row. row.destination) now'.rows) ∙ ap (λ (l : List ℕ). length l) bound ∙ length-append (on_destination now.rows) (begins.destination ∷ [])
       ∙ ap (λ (n : ℕ). n + 1) (bound_many (λ row. row.destination) now.rows)
@@ -90,10 +97,9 @@ module _ (file : ℕ) (slice : Slice) (now now' : board.Seen) (a b : Option Shel
       length now.rows < limit → Deals limit counts counts' now now'
   deals_begun limit counts counts' fewest counted fits less = record {
     on = λ count dealt.
-        subst (λ (l : List ℕ). IsDealt limit count counts' l) (sym (completed_destinations now.begun loaded.bytes loaded.next now' loaded.came))
-        (side_begins (λ row. row.destination) limit count now.begun begins.destination (first_row slice 0 begins.destination) now.rows loaded.next.rows counts counts' refl (ap (λ (s
-        : board.Seen). s.rows) loaded.begun)
-        counted fits less fewest dealt);
+        subst (λ (l : List ℕ). IsDealt limit count counts' l) (sym (row_so begins.begins))
+        (side_begins (λ row. row.destination) limit count now.begun begins.destination (first_row slice 0 begins.destination) now.rows
+        (now.rows ++ (now.begun, first_row slice 0 begins.destination) ∷ []) counts counts' refl refl counted fits less fewest dealt);
   }
 
 -- Jobs.

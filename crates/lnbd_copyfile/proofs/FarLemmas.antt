@@ -27,17 +27,19 @@ use Rattle.lnbd_course.specs.Told.{Known}
 use Rattle.lnbd_link.specs.Call as wire
 use Rattle.lnbd_model.specs.declared.target.Place.{Place}
 use Rattle.lnbd_poll.specs.Seen.{Seen}
-use Rattle.lnbd_store.specs.Shelf.{Shelf}
+use Rattle.lnbd_store.specs.Shelf.{IsOpen, Shelf}
 use Rattle.lnbd_copyfile.specs.Loading.{HasLoaded}
 use Rattle.lnbd_course.specs.FarCourse.{FarCourse}
-use Rattle.lnbd_course.specs.FarLaws.{ComesAtOnce, IsReadWhole}
+use Rattle.lnbd_course.specs.FarLaws.{ComesAtOnce}
 use Rattle.lnbd_course.proofs.Ending.{planned_once}
-use Rattle.lnbd_course.proofs.FarEnding.{from_file_ends, to_file_ends}
+use Rattle.lnbd_course.proofs.FarEnding.{to_file_ends}
 use Rattle.lnbd_course.proofs.FarKeeping.{board_moves_keep_far, changes_keep_far, first_changes_keep_far, reads_keep_far}
+use Rattle.lnbd_copyfile.specs.Holes.{AreHoles, IsReadWhole}
 use Rattle.lnbd_copyfile.specs.Making.{Changed, Ended, IsBegun, IsBelow, MadeMore, Rested}
 use Rattle.lnbd_copyfile.specs.OneSide.{BeginningKeeps, FromFileIsCopied, GoingKeeps, LoadingKeeps, ToFileIsCopied}
 use Rattle.lnbd_model.specs.Kind.{is_read}
 use Rattle.lnbd_copyfile.proofs.MadeLemmas.{bytes_joined}
+use Rattle.lnbd_copyfile.proofs.SparseLemmas.{sparse_ends}
 
 -- What a step of the board leaves of the rest of it.
 
@@ -199,15 +201,21 @@ to_file_is_copied path n size made from how slices now calls wanted known cells 
       );
 }
 
+same_shelf : {x y : Shelf} → Some x ≡ Some y → x ≡ y
+same_shelf e = cc
+
 pub from_file_is_copied : FromFileIsCopied
-from_file_is_copied path n size room read to how slices now calls wanted known cells windows a b c source touched course over well planned fits = record {
+from_file_is_copied path n size room read to how slices now calls wanted known cells windows zero a b c source touched holes course over well planned fits = record {
   on = λ shelf e.
       let two = touched.on shelf e in
       let one = source.on two.0 two.1 in
       let bytes = one.2.bytes in
       let file = two.2.file path bytes one.2.opened in
       let each : Each (IsRead bytes) read = subst (λ (xs : List ℕ). Each (IsRead xs) read) file.2.same (file.2.on tt) in
-      let whole : IsReadWhole how cells windows (length bytes) slices = subst (λ (k : ℕ). IsReadWhole how cells windows k slices) (sym one.2.size_) planned in
+      let told = holes.on shelf e in
+      let hole = told.2.file path bytes (subst (λ (s : Shelf). IsOpen s n path bytes) (same_shelf (sym two.1 ∙ told.1)) one.2.opened) in
+      let are : AreHoles zero bytes = subst (λ (xs : List ℕ). AreHoles zero xs) hole.2.same (hole.2.on (λ p within none. absurd (true_false (sym none)))) in
+      let whole : IsReadWhole how cells windows zero (length bytes) slices = subst (λ (k : ℕ). IsReadWhole how cells windows zero k slices) (sym one.2.size_) planned in
       let room_ : length bytes ≤ room = subst (λ (k : ℕ). k ≤ room) (sym one.2.size_) fits in (
         one.0,
         one.1,
@@ -215,7 +223,7 @@ from_file_is_copied path n size room read to how slices now calls wanted known c
           bytes = bytes;
           file = one.2.file;
           size_ = one.2.size_;
-          held = λ before end honest bare. from_file_ends read to room how slices now calls wanted known cells windows bytes course over well whole each room_ before end honest bare;
+          held = λ before end honest bare. sparse_ends read to room how slices now calls wanted known cells windows zero bytes course over well whole each are room_ before end honest bare;
           same = file.1 ∙ ap (λ (xs : List ℕ). Some xs) file.2.same;
           rest = λ other d. two.2.rest path other one.2.opened.path_ d ∙ one.2.rest other d;
         },

@@ -10,7 +10,7 @@ use Rattle.lnbd_copyfile.specs.Steps.{AreCounted, Fills, IsSlice, Lacking, Moved
 use Rattle.lnbd_copyfile.specs.Zeros.{in_zero_piece, is_zero_at}
 use Rattle.lnbd_copyfile.proofs.CountLemmas.{counted_then, slice_counted}
 
-zeros_apart : (n rest : ℕ) → replicate {A = ℕ} (n + rest) 0 ≡ replicate n 0 ++ replicate rest 0
+pub zeros_apart : (n rest : ℕ) → replicate {A = ℕ} (n + rest) 0 ≡ replicate n 0 ++ replicate rest 0
 zeros_apart n rest = sym (replicate-append-replicate n rest 0)
 
 zeros_behind : (n rest : ℕ) → drop n (replicate {A = ℕ} (n + rest) 0) ≡ replicate rest 0

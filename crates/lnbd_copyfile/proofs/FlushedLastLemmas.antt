@@ -1,5 +1,5 @@
 -- A copy from a file comes to rest where all its slices are over, before the export is asked to flush, and stays so.
-use Rattle.std.proofs.Common.{◌≡◌, ◌≤◌, ◌-◌, ℕ, false, List, [], ◌++◌, Option, None, ap, sym, subst, ◌∙◌, arith, append_assoc}
+use Rattle.std.proofs.Common.{◌≡◌, ◌≤◌, ◌-◌, ℕ, Bool, false, List, [], ◌++◌, Option, None, ap, sym, subst, ◌∙◌, arith, append_assoc}
 use Rattle.std.proofs.lemmas.Bool.{false≢true}
 use Rattle.lnbd_link.specs.Call as wire
 use Rattle.lnbd_model.specs.declared.target.Place.{Place}
@@ -32,10 +32,10 @@ same_summary size one other r w z =
     ap (λ (a : ℕ). sum a one.written one.zeroed) r ∙ ap (λ (b : ℕ). sum other.read b one.zeroed) w ∙ ap (λ (c : ℕ). sum other.read other.written c) z
 
 -- All slices are over, and no flush was asked for.
-came_to_rest : (job : Seen) (read : List Request) (way : Way) (now : board.Seen) (calls : List wire.Call) (held : List (Held Ticket)) → IsOver job now → now.flushing ≡ false → IsJob job way now →
+came_to_rest : (job : Seen) (read : List Request) (zero : ℕ → Bool) (way : Way) (now : board.Seen) (calls : List wire.Call) (held : List (Held Ticket)) → IsOver job now → now.flushing ≡ false → IsJob job zero way now →
     IsUnderWay (FromFile read) way now calls held → job.terms.size ≤ 18446744073709551615 → now.error ≡ None →
     CameToRestFrom job.terms.size way.at (summary_of job.terms.size now) calls
-came_to_rest job read way now calls held over unflushed had on few well =
+came_to_rest job read zero way now calls held over unflushed had on few well =
     let parts = had.planned.parts in
     let b : FarCourse (FromFile read) way.at way.size way.how way.slices now calls [] None way.known =
     subst (λ (o : Option (ℕ × ℕ)). FarCourse (FromFile read) way.at way.size way.how way.slices now calls [] o way.known) had.unasked
@@ -43,18 +43,18 @@ came_to_rest job read way now calls held over unflushed had on few well =
     record {
       read = read;
       sums = ended_sums_far (FromFile read) way.at way.size job.terms.size way.how way.slices job.windows.plan.slices now calls None way.known job.windows.plan.cells (told_by 0 parts) job.terms.size
-          b over.rows well (planned_once job.windows.plan.cells parts job.terms.size (way.slices ++ job.windows.plan.slices) had.planned.are (had.planned.end ∙ had.whole)) (omega arith) few;
+          b over.rows well (planned_once job.windows.plan.cells parts job.terms.size (way.slices ++ job.windows.plan.slices) had.planned.are (had.planned.end ∙ over.planned)) (omega arith) few;
       done = ended_are_all_done_far (FromFile read) way.at way.size way.how way.slices now calls way.known b over.rows well (λ e. absurd (false≢true (sym unflushed ∙ e)));
       unflushed = ended_unflushed_far read way.at way.size way.how way.slices now calls None way.known b unflushed;
     }
 
 -- So it is in whatever phase it is next, with the flush asked for or not.
-pub rests : (job : Seen) (phase : Phase) (read : List Request) (way : Way) (now now' : board.Seen) (calls : List wire.Call) (held : List (Held Ticket)) → IsOver job now → now.flushing ≡ false →
-    summary_of job.terms.size now' ≡ summary_of job.terms.size now → now'.error ≡ now.error → IsJob job way now → IsUnderWay (FromFile read) way now calls held →
+pub rests : (job : Seen) (phase : Phase) (read : List Request) (zero : ℕ → Bool) (way : Way) (now now' : board.Seen) (calls : List wire.Call) (held : List (Held Ticket)) → IsOver job now → now.flushing ≡ false →
+    summary_of job.terms.size now' ≡ summary_of job.terms.size now → now'.error ≡ now.error → IsJob job zero way now → IsUnderWay (FromFile read) way now calls held →
     HasRested phase job.terms.size way.at now' calls
-rests job phase read way now now' calls held over unflushed same error had on = λ past few well.
+rests job phase read zero way now now' calls held over unflushed same error had on = λ past few well.
     at_once calls (subst (λ (s : Summary). CameToRestFrom job.terms.size way.at s calls) (sym same)
-    (came_to_rest job read way now calls held over unflushed had on few (sym error ∙ well)))
+    (came_to_rest job read zero way now calls held over unflushed had on few (sym error ∙ well)))
 
 -- While slices are copied nothing is said of that.
 pub rests_not : (phase : Phase) (size : ℕ) (to : Place) (now : board.Seen) (calls : List wire.Call) → phase ≡ Copying → HasRested phase size to now calls

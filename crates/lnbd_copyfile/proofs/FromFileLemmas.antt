@@ -26,9 +26,10 @@ use Rattle.lnbd_copyfile.specs.FromFile.{AreMade, GoesFurther, HasAgreed, HasMet
 use Rattle.lnbd_copyfile.specs.FlushedLast.{HasRested}
 use Rattle.lnbd_copyfile.specs.FromFileJob as work
 use Rattle.lnbd_copyfile.specs.FromFileJob.{Acts, IsJob}
+use Rattle.lnbd_copyfile.specs.Holes.{ToldHoles, nowhere}
 use Rattle.lnbd_copyfile.specs.Loading.{ToldMore}
 use Rattle.lnbd_copyfile.proofs.FlushedLastLemmas.{rests_later, rests_not}
-use Rattle.lnbd_copyfile.proofs.FromFileJobLemmas.{job_filed}
+use Rattle.lnbd_copyfile.proofs.FromFileJobLemmas.{holes_none, holes_then, job_filed}
 use Rattle.lnbd_copyfile.proofs.SendingLemmas.{told_none, told_then}
 
 -- Connections are made.
@@ -108,10 +109,11 @@ joins to terms start a b c copy mid copy' more same dials goes met = record {
 pub going_first : (to : Place) (file : ℕ) (terms : Terms) (start told : Option (List wire.Call)) (copy copy' : Seen) (job : work.Seen) (shelf : Option Shelf) (given : ℕ) →
     copy'.held ≡ copy.held → copy'.board ≡ new_board terms.how → copy.board.error ≡ None →
     ((way : Way) (now : board.Seen) (room : ℕ) → way.size ≡ Some room → terms.size ≤ room → way.how ≡ terms.how → now.how ≡ terms.how → way.slices ≡ [] → way.asked ≡ None → now.flushing ≡
-    false → IsJob job way now) → job.phase ≡ Copying →
+    false → IsJob job nowhere way now) → job.phase ≡ Copying →
     HasMet to terms start told copy → IsGoing to file job start told copy' shelf shelf given given
 going_first to file terms start told copy copy' job shelf given held fresh well begins copying met = record {
   read = [];
+  zero = nowhere;
   way = new_way to (Some met.room) terms.how;
   at = refl;
   is = begins (new_way to (Some met.room) terms.how) copy'.board met.room refl met.fits refl (ap (λ (s : board.Seen). s.how) fresh) refl refl (ap (λ (s : board.Seen). s.flushing) fresh);
@@ -127,6 +129,7 @@ going_first to file terms start told copy copy' job shelf given held fresh well 
         flushed = ap (λ (s : board.Seen). s.flushed) fresh;
       })) met.made.on);
   touched = touches_none file (ToldMore [] []) shelf (told_none []);
+  holes = touches_none file (ToldHoles nowhere nowhere) shelf (holes_none nowhere);
   gave = rose_none given;
   rests = told_map start told (λ calls on. rests_not job.phase job.terms.size to copy'.board calls copying) met.made.on;
 }
@@ -160,12 +163,14 @@ module _ (file : ℕ) (job : work.Seen) (a b : Option (List wire.Call)) (copy co
   further_turned goes lasts = record {
     on = λ to start opened before going. record {
       read = going.read;
+      zero = going.zero;
       way = going.way;
       at = going.at;
-      is = job_filed job going.way copy.board copy'.board (goes.filed going.stand) going.is;
+      is = job_filed job going.zero going.way copy.board copy'.board (goes.filed going.stand) going.is;
       stand = goes.stand going.stand;
       on = goes.on (FromFile going.read) going.way start going.stand going.on;
       touched = going.touched;
+      holes = going.holes;
       gave = going.gave;
       rests = rests_later job.phase job.terms.size to copy.board copy'.board start a b (goes.filed going.stand) (lasts going.stand) going.rests;
     };
@@ -175,12 +180,14 @@ module _ (file : ℕ) (job : work.Seen) (a b : Option (List wire.Call)) (copy co
   further_left parting leaves lasts = record {
     on = λ to start opened before going. record {
       read = going.read;
+      zero = going.zero;
       way = going.way;
       at = going.at;
-      is = job_filed job going.way copy.board copy'.board leaves.filed going.is;
+      is = job_filed job going.zero going.way copy.board copy'.board leaves.filed going.is;
       stand = leaves.stand going.stand;
       on = leaves.on (FromFile going.read) going.way start going.is.unasked (going.is.over (λ copying. parting_past (sym parting ∙ copying))).rows going.on;
       touched = going.touched;
+      holes = going.holes;
       gave = going.gave;
       rests = rests_later job.phase job.terms.size to copy.board copy'.board start a b leaves.filed lasts going.rests;
     };
@@ -193,9 +200,10 @@ pub further_acted : (file : ℕ) (job job' : work.Seen) (a : Option (List wire.C
     Acts file job job' copy.board copy'.board copy.held copy'.held shelf shelf' given given' → GoesFurther file job job' a a copy copy' shelf shelf' given given'
 further_acted file job job' a copy copy' shelf shelf' given given' acts = record {
   on = λ to start opened before going.
-      let further = acts.on going.read going.way going.is in
+      let further = acts.on going.read going.zero going.way going.is in
       record {
         read = further.read';
+        zero = further.zero';
         way = further.way';
         at = further.one.at ∙ going.at;
         is = further.job;
@@ -203,10 +211,12 @@ further_acted file job job' a copy copy' shelf shelf' given given' acts = record
         on = told_map start a further.on going.on;
         touched = touches_then file (ToldMore [] going.read) (ToldMore going.read further.read') (ToldMore [] further.read') opened shelf shelf'
             (λ x y z f g. told_then [] going.read further.read' x y z f g) going.touched further.touched;
+        holes = touches_then file (ToldHoles nowhere going.zero) (ToldHoles going.zero further.zero') (ToldHoles nowhere further.zero') opened shelf shelf'
+            (λ x y z f g. holes_then nowhere going.zero further.zero' x y z f g) going.holes further.holes;
         gave = subst (λ (n : ℕ). RoseBy n before given') (sym further.more) (rose_then (bytes_of is_read going.read) further.count before given given' going.gave further.gave);
         rests = told_map start a (λ calls both.
             subst (λ (p : Place). HasRested job'.phase job'.terms.size p copy'.board calls) going.at
-            (acts.rests going.read going.way calls going.is both.0
+            (acts.rests going.read going.zero going.way calls going.is both.0
             (subst (λ (p : Place). HasRested job.phase job.terms.size p copy.board calls) (sym going.at) both.1))) (told_both start a going.on going.rests);
       };
 }

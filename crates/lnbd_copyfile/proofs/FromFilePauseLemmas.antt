@@ -1,5 +1,6 @@
 -- At each pause of a copy from a file to an export as much is under way as may be.
-use Rattle.std.proofs.Common.{◌≡◌, ◌≢◌, ◌≤◌, inl, inr, ℕ, List, [], ◌∷◌, length, Option, None, refl, ap, sym, subst, ◌∙◌, arith}
+use Rattle.std.proofs.Common.{◌≡◌, ◌≢◌, ◌≤◌, inl, inr, ℕ, false, List, [], ◌∷◌, length, Option, None, refl, ap, sym, subst, ◌∙◌, arith}
+use Rattle.std.proofs.lemmas.Bool.{false≢true}
 use Rattle.lnbd_link.specs.Call as wire
 use Rattle.lnbd_link.specs.Part.{Adds}
 use Rattle.lnbd_link.specs.declared.wires.Want.{Want}
@@ -29,18 +30,20 @@ use Rattle.lnbd_copy.proofs.SettledLemmas.{same_since, told_both}
 use Rattle.lnbd_copy.proofs.TurnLemmas.{since_on, told_begins, told_map}
 use Rattle.lnbd_store.specs.Shelf.{Shelf}
 use Rattle.lnbd_connections.specs.Steps as steps
-use Rattle.lnbd_connections.specs.Unmoved.{IsUnmoved, PausesUnmoved}
+use Rattle.lnbd_connections.specs.Unready.{AwaitsMore, IsUnready, KeepsAwaiting, PausesUnready}
+use Rattle.lnbd_connections.proofs.UnreadyLemmas.{awaits_first}
 use Rattle.lnbd_copyfile.specs.declared.from_file_job.Phase.{Phase}
 use Rattle.lnbd_copyfile.specs.declared.from_file_job.Phase.TheVariants.{Copying, Flushing, Parting}
-use Rattle.lnbd_copyfile.specs.FromFile.{AreMade, GoesFurther, IsGoing, Seen, new_way}
+use Rattle.lnbd_copyfile.specs.FromFile.{GoesFurther, HasNotBegun, IsGoing, Seen, new_way}
 use Rattle.lnbd_copyfile.specs.FromFileFull.{HasAllUnderWayFrom, IsFullFrom, IsFullPauseFrom, PausesAreFullFrom}
 use Rattle.lnbd_copyfile.specs.FromFileJob as work
-use Rattle.lnbd_copyfile.specs.FromFilePauses.{GoesFull, IsFullSoFar, PausesFull, RestsFull}
+use Rattle.lnbd_copyfile.specs.FromFilePauses.{GoesFull, IsAwaited, IsFullSoFar, PausesFull, RestsFull}
 use Rattle.lnbd_copyfile.specs.Sent.{HasNothingToSend}
 use Rattle.lnbd_copyfile.specs.Shares.{AreSettledFrom}
 use Rattle.lnbd_copyfile.specs.SharingFrom.{HasTermsFrom}
 use Rattle.lnbd_copyfile.specs.ToFilePauses.{HoldsAll}
 use Rattle.lnbd_copyfile.proofs.AllHeldLemmas.{all_held}
+use Rattle.lnbd_copyfile.proofs.FromFileLemmas.{made_first}
 use Rattle.lnbd_copyfile.proofs.FromFileFullLemmas.{full_copying_from, full_over_from}
 use Rattle.lnbd_copyfile.proofs.ToFilePauseLemmas.{holds_on, same_count}
 
@@ -116,7 +119,7 @@ module _ (file : ℕ) (j j1 : work.Seen) (c0 c1 c2 c3 : Seen) (t0 t1 t3 : Option
         IsFullSoFar options file to start t3 j1 c3 opened y before u → Told start t3 (λ calls. IsFullFrom j1.terms to calls)
     over_so options to start opened before not new =
         let g = new.going in
-        told_map start t3 (λ calls on. subst (λ (p : Place). IsFullFrom j1.terms p calls) g.at (full_over_from j1 g.way c3.board calls c3.held g.read g.is new.ends on well (g.is.over not))) g.on
+        told_map start t3 (λ calls on. subst (λ (p : Place). IsFullFrom j1.terms p calls) g.at (full_over_from j1 g.zero g.way c3.board calls c3.held g.read g.is on well (g.is.over not))) g.on
 
     under_way : (options : CopyOptions) (to : Place) (start : Option (List wire.Call)) (opened : Option Shelf) (before : ℕ) (p : Phase) → j1.phase ≡ p → NoneForWriting (wants_now c3.held) →
         IsFullSoFar options file to start t3 j1 c3 opened y before u → Told start t3 (λ calls. IsFullFrom j1.terms to calls)
@@ -128,7 +131,7 @@ module _ (file : ℕ) (j j1 : work.Seen) (c0 c1 c2 c3 : Seen) (t0 t1 t3 : Option
         let same : c2.board ≡ c3.board = sym (ap (λ (s : Seen). s.board) (stays none).0) in
         told_map start t3
         (λ calls all. subst (λ (p : Place). IsFullFrom j1.terms p calls) g.at
-        (full_copying_from j1 g.way c3.board calls c3.held g.read g.is new.ends all.0 well (subst (λ (s : board.Seen). HasNothingToSend j1 s) same (nothing e)) (new.within none) quiet
+        (full_copying_from j1 g.zero g.way c3.board calls c3.held g.read g.is all.0 well (subst (λ (s : board.Seen). HasNothingToSend j1 s) same (nothing e)) (new.within none) quiet
         (all_held calls c3.held all.0.seens all.0.at all.1.0 (let to_ : length (targets calls) ≡ length holds.to = ap (λ (l : List Target). length l) all.1.1 in omega (arith, to_, many)))))
         (told_both start t3 g.on (told_both start t3 holds.links holds.connects))
     under_way options to start opened before Flushing e quiet new = over_so options to start opened before (λ copying. flushing_not (sym e ∙ copying)) new
@@ -177,30 +180,47 @@ module _ (file : ℕ) (j j1 : work.Seen) (c0 c3 c4 : Seen) (t0 t3 t4 : Option (L
 
 -- From the beginning.
 
--- until a slice is begun no byte is asked for
-pub unmoved_full_from : (options : CopyOptions) (to : Place) (start told : Option (List wire.Call)) → Told start told (AtEachPause (IsUnmoved to)) → Told start told (PausesAreFullFrom options to)
-unmoved_full_from options to start told unmoved = told_map start told (λ calls each before after wants are none. inl (each before after wants are)) unmoved
+-- until all are ready a connection negotiates still
+pub unready_full_from : (options : CopyOptions) (to : Place) (start told : Option (List wire.Call)) → Told start told (AtEachPause (IsUnready false to)) → Told start told (PausesAreFullFrom options to)
+unready_full_from options to start told unready = told_map start told (λ calls each before after wants are none. inl (each before after wants are none)) unready
 
 -- before any is made
-pub first_unmoved : (to : Place) (start told : Option (List wire.Call)) → Unpaused start told → Told start told (AtEachPause (IsUnmoved to))
-first_unmoved to start told unpaused = told_stays start start told unpaused (told_begins start (no_pauses (IsUnmoved to)))
+pub first_unready : (to : Place) (start told : Option (List wire.Call)) → Unpaused start told → Told start told (AtEachPause (IsUnready false to))
+first_unready to start told unpaused = told_stays start start told unpaused (told_begins start (no_pauses (IsUnready false to)))
 
 -- while connections are made
-pub made_unmoved : (to : Place) (room : Option ℕ) (start a b : Option (List wire.Call)) (copy : Seen) → AreMade to room start a copy → PausesUnmoved copy.board copy.held a b →
-    Told start a (AtEachPause (IsUnmoved to)) → Told start b (AtEachPause (IsUnmoved to))
-made_unmoved to room start a b copy made unmoved pauses = unmoved.on (FromFile []) (new_way to room made.how) start refl made.stand made.on pauses
+module _ (to : Place) (start a b : Option (List wire.Call)) (copy copy2 : Seen) where
+  pub awaits_more : AwaitsMore to false copy.board copy.held a copy2.board copy2.held b → IsAwaited to start a copy → IsAwaited to start b copy2
+  awaits_more more was = record {
+    how = was.how;
+    so = more.on false (FromFile []) (new_way to None was.how) start refl (λ none. refl) (λ asks. absurd (false≢true asks)) was.so;
+  }
+
+  pub awaits_settled : KeepsAwaiting copy.board copy.held a copy2.board copy2.held b → IsAwaited to start a copy → IsAwaited to start b copy2
+  awaits_settled keeps was = record { how = was.how; so = keeps.on false (FromFile []) (new_way to None was.how) start was.so }
+
+pub unready_settled : (to : Place) (start a b : Option (List wire.Call)) (copy : Seen) → PausesUnready copy.board copy.held a b → IsAwaited to start a copy →
+    Told start b (AtEachPause (IsUnready false to))
+unready_settled to start a b copy pauses was = pauses.on false (FromFile []) (new_way to None was.how) start was.so
+
+-- the first one
+pub awaits_met : (to : Place) (start b : Option (List wire.Call)) (copy mid : Seen) → HasNotBegun copy → AwaitsMore to false copy.board copy.held start mid.board mid.held b → IsAwaited to start b mid
+awaits_met to start b copy mid new more =
+    let made = made_first to start copy new in
+    awaits_more to start start b copy mid more
+    (record { how = made.how; so = awaits_first false (FromFile []) (new_way to None made.how) start copy.board copy.held new.held made.stand made.on })
 
 -- All is ready.
 pub full_begun : (options : CopyOptions) (file : ℕ) (to : Place) (start told : Option (List wire.Call)) (job : work.Seen) (copy : Seen) (shelf : Option Shelf) (given : ℕ) →
     IsGoing to file job start told copy shelf shelf given given → HoldsAll start told copy.held → job.windows.size ≡ job.terms.size → HasTermsFrom options to start told job.terms →
-    copy.board.rows ≡ [] → Told start told (AtEachPause (IsUnmoved to)) → IsFullSoFar options file to start told job copy shelf shelf given given
-full_begun options file to start told job copy shelf given going holds ends terms empty unmoved = record {
+    copy.board.rows ≡ [] → Told start told (AtEachPause (IsUnready false to)) → IsFullSoFar options file to start told job copy shelf shelf given given
+full_begun options file to start told job copy shelf given going holds ends terms empty unready = record {
   going = going;
   holds = λ none. holds;
   ends = ends;
   terms = terms;
   within = λ none. (let none : length copy.board.rows ≡ 0 = ap (λ (l : List (ℕ × Row)). length l) empty in omega (arith, none));
-  pauses = unmoved_full_from options to start told unmoved;
+  pauses = unready_full_from options to start told unready;
 }
 
 -- The part that the transcript grew by is so.

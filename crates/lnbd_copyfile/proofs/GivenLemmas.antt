@@ -205,18 +205,18 @@ unasked_on terms to calls u = record {
 }
 
 -- By what the rows of a board say.
-module _ (job : work.Seen) (way : Way) (now : board.Seen) (is : IsJob job way now) (read : List Request) (calls : List wire.Call) (a : Asks (FromFile read) way now.flushing calls) where
+module _ (job : work.Seen) (zero : ℕ → Bool) (way : Way) (now : board.Seen) (is : IsJob job zero way now) (read : List Request) (calls : List wire.Call) (a : Asks (FromFile read) way now.flushing calls) where
   abbrev dealt : Dealt
   dealt = dealt_with way.at calls
 
-  planned : (p : ℕ) → IsPlannedOnce job.windows.plan.cells (told_by 0 is.planned.parts) 0 job.terms.size p (way.slices ++ job.windows.plan.slices)
-  planned = planned_once job.windows.plan.cells is.planned.parts job.terms.size (way.slices ++ job.windows.plan.slices) is.planned.are (is.planned.end ∙ is.whole)
+  planned : (p : ℕ) → IsPlannedOnce job.windows.plan.cells (told_by 0 is.planned.parts) 0 job.windows.plan.end p (way.slices ++ job.windows.plan.slices)
+  planned = planned_once job.windows.plan.cells is.planned.parts job.windows.plan.end (way.slices ++ job.windows.plan.slices) is.planned.are is.planned.end
 
   once : HasAskedOnceFar way.how.allocated way.how.skip job.terms.size (FromFile read) way.at calls
   once = record {
     links = a.links;
-    asked = asked_once way.how job.windows.plan.cells (told_by 0 is.planned.parts) job.terms.size job.terms.size way.slices job.windows.plan.slices a.rows read a.asked (dealt_by job.terms.size read) dealt
-        a.stands planned (omega arith) (apart_are_dealt job.terms.size read (numbered_apart 0 read a.numbered)).only a.only;
+    asked = asked_once way.how job.windows.plan.cells (told_by 0 is.planned.parts) job.windows.plan.end job.terms.size way.slices job.windows.plan.slices a.rows read a.asked (dealt_by job.terms.size read) dealt
+        a.stands planned (let within = is.planned.within in let ends = is.ends in omega (arith, within, ends)) (apart_are_dealt job.terms.size read (numbered_apart 0 read a.numbered)).only a.only;
   }
 
   one_flush : OneFlushes dealt
@@ -248,7 +248,7 @@ further_as : (file : ℕ) (job : work.Seen) (a b : Option (List wire.Call)) (cop
     Told start a (AsksOn job.terms to) → Told start b (AsksOn job.terms to)
 further_as file job a b copy shelf given to start opened before going (inl idly) was = told_idly (AsksOn job.terms to) start a b (asked_on_stays job.terms to) idly was
 further_as file job a b copy shelf given to start opened before going (inr asks) was =
-    told_map start b (λ calls x. subst (λ (p : Place). AsksOn job.terms p calls) going.at (job_asks job going.way copy.board going.is going.read calls x)) asks
+    told_map start b (λ calls x. subst (λ (p : Place). AsksOn job.terms p calls) going.at (job_asks job going.zero going.way copy.board going.is going.read calls x)) asks
 
 pub asks_further : (file : ℕ) (job : work.Seen) (a b : Option (List wire.Call)) (copy : Seen) (shelf : Option Shelf) (given : ℕ) → AsksNone copy.board copy.held a b →
     AsksFurther file job a b copy shelf given

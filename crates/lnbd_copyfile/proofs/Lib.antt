@@ -4,6 +4,7 @@ pub mod OneFileLemmas
 pub mod CauseLemmas
 pub mod CountLemmas
 pub mod FillLemmas
+pub mod HoleLemmas
 pub mod OpeningLemmas
 pub mod PieceLemmas
 pub mod ShelfLemmas
@@ -21,6 +22,8 @@ pub mod BoundRows
 pub mod ToFileJobLemmas
 pub mod WaitLemmas
 pub mod SendingLemmas
+pub mod SparseLemmas
+pub mod ExtentLemmas
 pub mod FromFileJobLemmas
 pub mod FromFileLemmas
 pub mod CopiedLemmas
@@ -46,3 +49,4 @@ pub mod SentLemmas
 pub mod FarFullFromLemmas
 pub mod FromFileFullLemmas
 pub mod FromFilePauseLemmas
+mod FileCopyLemmas

@@ -40,7 +40,7 @@ use Rattle.lnbd_connections.specs.Uses.{Uses, UsesTo}
 use Rattle.lnbd_connections.specs.Way.{IsUnderWay, Way}
 use Rattle.lnbd_connections.proofs.UseLemmas.{uses_all, uses_before, uses_end, uses_joined, uses_looked, uses_same, uses_then}
 use Rattle.lnbd_copyfile.specs.Conduct.{ConductsFar}
-use Rattle.lnbd_copyfile.specs.Connects.{ConnectsAsTold, ConnectsWithin, WasTold, connected_to}
+use Rattle.lnbd_copyfile.specs.Connects.{ConnectsAsTold, ConnectsWithin, WasInformed, connected_to}
 use Rattle.lnbd_copyfile.specs.Linked.{FindsMany, HasSettledOn, UsesAsTold, UsesOn, UsesWithin}
 
 -- no handle is held
@@ -51,7 +51,7 @@ none_stand held none = subst Stand (sym none) (record { seens = []; at = tt })
 
 pub shown_told : (far : Far) (way : Way) (now : board.Seen) (calls : List wire.Call) (held : List (Held Ticket)) (info : ExportInfo) → IsUnderWay far way now calls held →
     Happens (IsShown info) 0 held →
-    WasTold way.at info calls
+    WasInformed way.at info calls
 shown_told far way now calls held info on happens =
     let h = happens.on on.seens on.at in
     let between = on.stands in
@@ -71,7 +71,7 @@ pub settled_on : (far : Far) (way : Way) (now : board.Seen) (held : List (Held T
     FindsMany options many held → Told start told (λ calls. IsUnderWay far way now calls held) → HasSettledOn options at start told many
 settled_on far way now held options at start told many is finds on = record {
   info = finds.info;
-  shown = told_map start told (λ calls under. at_once calls (subst (λ (p : Place). WasTold p finds.info calls) is (shown_told far way now calls held finds.info under finds.shown))) on;
+  shown = told_map start told (λ calls under. at_once calls (subst (λ (p : Place). WasInformed p finds.info calls) is (shown_told far way now calls held finds.info under finds.shown))) on;
   are = finds.are;
 }
 

@@ -3,8 +3,13 @@ use Rattle.std.proofs.Common.{◌≡◌, ℕ, ◌+◌, ◌-◌, ◌<◌, List, [
 use Rattle.std.proofs.lemmas.List.{get_or-drop, get_or-take}
 use Rattle.lnbd_outcome.specs.Outcome as outcome
 use Rattle.lnbd_plan.specs.declared.grid.Slice.{Slice}
+use Rattle.lnbd_poll.specs.Held.{Held}
+use Rattle.lnbd_course.specs.Orders.{command_of}
+use Rattle.lnbd_copy.specs.Asked.{IsAsked}
 use Rattle.lnbd_board.specs.declared.ask.Ask.{Ask}
 use Rattle.lnbd_board.specs.declared.ask.Ask.TheVariants as ask
+use Rattle.lnbd_board.specs.declared.ask.Change.{Change}
+use Rattle.lnbd_board.specs.declared.ticket.Ticket.{Ticket}
 use Rattle.lnbd_board.specs.declared.ticket.Ticket.TheVariants as ticket
 use Rattle.lnbd_board.specs.Asks.{Begins, read_at}
 use Rattle.lnbd_board.specs.Board.{begun_with, first_row}
@@ -17,7 +22,8 @@ use Rattle.lnbd_touched.specs.Grown.{RoseBy}
 use Rattle.lnbd_touched.specs.Parts.{Tells}
 use Rattle.lnbd_touched.specs.Touches.{Touches}
 use Rattle.lnbd_touched.proofs.TouchLemmas.{touches_weaker}
-use Rattle.lnbd_copyfile.specs.Loading.{Loads, ToldMore}
+use Rattle.lnbd_copyfile.specs.Loading.{BeginsSlice, Loads, ToldMore, Was_asked}
+use Rattle.lnbd_copyfile.specs.Making.{IsBegun}
 use Rattle.lnbd_copyfile.proofs.ChangeLemmas.{within_is}
 use Rattle.lnbd_copyfile.proofs.MadeLemmas.{each_more}
 
@@ -68,3 +74,16 @@ loads file slice source destination now next now2 one number at buf bytes old ne
     gave = gave;
   };
 }
+
+-- A slice asks the export for a change first.
+pub asked_first : (file : ℕ) (slice : Slice) (source destination : ℕ) (now next now2 : Seen) (held held2 : List (Held Ticket)) (one : Ask) (change : Change) (number : ℕ) (a : Option Shelf) (given : ℕ)
+    → one ≡ ask.Change change → number ≡ now.begun → Begins now.how slice now.begun one now.rows next.rows → next ≡ begun_with now (first_row slice source destination) one → now2 ≡ next
+    → IsAsked destination (command_of number change) held held2 → BeginsSlice file slice source destination now now2 held held2 a a given given
+asked_first file slice source destination now next now2 held held2 one change number a given is begun begins row same asked = Was_asked (record {
+  one = change;
+  begun = subst (λ (s : Seen). IsBegun slice source destination (ask.Change change) now s) (sym same) (record {
+    begins = subst (λ (x : Ask). Begins now.how slice now.begun x now.rows next.rows) is begins;
+    row = subst (λ (x : Ask). next ≡ begun_with now (first_row slice source destination) x) is row;
+  });
+  asked = subst (λ (k : ℕ). IsAsked destination (command_of k change) held held2) begun asked;
+}) refl refl

@@ -15,7 +15,7 @@ pub between_order : (start end : ℕ) (pieces : List Slice) → LieBetween start
 between_order start end [] e = omega (arith, e)
 between_order start end (piece ∷ pieces) between = let l = between_order (start + piece.length) end pieces between.2 in omega (arith, l)
 
-front_zero : (n : ℕ) (bytes : List ℕ) → n ≤ length bytes → ((i : ℕ) → i < n → get_or bytes i 0 ≡ 0) → take n bytes ≡ replicate n 0
+pub front_zero : (n : ℕ) (bytes : List ℕ) → n ≤ length bytes → ((i : ℕ) → i < n → get_or bytes i 0 ≡ 0) → take n bytes ≡ replicate n 0
 front_zero n bytes fits zero =
     let size : length (take n bytes) ≡ n = let k = length-take n bytes in omega (arith, k, fits) in
     same_number_lists (take n bytes) (replicate n 0) (size ∙ sym (length-replicate {A = ℕ} n 0)) (λ k below. here k (omega (arith, below, size)))

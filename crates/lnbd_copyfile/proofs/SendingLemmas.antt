@@ -16,12 +16,13 @@ use Rattle.lnbd_board.specs.declared.row.Row.{Row}
 use Rattle.lnbd_board.specs.declared.ticket.Ticket.{Ticket}
 use Rattle.lnbd_board.specs.declared.ticket.Ticket.TheVariants as ticket
 use Rattle.lnbd_board.specs.Asks.{Keeps}
-use Rattle.lnbd_board.specs.Board.{AsksOn, EndsRow, IsNext}
+use Rattle.lnbd_board.specs.Board.{AsksOn, EndsRow, IsNext, first_row}
 use Rattle.lnbd_board.specs.Files as board
 use Rattle.lnbd_board.specs.Files.{came_with, is_unfit, or_error, rows_with}
-use Rattle.lnbd_board.specs.Requests.{Request}
+use Rattle.lnbd_board.specs.Requests.{Each, Request}
 use Rattle.lnbd_onesided.specs.Desk.{Completes}
-use Rattle.lnbd_tracks.specs.Mapping.{asks_extents}
+use Rattle.lnbd_onesided.specs.Honest.{IsRead}
+use Rattle.lnbd_tracks.specs.Mapping.{ToldAlike, asks_extents}
 use Rattle.lnbd_course.specs.Far.{FromFile}
 use Rattle.lnbd_course.specs.FarCourse.{FarCourse}
 use Rattle.lnbd_course.specs.Laws.{AsksDestination}
@@ -29,11 +30,11 @@ use Rattle.lnbd_course.specs.Orders.{command_of}
 use Rattle.lnbd_course.specs.Taken.{without_buffer}
 use Rattle.lnbd_course.proofs.FarKeeping as keeping
 use Rattle.lnbd_course.proofs.FarStanding.{completed_earlier}
-use Rattle.lnbd_course.proofs.Orders.{going_asks}
+use Rattle.lnbd_course.proofs.Orders.{beginning_asks, going_asks}
 use Rattle.lnbd_copy.specs.Asked.{IsAsked}
 use Rattle.lnbd_copy.specs.Way.{Stand}
 use Rattle.lnbd_copy.specs.Windows as windows
-use Rattle.lnbd_copy.proofs.BindingLemmas.{Binds as BindsRow, SameBindings, binds_on, same_without}
+use Rattle.lnbd_copy.proofs.BindingLemmas.{Binds as BindsRow, SameBindings, binds_first, binds_on, same_without}
 use Rattle.lnbd_copy.proofs.TurnLemmas.{asked_stand}
 use Rattle.lnbd_copy.proofs.DealingLemmas.{left_then, taken_none, taken_some}
 use Rattle.lnbd_store.specs.Shelf.{Shelf}
@@ -46,15 +47,18 @@ use Rattle.lnbd_connections.specs.Bound.{IsBound}
 use Rattle.lnbd_connections.proofs.BoundLemmas.{on_dealt}
 use Rattle.lnbd_connections.proofs.BoundWay.{bound_asked, bound_moved}
 use Rattle.lnbd_connections.proofs.WayLemmas.{way_asked, way_moved}
-use Rattle.lnbd_copyfile.specs.Loading.{HasLoaded, ToldMore}
-use Rattle.lnbd_copyfile.specs.Sending.{Begins, BeginsOne, PassesOn, Sends}
+use Rattle.lnbd_copyfile.specs.Loading.{BeginsSlice, HasAsked, HasLoaded, Loads, ToldMore, Was_asked, Was_read}
+use Rattle.lnbd_copyfile.specs.Sending.{BeginsOne, PassesOn, Sends}
 use Rattle.lnbd_copyfile.proofs.BoundRows.{binds_made}
-use Rattle.lnbd_copyfile.proofs.FarLemmas.{change_counts, loaded_with, loading_reads, loading_stands, row_alike, row_counts}
+use Rattle.lnbd_copyfile.proofs.FarLemmas.{change_counts, first_counts, loaded_with, loading_reads, loading_stands, row_alike, row_counts}
 
 -- What a file told.
 
 pub told_none : (read : List Request) (file : List ℕ) → ToldMore read read file file
 told_none read file = record { same = refl; on = λ each. each }
+
+pub told_same : (read : List Request) (old new : List ℕ) → new ≡ old → ToldMore read read old new
+told_same read old new same = record { same = same; on = λ each. subst (λ (file : List ℕ). Each (IsRead file) read) (sym same) each }
 
 pub told_then : (read read2 read3 : List Request) (x y z : List ℕ) → ToldMore read read2 x y → ToldMore read2 read3 y z → ToldMore read read3 x z
 told_then read read2 read3 x y z one two = record { same = two.same ∙ one.same; on = λ each. two.on (one.on each) }
@@ -125,12 +129,6 @@ passes_then now now2 now3 held held2 held3 first second = record {
       (first.on file planned shelf given) (second.on file planned shelf given);
 }
 
-pub begins_then : (file : ℕ) (p q r : windows.Seen) (now now2 now3 : board.Seen) (a b c : Option Shelf) (given given2 given3 : ℕ) →
-    Begins file p q now now2 a b given given2 → Begins file q r now2 now3 b c given2 given3 → Begins file p r now now3 a c given given3
-begins_then file p q r now now2 now3 a b c given given2 given3 first second = record {
-  on = λ held. sends_then file p q r now now2 now3 held held held a b c given given2 given3 (first.on held) (second.on held);
-}
-
 -- Slices go on.
 
 -- a change of a slice tells no extents
@@ -138,16 +136,17 @@ change_tells_none : (n : ℕ) (one : Change) → asks_extents (Issue (without_bu
 change_tells_none n (change.Write offset bytes) = refl
 change_tells_none n (change.Zero offset size flags) = refl
 
+-- its callback is that of the slice
+change_of_slice : (n : ℕ) (one : Change) → (without_buffer (command_of n one)).done ≡ ticket.Slice n
+change_of_slice n (change.Write offset bytes) = refl
+change_of_slice n (change.Zero offset size flags) = refl
+
 -- it is on the connection that its slice is bound to
 change_bound : {how : How} (n destination : ℕ) (one : Change) (now mid : board.Seen) → AsksOn how n destination one now mid →
     BindsRow false destination (without_buffer (command_of n one)).done now mid
 change_bound n destination one now mid asks =
     subst (λ (t : Ticket). BindsRow false destination t now mid) (sym (change_of_slice n one))
     (subst (λ (c : ℕ). BindsRow false c (ticket.Slice n) now mid) (sym asks.writes) (binds_on n asks.row asks.stage now mid asks.held (ap (λ (s : board.Seen). s.rows) asks.now)))
-  where
-    change_of_slice : (n : ℕ) (one : Change) → (without_buffer (command_of n one)).done ≡ ticket.Slice n
-    change_of_slice n (change.Write offset bytes) = refl
-    change_of_slice n (change.Zero offset size flags) = refl
 
 -- a step of the board, after which the copy stays on its way
 module _ (now now' : board.Seen) (held held' : List (Held Ticket)) where
@@ -281,61 +280,119 @@ module _ (file : ℕ) (slice : Slice) (destination : ℕ) (read : List Request) 
         (binds_made false slice 0 destination (ask.Read loaded.offset loaded.buf) now loaded.next now' now.begun loaded.bytes (record { begins = loaded.begins; row = loaded.begun }) loaded.came);
   }
 
-pub loads_begin : (file : ℕ) (slice : Slice) (told : Option Slice) (p q : windows.Seen) (now now' : board.Seen) (a b : Option Shelf) (given given' : ℕ) → told ≡ Some slice →
-    p.plan.slices ≡ option_to_list told ++ q.plan.slices → q ≡ record p { plan = record p.plan { slices = q.plan.slices } } → BeginsOne file slice now now' a b given given' →
-    Begins file p q now now' a b given given'
-loads_begin file slice told p q now now' a b given given' is taken others one = record {
-  on = λ held. record {
+-- what is known where the export was asked to change
+module _ (slice : Slice) (destination : ℕ) (now now' : board.Seen) (held held' : List (Held Ticket)) (has : HasAsked slice 0 destination now now' held held') where
+  asks_first : (way : Way) → way.how ≡ now.how → length way.slices ≡ now.begun →
+      AsksDestination way.how (without_buffer (command_of now.begun has.one)) way.slices (way.slices ++ slice ∷ []) now now'
+  asks_first way h count = subst (λ (w : How). AsksDestination w (without_buffer (command_of now.begun has.one)) way.slices (way.slices ++ slice ∷ []) now now') (sym h)
+      (beginning_asks now.how slice now.begun (ask.Change has.one) way.slices now now' count (λ none. sym (ap (λ (s : board.Seen). s.error) has.begun.row) ∙ none)
+      (first_counts slice 0 destination (ask.Change has.one) now now' has.begun) has.begun.begins)
+
+  asked_alike : ToldAlike now now'
+  asked_alike = record {
+    told = ap (λ (s : board.Seen). s.told) has.begun.row;
+    mapped = ap (λ (s : board.Seen). s.mapped) has.begun.row;
+    short = ap (λ (s : board.Seen). s.short) has.begun.row;
+  }
+
+  one_begun : now'.begun ≡ now.begun + length (slice ∷ [])
+  one_begun = let begun = ap (λ (s : board.Seen). s.begun) has.begun.row in omega (arith, begun)
+
+  asked_on : (read : List Request) (way : Way) (calls : List wire.Call) → way.how ≡ now.how → IsUnderWay (FromFile read) way now calls held →
+      IsUnderWay (FromFile read) (with_slices (slice ∷ []) way) now' calls held'
+  asked_on read way calls h on = way_asked (FromFile read) way now calls held on (slice ∷ []) now' held' destination (command_of now.begun has.one) (has.asked.on on.seens on.at)
+      (asks_first way h on.begun) (change_tells_none now.begun has.one) asked_alike one_begun
+
+  asked_bound : (read : List Request) (way : Way) (calls : List wire.Call) → way.how ≡ now.how → IsBound false (FromFile read) way now calls held →
+      IsBound false (FromFile read) (with_slices (slice ∷ []) way) now' calls held'
+  asked_bound read way calls h on = bound_asked false (FromFile read) way now calls held on (slice ∷ []) now' held' destination (command_of now.begun has.one) (has.asked.on on.seens on.at)
+      (asks_first way h on.begun) (change_tells_none now.begun has.one) asked_alike one_begun (λ none. sym (ap (λ (s : board.Seen). s.error) has.begun.row) ∙ none)
+      (subst (λ (t : Ticket). BindsRow false destination t now now') (sym (change_of_slice now.begun has.one))
+      (binds_first false (first_row slice 0 destination) now now' (ap (λ (s : board.Seen). s.rows) has.begun.row)))
+
+module _ (file : ℕ) (slice : Slice) (told : Option Slice) (p q : windows.Seen) (now now' : board.Seen) (is : told ≡ Some slice)
+    (taken : p.plan.slices ≡ option_to_list told ++ q.plan.slices) (others : q ≡ record p { plan = record p.plan { slices = q.plan.slices } }) (destination : ℕ) where
+  read_sends : (held : List (Held Ticket)) (a b : Option Shelf) (given given' : ℕ) → Loads file slice 0 destination now now' a b given given' → Sends file p q now now' held held a b given given'
+  read_sends held a b given given' loads = record {
     more = slice ∷ [];
     handed = taken_some told slice p.plan.slices q.plan.slices is taken;
     others = others;
-    how = loaded_how file slice one.destination [] now now' a b given given' (one.loads.on []);
-    flushing = loaded_flushing file slice one.destination [] now now' a b given given' (one.loads.on []);
+    how = loaded_how file slice destination [] now now' a b given given' (loads.on []);
+    flushing = loaded_flushing file slice destination [] now now' a b given given' (loads.on []);
     stand = λ s. s;
-    on = λ read. let loaded = one.loads.on read in record {
-      read' = loaded_with file slice 0 one.destination read now now' a b given given' loaded;
-      on = λ way calls h on. loaded_on file slice one.destination read now now' a b given given' loaded way calls held h on;
-      bound = λ way calls h on. loaded_bound file slice one.destination read now now' a b given given' loaded way calls held h on;
+    on = λ read. let loaded = loads.on read in record {
+      read' = loaded_with file slice 0 destination read now now' a b given given' loaded;
+      on = λ way calls h on. loaded_on file slice destination read now now' a b given given' loaded way calls held h on;
+      bound = λ way calls h on. loaded_bound file slice destination read now now' a b given given' loaded way calls held h on;
       touched = loaded.touched;
       count = length loaded.bytes;
-      bytes = loading_reads file slice 0 one.destination read now now' a b given given' loaded;
+      bytes = loading_reads file slice 0 destination read now now' a b given given' loaded;
       gave = loaded.gave;
     };
-  };
-}
+  }
+
+  asked_sends : (held held' : List (Held Ticket)) (a : Option Shelf) (given : ℕ) → HasAsked slice 0 destination now now' held held' → Sends file p q now now' held held' a a given given
+  asked_sends held held' a given has = record {
+    more = slice ∷ [];
+    handed = taken_some told slice p.plan.slices q.plan.slices is taken;
+    others = others;
+    how = ap (λ (s : board.Seen). s.how) has.begun.row;
+    flushing = ap (λ (s : board.Seen). s.flushing) has.begun.row;
+    stand = asked_stand destination (command_of now.begun has.one) held held' has.asked;
+    on = λ read. record {
+      read' = read;
+      on = λ way calls h on. asked_on slice destination now now' held held' has read way calls h on;
+      bound = λ way calls h on. asked_bound slice destination now now' held held' has read way calls h on;
+      touched = touches_none file (ToldMore read read) a (told_none read);
+      count = 0;
+      bytes = omega arith;
+      gave = rose_none given;
+    };
+  }
+
+  slice_sends : (held held' : List (Held Ticket)) (a b : Option Shelf) (given given' : ℕ) → BeginsSlice file slice 0 destination now now' held held' a b given given' →
+      Sends file p q now now' held held' a b given given'
+  slice_sends held held' a b given given' (Was_read loads same) =
+      subst (λ (h : List (Held Ticket)). Sends file p q now now' held h a b given given') (sym same) (read_sends held a b given given' loads)
+  slice_sends held held' a b given given' (Was_asked has shelf gave) =
+      subst (λ (s : Option Shelf). Sends file p q now now' held held' a s given given') (sym shelf)
+      (subst (λ (n : ℕ). Sends file p q now now' held held' a a given n) (sym gave) (asked_sends held held' a given has))
+
+pub one_sends : (file : ℕ) (slice : Slice) (told : Option Slice) (p q : windows.Seen) (now now' : board.Seen) (held held' : List (Held Ticket)) (a b : Option Shelf) (given given' : ℕ) →
+    told ≡ Some slice → p.plan.slices ≡ option_to_list told ++ q.plan.slices → q ≡ record p { plan = record p.plan { slices = q.plan.slices } } →
+    BeginsOne file slice now now' held held' a b given given' → Sends file p q now now' held held' a b given given'
+one_sends file slice told p q now now' held held' a b given given' is taken others one =
+    slice_sends file slice told p q now now' is taken others one.destination held held' a b given given' one.begins
 
 -- no slice is left
-pub none_begin : (file : ℕ) (told : Option Slice) (p q : windows.Seen) (now : board.Seen) (a : Option Shelf) (given : ℕ) → told ≡ None → p.plan.slices ≡ option_to_list told ++ q.plan.slices →
-    q ≡ record p { plan = record p.plan { slices = q.plan.slices } } → Begins file p q now now a a given given
+pub none_sends : (file : ℕ) (told : Option Slice) (p q : windows.Seen) (now : board.Seen) (held : List (Held Ticket)) (a : Option Shelf) (given : ℕ) → told ≡ None →
+    p.plan.slices ≡ option_to_list told ++ q.plan.slices → q ≡ record p { plan = record p.plan { slices = q.plan.slices } } → Sends file p q now now held held a a given given
 unfolding passes_none
-none_begin file told p q now a given is taken others = record {
-  on = λ held. let none = (passes_none now held).on file p a given in record {
-    more = [];
-    handed = taken_none told p.plan.slices q.plan.slices is taken;
-    others = others;
-    how = refl;
-    flushing = refl;
-    stand = λ s. s;
-    on = none.on;
-  };
+none_sends file told p q now held a given is taken others = let none = (passes_none now held).on file p a given in record {
+  more = [];
+  handed = taken_none told p.plan.slices q.plan.slices is taken;
+  others = others;
+  how = refl;
+  flushing = refl;
+  stand = λ s. s;
+  on = none.on;
 }
 
-pub begins_none : (file : ℕ) (p : windows.Seen) (now : board.Seen) (a : Option Shelf) (given : ℕ) → Begins file p p now now a a given given
-begins_none file p now a given = record { on = λ held. (passes_none now held).on file p a given }
+pub sends_none : (file : ℕ) (p : windows.Seen) (now : board.Seen) (held : List (Held Ticket)) (a : Option Shelf) (given : ℕ) → Sends file p p now now held held a a given given
+sends_none file p now held a given = (passes_none now held).on file p a given
 
 -- Zeros are still left out where they were.
-pub zeros_stay : (file : ℕ) (p q : windows.Seen) (now now' : board.Seen) (a b : Option Shelf) (given given' : ℕ) → p.plan.cells.zeros ≡ not now.how.skip → Begins file p q now now' a b given given' →
-    q.plan.cells.zeros ≡ not now'.how.skip
-zeros_stay file p q now now' a b given given' zeros begins =
-    let sends = begins.on [] in
+pub zeros_stay : (file : ℕ) (p q : windows.Seen) (now now' : board.Seen) (held held' : List (Held Ticket)) (a b : Option Shelf) (given given' : ℕ) → p.plan.cells.zeros ≡ not now.how.skip →
+    Sends file p q now now' held held' a b given given' → q.plan.cells.zeros ≡ not now'.how.skip
+zeros_stay file p q now now' held held' a b given given' zeros sends =
     ap (λ (s : windows.Seen). s.plan.cells.zeros) sends.others ∙ zeros ∙ sym (ap (λ (w : How). not w.skip) sends.how)
 
 -- Slices go on, begin, and go on.
-pub passes_sent : (file : ℕ) (p q : windows.Seen) (now now2 now3 now4 : board.Seen) (held held2 held4 : List (Held Ticket)) (a b : Option Shelf) (given given' : ℕ) →
-    PassesOn now now2 held held2 → Begins file p q now2 now3 a b given given' → PassesOn now3 now4 held2 held4 → Sends file p q now now4 held held4 a b given given'
-passes_sent file p q now now2 now3 now4 held held2 held4 a b given given' first begins last =
+pub passes_sent : (file : ℕ) (p q : windows.Seen) (now now2 now3 now4 : board.Seen) (held held2 held3 held4 : List (Held Ticket)) (a b : Option Shelf) (given given' : ℕ) →
+    PassesOn now now2 held held2 → Sends file p q now2 now3 held2 held3 a b given given' → PassesOn now3 now4 held3 held4 → Sends file p q now now4 held held4 a b given given'
+passes_sent file p q now now2 now3 now4 held held2 held3 held4 a b given given' first begins last =
     sends_then file p p q now now2 now4 held held2 held4 a a b given given given' (first.on file p a given)
-    (sends_then file p q q now2 now3 now4 held2 held2 held4 a b b given given' given' (begins.on held2) (last.on file q b given'))
+    (sends_then file p q q now2 now3 now4 held2 held3 held4 a b b given given' given' begins (last.on file q b given'))
 
 -- How a copy writes stays.
 pub passes_how : (now now' : board.Seen) (held held' : List (Held Ticket)) (planned : windows.Seen) → PassesOn now now' held held' → now'.how ≡ now.how
@@ -347,7 +404,6 @@ told_short file size read read' a b c told short =
     touches_then file (ToldMore read read') (IsShort size) (λ x z. IsShort size x z) a b c
     (λ x y z told ends. record { short = let same = ap (λ (xs : List ℕ). length xs) told.same in let l = ends.short in omega (arith, same, l) }) told short
 
-pub begins_short : (file size : ℕ) (p q : windows.Seen) (now now' : board.Seen) (a b c : Option Shelf) (given given' : ℕ) → Begins file p q now now' a b given given' →
-    Touches file (IsShort size) b c →
-    Touches file (IsShort size) a c
-begins_short file size p q now now' a b c given given' begins short = let sent = (begins.on []).on [] in told_short file size [] sent.read' a b c sent.touched short
+pub sends_short : (file size : ℕ) (p q : windows.Seen) (now now' : board.Seen) (held held' : List (Held Ticket)) (a b c : Option Shelf) (given given' : ℕ) →
+    Sends file p q now now' held held' a b given given' → Touches file (IsShort size) b c → Touches file (IsShort size) a c
+sends_short file size p q now now' held held' a b c given given' sends short = let sent = sends.on [] in told_short file size [] sent.read' a b c sent.touched short

@@ -1,5 +1,5 @@
 -- How the requests of a copy from a file to an export stay shared out among its connections, at each moment.
-use Rattle.std.proofs.Common.{◌≡◌, ◌≢◌, ◌≤◌, ◌⊎◌, inl, inr, ℕ, false, List, [], ◌++◌, Option, Some, None, Result, Ok, Err, IfOk, refl, ap, sym, subst, ◌∙◌, append_assoc, append-nil}
+use Rattle.std.proofs.Common.{◌≡◌, ◌≢◌, ◌≤◌, ◌⊎◌, inl, inr, ℕ, Bool, false, List, [], ◌++◌, Option, Some, None, Result, Ok, Err, IfOk, refl, ap, sym, subst, ◌∙◌, append_assoc, append-nil}
 use Rattle.lnbd_model.specs.declared.target.Place.{Place}
 use Rattle.lnbd_link.specs.Call as wire
 use Rattle.lnbd_poll.specs.Held.{Held}
@@ -37,6 +37,7 @@ use Rattle.lnbd_copyfile.specs.declared.from_file_job.Phase.TheVariants.{Copying
 use Rattle.lnbd_copyfile.specs.Binding.{HasDealt, Spreads}
 use Rattle.lnbd_copyfile.specs.FromFile.{AreMade, HasAgreed, HasMet, HasNotBegun, Seen, new_board, new_way}
 use Rattle.lnbd_copyfile.specs.FromFileJob.{Acts, IsJob}
+use Rattle.lnbd_copyfile.specs.Holes.{nowhere}
 use Rattle.lnbd_copyfile.specs.FromFileJob as work
 use Rattle.lnbd_copyfile.specs.Shares.{IsAlwaysSharedFrom, IsSharedFrom, NoneIsUnanswered}
 use Rattle.lnbd_copyfile.specs.SharingFrom.{AreOpening, FindsTermsFrom, HasShared, HasTermsFrom, HaveMet, Is_settled, IsSending, IsSharing, Not_settled, SharesOut, share}
@@ -156,12 +157,13 @@ sending_copies phase copying read way now calls held on = subst (λ (p : Phase).
 pub sharing_begins : (to : Place) (terms : Terms) (start told : Option (List wire.Call)) (copy copy' : Seen) (job : work.Seen) → copy'.held ≡ copy.held → copy'.board ≡ new_board terms.how →
     copy.board.error ≡ None → job.terms ≡ terms → job.phase ≡ Copying → IsDealt terms.limit terms.sides.destination job.bound [] →
     ((way : Way) (now : board.Seen) (room : ℕ) → way.size ≡ Some room → terms.size ≤ room → way.how ≡ terms.how → now.how ≡ terms.how → way.slices ≡ [] → way.asked ≡ None → now.flushing ≡ false →
-    IsJob job way now) → HasMet to terms start told copy → HaveMet to terms start told copy → IsSharing terms start told job copy'
+    IsJob job nowhere way now) → HasMet to terms start told copy → HaveMet to terms start told copy → IsSharing terms start told job copy'
 sharing_begins to terms start told copy copy' job held fresh well same copying dealt begins met have =
     let way = new_way to (Some have.room) terms.how in
     record {
       way = way;
       read = [];
+      zero = nowhere;
       terms_ = same;
       is = begins way copy'.board have.room refl have.fits refl (ap (λ (s : board.Seen). s.how) fresh) refl refl (ap (λ (s : board.Seen). s.flushing) fresh);
       stand = subst Stand (sym held) met.made.stand;
@@ -178,7 +180,7 @@ sharing_begins to terms start told copy copy' job held fresh well same copying d
 pub sharing_sets_up : (terms : Terms) (copy copy' : Seen) {Y : Type 0} (r : Result work.Seen Y) → copy'.held ≡ copy.held → copy'.board ≡ new_board terms.how → copy.board.error ≡ None →
     IfOk r (λ job. job.terms ≡ terms) → IfOk r (λ job. job.phase ≡ Copying) → IfOk r (λ job. IsDealt terms.limit terms.sides.destination job.bound []) →
     IfOk r (λ job. (way : Way) (now : board.Seen) (room : ℕ) → way.size ≡ Some room → terms.size ≤ room → way.how ≡ terms.how → now.how ≡ terms.how → way.slices ≡ [] → way.asked ≡ None →
-    now.flushing ≡ false → IsJob job way now) →
+    now.flushing ≡ false → IsJob job nowhere way now) →
     IfOk r (λ job. (to : Place) (start told : Option (List wire.Call)) → HasMet to terms start told copy → HaveMet to terms start told copy → IsSharing terms start told job copy')
 sharing_sets_up terms copy copy' (Ok job) held fresh well same copying dealt begins =
     λ to start told met have. sharing_begins to terms start told copy copy' job held fresh well same copying dealt begins met have
@@ -217,13 +219,13 @@ sending_few terms phase job read way now calls held same dealt over on = go phas
 parting_past : Parting ≡ Copying → ⊥
 parting_past e = cc
 
-over_rows : (job : work.Seen) (way : Way) (now : board.Seen) → IsJob job way now → job.phase ≡ Parting → now.rows ≡ []
-over_rows job way now is parting = (is.over (λ copying. parting_past (sym parting ∙ copying))).rows
+over_rows : (job : work.Seen) (zero : ℕ → Bool) (way : Way) (now : board.Seen) → IsJob job zero way now → job.phase ≡ Parting → now.rows ≡ []
+over_rows job zero way now is parting = (is.over (λ copying. parting_past (sym parting ∙ copying))).rows
 
 pub sharing_few : (terms : Terms) (start told : Option (List wire.Call)) (job : work.Seen) (copy : Seen) → (s : IsSharing terms start told job copy) →
     Told start told (λ calls. HasFew (share terms) (FromFile s.read) s.way copy.board calls copy.held)
 sharing_few terms start told job copy s =
-    told_as start told (λ calls on. sending_few terms job.phase job s.read s.way copy.board calls copy.held s.terms_ s.dealt (over_rows job s.way copy.board s.is) on) s.on
+    told_as start told (λ calls on. sending_few terms job.phase job s.read s.way copy.board calls copy.held s.terms_ s.dealt (over_rows job s.zero s.way copy.board s.is) on) s.on
 
 -- whatever a turn of the connections comes to
 pub turned_shares : (terms : Terms) (start told told' : Option (List wire.Call)) (job : work.Seen) (copy : Seen) →
@@ -243,8 +245,9 @@ pub sharing_turned : (terms : Terms) (start a b : Option (List wire.Call)) (job 
 sharing_turned terms start a b job copy copy' goes binds s = record {
   way = s.way;
   read = s.read;
+  zero = s.zero;
   terms_ = s.terms_;
-  is = job_filed job s.way copy.board copy'.board (goes.filed s.stand) s.is;
+  is = job_filed job s.zero s.way copy.board copy'.board (goes.filed s.stand) s.is;
   stand = goes.stand s.stand;
   dealt = subst (λ (l : List ℕ). IsDealt job.terms.limit job.terms.sides.destination job.bound l) (sym (goes.filed s.stand).writes) s.dealt;
   on = sending_turned job.phase s.read s.way start a b copy.board copy'.board copy.held copy'.held goes binds s.stand s.on;
@@ -283,10 +286,11 @@ pub sharing_acts : (terms : Terms) (file : ℕ) (start told : Option (List wire.
     Acts file job job' copy.board copy'.board copy.held copy'.held old new given given' → Spreads job job' copy.board copy'.board → job'.terms ≡ job.terms → IsSharing terms start told job copy →
     IsSharing terms start told job' copy'
 sharing_acts terms file start told job job' copy copy' acts spreads same s =
-    let further = acts.on s.read s.way s.is in
+    let further = acts.on s.read s.zero s.way s.is in
     record {
       way = further.way';
       read = further.read';
+      zero = further.zero';
       terms_ = same ∙ s.terms_;
       is = further.job;
       stand = acts.stand s.stand;
@@ -301,12 +305,13 @@ pub sharing_leaves : (terms : Terms) (start a b : Option (List wire.Call)) (job 
 sharing_leaves terms start a b job copy copy' parting leaves s = record {
   way = s.way;
   read = s.read;
+  zero = s.zero;
   terms_ = s.terms_;
-  is = job_filed job s.way copy.board copy'.board leaves.filed s.is;
+  is = job_filed job s.zero s.way copy.board copy'.board leaves.filed s.is;
   stand = leaves.stand s.stand;
   dealt = subst (λ (l : List ℕ). IsDealt job.terms.limit job.terms.sides.destination job.bound l) (sym leaves.filed.writes) s.dealt;
   on = subst (λ (p : Phase). Told start b (λ calls. IsSending p s.read s.way copy'.board calls copy'.held)) (sym parting)
-      (leaves.on (FromFile s.read) s.way start s.is.unasked (over_rows job s.way copy.board s.is parting)
+      (leaves.on (FromFile s.read) s.way start s.is.unasked (over_rows job s.zero s.way copy.board s.is parting)
       (subst (λ (p : Phase). Told start a (λ calls. IsSending p s.read s.way copy.board calls copy.held)) parting s.on));
 }
 

@@ -1,5 +1,5 @@
 -- How many bytes a store took and gave in a copy of which one side is a file.
-use Rattle.std.proofs.Common.{◌≡◌, ◌≤◌, ℕ, ◌+◌, List, [], ◌++◌, length, Option, Some, None, ap, sym, subst, arith, append-nil}
+use Rattle.std.proofs.Common.{◌≡◌, ◌≤◌, ℕ, ◌+◌, Bool, List, [], ◌++◌, length, Option, Some, None, ap, sym, subst, arith, append-nil}
 use Rattle.lnbd_model.specs.Kind.{is_read}
 use Rattle.lnbd_model.specs.declared.target.Place.{Place}
 use Rattle.lnbd_link.specs.Call as wire
@@ -13,13 +13,13 @@ use Rattle.lnbd_board.specs.Requests.{Request, over, reads_over}
 use Rattle.lnbd_board.proofs.Once.{once}
 use Rattle.lnbd_course.specs.Far.{FromFile}
 use Rattle.lnbd_course.specs.FarCourse.{FarCourse}
-use Rattle.lnbd_course.specs.FarLaws.{IsReadWhole}
 use Rattle.lnbd_course.specs.Told.{Known}
 use Rattle.lnbd_course.proofs.Ending.{planned_once}
 use Rattle.lnbd_course.proofs.Summing.{at_most, both_bytes, is_none, over_same, reads_same}
 use Rattle.lnbd_course.proofs.Tallying.{bytes_fit, touching}
 use Rattle.lnbd_touched.proofs.TouchLemmas.{touches_then}
 use Rattle.lnbd_touched.specs.Parts.{IsShort}
+use Rattle.lnbd_copyfile.specs.Holes.{IsReadWhole}
 use Rattle.lnbd_copyfile.specs.Loading.{ToldMore}
 use Rattle.lnbd_copyfile.specs.OneSide.{FromFileIsSummed, ToFileIsSummed, ToldFilesLast}
 
@@ -45,7 +45,7 @@ to_file_is_summed made from size how slices now calls wanted known cells windows
     }
 
 pub from_file_is_summed : FromFileIsSummed
-from_file_is_summed read to size room how slices now calls wanted known cells windows given given2 course well planned low_ gave =
+from_file_is_summed read to size room how slices now calls wanted known cells windows zero given given2 course well planned low_ gave =
     let stood = course.course.stood.stood in
     let o = once how cells (told_by 0 windows) size slices [] now.rows read stood.asked (stood.stands well) (planned_all cells windows size slices planned.are planned.whole) in
     let fits = bytes_fit is_read size read (λ p. at_most 1 (reads_over p read) (touching is_read p read) (reads_same p read) (o.0.reads p))
@@ -58,9 +58,10 @@ from_file_is_summed read to size room how slices now calls wanted known cells wi
 
 -- no more is written and zeroed than the file has
 pub from_file_fits : (read : List Request) (to : Place) (size room : ℕ) (how : How) (slices : List Slice) (now : board.Seen) (calls : List wire.Call) (wanted : Option (ℕ × ℕ)) (known : Known)
-    (cells : Cells) (windows : List Window) → FarCourse (FromFile read) to (Some room) how slices now calls [] wanted known → now.error ≡ None → IsReadWhole how cells windows size slices →
+    (cells : Cells) (windows : List Window) (zero : ℕ → Bool) → FarCourse (FromFile read) to (Some room) how slices now calls [] wanted known → now.error ≡ None →
+    IsReadWhole how cells windows zero size slices →
     now.written + now.zeroed ≤ size
-from_file_fits read to size room how slices now calls wanted known cells windows course well planned =
+from_file_fits read to size room how slices now calls wanted known cells windows zero course well planned =
     let stood = course.course.stood.stood in
     let stands = stood.stands well in
     let o = once how cells (told_by 0 windows) size slices [] now.rows read stood.asked stands (planned_all cells windows size slices planned.are planned.whole) in

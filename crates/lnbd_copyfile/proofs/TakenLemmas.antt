@@ -28,6 +28,7 @@ use Rattle.lnbd_course.proofs.Ending.{planned_once}
 use Rattle.lnbd_course.proofs.Holding.{one_has}
 use Rattle.lnbd_course.proofs.Once.{asked_once}
 use Rattle.lnbd_course.proofs.Quiet.{dealt_stays, links_stay}
+use Rattle.lnbd_conduct.specs.declared.terms.Terms.{Terms}
 use Rattle.lnbd_conduct.specs.Told.{Told}
 use Rattle.lnbd_conduct.specs.Grounds.{IsShown}
 use Rattle.lnbd_copy.specs.Faults.{GoesIdly}
@@ -44,10 +45,11 @@ use Rattle.lnbd_connections.specs.Asks.{Asks, AsksNone, DialsOnly, WasSettled}
 use Rattle.lnbd_connections.specs.Way.{IsUnderWay, Way}
 use Rattle.lnbd_connections.proofs.AskLemmas.{asks_still, idly_lasts}
 use Rattle.lnbd_copyfile.specs.Jobs.{Seen}
-use Rattle.lnbd_copyfile.specs.Taken.{NothingWasRead, ReadsAtMostOnce, ReadsWithin, WasShown}
-use Rattle.lnbd_copyfile.specs.Taking.{ReadsNoMore, TellsBlock, WasOfBlock}
+use Rattle.lnbd_copyfile.specs.Taken.{NothingWasRead, ReadsAtMostOnce, ReadsWithin, SparesWhole, WasShown}
+use Rattle.lnbd_copyfile.specs.Taking.{ReadsNoMore, ReadsNothing, SparesBlocks, TellsBlock, WasOfBlock}
 use Rattle.lnbd_copyfile.specs.ToFile.{GoesFurther, IsBeginning, IsCopying, beginning}
 use Rattle.lnbd_copyfile.specs.ToFileJob.{IsJob}
+use Rattle.lnbd_copyfile.proofs.SparingLemmas.{job_spares, none_spares, spares_stay, spares_whole}
 
 -- By what the rows of a board say.
 
@@ -78,16 +80,13 @@ unread dealt ends p link cookie command is = go (reads command p) refl
 any_cells : Cells
 any_cells = record { cell = 0; zero_cell = 0; zeros = false }
 
-begins_asked : (at : Place) (size : Option ℕ) (how : How) (flushing : Bool) (calls : List wire.Call) → Asks (ToFile []) (beginning at size how) flushing calls → ReadsAtMostOnce at calls
+begins_asked : (at : Place) (size : Option ℕ) (how : How) (flushing : Bool) (calls : List wire.Call) → Asks (ToFile []) (beginning at size how) flushing calls → ReadsNothing at calls
 begins_asked at size how flushing calls asks =
-    let once = once_asked [] (beginning at size how) flushing calls any_cells (told_by 0 []) 0 0 [] asks (λ p. planned_once any_cells [] 0 [] refl refl p) (omega arith) in
+    let law = once_asked [] (beginning at size how) flushing calls any_cells (told_by 0 []) 0 0 [] asks (λ p. planned_once any_cells [] 0 [] refl refl p) (omega arith) in
+    let none = unread (dealt_with at calls) law.reads_within in
     record {
-      links = asks.links;
-      looks = once.looks;
-      once = once.reads_once;
-      within = inl (unread (dealt_with at calls) once.reads_within);
-      plain = once.looks_plain;
-      extents = once.extents;
+      once = record { links = asks.links; looks = law.looks; once = law.reads_once; within = inl none; plain = law.looks_plain; extents = law.extents };
+      none = none;
     }
 
 -- and else nothing past what is planned.
@@ -119,38 +118,54 @@ reads_stay at calls more quiet none r =
       extents = subst (EachAsked (λ command. command.kind ≡ BlockStatus → command.length ≤ max_extents)) same r.extents;
     }
 
+nothing_stays : (at : Place) → StaysIdly (ReadsNothing at)
+nothing_stays at calls more quiet none r =
+    record { once = reads_stay at calls more quiet none r.once; none = subst (λ (d : Dealt). NothingWasRead d) (sym (dealt_stays calls more quiet none at)) r.none }
+
 -- Connections are made.
 
 pub reads_begin : (at : Place) (start : Option (List wire.Call)) (now : board.Seen) (held : List (Held Ticket)) → now.error ≡ None → IsBeginning at None start start now held →
-    Told start start (ReadsAtMostOnce at)
+    Told start start (ReadsNothing at)
 reads_begin at start now held well b =
     told_map start start (λ calls on. begins_asked at None now.how now.flushing calls (asks_still (ToFile []) (beginning at None now.how) now calls held well on)) b.on
 
 module _ (at : Place) (size : Option ℕ) (start a b : Option (List wire.Call)) (now : board.Seen) (held : List (Held Ticket)) (begins : IsBeginning at size start a now held)
-    (was : Told start a (ReadsAtMostOnce at)) where
-  either_asked : GoesIdly a b ⊎ Told start b (Asks (ToFile []) (beginning at size now.how) now.flushing) → Told start b (ReadsAtMostOnce at)
-  either_asked (inl idly) = told_idly (ReadsAtMostOnce at) start a b (reads_stay at) idly was
+    (was : Told start a (ReadsNothing at)) where
+  either_asked : GoesIdly a b ⊎ Told start b (Asks (ToFile []) (beginning at size now.how) now.flushing) → Told start b (ReadsNothing at)
+  either_asked (inl idly) = told_idly (ReadsNothing at) start a b (nothing_stays at) idly was
   either_asked (inr asks) = told_map start b (λ calls asked. begins_asked at size now.how now.flushing calls asked) asks
 
-  pub reads_dialed : now.error ≡ None → DialsOnly at now held a b → Told start b (ReadsAtMostOnce at)
+  pub reads_dialed : now.error ≡ None → DialsOnly at now held a b → Told start b (ReadsNothing at)
   reads_dialed well only = either_asked (only.on (ToFile []) (beginning at size now.how) start refl well begins.stand begins.on)
 
-  pub reads_settled : AsksNone now held a b → Told start b (ReadsAtMostOnce at)
+  pub reads_settled : AsksNone now held a b → Told start b (ReadsNothing at)
   reads_settled none = either_asked (none.on (ToFile []) (beginning at size now.how) start begins.stand begins.on)
 
 -- Slices are copied.
 
 pub more_none : (file : ℕ) (job : Seen) (now : board.Seen) (held : List (Held Ticket)) (told : Option (List wire.Call)) (shelf : Option Shelf) (taken : ℕ) →
     ReadsNoMore file job now held told shelf taken told
-more_none file job now held told shelf taken = record { on = λ at start was had copying reads. reads; lasts = λ at start was had copying. lasts_none told }
+more_none file job now held told shelf taken = record {
+  on = λ at start was had copying reads. reads;
+  lasts = λ at start was had copying. lasts_none told;
+  spares = λ at block start was had copying same some spares. spares;
+}
 
 pub more_turned : (file : ℕ) (job : Seen) (now : board.Seen) (held : List (Held Ticket)) (a b : Option (List wire.Call)) (shelf : Option Shelf) (taken : ℕ) → AsksNone now held a b →
     ReadsNoMore file job now held a shelf taken b
 more_turned file job now held a b shelf taken none = record {
   on = λ at start was had c reads. go at start c.way c.made c.place c.job_ reads (none.on (ToFile c.made) c.way start c.stand c.on);
   lasts = λ at start was had c. none.lasts c.stand;
+  spares = λ at block start was had c same some spares. spared at block start c.way c.made c.place c.job_ same some spares (none.on (ToFile c.made) c.way start c.stand c.on);
 }
   where
+    spared : (at : Place) (block : ℕ) (start : Option (List wire.Call)) (way : Way) (made : List Request) → way.at ≡ at → IsJob job way now → job.terms.grain ≡ block → 0 < block →
+        Told start a (SparesBlocks at block) → GoesIdly a b ⊎ Told start b (Asks (ToFile made) way now.flushing) → Told start b (SparesBlocks at block)
+    spared at block start way made there is same some spares (inl idly) = told_idly (SparesBlocks at block) start a b (spares_stay at block) idly spares
+    spared at block start way made there is same some spares (inr asks) =
+        subst (λ (p : Place). Told start b (SparesBlocks p block)) there
+        (told_map start b (λ calls asked. job_spares made job way now now.flushing calls block is same some asked) asks)
+
     go : (at : Place) (start : Option (List wire.Call)) (way : Way) (made : List Request) → way.at ≡ at → IsJob job way now → Told start a (ReadsAtMostOnce at) →
         GoesIdly a b ⊎ Told start b (Asks (ToFile made) way now.flushing) → Told start b (ReadsAtMostOnce at)
     go at start way made there is reads (inl idly) = told_idly (ReadsAtMostOnce at) start a b (reads_stay at) idly reads
@@ -162,13 +177,18 @@ pub more_idly : (file : ℕ) (job : Seen) (now : board.Seen) (held : List (Held 
 more_idly file job now held a b c shelf taken one idly = record {
   on = λ at start was had copying reads. told_idly (ReadsAtMostOnce at) start b c (reads_stay at) idly (one.on at start was had copying reads);
   lasts = λ at start was had copying. lasts_then a b c (one.lasts at start was had copying) (idly_lasts b c idly);
+  spares = λ at block start was had copying same some spares.
+      told_idly (SparesBlocks at block) start b c (spares_stay at block) idly (one.spares at block start was had copying same some spares);
 }
 
 pub more_then : (file : ℕ) (job job2 : Seen) (now now2 : board.Seen) (held held2 : List (Held Ticket)) (a b c : Option (List wire.Call)) (x y : Option Shelf) (t u : ℕ) →
-    GoesFurther file job now held a x t job2 now2 held2 b y u → ReadsNoMore file job now held a x t b → ReadsNoMore file job2 now2 held2 b y u c → ReadsNoMore file job now held a x t c
-more_then file job job2 now now2 held held2 a b c x y t u further one two = record {
+    GoesFurther file job now held a x t job2 now2 held2 b y u → job2.terms ≡ job.terms → ReadsNoMore file job now held a x t b → ReadsNoMore file job2 now2 held2 b y u c →
+    ReadsNoMore file job now held a x t c
+more_then file job job2 now now2 held held2 a b c x y t u further alike one two = record {
   on = λ at start was had copying reads. two.on at start was had (further.on at start was had copying) (one.on at start was had copying reads);
   lasts = λ at start was had copying. lasts_then a b c (one.lasts at start was had copying) (two.lasts at start was had (further.on at start was had copying));
+  spares = λ at block start was had copying same some spares.
+      two.spares at block start was had (further.on at start was had copying) (ap (λ (terms : Terms). terms.grain) alike ∙ same) some (one.spares at block start was had copying same some spares);
 }
 
 -- So it is of the calls by which a transcript grew, behind which all links are shut.
@@ -211,7 +231,11 @@ block_later at block start a b lasts told = record {
       (record { info = since.is.info; shown = some_longer since.calls front.after since.is.shown; block_is = since.is.block_is });
 }
 
-pub more_lasts : (file : ℕ) (job : Seen) (now : board.Seen) (held : List (Held Ticket)) (a b : Option (List wire.Call)) (shelf : Option Shelf) (taken : ℕ) →
+-- Where the source told that its blocks are so large, those are spared that the slices are planned by.
+pub more_spares : (file : ℕ) (job : Seen) (now : board.Seen) (held : List (Held Ticket)) (a b : Option (List wire.Call)) (shelf : Option Shelf) (taken : ℕ) →
     ReadsNoMore file job now held a shelf taken b → (at : Place) (block : ℕ) (start : Option (List wire.Call)) (was : Option Shelf) (had : ℕ) →
-    IsCopying file at start a job now held was shelf had taken → Told start a (WasOfBlock at block) → Told start b (WasOfBlock at block)
-more_lasts file job now held a b shelf taken more at block start was had copying told = block_later at block start a b (more.lasts at start was had copying) told
+    IsCopying file at start a job now held was shelf had taken → job.terms.grain ≡ block → 0 < block → Told start a (WasOfBlock at block) → Told start a (ReadsNothing at) →
+    Told start b (SparesWhole at)
+more_spares file job now held a b shelf taken more at block start was had copying same some told none =
+    spares_whole at block start b (block_later at block start a b (more.lasts at start was had copying) told)
+    (more.spares at block start was had copying same some (none_spares at block start a none))

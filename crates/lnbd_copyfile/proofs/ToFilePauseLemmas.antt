@@ -37,8 +37,9 @@ use Rattle.lnbd_copy.proofs.SettledLemmas.{same_since, told_both}
 use Rattle.lnbd_copy.proofs.TurnLemmas.{since_on, told_begins, told_map}
 use Rattle.lnbd_store.specs.Shelf.{Shelf}
 use Rattle.lnbd_connections.specs.Steps as steps
-use Rattle.lnbd_connections.specs.Unmoved.{IsUnmoved, PausesUnmoved}
+use Rattle.lnbd_connections.specs.Unready.{AwaitsAll, AwaitsMore, IsUnready, KeepsAwaiting}
 use Rattle.lnbd_connections.specs.Uses.{Uses}
+use Rattle.lnbd_connections.proofs.UnreadyLemmas.{awaits_first}
 use Rattle.lnbd_copyfile.specs.Fullness.{StaysWell}
 use Rattle.lnbd_copyfile.specs.Jobs.{Seen}
 use Rattle.lnbd_copyfile.specs.ToFile.{GoesFurther, IsBeginning, IsCopying, IsSetUp, LeavesIf, beginning}
@@ -216,9 +217,10 @@ module _ (file : ℕ) (j j1 : Seen) (b0 b3 : board.Seen) (h0 h3 h4 : List (Held 
 
 -- From the beginning.
 
--- until the file is made no byte is asked for
-pub unmoved_full : (options : CopyOptions) (at : Place) (start told : Option (List wire.Call)) → Told start told (AtEachPause (IsUnmoved at)) → Told start told (PausesAreFullTo options at)
-unmoved_full options at start told unmoved = told_map start told (λ calls each before after wants are none. inl (each before after wants are)) unmoved
+-- until the file is made a connection negotiates still
+pub unready_full : (options : CopyOptions) (at : Place) (start told : Option (List wire.Call)) → Told start told (AtEachPause (IsUnready options.extents at)) →
+    Told start told (PausesAreFullTo options at)
+unready_full options at start told unready = told_map start told (λ calls each before after wants are none. inl (each before after wants are none)) unready
 
 -- Once all is ready as much is under way at each pause, whatever it comes to.
 pub full_stored : (options : CopyOptions) (at : Place) (file : ℕ) (start told told' : Option (List wire.Call)) (job : Seen) (now : board.Seen) (held : List (Held Ticket))
@@ -258,11 +260,20 @@ module _ (first more : ℕ) (to : Target) (held held2 held3 : List (Held Ticket)
     many = many ∙ sym (length-append (to ∷ []) (replicate more to) ∙ ap (λ (n : ℕ). 1 + n) (length-replicate more to));
   }
 
--- while connections are made
-pub unmoved_settled : (at : Place) (size : Option ℕ) (start a b : Option (List wire.Call)) (now : board.Seen) (held : List (Held Ticket)) → IsBeginning at size start a now held →
-    PausesUnmoved now held a b →
-    Told start a (AtEachPause (IsUnmoved at)) → Told start b (AtEachPause (IsUnmoved at))
-unmoved_settled at size start a b now held begins unmoved pauses = unmoved.on (ToFile []) (beginning at size now.how) start refl begins.stand begins.on pauses
+-- the first one is made, and negotiates
+pub awaits_begun : (at : Place) (extents : Bool) (start told : Option (List wire.Call)) (now now2 : board.Seen) (held held2 : List (Held Ticket)) → held ≡ [] →
+    IsBeginning at None start start now held → AwaitsMore at extents now held start now2 held2 told → AwaitsAll extents (ToFile []) (beginning at None now.how) start told now2 held2
+awaits_begun at extents start told now now2 held held2 none begins more =
+    let way = beginning at None now.how in
+    more.on extents (ToFile []) way start refl (λ empty. refl) (λ asks. ap length none) (awaits_first extents (ToFile []) way start now held none begins.stand begins.on)
+
+-- and then the further ones, which ask for no extents
+pub awaits_further : (at : Place) (extents : Bool) (n : ℕ) (how : How) (start a b c : Option (List wire.Call)) (now now2 now3 : board.Seen) (held held2 held3 : List (Held Ticket)) →
+    length held ≡ n + 1 → length held2 ≡ length held → KeepsAwaiting now held a now2 held2 b → AwaitsMore at false now2 held2 b now3 held3 c →
+    AwaitsAll extents (ToFile []) (beginning at None how) start a now held → AwaitsAll extents (ToFile []) (beginning at None how) start c now3 held3
+awaits_further at extents n how start a b c now now2 now3 held held2 held3 many same settles more first =
+    let way = beginning at None how in
+    more.on extents (ToFile []) way start refl (λ empty. absurd (omega (arith, many, same, empty))) (λ asks. absurd (false≢true asks)) (settles.on extents (ToFile []) way start first)
 
 pub ok_so : {T F A : Type 0} (r : Result T F) → A → OnOk r A
 ok_so (Ok value) a = a

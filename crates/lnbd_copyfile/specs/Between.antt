@@ -1,5 +1,5 @@
 -- What a copy between two files leaves, and what it tells of that.
-use Rattle.std.specs.Prelude.{◌≡◌, ◌≢◌, ◌+◌, ◌<◌, ◌^◌, ℕ, List, length, Option, Some}
+use Rattle.std.specs.Prelude.{◌≡◌, ◌≢◌, ◌+◌, ◌<◌, ◌≤◌, ◌^◌, ℕ, List, length, Option, Some}
 use Rattle.lnbd_plan.specs.declared.options.CopyOptions.{CopyOptions}
 use Rattle.lnbd_plan.specs.declared.summary.Summary.{Summary}
 use Rattle.lnbd_store.specs.Shelf.{Shelf, Goes}
@@ -18,11 +18,16 @@ pub record IsDuplicated (from to : List ℕ) (size : ℕ) (was now : Shelf) : Ty
 abbrev pub HasCopied : (from to : List ℕ) → (size : ℕ) → (old new : Option Shelf) → Type 0
 HasCopied from to size old new = Goes old new (IsDuplicated from to size)
 
--- All that was read the store gave, and it took all that was written; the rest was passed over, and nothing was zeroed.
+-- how many bytes the copied file has: those that were written and those that were passed over
+abbrev pub copied_length : Summary → ℕ
+copied_length summary = summary.written + summary.skipped
+
+-- All that was read the store gave, and it took all that was written, which was read; what was passed over may lie in holes, which are not read. Nothing was zeroed.
 pub record IsSummed (summary : Summary) (given given' taken taken' : ℕ) : Type 0 where
   pub read : given < 2 ^ 63 → given' ≡ given + summary.read
   pub written : taken < 2 ^ 63 → taken' ≡ taken + summary.written
-  pub whole : summary.written + summary.skipped ≡ summary.read
+  pub few : summary.written ≤ summary.read
+  pub low : summary.read ≤ copied_length summary
   pub zeroed : summary.zeroed ≡ 0
 
 -- Where the store tells its files, as many bytes were passed over as the source has in zero pieces.

@@ -1,7 +1,7 @@
 -- Which calls on a store a copy between two files makes.
 use Rattle.std.specs.Prelude.{◌≡◌, ◌-◌, ◌%◌, ◌<◌, ◌≤◌, ℕ, min, Bool, true, false, if◌then◌else◌, List, [], ◌∷◌, ◌++◌, Some, None}
 use Rattle.lnbd_plan.specs.declared.options.CopyOptions.{CopyOptions}
-use Rattle.lnbd_store.specs.Call.{Call, Open, Length, ReadAt, WriteAt, Cut, Sync, ReadTold, Gave, Ended, ReadFault, WriteTold, Took, WriteFault}
+use Rattle.lnbd_store.specs.Call.{Call, Open, Length, ReadAt, WriteAt, Cut, Sync, PartAt, ReadTold, Gave, Ended, ReadFault, WriteTold, Took, WriteFault}
 use Rattle.lnbd_copyfile.specs.declared.fault.FileFault.{FileFault}
 use Rattle.lnbd_copyfile.specs.declared.fault.FileFault.TheVariants as fault
 use Rattle.lnbd_copyfile.specs.declared.fault.Stop.{Stop}
@@ -22,7 +22,7 @@ TookBytes WriteFault = ⊥
 abbrev pub rest_of : (cell size place : ℕ) → ℕ
 rest_of cell size place = min (cell - place % cell) (size - place)
 
--- bytes came of the source's number, which was asked for the rest of a slice; or that of the destination took some, of no more than a slice has
+-- bytes came of the source's number, which was asked for the rest of a slice, or for what lies from a place on; or that of the destination took some, of no more than a slice has
 abbrev pub IsMove : (cell size from to : ℕ) → Call → Type 0
 IsMove cell size from to (Open path write number) = ⊥
 IsMove cell size from to (Length file n) = ⊥
@@ -30,6 +30,7 @@ IsMove cell size from to (ReadAt file offset room answer) = (file ≡ from) × (
 IsMove cell size from to (WriteAt file offset offered answer) = (file ≡ to) × (offered ≤ cell) × TookBytes answer
 IsMove cell size from to (Cut file n done) = ⊥
 IsMove cell size from to (Sync file done) = ⊥
+IsMove cell size from to (PartAt file offset answer) = file ≡ from
 
 abbrev pub Moves : (cell size from to : ℕ) → List Call → Type 0
 Moves cell size from to [] = Unit {0}

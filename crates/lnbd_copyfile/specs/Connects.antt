@@ -21,7 +21,7 @@ abbrev pub connected_to : Place → ℕ → List Target
 connected_to at many = at.to ∷ replicate (many - 1) at.to
 
 -- By these calls a handle drove a link to this place, asked for the export there, and was told this of it.
-pub record WasTold (at : Place) (info : ExportInfo) (calls : List wire.Call) : Type 0 where
+pub record WasInformed (at : Place) (info : ExportInfo) (calls : List wire.Call) : Type 0 where
   pub link : ℕ
   pub history : History Ticket
   pub drives : DrivenBy link history calls
@@ -32,7 +32,7 @@ pub record WasTold (at : Place) (info : ExportInfo) (calls : List wire.Call) : T
 -- By a front of these calls a connection to this place was told of an export; and of what it was told this is so.
 pub record IsToldOnce (at : Place) (Is : ExportInfo → Type 0) (calls : List wire.Call) : Type 0 where
   pub info : ExportInfo
-  pub shown : AtSome (WasTold at info) calls
+  pub shown : AtSome (WasInformed at info) calls
   pub is : Is info
 
 -- These calls connect to this place alone, once or as often as the options and what it told say; not all of these connections need be made.

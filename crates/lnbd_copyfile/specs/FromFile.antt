@@ -1,5 +1,5 @@
 -- A copy from a file to an export: what it leaves and what its faults come from, and, as bridges, what stands between its steps.
-use Rattle.std.specs.Prelude.{◌≡◌, ◌≤◌, ◌<◌, ◌+◌, ◌^◌, ◌++◌, ℕ, false, List, [], Option, Some, None}
+use Rattle.std.specs.Prelude.{◌≡◌, ◌≤◌, ◌<◌, ◌+◌, ◌^◌, ◌++◌, ℕ, Bool, false, List, [], Option, Some, None}
 use Rattle.lnbd_link.specs.Call as wire
 use Rattle.lnbd_link.specs.Count.{Rises}
 use Rattle.lnbd_model.specs.Kind.{is_read}
@@ -40,6 +40,7 @@ use Rattle.lnbd_copyfile.specs.Calls.{NotOpened, opening}
 use Rattle.lnbd_copyfile.specs.FlushedLast.{HasRested}
 use Rattle.lnbd_copyfile.specs.FromFileJob as work
 use Rattle.lnbd_copyfile.specs.FromFileJob.{IsJob}
+use Rattle.lnbd_copyfile.specs.Holes.{ToldHoles, nowhere}
 use Rattle.lnbd_copyfile.specs.Loading.{ToldMore}
 use Rattle.lnbd_copyfile.specs.OneFile.{BreaksReading, Reads}
 use Rattle.lnbd_copyfile.specs.Shown.{HasShown}
@@ -78,7 +79,7 @@ HasStoreCause old new (fault.Copy why) = Unit {0}
 HasStoreCause old new (fault.Store before after) = (before ≡ old) × (after ≡ new) × Rises 1 old new
 HasStoreCause old new (fault.Changed n end) = end < n
 
--- The file was opened and told its length, and then gave bytes alone.
+-- The file was opened and told its length, and then gave bytes and told its holes alone.
 pub record HasRead (path : List ℕ) (calls : List Call) : Type 0 where
   pub file : ℕ
   pub size : ℕ
@@ -170,12 +171,14 @@ pub record Runs (job : work.Seen) (copy : Seen) : Type 0 where
 -- By these calls a copy with this job is on its way; and by now its file, which was opened on this shelf, was read, as is known of no file that isn't told.
 pub record IsGoing (to : Place) (file : ℕ) (job : work.Seen) (start told : Option (List wire.Call)) (copy : Seen) (opened shelf : Option Shelf) (before given : ℕ) : Type 0 where
   pub read : List Request
+  pub zero : ℕ → Bool
   pub way : Way
   pub at : way.at ≡ to
-  pub is : IsJob job way copy.board
+  pub is : IsJob job zero way copy.board
   pub stand : Stand copy.held
   pub on : Told start told (λ calls. IsUnderWay (FromFile read) way copy.board calls copy.held)
   pub touched : Touches file (ToldMore [] read) opened shelf
+  pub holes : Touches file (ToldHoles nowhere zero) opened shelf
   pub gave : RoseBy (bytes_of is_read read) before given
   -- past its slices it came to rest, before the export was asked to flush
   pub rests : Told start told (HasRested job.phase job.terms.size to copy.board)

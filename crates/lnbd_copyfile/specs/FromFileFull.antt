@@ -1,5 +1,5 @@
 -- How much is under way in a copy from a file to an export, by its calls on the wires.
-use Rattle.std.specs.Prelude.{ℕ, ◌≡◌, ◌⊎◌, ◌+◌, List, [], ◌∷◌, min, ◌++◌, length, false}
+use Rattle.std.specs.Prelude.{ℕ, Bool, ◌≡◌, ◌⊎◌, ◌+◌, List, [], ◌∷◌, min, ◌++◌, length, false}
 use Rattle.lnbd_model.specs.declared.export.ExportInfo.{ExportInfo}
 use Rattle.lnbd_model.specs.declared.target.Place.{Place}
 use Rattle.lnbd_link.specs.Call as wire
@@ -14,7 +14,6 @@ use Rattle.lnbd_onesided.specs.Dealt.{dealt_by}
 use Rattle.lnbd_tracks.specs.Laws.{moves_bytes}
 use Rattle.lnbd_tracks.specs.Unanswered.{AreUnanswered}
 use Rattle.lnbd_course.specs.Far.{AreNumbered}
-use Rattle.lnbd_course.specs.FarLaws.{IsReadWhole}
 use Rattle.lnbd_course.specs.Slices.{IsFinished, WaitsToChange}
 use Rattle.lnbd_conduct.specs.declared.terms.Terms.{Terms}
 use Rattle.lnbd_conduct.specs.Grounds.{Drove, IsShown}
@@ -22,10 +21,11 @@ use Rattle.lnbd_conduct.specs.Slices.{AreFullWindows, cells_of}
 use Rattle.lnbd_conduct.specs.Told.{AtSome}
 use Rattle.lnbd_conduct.specs.Waiting.{NoneForWriting}
 use Rattle.lnbd_usage.specs.Pauses.{AtEachPause}
-use Rattle.lnbd_connections.specs.Unmoved.{MovesNothing}
+use Rattle.lnbd_connections.specs.Unready.{NegotiatesStill}
+use Rattle.lnbd_copyfile.specs.Holes.{IsReadWhole}
 use Rattle.lnbd_copyfile.specs.Shares.{AreSettledFrom}
 
--- Of these slices each is finished; or it was read, and a WRITE or WRITE_ZEROES of it is unanswered, which so many are.
+-- Of these slices each is finished; or it was read, unless it counts as zero, and a WRITE or WRITE_ZEROES of it is unanswered, which so many are.
 abbrev pub AreSent : How → (source destination : Dealt) → List Slice → ℕ → Type 0
 AreSent how source destination [] n = n ≡ 0
 AreSent how source destination (slice ∷ slices) n =
@@ -35,11 +35,12 @@ AreSent how source destination (slice ∷ slices) n =
 -- As much is under way as may be, in a copy on these terms: as many slices are begun and not finished as are not finished at all, but no more than the limit; and as
 -- many WRITE and WRITE_ZEROES are unanswered.
 pub record IsFullFrom (terms : Terms) (to : Place) (calls : List wire.Call) : Type 0 where
-  -- the slices that were begun, and those still to come: all of the file, cut window by window
+  -- the slices that were begun, and those still to come: all of the file, cut window by window, of which these positions may count as zero
   pub begun : List Slice
   pub left : List Slice
   pub windows : List Window
-  pub planned : IsReadWhole terms.how (cells_of terms) windows terms.size (begun ++ left)
+  pub zero : ℕ → Bool
+  pub planned : IsReadWhole terms.how (cells_of terms) windows zero terms.size (begun ++ left)
   pub whole : AreFullWindows terms.size 0 windows
   -- what was read of the file, one request after another, all of which is done
   pub read : List Request
@@ -60,9 +61,9 @@ pub record HasAllUnderWayFrom (options : CopyOptions) (to : Place) (calls : List
   pub settled : AreSettledFrom options destination terms
   pub full : IsFullFrom terms to calls
 
--- At a pause that wants no link for writing, by the calls before it, no byte was asked to be moved yet, or as much is under way as may be.
+-- At a pause that wants no link for writing a connection negotiates still, or as much is under way as may be, by the calls before it.
 abbrev pub IsFullPauseFrom : CopyOptions → (to : Place) → (before : List wire.Call) → List Want → Type 0
-IsFullPauseFrom options to before wants = NoneForWriting wants → MovesNothing to before ⊎ HasAllUnderWayFrom options to before
+IsFullPauseFrom options to before wants = NoneForWriting wants → NegotiatesStill false to before ⊎ HasAllUnderWayFrom options to before
 
 -- So it is at each pause.
 abbrev pub PausesAreFullFrom : CopyOptions → (to : Place) → List wire.Call → Type 0

@@ -20,6 +20,7 @@ use Rattle.lnbd_connections.specs.Way.{IsUnderWay, Way}
 use Rattle.lnbd_copyfile.specs.declared.from_file_job.Phase.{Phase}
 use Rattle.lnbd_copyfile.specs.declared.from_file_job.Phase.TheVariants.{Copying, Parting}
 use Rattle.lnbd_copyfile.specs.FlushedLast.{HasRested}
+use Rattle.lnbd_copyfile.specs.Holes.{ToldHoles}
 use Rattle.lnbd_copyfile.specs.Jobs.{AreOfOne}
 use Rattle.lnbd_copyfile.specs.Loading.{ToldMore}
 
@@ -31,26 +32,22 @@ pub record Seen : Type 0 where
   -- how many slices are bound to each connection
   pub bound : List ℕ
 
--- no position
-abbrev pub nowhere : ℕ → Bool
-nowhere p = false
-
 -- All slices of the file are over.
 pub record IsOver (job : Seen) (now : board.Seen) : Type 0 where
   pub planned : job.windows.plan.end ≡ job.terms.size
   pub handed : job.windows.plan.slices ≡ []
   pub rows : now.rows ≡ []
 
--- A copy that is so far has this job: the export reaches as far as the file at least, and all of the file is planned as bytes of which nothing is told.
-pub record IsJob (job : Seen) (way : Way) (now : board.Seen) : Type 0 where
+-- A copy that is so far has this job: the export reaches as far as the file at least, and the file is planned up to a place, where these positions may count as zero.
+pub record IsJob (job : Seen) (zero : ℕ → Bool) (way : Way) (now : board.Seen) : Type 0 where
   pub room : ℕ
   pub size : way.size ≡ Some room
   pub fits : job.terms.size ≤ room
   pub how : way.how ≡ job.terms.how
   pub writes : now.how ≡ job.terms.how
   pub cells : job.windows.plan.cells ≡ cells_of job.terms
-  pub planned : windows.IsPlanned job.windows nowhere way.slices
-  pub whole : job.windows.plan.end ≡ job.terms.size
+  pub planned : windows.IsPlanned job.windows zero way.slices
+  pub ends : job.windows.size ≡ job.terms.size
   pub unasked : way.asked ≡ None
   -- a flush is asked for once, where it is wanted, behind all else; and the connections part only once it was answered
   pub unwanted : job.terms.flush ≡ false → now.flushing ≡ false
@@ -63,16 +60,18 @@ pub record IsSettled (terms : Terms) (planned : windows.Seen) : Type 0 where
   pub size : planned.size ≡ terms.size
   pub zeros : planned.plan.cells.zeros ≡ not terms.how.skip
 
--- A copy whose file was read so far is further on its way: more was read behind that, which the store gave, and the file is as it was.
-pub record IsFurther (file : ℕ) (read : List Request) (way : Way) (job' : Seen) (now now' : board.Seen) (held held' : List (Held Ticket)) (old new : Option Shelf) (given given' : ℕ) : Type 0 where
+-- A copy whose file was read so far, and told these holes, is further on its way: more was read behind that, which the store gave, and more holes were told, and the file is as it was.
+pub record IsFurther (file : ℕ) (read : List Request) (zero : ℕ → Bool) (way : Way) (job' : Seen) (now now' : board.Seen) (held held' : List (Held Ticket)) (old new : Option Shelf) (given given' : ℕ) : Type 0 where
   pub way' : Way
   pub read' : List Request
+  pub zero' : ℕ → Bool
   pub one : AreOfOne way way'
-  pub job : IsJob job' way' now'
+  pub job : IsJob job' zero' way' now'
   pub on : (calls : List wire.Call) → IsUnderWay (FromFile read) way now calls held → IsUnderWay (FromFile read') way' now' calls held'
   -- until its connections part, each request is on the connection that its slice is bound to
   pub bound : job'.phase ≢ Parting → (calls : List wire.Call) → IsBound false (FromFile read) way now calls held → IsBound false (FromFile read') way' now' calls held'
   pub touched : Touches file (ToldMore read read') old new
+  pub holes : Touches file (ToldHoles zero zero') old new
   pub count : ℕ
   pub more : bytes_of is_read read' ≡ bytes_of is_read read + count
   pub gave : RoseBy count given given'
@@ -80,10 +79,10 @@ pub record IsFurther (file : ℕ) (read : List Request) (way : Way) (job' : Seen
 -- A job that is done without calls on the wires keeps a copy on its way, wherever on it the copy was, and whatever of its file was read.
 pub record Acts (file : ℕ) (job job' : Seen) (now now' : board.Seen) (held held' : List (Held Ticket)) (old new : Option Shelf) (given given' : ℕ) : Type 0 where
   pub stand : Stand held → Stand held'
-  pub on : (read : List Request) (way : Way) → IsJob job way now → IsFurther file read way job' now now' held held' old new given given'
+  pub on : (read : List Request) (zero : ℕ → Bool) (way : Way) → IsJob job zero way now → IsFurther file read zero way job' now now' held held' old new given given'
   pub parts : job.phase ≡ Parting → job'.phase ≡ Parting
   -- it comes to rest once all slices are over, before the flush is asked for, and stays so
-  pub rests : (read : List Request) (way : Way) (calls : List wire.Call) → IsJob job way now → IsUnderWay (FromFile read) way now calls held →
+  pub rests : (read : List Request) (zero : ℕ → Bool) (way : Way) (calls : List wire.Call) → IsJob job zero way now → IsUnderWay (FromFile read) way now calls held →
       HasRested job.phase job.terms.size way.at now calls → HasRested job'.phase job'.terms.size way.at now' calls
 
 -- So it does where nothing is begun or read, whatever the file is.

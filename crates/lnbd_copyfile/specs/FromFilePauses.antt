@@ -1,18 +1,26 @@
 -- What stands between the pauses of a copy from a file to an export: bridges between its steps, that no claim names.
-use Rattle.std.specs.Prelude.{◌≡◌, ◌≢◌, ◌≤◌, ℕ, List, length, Option}
+use Rattle.std.specs.Prelude.{◌≡◌, ◌≢◌, ◌≤◌, ℕ, false, List, [], length, Option, None}
 use Rattle.lnbd_model.specs.declared.target.Place.{Place}
 use Rattle.lnbd_link.specs.Call as wire
 use Rattle.lnbd_plan.specs.declared.options.CopyOptions.{CopyOptions}
 use Rattle.lnbd_poll.specs.Held.{wants_now}
+use Rattle.lnbd_board.specs.declared.how.How.{How}
+use Rattle.lnbd_course.specs.Far.{FromFile}
 use Rattle.lnbd_conduct.specs.Told.{Told}
 use Rattle.lnbd_conduct.specs.Waiting.{NoneForWriting}
 use Rattle.lnbd_store.specs.Shelf.{Shelf}
+use Rattle.lnbd_connections.specs.Unready.{AwaitsAll}
 use Rattle.lnbd_copyfile.specs.declared.from_file_job.Phase.TheVariants.{Parting}
-use Rattle.lnbd_copyfile.specs.FromFile.{IsGoing, Seen}
+use Rattle.lnbd_copyfile.specs.FromFile.{IsGoing, Seen, new_way}
 use Rattle.lnbd_copyfile.specs.FromFileFull.{HasAllUnderWayFrom, PausesAreFullFrom}
 use Rattle.lnbd_copyfile.specs.FromFileJob as work
 use Rattle.lnbd_copyfile.specs.SharingFrom.{HasTermsFrom}
 use Rattle.lnbd_copyfile.specs.ToFilePauses.{HoldsAll}
+
+-- Connections were made since the start, and at each pause one negotiated still.
+pub record IsAwaited (to : Place) (start told : Option (List wire.Call)) (copy : Seen) : Type 0 where
+  pub how : How
+  pub so : AwaitsAll false (FromFile []) (new_way to None how) start told copy.board copy.held
 
 -- A copy is under way on settled terms; until its connections part it holds all of them, and no more slices are begun and not over than may be; and at each pause so far as much was under way as
 -- may be.

@@ -1,5 +1,6 @@
 pub mod Causes
 pub mod Zeros
+pub mod Holes
 pub mod Between
 pub mod Calls
 pub mod OneFile
@@ -29,8 +30,8 @@ pub mod Binding
 pub mod SharingFrom
 pub mod ToFilePauses
 pub mod FlushedLast
-pub mod Heard
 pub mod Hearing
 pub mod Sent
 pub mod FromFileFull
 pub mod FromFilePauses
+pub mod FileCopy

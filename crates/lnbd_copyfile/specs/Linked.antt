@@ -14,7 +14,7 @@ use Rattle.lnbd_conduct.specs.Told.{AtSome, Told}
 use Rattle.lnbd_copy.specs.Grounds.{Happens}
 use Rattle.lnbd_copy.specs.Links.{LinksGo}
 use Rattle.lnbd_connections.specs.Uses.{Uses, UsesTo}
-use Rattle.lnbd_copyfile.specs.Connects.{WasTold, connected_to}
+use Rattle.lnbd_copyfile.specs.Connects.{WasInformed, connected_to}
 
 -- The first handle was told of an export to which so many connections are to be made.
 pub record FindsMany (options : CopyOptions) (many : ℕ) (held : List (Held Ticket)) : Type 0 where
@@ -25,7 +25,7 @@ pub record FindsMany (options : CopyOptions) (many : ℕ) (held : List (Held Tic
 -- So it is by the calls since the transcript was this.
 pub record HasSettledOn (options : CopyOptions) (at : Place) (start told : Option (List wire.Call)) (many : ℕ) : Type 0 where
   pub info : ExportInfo
-  pub shown : Told start told (AtSome (WasTold at info))
+  pub shown : Told start told (AtSome (WasInformed at info))
   pub are : many ≡ connections options info
 
 -- Steps from the start on connect to the export alone, once or as often as is settled, or less often, and use their links well.

@@ -1,6 +1,6 @@
 -- Which calls a copy makes on its file, where the other side is an export. How long a slice is, is not known here.
 use Rattle.std.specs.Prelude.{◌≡◌, ◌<◌, ℕ, List, [], ◌∷◌, ◌++◌}
-use Rattle.lnbd_store.specs.Call.{Call, Open, Length, ReadAt, WriteAt, Cut, Sync, Ended, ReadFault, WriteFault}
+use Rattle.lnbd_store.specs.Call.{Call, Open, Length, ReadAt, WriteAt, Cut, Sync, PartAt, Ended, ReadFault, WriteFault}
 use Rattle.lnbd_copyfile.specs.declared.fault.Stop.{Stop}
 use Rattle.lnbd_copyfile.specs.declared.fault.Stop.TheVariants as stop
 use Rattle.lnbd_copyfile.specs.Calls.{GaveBytes, TookBytes}
@@ -13,8 +13,9 @@ IsWriteTo file (ReadAt number offset room answer) = ⊥
 IsWriteTo file (WriteAt number offset offered answer) = (number ≡ file) × TookBytes answer
 IsWriteTo file (Cut number n done) = ⊥
 IsWriteTo file (Sync number done) = ⊥
+IsWriteTo file (PartAt number offset answer) = ⊥
 
--- it gave bytes
+-- it gave bytes, or told whether a part of it is zeros
 abbrev pub IsReadFrom : (file : ℕ) → Call → Type 0
 IsReadFrom file (Open path write number) = ⊥
 IsReadFrom file (Length number n) = ⊥
@@ -22,6 +23,7 @@ IsReadFrom file (ReadAt number offset room answer) = (number ≡ file) × GaveBy
 IsReadFrom file (WriteAt number offset offered answer) = ⊥
 IsReadFrom file (Cut number n done) = ⊥
 IsReadFrom file (Sync number done) = ⊥
+IsReadFrom file (PartAt number offset answer) = number ≡ file
 
 abbrev pub Writes : (file : ℕ) → List Call → Type 0
 Writes file [] = Unit {0}

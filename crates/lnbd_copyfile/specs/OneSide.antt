@@ -18,12 +18,12 @@ use Rattle.lnbd_course.specs.Counted.{bytes_of}
 use Rattle.lnbd_course.specs.Course.{IsPlannedWhole}
 use Rattle.lnbd_course.specs.Far.{FromFile, ToFile}
 use Rattle.lnbd_course.specs.FarCourse.{FarCourse}
-use Rattle.lnbd_course.specs.FarLaws.{IsReadWhole}
 use Rattle.lnbd_course.specs.Told.{Known}
 use Rattle.lnbd_store.specs.Shelf.{Goes, Shelf}
 use Rattle.lnbd_touched.specs.Grown.{RoseBy}
 use Rattle.lnbd_touched.specs.Parts.{IsShort}
 use Rattle.lnbd_touched.specs.Touches.{Touches}
+use Rattle.lnbd_copyfile.specs.Holes.{IsReadWhole, ToldHoles, nowhere}
 use Rattle.lnbd_copyfile.specs.Loading.{HasLoaded, ToldMore}
 use Rattle.lnbd_copyfile.specs.Making.{HasMadeFirst, MadeMore, WentOn}
 use Rattle.lnbd_copyfile.specs.Steps as steps
@@ -87,12 +87,12 @@ ToFileIsCopied = (path : List ℕ) (n size : ℕ) (made : List Request) (from : 
     now.error ≡ None → IsPlannedWhole how cells windows from calls size slices →
     Goes a c (IsCopiedTo path from calls)
 
--- The file was opened and measured, and then read. Where the copy ends so, it is copied.
+-- The file was opened and measured, and then read but for what it told to be zeros. Where the copy ends so, it is copied.
 abbrev pub FromFileIsCopied : Type 0
 FromFileIsCopied = (path : List ℕ) (n size room : ℕ) (read : List Request) (to : Place) (how : How) (slices : List Slice) (now : board.Seen) (calls : List wire.Call)
-    (wanted : Option (ℕ × ℕ)) (known : Known) (cells : Cells) (windows : List Window) (a b c : Option Shelf) →
-    Goes a b (steps.IsSource path n size) → Touches n (ToldMore [] read) b c → FarCourse (FromFile read) to (Some room) how slices now calls [] wanted known → now.rows ≡ [] →
-    now.error ≡ None → IsReadWhole how cells windows size slices → size ≤ room →
+    (wanted : Option (ℕ × ℕ)) (known : Known) (cells : Cells) (windows : List Window) (zero : ℕ → Bool) (a b c : Option Shelf) →
+    Goes a b (steps.IsSource path n size) → Touches n (ToldMore [] read) b c → Touches n (ToldHoles nowhere zero) b c → FarCourse (FromFile read) to (Some room) how slices now calls [] wanted known → now.rows ≡ [] →
+    now.error ≡ None → IsReadWhole how cells windows zero size slices → size ≤ room →
     Goes a c (IsCopiedFrom path size to how.skip calls)
 
 -- A file that told that it has so many bytes never ends before, where the store tells its files.
@@ -118,6 +118,6 @@ pub record IsGiven (size : ℕ) (now : board.Seen) (given given2 : ℕ) : Type 0
 
 abbrev pub FromFileIsSummed : Type 0
 FromFileIsSummed = (read : List Request) (to : Place) (size room : ℕ) (how : How) (slices : List Slice) (now : board.Seen) (calls : List wire.Call) (wanted : Option (ℕ × ℕ))
-    (known : Known) (cells : Cells) (windows : List Window) (given given2 : ℕ) →
-    FarCourse (FromFile read) to (Some room) how slices now calls [] wanted known → now.error ≡ None → IsReadWhole how cells windows size slices → size ≤ 2 ^ 63 →
+    (known : Known) (cells : Cells) (windows : List Window) (zero : ℕ → Bool) (given given2 : ℕ) →
+    FarCourse (FromFile read) to (Some room) how slices now calls [] wanted known → now.error ≡ None → IsReadWhole how cells windows zero size slices → size ≤ 2 ^ 63 →
     RoseBy (bytes_of is_read read) given given2 → IsGiven size now given given2

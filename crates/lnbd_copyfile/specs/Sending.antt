@@ -1,4 +1,4 @@
--- The slices of a copy from a file, step by step: each is read as it begins, and what it asks for goes to the export. Bridges, which no claim names.
+-- The slices of a copy from a file, step by step: each is read as it begins, unless it counts as zero, and what it asks for goes to the export. Bridges, which no claim names.
 use Rattle.std.specs.Prelude.{◌≡◌, false, ℕ, ◌+◌, List, ◌++◌, Option}
 use Rattle.lnbd_link.specs.Call as wire
 use Rattle.lnbd_model.specs.Kind.{is_read}
@@ -17,7 +17,7 @@ use Rattle.lnbd_touched.specs.Grown.{RoseBy}
 use Rattle.lnbd_touched.specs.Touches.{Touches}
 use Rattle.lnbd_connections.specs.Bound.{IsBound}
 use Rattle.lnbd_connections.specs.Way.{IsUnderWay, Way, with_slices}
-use Rattle.lnbd_copyfile.specs.Loading.{Loads, ToldMore}
+use Rattle.lnbd_copyfile.specs.Loading.{BeginsSlice, ToldMore}
 
 -- With these slices begun a copy that writes so is on its way still, whose file was read so far: more was read behind that, which the store gave, and the file is as it was.
 pub record HasSent (file : ℕ) (how : How) (more : List Slice) (read : List Request) (now now' : board.Seen) (held held' : List (Held Ticket)) (old new : Option Shelf) (given given' : ℕ) : Type 0 where
@@ -44,11 +44,7 @@ pub record Sends (file : ℕ) (planned planned' : windows.Seen) (now now' : boar
 pub record PassesOn (now now' : board.Seen) (held held' : List (Held Ticket)) : Type 0 where
   pub on : (file : ℕ) (planned : windows.Seen) (shelf : Option Shelf) (given : ℕ) → Sends file planned planned now now' held held' shelf shelf given given
 
--- Planned slices were begun, and nothing was asked of the export.
-pub record Begins (file : ℕ) (planned planned' : windows.Seen) (now now' : board.Seen) (old new : Option Shelf) (given given' : ℕ) : Type 0 where
-  pub on : (held : List (Held Ticket)) → Sends file planned planned' now now' held held old new given given'
-
--- A slice was read, bound to some connection of the export.
-pub record BeginsOne (file : ℕ) (slice : Slice) (now now' : board.Seen) (old new : Option Shelf) (given given' : ℕ) : Type 0 where
+-- A slice began, bound to some connection of the export.
+pub record BeginsOne (file : ℕ) (slice : Slice) (now now' : board.Seen) (held held' : List (Held Ticket)) (old new : Option Shelf) (given given' : ℕ) : Type 0 where
   pub destination : ℕ
-  pub loads : Loads file slice 0 destination now now' old new given given'
+  pub begins : BeginsSlice file slice 0 destination now now' held held' old new given given'

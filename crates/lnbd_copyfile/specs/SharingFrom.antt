@@ -1,5 +1,5 @@
 -- What stands between the steps of a copy from a file to an export of how its requests are shared out: no claim names it.
-use Rattle.std.specs.Prelude.{◌≡◌, ◌≤◌, false, ℕ, List, [], Option, Some}
+use Rattle.std.specs.Prelude.{◌≡◌, ◌≤◌, false, ℕ, Bool, List, [], Option, Some}
 use Rattle.lnbd_model.specs.declared.target.Place.{Place}
 use Rattle.lnbd_model.specs.declared.export.ExportInfo.{ExportInfo}
 use Rattle.lnbd_link.specs.Call as wire
@@ -63,8 +63,9 @@ IsSending Parting read way now calls held = IsUnderWay (FromFile read) way now c
 pub record IsSharing (terms : Terms) (start told : Option (List wire.Call)) (job : work.Seen) (copy : Seen) : Type 0 where
   pub way : Way
   pub read : List Request
+  pub zero : ℕ → Bool
   pub terms_ : job.terms ≡ terms
-  pub is : work.IsJob job way copy.board
+  pub is : work.IsJob job zero way copy.board
   pub stand : Stand copy.held
   pub dealt : HasDealt job copy.board
   pub on : Told start told (λ calls. IsSending job.phase read way copy.board calls copy.held)

@@ -16,7 +16,7 @@ use Rattle.lnbd_conduct.specs.Terms.{broken_rule, how_by, takes_flush}
 use Rattle.lnbd_conduct.specs.Told.{AtSome, Told}
 use Rattle.lnbd_copy.specs.Grounds.{Happens}
 use Rattle.lnbd_copyfile.specs.Shares.{as_read}
-use Rattle.lnbd_copyfile.specs.Connects.{IsToldOnce, WasTold}
+use Rattle.lnbd_copyfile.specs.Connects.{IsToldOnce, WasInformed}
 
 -- By a front of these calls a connection to the export was told of it, all rules hold between a file of so many bytes and what it was told, and of that this is so.
 abbrev pub SettledFrom : (size : ℕ) → (to : Place) → (Is : ExportInfo → Type 0) → List wire.Call → Type 0
@@ -42,6 +42,6 @@ pub record FindsShown (options : CopyOptions) (size : ℕ) (held : List (Held Ti
 -- So it is by the calls since the transcript was this.
 pub record HasShown (options : CopyOptions) (size : ℕ) (to : Place) (start told : Option (List wire.Call)) (terms : Terms) : Type 0 where
   pub info : ExportInfo
-  pub shown : Told start told (AtSome (WasTold to info))
+  pub shown : Told start told (AtSome (WasInformed to info))
   pub none : broken_rule (as_read size) info ≡ None
   pub settled : AreSettledBy options (as_read size) info terms

@@ -1,6 +1,7 @@
 -- Words on the code's own steps.
 use Rattle.std.specs.Prelude.{◌≡◌, ◌≢◌, ◌+◌, ◌-◌, ◌%◌, ◌<◌, ◌≤◌, ℕ, min, Bool, true, cond, List, [], ◌∷◌, ◌++◌, length, take, drop, replicate, Some, None}
 use Rattle.lnbd_plan.specs.declared.grid.Slice.{Slice}
+use Rattle.lnbd_store.specs.Effects.{AreZeros}
 use Rattle.lnbd_store.specs.Shelf.{Shelf, IsOpen}
 use Rattle.lnbd_copyfile.specs.Zeros.{count_of, in_zero_piece}
 
@@ -23,6 +24,11 @@ pub record Moved (cell block size at to written : ℕ) (from dest from' dest' : 
   pub same : from' ≡ from
   pub on : length from ≡ size → dest ≡ take at from ++ replicate (size - at) 0 → dest' ≡ take to from ++ replicate (size - to) 0
   pub count : length from ≡ size → AreCounted (in_zero_piece cell block from) written at (to - at)
+
+-- the file is as it was, and each of so many positions from one on is zero, where it lies in it
+pub record HasZeros (at n : ℕ) (old new : List ℕ) : Type 0 where
+  pub same : new ≡ old
+  pub are : AreZeros at n old
 
 -- the source has fewer bytes
 pub record Lacking (size : ℕ) (from dest from' dest' : List ℕ) : Type 0 where

@@ -63,6 +63,10 @@ pub record SparesWhole (from : Place) (calls : List wire.Call) : Type 0 where
   pub shown : AtSome (WasShown from info) calls
   pub spares : ReadsNoZeros (least_block info.blocks) (dealt_with from calls)
 
+-- Nothing was read yet, or so it is.
+abbrev pub SparesToldSoFar : Place → List wire.Call → Type 0
+SparesToldSoFar from calls = NothingWasRead (dealt_with from calls) ⊎ SparesWhole from calls
+
 -- What is made.
 
 -- The file was made of so many bytes, all that came was written, and with `flush` it was synced once, behind the last write.

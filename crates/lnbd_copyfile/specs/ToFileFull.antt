@@ -18,8 +18,8 @@ use Rattle.lnbd_conduct.specs.Slices.{AreFullWindows, AsksForNone, IsUntold, cel
 use Rattle.lnbd_conduct.specs.Told.{AtSome}
 use Rattle.lnbd_conduct.specs.Waiting.{NoneForWriting}
 use Rattle.lnbd_usage.specs.Pauses.{AtEachPause}
-use Rattle.lnbd_connections.specs.Unmoved.{MovesNothing}
-use Rattle.lnbd_copyfile.specs.Connects.{WasTold}
+use Rattle.lnbd_connections.specs.Unready.{NegotiatesStill}
+use Rattle.lnbd_copyfile.specs.Connects.{WasInformed}
 use Rattle.lnbd_copyfile.specs.Shares.{AreSettledTo}
 
 -- Of these slices each was told as zero, or its READ is done; or its READ is unanswered, which so many are. (What came is written to the file, or passed over, before the next pause.)
@@ -72,14 +72,14 @@ pub record IsFullTo (terms : Terms) (from : Place) (calls : List wire.Call) : Ty
 -- By a front of these calls a connection was told of the export, and on the terms that this and the options settle as much is under way as may be.
 pub record HasAllUnderWayTo (options : CopyOptions) (from : Place) (calls : List wire.Call) : Type 0 where
   pub source : ExportInfo
-  pub told : AtSome (WasTold from source) calls
+  pub told : AtSome (WasInformed from source) calls
   pub terms : Terms
   pub settled : AreSettledTo options source terms
   pub full : IsFullTo terms from calls
 
--- At a pause that wants no link for writing, by the calls before it, no byte was asked to be read yet, or as much is under way as may be.
+-- At a pause that wants no link for writing a connection negotiates still, or as much is under way as may be, by the calls before it.
 abbrev pub IsFullPauseTo : CopyOptions → (from : Place) → (before : List wire.Call) → List Want → Type 0
-IsFullPauseTo options from before wants = NoneForWriting wants → MovesNothing from before ⊎ HasAllUnderWayTo options from before
+IsFullPauseTo options from before wants = NoneForWriting wants → NegotiatesStill options.extents from before ⊎ HasAllUnderWayTo options from before
 
 -- So it is at each pause.
 abbrev pub PausesAreFullTo : CopyOptions → (from : Place) → List wire.Call → Type 0

@@ -14,7 +14,7 @@ use Rattle.lnbd_conduct.specs.Told.{AtSome, Told}
 use Rattle.lnbd_conduct.specs.Waiting.{NoneForWriting}
 use Rattle.lnbd_copy.specs.Links.{LinksStand}
 use Rattle.lnbd_store.specs.Shelf.{Shelf}
-use Rattle.lnbd_copyfile.specs.Connects.{WasTold}
+use Rattle.lnbd_copyfile.specs.Connects.{WasInformed}
 use Rattle.lnbd_copyfile.specs.Jobs.{Seen}
 use Rattle.lnbd_copyfile.specs.ToFile.{IsCopying}
 use Rattle.lnbd_copyfile.specs.Shares.{AreSettledTo}
@@ -30,7 +30,7 @@ pub record HoldsAll (start told : Option (List wire.Call)) (held : List (Held Ti
 -- By the calls since the start a connection was told of an export, and that and the options settle these terms.
 pub record HasSettledTerms (options : CopyOptions) (at : Place) (start told : Option (List wire.Call)) (terms : Terms) : Type 0 where
   pub source : ExportInfo
-  pub shown : Told start told (AtSome (WasTold at source))
+  pub shown : Told start told (AtSome (WasInformed at source))
   pub settled : AreSettledTo options source terms
 
 -- A copy is under way on these terms; until its connections part it holds all of them; no more slices are begun and not over than may be; and at each pause so far as much was under way as may be.

@@ -4,14 +4,14 @@ ghost use Rattle.std.specs.Prelude.{◌≡◌, ◌≢◌, ◌-◌, ◌<◌, ◌�
 ghost use Rattle.lnbd_link.specs.Count.{Rises};
 ghost use Rattle.lnbd_store.specs.Shelf.{Goes, Shelf};
 ghost use Rattle.lnbd_touched.specs.Grown.{Grew};
-ghost use Rattle.lnbd_copyfile.specs.Between.{HasCopied, HasPassed, IsSummed};
+ghost use Rattle.lnbd_copyfile.specs.Between.{HasCopied, HasPassed, IsSummed, copied_length};
 ghost use Rattle.lnbd_copyfile.specs.Calls.{HasDone, IsOpening, NotDone, NotOpened, stop_of};
 ghost use Rattle.lnbd_copyfile.specs.Causes.{HasCause, IsChanged, TellsChange};
 ghost use Rattle.lnbd_copyfile.specs.Steps.{IsSource};
 ghost use Rattle.lnbd_copyfile.specs.Zeros.{block_of};
 
 use crate::fault::{FileFault, Stop};
-use crate::filling::{Way, fill};
+use crate::filling::{Amounts, Way, fill};
 use lnbd_model::Text;
 use lnbd_plan::{CopyOptions, Summary};
 use lnbd_store::{Store, StoreFailed};
@@ -50,16 +50,16 @@ fn block_of(options: CopyOptions) -> u32
     options.sparse
 }
 
-/// What a copy did that wrote so many of the bytes that it read.
-fn summary_of(size: u64, written: u64) -> Summary
-    requires { written ≤ size }
-    ensures { result ≡ record { read = size; written = written; zeroed = 0; skipped = size - written } }
+/// What a copy did that read and wrote so many of a file's bytes.
+fn summary_of(size: u64, amounts: Amounts) -> Summary
+    requires { amounts.written ≤ size }
+    ensures { result ≡ record { read = amounts.read; written = amounts.written; zeroed = 0; skipped = size - amounts.written } }
 {
     Summary {
-        read: size,
-        written,
+        read: amounts.read,
+        written: amounts.written,
         zeroed: 0,
-        skipped: size - written,
+        skipped: size - amounts.written,
     }
 }
 
@@ -73,8 +73,8 @@ fn copy<S: Store>(
 ) -> Result<Summary, Stop>
     requires apart { from.now ≢ to.now }
     requires cell { 0 < options.request_size }
-    ensures between { IfOk result (λ summary. HasCopied from.now to.now summary.read (S.shelf store.old) (S.shelf store.new)) }
-    ensures stores { IfOk result (λ summary. Grew (S.told store.old) (S.told store.new) (HasDone from.now to.now summary.read options)) }
+    ensures between { IfOk result (λ summary. HasCopied from.now to.now (copied_length summary) (S.shelf store.old) (S.shelf store.new)) }
+    ensures stores { IfOk result (λ summary. Grew (S.told store.old) (S.told store.new) (HasDone from.now to.now (copied_length summary) options)) }
     ensures sums { IfOk result (λ summary. IsSummed summary (S.given store.old) (S.given store.new) (S.taken store.old) (S.taken store.new)) }
     ensures passed { IfOk result (λ summary. HasPassed options from.now summary.skipped (S.shelf store.new)) }
     ensures allocated { options.allocated ≡ true → IfOk result (λ summary. summary.skipped ≡ 0) }
@@ -95,7 +95,7 @@ fn copy<S: Store>(
         flush: options.flush,
     };
     match fill(alloc, store, way, to) {
-        Ok(written) => Ok(summary_of(source.size, written)),
+        Ok(amounts) => Ok(summary_of(source.size, amounts)),
         Err(why) => Err(why),
     }
 }
@@ -103,9 +103,10 @@ fn copy<S: Store>(
 /// Copies the file at a path to another path. The source is opened and measured; the destination is opened, made where it is missing, cut to
 /// nothing and then to the source's length, so that nothing of what it had is left; and slices of at most `request_size` bytes are read and
 /// written one after another. Whole blocks of `sparse` zeros are passed over, unless they are to be allocated: the file has zeros there.
+/// Slices of which the store tells that they lie in a hole are not even read then.
 ///
 /// On a fault the destination may be cut and written in part. `connections`, `requests`, `extents` and `destination_is_zero` change nothing here.
-pub fn copy_between<S: Store>(
+pub(crate) fn copy_between<S: Store>(
     alloc: Global,
     options: CopyOptions,
     from: &Text,
@@ -116,10 +117,10 @@ pub fn copy_between<S: Store>(
     requires cell { 0 < options.request_size }
 
     // Where the store tells its files, the destination is exactly the source, and every other file is as it was.
-    ensures between { IfOk result (λ summary. HasCopied from.now to.now summary.read (S.shelf store.old) (S.shelf store.new)) }
+    ensures between { IfOk result (λ summary. HasCopied from.now to.now (copied_length summary) (S.shelf store.old) (S.shelf store.new)) }
 
-    // Which calls were made: each read asks for the rest of a slice.
-    ensures stores { IfOk result (λ summary. Grew (S.told store.old) (S.told store.new) (HasDone from.now to.now summary.read options)) }
+    // Which calls were made: each read asks for the rest of a slice. Where its holes lie is asked of the source alone.
+    ensures stores { IfOk result (λ summary. Grew (S.told store.old) (S.told store.new) (HasDone from.now to.now (copied_length summary) options)) }
     ensures stopped { IfErr result (λ why. Grew (S.told store.old) (S.told store.new) (NotDone from.now to.now options (stop_of why))) }
 
     // How many bytes were read, written and passed over.

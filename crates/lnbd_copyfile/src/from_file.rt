@@ -44,9 +44,9 @@ ghost use Rattle.lnbd_copyfile.specs.Connects.{ConnectsAsTold};
 ghost use Rattle.lnbd_copyfile.specs.Linked.{FindsMany, UsesAsTold, UsesOn, UsesWithin};
 ghost use Rattle.lnbd_copyfile.specs.Shares.{IsAlwaysSharedFrom, as_read};
 ghost use Rattle.lnbd_copyfile.specs.FromFileFull.{PausesAreFullFrom};
-ghost use Rattle.lnbd_copyfile.specs.FromFilePauses.{GoesFull, IsFullSoFar, PausesFull, RestsFull};
+ghost use Rattle.lnbd_copyfile.specs.FromFilePauses.{GoesFull, IsAwaited, IsFullSoFar, PausesFull, RestsFull};
 ghost use Rattle.lnbd_copyfile.specs.declared.from_file_job.Phase.TheVariants as phase;
-ghost use Rattle.lnbd_connections.specs.Unmoved.{IsUnmoved};
+ghost use Rattle.lnbd_connections.specs.Unready.{IsUnready};
 ghost use Rattle.lnbd_usage.specs.Pauses.{AtEachPause};
 ghost use Rattle.lnbd_link.specs.Part.{Adds};
 ghost use Rattle.lnbd_poll.specs.Held.{wants_now};
@@ -60,13 +60,14 @@ use lnbd_board::{Board, Ticket};
 use lnbd_conduct::Terms;
 use lnbd_connections::{dial, dial_further, rest, settle, shut_all, shut_parted, take_turn};
 use lnbd_copy::{
-    CAN_MULTI_CONN, Counts, MAX_TURNS, Progress, UNKNOWN, broken_rule, check_counts, check_idles,
-    check_well, info_of, settled,
+    Counts, MAX_TURNS, Progress, UNKNOWN, broken_rule, check_counts, check_idles, check_well,
+    info_of, settled,
 };
 use lnbd_link::Wires;
 use lnbd_model::{Contexts, ExportInfo, NoMemory, Place, Text};
 use lnbd_plan::{CopyFault, CopyOptions, Summary};
 use lnbd_poll::{Handles, Turn};
+use lnbd_records::names::FLAG_CAN_MULTI_CONN;
 use lnbd_store::Store;
 use std::alloc::Global;
 use std::marker::Model;
@@ -99,7 +100,7 @@ fn info_of_file(alloc: Global, size: u64) -> ExportInfo
 {
     ExportInfo {
         size,
-        flags: CAN_MULTI_CONN,
+        flags: FLAG_CAN_MULTI_CONN,
         blocks: None,
         name: None,
         description: None,
@@ -177,7 +178,8 @@ impl FromFile {
         ensures met { IfOk result (λ terms. HasMet to.now terms (W.told wires.old) (W.told wires.new) self.new) }
         ensures opens { IfOk result (λ terms. HaveMet to.now terms (W.told wires.old) (W.told wires.new) self.new) }
         ensures settles { IfOk result (λ terms. HasTermsFrom self.old.options to.now (W.told wires.old) (W.told wires.new) terms) }
-        ensures unmoved { Told (W.told wires.old) (W.told wires.new) (AtEachPause (IsUnmoved to.now)) }
+        ensures unready { Told (W.told wires.old) (W.told wires.new) (AtEachPause (IsUnready false to.now)) }
+        ensures awaits { OnOk result (IsAwaited to.now (W.told wires.old) (W.told wires.new) self.new) }
         ensures one { OnOk result (length self.new.held ≡ 1) }
         ensures few { StaysFew 0 (W.told wires.old) (W.told wires.old) (W.told wires.new) }
         ensures cells { IfOk result (λ terms. (0 < terms.cell) × (0 < terms.zero_cell) × (0 < terms.grain)) }
@@ -209,8 +211,7 @@ impl FromFile {
         ensures on { OnOk result ((start : Option (List Call)) → HasMet to.now terms start (W.told wires.old) self.old → HasMet to.now terms start (W.told wires.new) self.new) }
         ensures opens { OnOk result ((start : Option (List Call)) → HasMet to.now terms start (W.told wires.old) self.old → HaveMet to.now terms start (W.told wires.old) self.old →
             HaveMet to.now terms start (W.told wires.new) self.new) }
-        ensures unmoved { (start : Option (List Call)) → HasMet to.now terms start (W.told wires.old) self.old →
-            Told start (W.told wires.old) (AtEachPause (IsUnmoved to.now)) → Told start (W.told wires.new) (AtEachPause (IsUnmoved to.now)) }
+        ensures unready { (start : Option (List Call)) → IsAwaited to.now start (W.told wires.old) self.old → Told start (W.told wires.new) (AtEachPause (IsUnready false to.now)) }
         ensures many { OnOk result (Stand self.old.held → length self.new.held ≡ length self.old.held + (terms.sides.destination - 1)) }
         ensures few { (start : Option (List Call)) → HasMet to.now terms start (W.told wires.old) self.old → StaysFew 0 start (W.told wires.old) (W.told wires.new) }
         ensures well { OnOk result (self.new.board.error ≡ None) }
@@ -265,7 +266,7 @@ impl FromFile {
         ensures shares { IfOk result (λ job. HasShared self.old.options to.now (W.told wires.old) (W.told wires.new) job self.new) }
         ensures full { IfOk result (λ job. (file : ℕ) (shelf : Option Shelf) (given : ℕ) →
             IsFullSoFar self.old.options file to.now (W.told wires.old) (W.told wires.new) job self.new shelf shelf given given) }
-        ensures unmoved { Told (W.told wires.old) (W.told wires.new) (AtEachPause (IsUnmoved to.now)) }
+        ensures unready { Told (W.told wires.old) (W.told wires.new) (AtEachPause (IsUnready false to.now)) }
         ensures few { StaysFew 0 (W.told wires.old) (W.told wires.old) (W.told wires.new) }
         ensures wished { IfOk result (λ job. IsWished self.old.options job.terms) }
         ensures causes { IfErr result (λ told. HasCause self.old.start (W.faults wires.new) (W.idles wires.new) told) }
@@ -553,8 +554,9 @@ impl FromFile {
 /// of the file are read and written, many at once. Whole blocks of `sparse` zeros are written as zeroes, or passed over where the export is
 /// known to read as zeroes.
 ///
-/// On a fault the export may be written in part. `extents` changes nothing here: a file tells none.
-pub fn copy_from_file<W: Wires, S: Store>(
+/// What the file tells to be zeros is not read: it counts as zero, and is zeroed or passed over as blocks of zeros are. On a fault the export may be
+/// written in part. `extents` changes nothing here: a file tells none to an export.
+pub(crate) fn copy_from_file<W: Wires, S: Store>(
     alloc: Global,
     options: CopyOptions,
     from: &Text,

@@ -1,9 +1,11 @@
 //! What is under way in a copy from a file to an export whose connections stand: slices begin and go on, and in the end the export is flushed
 //! and all connections part. How bytes move is not known here.
 
-ghost use Rattle.std.specs.Prelude.{◌≡◌, ◌≢◌, ◌<◌, ◌≤◌, ◌^◌, ℕ, Err, IfErr, IfOk, None, OnOk, Some, [], false, length, true};
+ghost use Rattle.std.specs.Prelude.{◌≡◌, ◌≢◌, ◌<◌, ◌≤◌, ◌^◌, ℕ, Err, IfErr, IfOk, List, None, OnOk, Some, [], false, length, true};
 ghost use Rattle.lnbd_link.specs.Count.{Rises};
 ghost use Rattle.lnbd_board.specs.Files.{Seen as Kept};
+ghost use Rattle.lnbd_board.specs.declared.ticket.Ticket.{Ticket as Tag};
+ghost use Rattle.lnbd_poll.specs.Held.{Held};
 ghost use Rattle.lnbd_board.specs.Rows.{busy};
 ghost use Rattle.lnbd_connections.specs.Steps.{Parts};
 ghost use Rattle.lnbd_connections.specs.Way.{Way};
@@ -19,6 +21,7 @@ ghost use Rattle.lnbd_copy.specs.Links.{HaveSameLinks};
 use crate::between::Source;
 use crate::fault::Stop;
 use crate::forgetting::forget;
+use crate::holes::extent_at;
 use crate::sending::Bindings;
 use lnbd_board::{Board, Ticket};
 use lnbd_conduct::Terms;
@@ -32,6 +35,9 @@ use std::marker::Model;
 
 /// The connection that is asked to flush.
 const FIRST: usize = 0;
+
+/// The most parts of a file that it tells before the connections take their next turn.
+const PARTS: u64 = 1024;
 
 /// What a copy is at.
 #[derive(Clone, Copy, Debug, PartialEq, Eq)]
@@ -67,9 +73,10 @@ impl FromFileJob {
     ghost use Rattle.lnbd_copyfile.specs.declared.from_file_job.Phase.TheVariants as phase;
     ghost use Rattle.lnbd_copyfile.specs.Binding.{Spreads};
     ghost use Rattle.lnbd_copyfile.specs.FromFileJob.{Acts, Concludes, IsJob, IsOver};
+    ghost use Rattle.lnbd_copyfile.specs.Holes.{nowhere};
     ghost use Rattle.lnbd_copyfile.specs.Sent.{HasNothingToSend};
 
-    /// No slice is begun yet. All of the file is planned as bytes.
+    /// No slice is begun or planned yet.
     #[tactic(auto, using(crate::proofs::DealtLemmas::dealt_begins))]
     pub(crate) fn new(alloc: Global, terms: Terms) -> Result<FromFileJob, NoMemory>
         requires cells { (0 < terms.cell) × (0 < terms.zero_cell) × (0 < terms.grain) }
@@ -79,14 +86,12 @@ impl FromFileJob {
         ensures copying { IfOk result (λ job. job.phase ≡ phase.Copying) }
         ensures dealt { IfOk result (λ job. IsDealt terms.limit terms.sides.destination job.bound []) }
         ensures begins { IfOk result (λ job. (way : Way) (now : Kept) (room : ℕ) → way.size ≡ Some room → terms.size ≤ room → way.how ≡ terms.how → now.how ≡ terms.how → way.slices ≡ [] →
-            way.asked ≡ None → now.flushing ≡ false → IsJob job way now) }
+            way.asked ≡ None → now.flushing ≡ false → IsJob job nowhere way now) }
     {
         let bindings = Bindings::new(alloc, terms.sides.destination)?;
-        let mut windows = Windows::new(alloc, terms);
-        windows.plan_rest()?;
         Ok(FromFileJob {
             terms,
-            windows,
+            windows: Windows::new(alloc, terms),
             bindings,
             phase: Phase::Copying,
         })
@@ -180,7 +185,7 @@ impl FromFileJob {
         }
     }
 
-    /// Slices go on and begin; once all are over, the flush is asked for, or the end.
+    /// Slices go on and begin, and more of the file is planned; once all are over, the flush is asked for, or the end.
     #[tactic(auto, using(lnbd_copy::proofs::LinkLemmas::same_none, lnbd_copy::proofs::LinkLemmas::same_then))]
     fn copy<S: Store>(
         &mut self,
@@ -212,8 +217,12 @@ impl FromFileJob {
             Ok(sent) => sent,
             Err(why) => return Err(why),
         };
+        let heard = match self.hear(store, file) {
+            Ok(heard) => heard,
+            Err(_) => return Err(Stop::NoMemory),
+        };
         if !self.is_over(board) {
-            return Ok(sent);
+            return Ok(sent || heard);
         }
         match self.conclude(handles, board) {
             Ok(()) => Ok(true),
@@ -263,6 +272,60 @@ impl FromFileJob {
             &mut self.windows,
             self.terms.limit,
         )
+    }
+
+    /// Where no planned slice is left the file tells what comes next of it, until a slice is planned, all of it is told, or it told so many parts that
+    /// the connections are to take a turn first. Whether anything was told.
+    fn hear<S: Store>(&mut self, store: &mut S, file: u32) -> Result<bool, NoMemory>
+        requires copying { self.old.phase ≡ phase.Copying }
+        ensures acts { OnOk result ((now : Kept) (held : List (Held Tag)) → Acts file self.old self.new now now held held (S.shelf store.old) (S.shelf store.new) (S.given store.old)
+            (S.given store.new)) }
+        ensures others { self.new ≡ record self.old { windows = self.new.windows } }
+        ensures ends { self.new.windows.size ≡ self.old.windows.size }
+        ensures still { IfOk result (λ heard. heard ≡ false → self.new ≡ self.old) }
+        ensures planned { IfOk result (λ heard. heard ≡ false → length self.new.windows.plan.slices ≡ 0 → self.new.terms.size ≤ self.new.windows.plan.end) }
+        ensures reads { Grew (S.told store.old) (S.told store.new) (Reads file) }
+        ensures faults { S.faults store.new ≡ S.faults store.old }
+        ensures given { S.given store.new ≡ S.given store.old }
+        ensures taken { S.taken store.new ≡ S.taken store.old }
+    {
+        let mut heard = false;
+        'parts: for _ in 0..PARTS {
+            if !self.hear_part(store, file)? {
+                return Ok(heard);
+            }
+            heard = true;
+        }
+        Ok(true)
+    }
+
+    /// Where no planned slice is left the file tells the next part of it, zeros or bytes, and a window that is told whole is planned. Whether anything was
+    /// told.
+    #[tactic(auto, using(crate::proofs::FromFileJobLemmas::acts_none))]
+    fn hear_part<S: Store>(&mut self, store: &mut S, file: u32) -> Result<bool, NoMemory>
+        requires copying { self.old.phase ≡ phase.Copying }
+        ensures acts { OnOk result ((now : Kept) (held : List (Held Tag)) → Acts file self.old self.new now now held held (S.shelf store.old) (S.shelf store.new) (S.given store.old)
+            (S.given store.new)) }
+        ensures others { self.new ≡ record self.old { windows = self.new.windows } }
+        ensures ends { self.new.windows.size ≡ self.old.windows.size }
+        ensures still { IfOk result (λ heard. heard ≡ false → self.new ≡ self.old) }
+        ensures planned { IfOk result (λ heard. heard ≡ false → length self.new.windows.plan.slices ≡ 0 → self.new.terms.size ≤ self.new.windows.plan.end) }
+        ensures reads { Grew (S.told store.old) (S.told store.new) (Reads file) }
+        ensures faults { S.faults store.new ≡ S.faults store.old }
+        ensures given { S.given store.new ≡ S.given store.old }
+        ensures taken { S.taken store.new ≡ S.taken store.old }
+    {
+        if self.windows.left() != 0 {
+            return Ok(false);
+        }
+        match self.windows.wanted() {
+            None => Ok(false),
+            Some(wanted) => {
+                let told = [extent_at(store, file, wanted.offset)];
+                self.windows.hear(&told)?;
+                Ok(true)
+            }
+        }
     }
 
     /// Whether all slices of the file are over.

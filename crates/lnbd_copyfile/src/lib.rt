@@ -6,23 +6,24 @@
 mod between;
 mod desk;
 mod fault;
+mod file_copy;
 mod filling;
 mod forgetting;
 mod from_file;
 mod from_file_job;
+mod holes;
 mod laws;
 mod loading;
 mod making;
+mod passing;
 mod reading;
 mod sending;
 mod to_file;
 mod to_file_job;
 mod writing;
 
-pub use between::copy_between;
 pub use desk::{First, begin_slice, go_on};
 pub use fault::{FileFault, Stop};
-pub use from_file::copy_from_file;
+pub use file_copy::FileCopy;
 pub use laws::{all_is_copied, all_is_summed, loading_keeps, making_keeps, nothing_hangs};
 pub use loading::load_slice;
-pub use to_file::copy_to_file;

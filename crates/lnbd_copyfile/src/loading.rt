@@ -1,4 +1,5 @@
-//! A slice of a copy from a file is read as it begins, and comes back to the board at once. What is written of it, and where, is not known here.
+//! A slice of a copy from a file is read as it begins, and comes back to the board at once; one that counts as zero asks the export for zeroes in
+//! place of that. What is written of a slice that was read, and where, is not known here.
 
 ghost use Rattle.std.specs.Prelude.{◌≡◌, ◌+◌, ◌<◌, ◌≤◌, ◌^◌, Err, IfErr, IfOk, OnOk, false, length, true};
 ghost use Rattle.lnbd_link.specs.Count.{Rises};
@@ -6,15 +7,18 @@ ghost use Rattle.lnbd_touched.specs.Grown.{Grew, RoseBy};
 ghost use Rattle.lnbd_touched.specs.Parts.{IsShort, Tells};
 ghost use Rattle.lnbd_touched.specs.Touches.{Touches};
 ghost use Rattle.lnbd_copyfile.specs.Causes.{IsChanged};
-ghost use Rattle.lnbd_copyfile.specs.Loading.{Loads};
+ghost use Rattle.lnbd_copy.specs.Links.{HaveSameLinks};
+ghost use Rattle.lnbd_copyfile.specs.Loading.{BeginsSlice};
 ghost use Rattle.lnbd_copyfile.specs.OneFile.{BreaksReading, Reads};
 
 use crate::fault::Stop;
 use crate::reading::read_all;
-use lnbd_board::{Ask, Board};
+use lnbd_board::{Ask, Board, Ticket};
+use lnbd_connections::ask_change;
 use lnbd_model::Bytes;
 use lnbd_onesided::complete;
 use lnbd_plan::Slice;
+use lnbd_poll::Handles;
 use lnbd_store::Store;
 use std::alloc::Global;
 
@@ -53,10 +57,12 @@ fn read_into<S: Store>(
     }
 }
 
-/// Begins a slice, bound to these connections of both sides, and reads it of a file that told that it has so many bytes. Nothing of a file is
-/// told as zero, so that a slice which is would count as want of memory.
+/// Begins a slice, bound to these connections of both sides. It is read of a file that told that it has so many bytes; or, where it counts as zero,
+/// the export is asked for zeroes.
+#[tactic(auto, using(lnbd_copy::proofs::LinkLemmas::same_none))]
 pub fn load_slice<S: Store>(
     alloc: Global,
+    handles: &mut Handles<Ticket>,
     store: &mut S,
     file: u32,
     size: u64,
@@ -67,7 +73,9 @@ pub fn load_slice<S: Store>(
 ) -> Result<(), Stop>
     requires room { slice.start + slice.length ≤ 2 ^ 63 }
     requires copied { slice.zero ≡ true → board.old.how.skip ≡ false }
-    ensures loads { OnOk result (Loads file slice source destination board.old board.new (S.shelf store.old) (S.shelf store.new) (S.given store.old) (S.given store.new)) }
+    ensures links { HaveSameLinks handles.old handles.new }
+    ensures begins { OnOk result (BeginsSlice file slice source destination board.old board.new handles.old handles.new (S.shelf store.old) (S.shelf store.new) (S.given store.old)
+        (S.given store.new)) }
     ensures reads { OnOk result (Grew (S.told store.old) (S.told store.new) (Reads file)) }
     ensures breaks { IfErr result (λ why. Grew (S.told store.old) (S.told store.new) (BreaksReading file size why)) }
     ensures short { IfErr result (λ why. IsChanged why → Touches file (IsShort size) (S.shelf store.old) (S.shelf store.new)) }
@@ -88,6 +96,9 @@ pub fn load_slice<S: Store>(
             }
             Err(why) => Err(why),
         },
-        Ask::Change(_) => Err(Stop::NoMemory),
+        Ask::Change(change) => match ask_change(handles, board, destination, number, change) {
+            Ok(()) => Ok(()),
+            Err(_) => Err(Stop::NoMemory),
+        },
     }
 }

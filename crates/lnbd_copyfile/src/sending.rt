@@ -1,4 +1,4 @@
-//! The slices of a copy from a file: each is read as it begins, and what it asks for goes to the connections of the export. When a copy turns, and
+//! The slices of a copy from a file: each is read as it begins, unless it counts as zero, and what it asks for goes to the connections of the export. When a copy turns, and
 //! when it ends, is not known here.
 
 ghost use Rattle.std.specs.Prelude.{◌≡◌, ◌+◌, ◌-◌, ◌<◌, ◌≤◌, ◌^◌, ℕ, [], Err, IfErr, IfOk, List, OnOk, false, length, not, replicate, slice_index, slice_set, true};
@@ -13,7 +13,7 @@ ghost use Rattle.lnbd_board.specs.Bound.{IsFewest};
 ghost use Rattle.lnbd_copyfile.specs.Binding.{Deals};
 ghost use Rattle.lnbd_copyfile.specs.Causes.{IsChanged};
 ghost use Rattle.lnbd_copyfile.specs.OneFile.{BreaksReading, Reads};
-ghost use Rattle.lnbd_copyfile.specs.Sending.{Begins, BeginsOne, PassesOn, Sends};
+ghost use Rattle.lnbd_copyfile.specs.Sending.{BeginsOne, PassesOn, Sends};
 ghost use Rattle.lnbd_copy.specs.Links.{HaveSameLinks};
 
 use crate::between::Source;
@@ -152,10 +152,11 @@ impl Bindings {
         Err(NoMemory)
     }
 
-    /// Begins a slice, bound to the connection to which the fewest are, and reads it.
+    /// Begins a slice, bound to the connection to which the fewest are, and reads it, unless it counts as zero.
     fn begin_one<S: Store>(
         &mut self,
         alloc: Global,
+        handles: &mut Handles<Ticket>,
         board: &mut Board,
         store: &mut S,
         source: Source,
@@ -163,7 +164,8 @@ impl Bindings {
     ) -> Result<(), Stop>
         requires room { slice.start + slice.length ≤ 2 ^ 63 }
         requires copied { slice.zero ≡ true → board.old.how.skip ≡ false }
-        ensures begins { OnOk result (BeginsOne source.file slice board.old board.new (S.shelf store.old) (S.shelf store.new) (S.given store.old) (S.given store.new)) }
+        ensures links { HaveSameLinks handles.old handles.new }
+        ensures begins { OnOk result (BeginsOne source.file slice board.old board.new handles.old handles.new (S.shelf store.old) (S.shelf store.new) (S.given store.old) (S.given store.new)) }
         ensures deals { OnOk result ((limit : ℕ) → limit < 2 ^ 64 → length board.old.rows < limit → Deals limit self.old self.new board.old board.new) }
         ensures more { OnOk result (length board.new.rows ≡ length board.old.rows + 1) }
         ensures reads { OnOk result (Grew (S.told store.old) (S.told store.new) (Reads source.file)) }
@@ -176,6 +178,7 @@ impl Bindings {
         let destination = self.fewest();
         match load_slice(
             alloc,
+            handles,
             store,
             source.file,
             source.size,
@@ -192,11 +195,12 @@ impl Bindings {
         }
     }
 
-    /// Begins the next slice that is planned, if there is one, and reads it. Whether there was.
-    #[tactic(auto, using(crate::proofs::DealtLemmas::deals_none))]
+    /// Begins the next slice that is planned, if there is one. Whether there was.
+    #[tactic(auto, using(crate::proofs::DealtLemmas::deals_none, lnbd_copy::proofs::LinkLemmas::same_none))]
     fn begin_next<S: Store>(
         &mut self,
         alloc: Global,
+        handles: &mut Handles<Ticket>,
         board: &mut Board,
         store: &mut S,
         source: Source,
@@ -204,7 +208,10 @@ impl Bindings {
     ) -> Result<bool, Stop>
         requires zeros { windows.old.plan.cells.zeros ≡ not board.old.how.skip }
         ensures windows { windows.new ≡ record windows.old { plan = record windows.old.plan { slices = windows.new.plan.slices } } }
-        ensures begins { OnOk result (Begins source.file windows.old windows.new board.old board.new (S.shelf store.old) (S.shelf store.new) (S.given store.old) (S.given store.new)) }
+        ensures links { HaveSameLinks handles.old handles.new }
+        ensures kept { IfOk result (λ begun. begun ≡ false → handles.new ≡ handles.old) }
+        ensures begins { OnOk result (Sends source.file windows.old windows.new board.old board.new handles.old handles.new (S.shelf store.old) (S.shelf store.new) (S.given store.old)
+            (S.given store.new)) }
         ensures deals { OnOk result ((limit : ℕ) → limit < 2 ^ 64 → length board.old.rows < limit → Deals limit self.old self.new board.old board.new) }
         ensures more { IfOk result (λ begun. begun ≡ true → length board.new.rows ≡ length board.old.rows + 1) }
         ensures still { IfOk result (λ begun. begun ≡ false → board.new ≡ board.old) }
@@ -218,17 +225,19 @@ impl Bindings {
     {
         match windows.next() {
             None => Ok(false),
-            Some(slice) => match self.begin_one(alloc, board, store, source, slice) {
+            Some(slice) => match self.begin_one(alloc, handles, board, store, source, slice) {
                 Ok(()) => Ok(true),
                 Err(why) => Err(why),
             },
         }
     }
 
-    /// Begins planned slices, up to as many as may be under way, and reads each. Whether there were any.
+    /// Begins planned slices, up to as many as may be under way. Whether there were any.
+    #[tactic(auto, using(lnbd_copy::proofs::LinkLemmas::same_none, lnbd_copy::proofs::LinkLemmas::same_then))]
     fn begin<S: Store>(
         &mut self,
         alloc: Global,
+        handles: &mut Handles<Ticket>,
         board: &mut Board,
         store: &mut S,
         source: Source,
@@ -237,7 +246,10 @@ impl Bindings {
     ) -> Result<bool, Stop>
         requires zeros { windows.old.plan.cells.zeros ≡ not board.old.how.skip }
         ensures windows { windows.new ≡ record windows.old { plan = record windows.old.plan { slices = windows.new.plan.slices } } }
-        ensures begins { OnOk result (Begins source.file windows.old windows.new board.old board.new (S.shelf store.old) (S.shelf store.new) (S.given store.old) (S.given store.new)) }
+        ensures links { HaveSameLinks handles.old handles.new }
+        ensures kept { IfOk result (λ begun. begun ≡ false → handles.new ≡ handles.old) }
+        ensures begins { OnOk result (Sends source.file windows.old windows.new board.old board.new handles.old handles.new (S.shelf store.old) (S.shelf store.new) (S.given store.old)
+            (S.given store.new)) }
         ensures deals { OnOk result (Deals limit self.old self.new board.old board.new) }
         ensures full { IfOk result (λ begun. begun ≡ false → length board.new.rows < limit → length windows.new.plan.slices ≡ 0) }
         ensures most { OnOk result (length board.old.rows ≤ limit → length board.new.rows ≤ limit) }
@@ -250,7 +262,7 @@ impl Bindings {
     {
         let mut begun = false;
         'slices: for under_way in board.count() as u64..limit {
-            match self.begin_next(alloc, board, store, source, windows) {
+            match self.begin_next(alloc, handles, board, store, source, windows) {
                 Ok(true) => begun = true,
                 Ok(false) => return Ok(begun),
                 Err(why) => return Err(why),
@@ -291,7 +303,7 @@ impl Bindings {
         let Ok(went) = self.go_on(alloc, handles, board) else {
             return Err(Stop::NoMemory);
         };
-        let begun = match self.begin(alloc, board, store, source, windows, limit) {
+        let begun = match self.begin(alloc, handles, board, store, source, windows, limit) {
             Ok(begun) => begun,
             Err(why) => return Err(why),
         };

@@ -1,6 +1,6 @@
 //! A copy from an export to a file, from its first connection to the end, over any wires and any store. How slices go is known by its job.
 
-ghost use Rattle.std.specs.Prelude.{◌≡◌, ◌<◌, ◌≤◌, ◌^◌, [], IfErr, IfOk, List, None, OnErr, OnOk, Option, Some, length, true, ℕ, false};
+ghost use Rattle.std.specs.Prelude.{◌≡◌, ◌<◌, ◌≤◌, ◌^◌, [], Bool, IfErr, IfOk, List, None, OnErr, OnOk, Option, Some, length, true, ℕ, false};
 ghost use Rattle.lnbd_link.specs.Call.{Call, Pause};
 ghost use Rattle.lnbd_link.specs.Count.{Rises, patience};
 ghost use Rattle.lnbd_model.specs.declared.target.Place.{Place as At};
@@ -35,15 +35,15 @@ ghost use Rattle.lnbd_plan.specs.declared.options.CopyOptions.{CopyOptions};
 ghost use Rattle.lnbd_usage.specs.Pauses.{AtEachPause};
 ghost use Rattle.lnbd_copy.specs.Links.{LinksGo};
 ghost use Rattle.lnbd_copy.specs.Pauses.{Unpaused};
-ghost use Rattle.lnbd_connections.specs.Unmoved.{IsUnmoved};
+ghost use Rattle.lnbd_connections.specs.Unready.{IsUnready};
 ghost use Rattle.lnbd_copyfile.specs.ToFileFull.{PausesAreFullTo};
 ghost use Rattle.lnbd_copyfile.specs.ToFilePauses.{GoesFull, IsReadyFull, PausesFull, RestsFull};
 ghost use Rattle.lnbd_copyfile.specs.Linked.{FindsMany, UsesAsTold, UsesWithin};
-ghost use Rattle.lnbd_copyfile.specs.Heard.{ReadsAreHeard};
-ghost use Rattle.lnbd_copyfile.specs.Hearing.{HasHeard, HearsReads, HearsTo};
+ghost use Rattle.lnbd_conduct.specs.Answered.{ReadsAreAnswered};
+ghost use Rattle.lnbd_copyfile.specs.Hearing.{HasHeard, HearsReads, HearsTo, IsLed};
 ghost use Rattle.lnbd_copyfile.specs.Passed.{HasPassedBy, HasPassedOver, PassesOver};
-ghost use Rattle.lnbd_copyfile.specs.Taken.{IsCutTo, ReadsAtMostOnce, SparesWhole};
-ghost use Rattle.lnbd_copyfile.specs.Taking.{ReadsNoMore, TellsBlock, WasOfBlock};
+ghost use Rattle.lnbd_copyfile.specs.Taken.{IsCutTo, ReadsAtMostOnce, SparesToldSoFar, SparesWhole};
+ghost use Rattle.lnbd_copyfile.specs.Taking.{ReadsNoMore, ReadsNothing, TellsBlock, WasOfBlock};
 
 use crate::fault::{FileFault, Halt};
 use crate::filling::{finish, make};
@@ -52,13 +52,14 @@ use lnbd_board::{Board, Ticket};
 use lnbd_conduct::{FIRST_SOURCE, Terms};
 use lnbd_connections::{dial, dial_further, rest, settle, shut_all, shut_parted, take_turn};
 use lnbd_copy::{
-    CAN_MULTI_CONN, Counts, MAX_TURNS, SEND_FLUSH, SEND_WRITE_ZEROES, UNKNOWN, broken_rule,
-    check_counts, check_idles, check_well, info_of, settled, tells_extents,
+    Counts, MAX_TURNS, UNKNOWN, broken_rule, check_counts, check_idles, check_well, info_of,
+    settled, tells_extents,
 };
 use lnbd_link::Wires;
 use lnbd_model::{Contexts, ExportInfo, NoMemory, Place, Text};
 use lnbd_plan::{CopyFault, CopyOptions, Summary};
 use lnbd_poll::{Handles, Turn};
+use lnbd_records::names::{FLAG_CAN_MULTI_CONN, FLAG_SEND_FLUSH, FLAG_SEND_WRITE_ZEROES};
 use lnbd_store::Store;
 use std::alloc::Global;
 use std::mem;
@@ -72,7 +73,7 @@ fn as_export(alloc: Global, size: u64) -> ExportInfo
 {
     ExportInfo {
         size,
-        flags: SEND_FLUSH | SEND_WRITE_ZEROES | CAN_MULTI_CONN,
+        flags: FLAG_SEND_FLUSH | FLAG_SEND_WRITE_ZEROES | FLAG_CAN_MULTI_CONN,
         blocks: None,
         name: None,
         description: None,
@@ -130,7 +131,7 @@ fn connect<W: Wires>(
     ensures within { UsesWithin start.idles options from.now handles.old (W.told wires.old) (W.idles wires.old) handles.new (W.told wires.new) (W.idles wires.new) }
     ensures connects { OnOk result (UsesAsTold false start.idles options from.now handles.old (W.told wires.old) (W.idles wires.old) handles.new (W.told wires.new) (W.idles wires.new)) }
     ensures begins { IfOk result (λ terms. IsBeginning from.now (Some terms.size) (W.told wires.old) (W.told wires.new) board.new handles.new) }
-    ensures unmoved { Told (W.told wires.old) (W.told wires.new) (AtEachPause (IsUnmoved from.now)) }
+    ensures unready { Told (W.told wires.old) (W.told wires.new) (AtEachPause (IsUnready options.extents from.now)) }
     ensures ready { IfOk result (λ terms. IsReadyFull options from.now (W.told wires.old) (W.told wires.new) terms handles.new) }
     ensures some { OnOk result (0 < length handles.new) }
     ensures quiet { OnOk result (AreQuiet handles.new) }
@@ -139,13 +140,14 @@ fn connect<W: Wires>(
     ensures size { IfOk result (λ terms. terms.size ≤ 2 ^ 63) }
     ensures flush { IfOk result (λ terms. terms.flush ≡ options.flush) }
     ensures opens { IfOk result (λ terms. IsOpening from.now (Some terms.size) (W.told wires.old) (W.told wires.new) board.new handles.new) }
+    ensures led { IfOk result (λ terms. IsLed options.extents from.now (Some terms.size) (W.told wires.old) (W.told wires.new) board.new handles.new) }
     ensures settles { IfOk result (λ terms. HasTermsTo options from.now (W.told wires.old) (W.told wires.new) terms) }
     ensures few { StaysFew 0 (W.told wires.old) (W.told wires.old) (W.told wires.new) }
     ensures zeroes { IfOk result (λ terms. terms.how.zeroes ≡ true) }
     ensures causes { IfErr result (λ told. HasCause start (W.faults wires.new) (W.idles wires.new) told) }
     ensures counts { GoesOn (W.faults wires.old) (W.faults wires.new) (W.idles wires.old) (W.idles wires.new) (W.contents wires.old) (W.contents wires.new) }
-    ensures asks { Told (W.told wires.old) (W.told wires.new) (ReadsAtMostOnce from.now) }
-    ensures heard { Told (W.told wires.old) (W.told wires.new) (ReadsAreHeard from.now) }
+    ensures asks { Told (W.told wires.old) (W.told wires.new) (ReadsNothing from.now) }
+    ensures heard { Told (W.told wires.old) (W.told wires.new) (ReadsAreAnswered options.extents from.now) }
     ensures blocks { IfOk result (λ terms. Told (W.told wires.old) (W.told wires.new) (WasOfBlock from.now terms.grain)) }
 {
     dial(alloc, handles, board, wires, from, options.extents, start)?;
@@ -175,8 +177,8 @@ fn set_up(
         → IsSetUp at start told job board.new handles.now) }
     ensures shares { IfOk result (λ job. (at : At) (start told : Option (List Call)) → IsBeginning at (Some terms.size) start told board.old handles.now
         → IsOpening at (Some terms.size) start told board.old handles.now → IsSharing terms start told job board.new handles.now) }
-    ensures hears { IfOk result (λ job. (at : At) (start told : Option (List Call)) → IsBeginning at (Some terms.size) start told board.old handles.now
-        → Told start told (HasHeard at job.windows.at)) }
+    ensures hears { IfOk result (λ job. (extents : Bool) (at : At) (start told : Option (List Call)) → IsBeginning at (Some terms.size) start told board.old handles.now
+        → IsLed extents at (Some terms.size) start told board.old handles.now → Told start told (HasHeard extents at job.windows.at)) }
 {
     let extents = tells_extents(handles)?;
     mem::replace(board, Board::new(alloc, terms.how)).end();
@@ -354,6 +356,7 @@ fn store_slices<W: Wires, S: Store>(
 ) -> Result<Summary, Halt>
     requires ready { IsReady job.old board.old handles.old }
     requires terms { job.old.terms ≡ terms }
+    requires grain { 0 < terms.grain }
     requires size { terms.size ≤ 2 ^ 63 }
     requires zeroes { terms.how.zeroes ≡ true }
     requires faults { start.faults ≤ W.faults wires.old }
@@ -378,10 +381,10 @@ fn store_slices<W: Wires, S: Store>(
         → Told before (W.told wires.old) (ReadsAtMostOnce at) → Told before (W.told wires.new) (ReadsAtMostOnce at) }
     ensures cuts { IfOk result (λ summary. (at : At) (before : Option (List Call)) → IsSetUp at before (W.told wires.old) job.old board.old handles.old
         → Told before (W.told wires.new) (IsCutTo at to.now terms.flush summary (S.told store.old) (S.told store.new))) }
-    ensures spares { OnOk result ((at : At) (before : Option (List Call)) → IsSetUp at before (W.told wires.old) job.old board.old handles.old
-        → Told before (W.told wires.old) (WasOfBlock at terms.grain) → Told before (W.told wires.new) (SparesWhole at)) }
-    ensures heard { (at : At) (before : Option (List Call)) → IsSetUp at before (W.told wires.old) job.old board.old handles.old
-        → Told before (W.told wires.old) (HasHeard at job.old.windows.at) → Told before (W.told wires.new) (ReadsAreHeard at) }
+    ensures spares { (at : At) (before : Option (List Call)) → IsSetUp at before (W.told wires.old) job.old board.old handles.old → Told before (W.told wires.old) (WasOfBlock at terms.grain)
+        → Told before (W.told wires.old) (ReadsNothing at) → Told before (W.told wires.new) (SparesWhole at) }
+    ensures heard { (extents : Bool) (at : At) (before : Option (List Call)) → IsSetUp at before (W.told wires.old) job.old board.old handles.old
+        → Told before (W.told wires.old) (HasHeard extents at job.old.windows.at) → Told before (W.told wires.new) (ReadsAreAnswered extents at) }
 {
     let file = make(store, to, terms.size)?;
     take_turns(alloc, job, file, handles, board, wires, store, start)?;
@@ -432,10 +435,11 @@ fn fill_file<W: Wires, S: Store>(
         → Told before (W.told wires.old) (ReadsAtMostOnce at) → Told before (W.told wires.new) (ReadsAtMostOnce at) }
     ensures cuts { IfOk result (λ summary. (at : At) (before : Option (List Call)) → IsBeginning at (Some terms.size) before (W.told wires.old) board.old handles.old
         → Told before (W.told wires.new) (IsCutTo at to.now terms.flush summary (S.told store.old) (S.told store.new))) }
-    ensures spares { OnOk result ((at : At) (before : Option (List Call)) → IsBeginning at (Some terms.size) before (W.told wires.old) board.old handles.old
-        → Told before (W.told wires.old) (WasOfBlock at terms.grain) → Told before (W.told wires.new) (SparesWhole at)) }
-    ensures heard { (at : At) (before : Option (List Call)) → IsBeginning at (Some terms.size) before (W.told wires.old) board.old handles.old
-        → Told before (W.told wires.old) (ReadsAreHeard at) → Told before (W.told wires.new) (ReadsAreHeard at) }
+    ensures spares { (at : At) (before : Option (List Call)) → IsBeginning at (Some terms.size) before (W.told wires.old) board.old handles.old
+        → Told before (W.told wires.old) (WasOfBlock at terms.grain) → Told before (W.told wires.old) (ReadsNothing at) → Told before (W.told wires.new) (SparesWhole at) }
+    ensures heard { (extents : Bool) (at : At) (before : Option (List Call)) → IsBeginning at (Some terms.size) before (W.told wires.old) board.old handles.old
+        → IsLed extents at (Some terms.size) before (W.told wires.old) board.old handles.old
+        → Told before (W.told wires.old) (ReadsAreAnswered extents at) → Told before (W.told wires.new) (ReadsAreAnswered extents at) }
 {
     let mut job = set_up(alloc, handles, board, terms)?;
     store_slices(
@@ -476,7 +480,8 @@ fn copy<W: Wires, S: Store>(
     ensures asks { Told (W.told wires.old) (W.told wires.new) (ReadsAtMostOnce from.now) }
     ensures cuts { IfOk result (λ summary. Told (W.told wires.old) (W.told wires.new) (IsCutTo from.now to.now options.flush summary (S.told store.old) (S.told store.new))) }
     ensures spares { OnOk result (Told (W.told wires.old) (W.told wires.new) (SparesWhole from.now)) }
-    ensures heard { Told (W.told wires.old) (W.told wires.new) (ReadsAreHeard from.now) }
+    ensures spared { Told (W.told wires.old) (W.told wires.new) (SparesToldSoFar from.now) }
+    ensures heard { Told (W.told wires.old) (W.told wires.new) (ReadsAreAnswered options.extents from.now) }
 {
     let terms = connect(alloc, options, from, handles, board, wires, start)?;
     fill_file(alloc, terms, to, handles, board, wires, store, start)
@@ -491,7 +496,7 @@ fn copy<W: Wires, S: Store>(
 /// # Errors
 ///
 /// `Copy` with what ends a copy between exports, and where memory ran out; `Store` where a call on the store failed.
-pub fn copy_to_file<W: Wires, S: Store>(
+pub(crate) fn copy_to_file<W: Wires, S: Store>(
     alloc: Global,
     options: CopyOptions,
     from: &Place,
@@ -528,12 +533,13 @@ pub fn copy_to_file<W: Wires, S: Store>(
     ensures counts { GoesOn (W.faults wires.old) (W.faults wires.new) (W.idles wires.old) (W.idles wires.new) (W.contents wires.old) (W.contents wires.new) }
     // Whatever it comes to, the export was asked on links of its own, nothing was read twice, and nothing past a size that it told.
     ensures reads { GrewBy (ReadsAtMostOnce from.now) (W.told wires.old) (W.told wires.new) }
-    // No READ covers a block that one answer told as zero whole, for blocks as large as the export's least block.
+    // No READ covers a block that one answer told as zero whole, for blocks as large as the export's least block; whatever it comes to, so it is, or nothing was read.
     ensures spares { OnOk result (GrewBy (SparesWhole from.now) (W.told wires.old) (W.told wires.new)) }
+    ensures spared { GrewBy (SparesToldSoFar from.now) (W.told wires.old) (W.told wires.new) }
     // The file has as many bytes as the export told, of which each was written or passed over.
     ensures cuts { IfOk result (λ summary. GrewBy (IsCutTo from.now to.now options.flush summary (S.told store.old) (S.told store.new)) (W.told wires.old) (W.told wires.new)) }
-    // Whatever it comes to, a block status was answered for each position before it was read, or a connection had agreed no meta context.
-    ensures heard { GrewBy (ReadsAreHeard from.now) (W.told wires.old) (W.told wires.new) }
+    // Whatever it comes to, a block status was answered for each position before it was read, or the first connection, on which that was asked for where extents are wanted, agreed no meta context.
+    ensures heard { GrewBy (ReadsAreAnswered options.extents from.now) (W.told wires.old) (W.told wires.new) }
 {
     let before = store.faults();
     let start = Counts::of(wires);

@@ -26,7 +26,7 @@ use Rattle.lnbd_course.specs.Asks.{AreDone}
 use Rattle.lnbd_course.specs.Counted.{is_flush}
 use Rattle.lnbd_course.specs.Course.{beside, on_side}
 use Rattle.lnbd_course.specs.Flushes.{NoneFlushes, OneFlushes, WasFlushed}
-use Rattle.lnbd_course.specs.Told.{Known, Told}
+use Rattle.lnbd_course.specs.Told.{Known, ToldCourse}
 use Rattle.lnbd_course.proofs.Ending.{Of, destination_dealt, gone_out, of_it, out_in}
 use Rattle.lnbd_course.proofs.Flushing.{ended_flushed, ended_flushes_once, ended_unflushed}
 use Rattle.lnbd_course.proofs.Listing.{asked_here, listed, one_of}
@@ -51,7 +51,7 @@ destination_asks how slices ticket.Extents command asks = absurd asks
 destination_asks how slices ticket.Flush command asks = inr (ap is_flush asks.0)
 
 -- With no extents waited for, what the source was asked is done where that is so of each of its reads.
-module _ (from : Place) (how : How) (has : ℕ → Bool) (slices : List Slice) (now : board.Seen) (calls : List wire.Call) (known : Known) (t : Told how has slices now calls [] None known) (well : now.error ≡ None)
+module _ (from : Place) (how : How) (has : ℕ → Bool) (slices : List Slice) (now : board.Seen) (calls : List wire.Call) (known : Known) (t : ToldCourse how has slices now calls [] None known) (well : now.error ≡ None)
     (of : (link : ℕ) → is_of from calls link ≡ true → has link ≡ true) (reads : AreDone (dealt_with from calls)) where
   source_done : AreAllDone (dealt_with from calls)
   source_done link cookie command asked =

@@ -2,7 +2,7 @@
 use Rattle.std.proofs.Common.{◌≡◌, ◌⊎◌, inl, inr, ℕ, false, [], ◌∷◌, ◌++◌, ap, sym, subst, ◌∙◌, append_assoc}
 use Rattle.std.proofs.lemmas.Bool.{cases_eq}
 use Rattle.lnbd_history.specs.Events.{Event, History}
-use Rattle.lnbd_asked.specs.Exports.{WasTold, is_naming, name_set}
+use Rattle.lnbd_asked.specs.Exports.{HasToldSize, is_naming, name_set}
 use Rattle.lnbd_asked.proofs.Staying.{names_stay}
 use Rattle.lnbd_board.specs.declared.ticket.Ticket.{Ticket}
 use Rattle.lnbd_tracks.specs.Tracks.{Histories}
@@ -20,7 +20,7 @@ pub later_then : {one other more : History Ticket} → IsLater one other → IsL
 later_then {one} a b = record { since = b.since ++ a.since; is = b.is ∙ ap (λ h. b.since ++ h) a.is ∙ sym (append_assoc b.since a.since one); name = b.name ∙ a.name }
 
 -- What was told was told.
-pub told_later : (before after : History Ticket) (size : ℕ) → IsLater before after → WasTold before size → WasTold after size
+pub told_later : (before after : History Ticket) (size : ℕ) → IsLater before after → HasToldSize before size → HasToldSize after size
 told_later before after size l w = record {
   earlier = w.earlier;
   since = l.since ++ w.since;

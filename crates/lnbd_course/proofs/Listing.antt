@@ -30,7 +30,7 @@ only_if_some false found x e = absurd (cc e)
 pub none_end : {A : Type 0} (x : A) (xs : List A) → x ∷ xs ≡ [] → ⊥
 none_end x xs e = cc
 
-in_middle : (front back : List Request) (r : Request) → IsIn r (front ++ r ∷ back)
+pub in_middle : (front back : List Request) (r : Request) → IsIn r (front ++ r ∷ back)
 in_middle [] back r = inl refl
 in_middle (x ∷ front) back r = inr (in_middle front back r)
 

@@ -7,7 +7,7 @@ use Rattle.lnbd_link.specs.Call as wire
 use Rattle.lnbd_link.specs.Numbers.{is_given}
 use Rattle.lnbd_link.specs.Traffic.{target_of}
 use Rattle.lnbd_history.specs.Events.{Event, History}
-use Rattle.lnbd_asked.specs.Exports.{DrivenIsOf, WasTold, name_set}
+use Rattle.lnbd_asked.specs.Exports.{DrivenIsOf, HasToldSize, name_set}
 use Rattle.lnbd_asked.specs.Transcript.{on_link}
 use Rattle.lnbd_poll.specs.Alone.{AreApart}
 use Rattle.lnbd_poll.specs.Seen.{Seen}
@@ -120,7 +120,7 @@ module _ (from to : Place) (has : ℕ → Bool) (calls : List wire.Call) (link :
     link = s.link;
     given = now_given s.link s.given;
     side = other_side link s.link source has (not_new s.link s.given) ∙ s.side;
-    told = subst (λ h. WasTold h size) (sym (others s.link (not_new s.link s.given))) s.told;
+    told = subst (λ h. HasToldSize h size) (sym (others s.link (not_new s.link s.given))) s.told;
   }
 
   opens_settled : (size : Option ℕ) → AreSettled size calls has before → AreSettled size calls' has' after

@@ -22,7 +22,7 @@ use Rattle.lnbd_tracks.specs.Saying.{is_told, said_in}
 use Rattle.lnbd_tracks.specs.Tracks.{Histories}
 use Rattle.lnbd_tracks.specs.Unanswered.{IsUnanswered}
 use Rattle.lnbd_course.specs.Passed.{HeardWereFirst, HeardWereTold, NoneAreAwaited}
-use Rattle.lnbd_course.specs.Told.{AreOfSource, Known, Told}
+use Rattle.lnbd_course.specs.Told.{AreOfSource, Known, ToldCourse}
 use Rattle.lnbd_course.specs.UnderWay.{is_block_status}
 use Rattle.lnbd_course.proofs.Answering.{asked_so, here, out}
 use Rattle.lnbd_course.proofs.Listing.{asked_here, listed, one_of}
@@ -94,7 +94,7 @@ ends_extents slices (ticket.Slice n) command asks kind = absurd (false≢true (s
 ends_extents slices ticket.Extents command asks kind = refl
 ends_extents slices ticket.Flush command asks kind = absurd asks
 
-module _ (from : Place) (how : How) (sources : ℕ → Bool) (slices : List Slice) (now : board.Seen) (calls : List wire.Call) (known : Known) (t : Told how sources slices now calls [] None known) (well : now.error ≡ None)
+module _ (from : Place) (how : How) (sources : ℕ → Bool) (slices : List Slice) (now : board.Seen) (calls : List wire.Call) (known : Known) (t : ToldCourse how sources slices now calls [] None known) (well : now.error ≡ None)
     (of : (link : ℕ) → is_of from calls link ≡ true → sources link ≡ true) where
   done_differs : (bytes : List ℕ) → Unfinished ≡ Done bytes → ⊥
   done_differs bytes e = cc

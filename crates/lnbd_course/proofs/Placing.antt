@@ -8,7 +8,7 @@ use Rattle.lnbd_link.specs.Traffic.{target_of}
 use Rattle.lnbd_machine.specs.Machine.{Machine}
 use Rattle.lnbd_standing.specs.Standing.{StandsFor}
 use Rattle.lnbd_history.specs.Events.{Event, History, Issue}
-use Rattle.lnbd_asked.specs.Exports.{DrivenIsOf, WasTold, size_known}
+use Rattle.lnbd_asked.specs.Exports.{DrivenIsOf, HasToldSize, size_known}
 use Rattle.lnbd_asked.specs.Transcript.{on_link}
 use Rattle.lnbd_poll.specs.Alone.{AreApart}
 use Rattle.lnbd_poll.specs.Seen.{Seen}
@@ -207,12 +207,12 @@ held_given Facts now calls seens index seen c there = go (is_given seen.link cal
 
 pub side_told : (Facts : board.Seen → Histories → Type 0) (has : ℕ → Bool) (now : board.Seen) (calls : List wire.Call) (seens : List (Seen Ticket)) (index : ℕ) (seen : Seen Ticket) (source : Bool)
     (size : ℕ) → (c : CourseOf Facts now calls seens) →
-    slice_get seens index ≡ Some seen → has seen.link ≡ source → WasTold seen.history size → SideWasTold source size calls has c.histories
+    slice_get seens index ≡ Some seen → has seen.link ≡ source → HasToldSize seen.history size → SideWasTold source size calls has c.histories
 side_told Facts has now calls seens index seen source size c there side told = record {
   link = seen.link;
   given = held_given Facts now calls seens index seen c there;
   side = side;
-  told = subst (λ h. WasTold h size) (sym (one_has index seen c.histories seens there c.held)) told;
+  told = subst (λ h. HasToldSize h size) (sym (one_has index seen c.histories seens there c.held)) told;
 }
 
 pub agreeing_settles : AgreeingSettles

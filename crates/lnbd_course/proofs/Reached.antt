@@ -32,7 +32,7 @@ use Rattle.lnbd_tracks.proofs.Staying.{or_right}
 use Rattle.lnbd_tracks.proofs.Under.{found}
 use Rattle.lnbd_course.specs.Failed.{AllStand}
 use Rattle.lnbd_course.specs.Reached.{ToldAreKnown, WasTold}
-use Rattle.lnbd_course.specs.Told.{Known, Told}
+use Rattle.lnbd_course.specs.Told.{Known, ToldCourse}
 use Rattle.lnbd_course.specs.UnderWay.{AllHeld}
 use Rattle.lnbd_course.proofs.Failing.{IsThere, there_or_apart}
 use Rattle.lnbd_course.proofs.Holding.{one_has}
@@ -53,7 +53,7 @@ only_if_some false one x e = absurd (none_some x e)
 unfinished_done : (bytes : List ℕ) → Unfinished ≡ Done bytes → ⊥
 unfinished_done bytes e = cc
 
-module _ (from : Place) (how : How) (sources : ℕ → Bool) (slices : List Slice) (now : board.Seen) (calls : List wire.Call) (seens : List (Seen Ticket)) (wanted : Option (ℕ × ℕ)) (known : Known) (t : Told how sources slices now calls seens wanted known)
+module _ (from : Place) (how : How) (sources : ℕ → Bool) (slices : List Slice) (now : board.Seen) (calls : List wire.Call) (seens : List (Seen Ticket)) (wanted : Option (ℕ × ℕ)) (known : Known) (t : ToldCourse how sources slices now calls seens wanted known)
     (well : now.error ≡ None) (stands : AllStand seens) (all : AllHeld calls seens) (of : (link : ℕ) → is_of from calls link ≡ true → sources link ≡ true) where
   abbrev pub histories : Histories
   histories = t.course.histories

@@ -57,8 +57,8 @@ use Rattle.lnbd_tracks.proofs.Written.{done_is_written}
 use Rattle.lnbd_course.specs.Between.{Between, place_of}
 use Rattle.lnbd_course.specs.Course.{Course, on_side}
 use Rattle.lnbd_course.specs.Failed.{AllStand, HasHandle}
-use Rattle.lnbd_course.specs.Runs.{IsOfTold, IsRun, PartsWriteRuns, RunsAreWhole, RunsThatTouchDiffer, counts_zero, is_zeroing}
-use Rattle.lnbd_course.specs.Told.{Known, Told}
+use Rattle.lnbd_course.specs.Runs.{IsOfTold, IsRunOfRead, PartsWriteRuns, RunsAreWhole, RunsThatTouchDiffer, counts_zero, is_zeroing}
+use Rattle.lnbd_course.specs.Told.{Known, ToldCourse}
 use Rattle.lnbd_course.proofs.Address.{is_called, is_there, target_stays}
 use Rattle.lnbd_course.proofs.Cutting.{Among, IsPieceOf, among_own, asks_size, asks_start, asks_zeros, at_piece, over_piece, run_before, run_behind, run_some, run_whole}
 use Rattle.lnbd_course.proofs.Ending.{of_it}
@@ -83,7 +83,7 @@ at_first change some = within_at change.offset change.length change.offset (omeg
 at_last : (change : Command Nobody) (n : ℕ) → n + 1 ≡ change.length → has change (change.offset + n) ≡ true
 at_last change n e = within_at change.offset change.length (change.offset + n) (omega arith) (omega (arith, e))
 
-module _ (how : How) (source : Dealt) (change : Command Nobody) (run : IsRun how source change) (blind : detects how ≡ false) where
+module _ (how : How) (source : Dealt) (change : Command Nobody) (run : IsRunOfRead how source change) (blind : detects how ≡ false) where
   none : (p : ℕ) → counts_zero how run.read.offset run.bytes p ≡ false
   none p = ap (λ (b : Bool). b && in_zero_block how.block run.read.offset run.bytes p) blind
 
@@ -299,7 +299,7 @@ told_slice cells told end p n slices rest planned begun zeroed here = at (slices
 
 -- A part of a turn of a copy.
 module _ (from to : Place) (size : Option ℕ) (how : How) (sides : ℕ → Bool) (slices rest : List Slice) (now now' : board.Seen) (calls part : List wire.Call) (before after : List (Seen Ticket)) (ending : Ending) (cells : Cells) (told : ℕ → Bool) (end : ℕ) (wanted : Option (ℕ × ℕ)) (known : Known)
-    (b : Between from to size how sides slices now calls before) (t : Told how sides slices now calls before wanted known) (well : now.error ≡ None) (turns : Turns steps before now part after now' ending) (stands : AllStand after)
+    (b : Between from to size how sides slices now calls before) (t : ToldCourse how sides slices now calls before wanted known) (well : now.error ≡ None) (turns : Turns steps before now part after now' ending) (stands : AllStand after)
     (planned : (p : ℕ) → IsPlannedOnce cells told 0 end p (slices ++ rest)) (two : from ≢ to) (knows : (p : ℕ) → told p ≡ true → known.zero p ≡ true) where
   abbrev all : List wire.Call
   all = calls ++ part
@@ -432,7 +432,7 @@ module _ (from to : Place) (size : Option ℕ) (how : How) (sides : ℕ → Bool
         let many = asks_size how piece.at piece.piece in
         omega (arith, least, many)
 
-    is_run : IsRun how (dealt_with from all) asks
+    is_run : IsRunOfRead how (dealt_with from all) asks
     is_run =
         let first = own_first n (record { command = read.command; outcome = Done piece.bytes }) source read.one in
         let r = first.0 in
@@ -461,7 +461,7 @@ module _ (from to : Place) (size : Option ℕ) (how : How) (sides : ℕ → Bool
   -- Whatever was said for a slice.
 
   abbrev Fits : Command Nobody → Type 0
-  Fits command = IsRun how (dealt_with from all) command ⊎ IsOfTold how (dealt_with from all) command
+  Fits command = IsRunOfRead how (dealt_with from all) command ⊎ IsOfTold how (dealt_with from all) command
 
   -- what was told as zero is put as zeros
   put_zeros : (s : Slice) (read : List Said) (x : Said) (piece : IsPieceOf how s read x) → s.zero ≡ true → (p : ℕ) → has x.command p ≡ true → Puts x.command p 0
@@ -486,7 +486,7 @@ module _ (from to : Place) (size : Option ℕ) (how : How) (sides : ℕ → Bool
         zeros = put_zeros (slice_at slices n) (own n source) x piece zeroed;
         kind = zeroes zeroed;
       })
-      go false untold = inl (subst (IsRun how (dealt_with from all)) (sym piece.is) (is_run n x piece untold inside.inside))
+      go false untold = inl (subst (IsRunOfRead how (dealt_with from all)) (sym piece.is) (is_run n x piece untold inside.inside))
 
   no_change : (kind : Kind) → kind ≡ Flush → changes kind ≡ true → ⊥
   no_change kind is e = false≢true (sym (ap changes is) ∙ e)

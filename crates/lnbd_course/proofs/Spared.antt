@@ -1,5 +1,5 @@
 -- No READ covers a block that was told as zero whole, also where a turn ends short.
-use Rattle.std.proofs.Common.{◌≡◌, ◌≢◌, inl, inr, ℕ, ◌<◌, ◌≤◌, ◌*◌, ◌/◌, Bool, true, false, ◌&&◌, List, [], ◌∷◌, ◌++◌, Option, Some, None, slice_get, refl, ap, sym, subst, ◌∙◌, arith, if◌then◌else◌, zero, suc, nat_le, leb-true, append-nil}
+use Rattle.std.proofs.Common.{◌≡◌, inl, inr, ℕ, ◌<◌, ◌≤◌, ◌*◌, ◌/◌, Bool, true, false, ◌&&◌, List, [], ◌∷◌, ◌++◌, Option, Some, None, slice_get, refl, ap, sym, subst, ◌∙◌, arith, if◌then◌else◌, zero, suc, nat_le, leb-true, append-nil}
 use Rattle.std.proofs.lemmas.Bool.{cases_lt}
 use Rattle.std.proofs.Math.Nat.{div-mul-le_self, lt-div-mul-add}
 use Rattle.lnbd_model.specs.declared.kind.Kind.TheVariants.{BlockStatus}
@@ -30,9 +30,9 @@ use Rattle.lnbd_plan.proofs.OnceLaws.{at_both}
 use Rattle.lnbd_board.specs.declared.how.How.{How}
 use Rattle.lnbd_board.specs.declared.ticket.Ticket.{Ticket}
 use Rattle.lnbd_board.specs.Files as board
-use Rattle.lnbd_board.specs.Requests.{Each, Request, reads, reads_over}
+use Rattle.lnbd_board.specs.Requests.{Each, IsIn, Request, reads, reads_over}
 use Rattle.lnbd_board.specs.Requests as asked
-use Rattle.lnbd_board.specs.Rows.{AsksOfSource}
+use Rattle.lnbd_board.specs.Rows.{AsksOfSource, Stands}
 use Rattle.lnbd_board.proofs.Inside.{reads_nowhere}
 use Rattle.lnbd_board.proofs.Lists.{Each-back, none_reads}
 use Rattle.lnbd_extents.proofs.PositionLaws.{all_elim}
@@ -41,16 +41,18 @@ use Rattle.lnbd_tracks.specs.Mapping.{first_tells, is_extents, tells_extents}
 use Rattle.lnbd_tracks.specs.Tracks.{Histories}
 use Rattle.lnbd_tracks.specs.Tracks as tracks
 use Rattle.lnbd_tracks.proofs.Under as under
-use Rattle.lnbd_course.specs.Between.{Between}
+use Rattle.lnbd_course.specs.Course.{CourseOf, Stood}
 use Rattle.lnbd_course.specs.Failed.{AllStand, HasHandle}
-use Rattle.lnbd_course.specs.Spared.{IsBehind, PartsSpare}
-use Rattle.lnbd_course.specs.Spares.{WasToldWhole}
-use Rattle.lnbd_course.specs.Told.{Known, Told}
+use Rattle.lnbd_course.specs.Far.{FarStood, ToFile}
+use Rattle.lnbd_course.specs.FarCourse.{every}
+use Rattle.lnbd_course.specs.Spared.{IsBehind, PartsSpare, PartsSpareFar}
+use Rattle.lnbd_course.specs.Spares.{ReadsNoZeros, WasToldWhole}
+use Rattle.lnbd_course.specs.Told.{Known, Knows}
 use Rattle.lnbd_course.proofs.Failing.{there_or_apart}
 use Rattle.lnbd_course.proofs.Frozen.{AllRead, FreezeAsOld, Frozen, IsRead, all_read, at_once, event_freezes, frozen_at_once, frozen_here}
 use Rattle.lnbd_course.proofs.Holding.{one_has}
-use Rattle.lnbd_course.proofs.Listing.{IsAsked, asked_by, none_end}
-use Rattle.lnbd_course.proofs.Parts.{all_run, none_unread, run_of, source_here, source_listed, turn_runs}
+use Rattle.lnbd_course.proofs.Listing.{IsAsked, asked_by, in_middle, none_end}
+use Rattle.lnbd_course.proofs.Parts.{all_run, none_unread, run_of, source_here, turn_runs}
 use Rattle.lnbd_course.proofs.Sparing.{either_true, extents_by, unread}
 use Rattle.lnbd_course.proofs.Standing.{on_here}
 use Rattle.lnbd_course.proofs.Turning.{Turned, steps, turns_all}
@@ -107,42 +109,38 @@ first_none : (one other : List Slice) → one ++ other ≡ [] → one ≡ []
 first_none [] other e = refl
 first_none (x ∷ one) other e = absurd (none_end x (one ++ other) e)
 
-module _ (from to : Place) (size : Option ℕ) (how : How) (sides : ℕ → Bool) (slices rest : List Slice) (now now' : board.Seen) (calls part : List wire.Call) (before after : List (Seen Ticket)) (ending : Ending) (cells : Cells) (told : ℕ → Bool) (end block : ℕ) (wanted : Option (ℕ × ℕ)) (known : Known)
-    (b : Between from to size how sides slices now calls before) (t : Told how sides slices now calls before wanted known) (well : now.error ≡ None) (turns : Turns steps before now part after now' ending) (stands : AllStand after)
-    (planned : (p : ℕ) → IsPlannedOnce cells told 0 end p (slices ++ rest)) (two : from ≢ to) (some : 0 < block) (zeros : (p : ℕ) → known.whole block p ≡ true → p < end → told p ≡ true) (behind : IsBehind end wanted) where
+-- the request with this cookie on a link, and what it came to so far
+abbrev request_on : Histories → (link cookie : ℕ) → commands.Request Ticket → Request
+request_on histories link cookie asks = asked.request link cookie asks.flight.done.callback (record { command = bare asks; outcome = outcome_after (histories link) cookie })
+
+-- A part of a turn, where each request on a link of the source is in the list of which the board's rows know.
+module _ (from : Place) (F : board.Seen → Histories → Type 0) (how : How) (slices rest : List Slice) (now now' : board.Seen) (calls part : List wire.Call) (before after : List (Seen Ticket)) (ending : Ending)
+    (source destination : List Request) (cells : Cells) (told : ℕ → Bool) (end block : ℕ) (wanted : Option (ℕ × ℕ)) (known : Known)
+    (course : CourseOf F now calls before) (heeds : Heeds course.histories wanted known.whole known.reach now) (turns : Turns steps before now part after now' ending) (stands : AllStand after)
+    (stood : Stands how slices now.rows source destination)
+    (found : (link cookie : ℕ) (asks : commands.Request Ticket) → is_of from (calls ++ part) link ≡ true → request (course.histories link) cookie ≡ Some asks →
+    under.IsFound (request_on course.histories link cookie asks) source)
+    (planned : (p : ℕ) → IsPlannedOnce cells told 0 end p (slices ++ rest)) (some : 0 < block) (zeros : (p : ℕ) → known.whole block p ≡ true → p < end → told p ≡ true) (behind : IsBehind end wanted) where
   abbrev all : List wire.Call
   all = calls ++ part
-
-  -- What is read.
-
-  read_none : (p : ℕ) → (p < end → told p ≡ true) → reads_over p b.course.stood.source ≡ []
-  read_none p zero_here = elim (cases_lt p end) [
-    | inl low ↦ unread how cells told end p slices rest now.rows b.course.stood.source b.course.stood.destination (b.course.stood.stands well) (planned p) (zero_here low)
-    | inr high ↦ reads_nowhere p slices b.course.stood.source (first_none (slices_at p slices) (slices_at p rest) (sym (at_both p slices rest) ∙ (planned p).outside (inr high))) (b.course.stood.stands well).reads
-  ]
-
-  unread_here : (p : ℕ) → (p < end → told p ≡ true) → (link cookie : ℕ) (command : Command Nobody) → (dealt_with from all).asked link cookie ≡ Some command → reads command p ≡ false
-  unread_here p zero_here link cookie command is =
-      let u = source_listed from to size how sides slices now now' calls part before after ending b turns stands two link cookie command is in
-      ap (λ (c : Command Nobody). reads c p) (sym u.asks) ∙ none_reads p u.request b.course.stood.source (read_none p zero_here) u.within
 
   -- What was told.
 
   abbrev old : Histories
-  old = t.course.histories
+  old = course.histories
 
   turned : Turned (FreezeAsOld old) before after now' old
   turned = turns_all (FreezeAsOld old)
       (λ link event one other happens now now' same unissued plays. event_freezes old link event one other happens unissued now now' same)
       (λ link event one other happens now same unissued still. event_freezes old link event one other happens unissued now now same)
-      before now part after now' ending old turns t.course.drive.own t.course.held (λ link. frozen_here (old link))
+      before now part after now' ending old turns course.drive.own course.held (λ link. frozen_here (old link))
 
   says : (link : ℕ) → Says (old link) link all
   says link = elim (there_or_apart link after stands) [
     | inl h ↦
         let run = run_of all after h.index h.seen h.there
-        (turn_runs calls before now part after now' ending turns (all_run calls before t.course.drive.drive t.course.drive.plain) (none_unread before t.course.drive.plain) t.course.drive.own) in
-        let left = read_at after h.index h.seen h.there (all_read before now part after now' ending turns (none_unread before t.course.drive.plain)) in
+        (turn_runs calls before now part after now' ending turns (all_run calls before course.drive.drive course.drive.plain) (none_unread before course.drive.plain) course.drive.own) in
+        let left = read_at after h.index h.seen h.there (all_read before now part after now' ending turns (none_unread before course.drive.plain)) in
         let frozen = subst (λ (x : History Ticket). Frozen (old h.seen.link) x) (one_has h.index h.seen turned.histories after h.there turned.held) (turned.stood h.seen.link) in
         subst (λ (n : ℕ). Says (old n) n all) h.same (says_read (old h.seen.link) all h.seen h.stands run frozen left)
     | inr apart ↦
@@ -150,38 +148,55 @@ module _ (from to : Place) (size : Option ℕ) (how : How) (sides : ℕ → Bool
         record {
           history = old link;
           frozen = frozen_here (old link);
-          says = subst (DrivenSays (old link)) (sym (said_stays link calls part (turns_pass_others steps link part before after now now' ending was turns))) (t.course.parted link was);
+          says = subst (DrivenSays (old link)) (sym (said_stays link calls part (turns_pass_others steps link part before after now now' ending was turns))) (course.parted link was);
         }
   ]
 
-  abbrev mine_of : (link cookie : ℕ) → commands.Request Ticket → Request
-  mine_of link cookie asks = asked.request link cookie asks.flight.done.callback (record { command = bare asks; outcome = outcome_after (old link) cookie })
+  -- What was asked by then had been asked before.
+  module _ (link cookie : ℕ) (command : Command Nobody) (is : (dealt_with from all).asked link cookie ≡ Some command) where
+    here : (is_of from all link ≡ true) × (asked_on (on_link link all) cookie ≡ Some command)
+    here = only_if_some (is_of from all link) (asked_on (on_link link all) cookie) command is
 
-  -- a block status tells extents
-  tells : (link cookie : ℕ) (asks : commands.Request Ticket) → sides link ≡ true → request (old link) cookie ≡ Some asks → asks.kind ≡ BlockStatus → tells_extents asks.flight ≡ true
-  tells link cookie asks here is kind =
-      let found = under.found link cookie (mine_of link cookie asks) t.course.stood.source
-      ((t.course.stood.reads link).each cookie ∙ ap (λ (h : History Ticket). tracks.told_by link cookie h) (on_here sides old link here)
-      ∙ ap (λ o. tracks.request_of link cookie o (outcome_after (old link) cookie)) is) in
-      let mine = (Each-back (λ (r : Request). AsksOfSource slices r.ticket r.said.command) found.front (mine_of link cookie asks ∷ found.back)
-      (subst (λ (l : List Request). Each (λ r. AsksOfSource slices r.ticket r.said.command) l) found.is (t.course.stood.stands well).reads)).0 in
-      either_true (first_tells asks.flight.first) (is_extents asks.flight.done.callback) (extents_by slices asks.flight.done.callback (bare asks) mine kind)
+    asked_then : IsAsked (says link).history cookie command
+    asked_then = asked_by (says link).history (on_link link all) cookie command (says link).says here.1
+
+    asked_before : request (old link) cookie ≡ Some asked_then.asks
+    asked_before = sym ((says link).frozen.requests cookie) ∙ asked_then.is
+
+    abbrev mine : Request
+    mine = request_on old link cookie asked_then.asks
+
+    there : under.IsFound mine source
+    there = found link cookie asked_then.asks here.0 asked_before
+
+    -- a block status tells extents
+    tells : command.kind ≡ BlockStatus → tells_extents asked_then.asks.flight ≡ true
+    tells kind =
+        let asked_so : AsksOfSource slices asked_then.asks.flight.done.callback (bare asked_then.asks) =
+        (Each-back (λ (r : Request). AsksOfSource slices r.ticket r.said.command) there.front (mine ∷ there.back)
+        (subst (λ (l : List Request). Each (λ r. AsksOfSource slices r.ticket r.said.command) l) there.is stood.reads)).0 in
+        either_true (first_tells asked_then.asks.flight.first) (is_extents asked_then.asks.flight.done.callback)
+        (extents_by slices asked_then.asks.flight.done.callback (bare asked_then.asks) asked_so (ap (λ (c : Command Nobody). c.kind) asked_then.same ∙ kind))
+
+    unread_here : (p : ℕ) → reads_over p source ≡ [] → reads command p ≡ false
+    unread_here p none =
+        ap (λ (c : Command Nobody). reads c p) (sym asked_then.same) ∙ none_reads p mine source none (subst (IsIn mine) (sym there.is) (in_middle there.front there.back mine))
 
   module _ (p : ℕ) (w : WasToldWhole block (dealt_with from all) p) where
-    at : (is_of from all w.link ≡ true) × (asked_on (on_link w.link all) w.cookie ≡ Some w.command)
-    at = only_if_some (is_of from all w.link) (asked_on (on_link w.link all) w.cookie) w.command w.asked
+    at : is_of from all w.link ≡ true
+    at = (here w.link w.cookie w.command w.asked).0
 
-    here : sides w.link ≡ true
-    here = source_here from to size how sides slices now now' calls part before after ending b turns stands two w.link at.0
-
-    s : Says (old w.link) w.link all
+    abbrev s : Says (old w.link) w.link all
     s = says w.link
 
-    a : IsAsked s.history w.cookie w.command
-    a = asked_by s.history (on_link w.link all) w.cookie w.command s.says at.1
+    abbrev a : IsAsked s.history w.cookie w.command
+    a = asked_then w.link w.cookie w.command w.asked
 
     was_asked : request (old w.link) w.cookie ≡ Some a.asks
-    was_asked = sym (s.frozen.requests w.cookie) ∙ a.is
+    was_asked = asked_before w.link w.cookie w.command w.asked
+
+    tells_it : tells_extents a.asks.flight ≡ true
+    tells_it = tells w.link w.cookie w.command w.asked w.kind
 
     -- one that was over before tells nothing else since
     heard_known : IsHeard (old w.link) known.whole known.reach w.cookie a.asks → known.whole block p ≡ true
@@ -190,14 +205,14 @@ module _ (from to : Place) (size : Option ℕ) (how : How) (sides : ℕ → Bool
         let done : outcome_after (old w.link) w.cookie ≡ Done w.bytes =
         ap (λ q. outcome_of q (own w.cookie (reading (old w.link)).known.entries)) (sym (s.frozen.requests w.cookie))
         ∙ ap (λ l. outcome_of (request s.history w.cookie) l) (sym same)
-        ∙ sym (s.says.outcomes w.cookie a.out) ∙ sym (ap (λ (c : Bool). if c then answered (on_link w.link all) w.cookie else Unfinished) at.0) ∙ w.done in
+        ∙ sym (s.says.outcomes w.cookie a.out) ∙ sym (ap (λ (c : Bool). if c then answered (on_link w.link all) w.cookie else Unfinished) at) ∙ w.done in
         let zero_same : (q : ℕ) → zero_after (old w.link) w.cookie q ≡ told_zero (on_link w.link all) w.cookie q = λ q.
         ap (λ r. zero_told r (own w.cookie (reading (old w.link)).known.entries) q) (sym (s.frozen.requests w.cookie))
         ∙ ap (λ l. zero_told (request s.history w.cookie) l q) (sym same)
         ∙ sym (s.says.zero w.cookie q a.out) in
         heard.whole (record { bytes = w.bytes; is = done }) block p
         (ap (λ (f : ℕ → Bool). is_whole block f p) (λ i q. (ap (λ (c : Command Nobody). has c q && zero_after (old w.link) w.cookie q) a.same
-        ∙ ap (λ (c : Bool). has w.command q && c) (zero_same q) ∙ sym (ap (λ (c : Bool). has w.command q && (c && told_zero (on_link w.link all) w.cookie q)) at.0)) i) ∙ w.whole)
+        ∙ ap (λ (c : Bool). has w.command q && c) (zero_same q) ∙ sym (ap (λ (c : Bool). has w.command q && (c && told_zero (on_link w.link all) w.cookie q)) at)) i) ∙ w.whole)
 
     -- the block lies in the request
     inside : has w.command p ≡ true
@@ -213,18 +228,48 @@ module _ (from to : Place) (size : Option ℕ) (how : How) (sides : ℕ → Bool
     past range ahead low lower = absurd (omega (arith, ahead, low, lower))
 
     heeded : (range : Option (ℕ × ℕ)) → IsBehind end range → Heeds old range known.whole known.reach now → p < end → told p ≡ true
-    heeded None ahead heeds = zeros p (heard_known (heeds w.link w.cookie a.asks was_asked (tells w.link w.cookie a.asks here was_asked (ap (λ (c : Command Nobody). c.kind) a.same ∙ w.kind))))
-    heeded (Some range) ahead heeds = elim (heeds.others w.link w.cookie a.asks was_asked (tells w.link w.cookie a.asks here was_asked (ap (λ (c : Command Nobody). c.kind) a.same ∙ w.kind))) [
+    heeded None ahead heeds = zeros p (heard_known (heeds w.link w.cookie a.asks was_asked tells_it))
+    heeded (Some range) ahead heeds = elim (heeds.others w.link w.cookie a.asks was_asked tells_it) [
       | inl same ↦
           let q : heeds.asks ≡ a.asks = some_same heeds.asks a.asks (sym heeds.asked ∙ ap (λ x. request (old x) heeds.cookie) (sym same.0) ∙ ap (request (old w.link)) (sym same.1) ∙ was_asked) in
           past range ahead (begins range (ap (λ (x : commands.Request Ticket). x.offset) (sym q) ∙ heeds.offset))
       | inr heard ↦ zeros p (heard_known heard)
     ]
 
-    pub zero_or_behind : p < end → told p ≡ true
-    zero_or_behind = heeded wanted behind t.heeds
+    zero_or_behind : p < end → told p ≡ true
+    zero_or_behind = heeded wanted behind heeds
+
+  -- What is read.
+
+  -- nothing at a position that is planned as zero, or not planned yet
+  read_none : (p : ℕ) → (p < end → told p ≡ true) → reads_over p source ≡ []
+  read_none p zero_here = elim (cases_lt p end) [
+    | inl low ↦ unread how cells told end p slices rest now.rows source destination stood (planned p) (zero_here low)
+    | inr high ↦ reads_nowhere p slices source (first_none (slices_at p slices) (slices_at p rest) (sym (at_both p slices rest) ∙ (planned p).outside (inr high))) stood.reads
+  ]
+
+  part_spares : ReadsNoZeros block (dealt_with from all)
+  part_spares p w link cookie command is = unread_here link cookie command is p (read_none p (zero_or_behind p w))
 
 pub parts_spare : PartsSpare
-parts_spare from to size how sides slices rest now now' calls part before after ending cells told end block wanted known b t well turns stands planned two some zeros behind p w =
-    unread_here from to size how sides slices rest now now' calls part before after ending cells told end block wanted known b t well turns stands planned two some zeros behind p
-    (zero_or_behind from to size how sides slices rest now now' calls part before after ending cells told end block wanted known b t well turns stands planned two some zeros behind p w)
+parts_spare from to size how sides slices rest now now' calls part before after ending cells told end block wanted known b t well turns stands planned two some zeros behind =
+    let s = t.course.stood in
+    let old = t.course.histories in
+    part_spares from (Stood how sides slices) how slices rest now now' calls part before after ending s.source s.destination cells told end block wanted known t.course t.heeds turns stands (s.stands well)
+    (λ link cookie asks here is. under.found link cookie (request_on old link cookie asks) s.source
+    ((s.reads link).each cookie
+    ∙ ap (λ (h : History Ticket). tracks.told_by link cookie h)
+    (on_here sides old link (source_here from to size how sides slices now now' calls part before after ending b turns stands two link here))
+    ∙ ap (λ o. tracks.request_of link cookie o (outcome_after (old link) cookie)) is))
+    planned some zeros behind
+
+-- Of a copy to a file each link is one of the export.
+pub parts_spare_far : PartsSpareFar
+parts_spare_far done at size how slices now now' calls part before after ending block wanted known b well turns stands plan =
+    let s = b.course.stood.stood in
+    let old = b.course.histories in
+    part_spares at (Knows (FarStood (ToFile done) how slices) every wanted known) how slices plan.rest now now' calls part before after ending s.asked done plan.cells plan.told plan.end block wanted known
+    b.course b.course.stood.heeds turns stands (s.stands well)
+    (λ link cookie asks here is. under.found link cookie (request_on old link cookie asks) s.asked
+    ((s.tracked link).each cookie ∙ ap (λ o. tracks.request_of link cookie o (outcome_after (old link) cookie)) is))
+    plan.once plan.some plan.zeros plan.behind

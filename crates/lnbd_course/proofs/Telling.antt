@@ -38,7 +38,7 @@ use Rattle.lnbd_tracks.proofs.Unfailed.{coming_unfailed, none_unfailed, others_u
 use Rattle.lnbd_tracks.proofs.Written.{done_is_written}
 use Rattle.lnbd_course.specs.Counted.{CountsSame}
 use Rattle.lnbd_course.specs.Course.{Course, Stood, beside, with_link}
-use Rattle.lnbd_course.specs.Told.{Known, Knows, Told, AreOfSource, NothingIsTold, OpeningTells, SettlingTells, TurnsTell, CallsTell, SourceAsksTell, DestinationAsksTell, ExtentsAskTell}
+use Rattle.lnbd_course.specs.Told.{Known, Knows, ToldCourse, AreOfSource, NothingIsTold, OpeningTells, SettlingTells, TurnsTell, CallsTell, SourceAsksTell, DestinationAsksTell, ExtentsAskTell}
 use Rattle.lnbd_course.specs.Told.{BoardMovesTell, OthersTell, HearingTells, FewerTell, WindowsTell, TakingTells, KnownWasTold, SidesAreOfSource}
 use Rattle.lnbd_course.proofs.Asking.{goes_on, source_asks_keep, destination_asks_keep, others_keep, board_moves_keep, then}
 use Rattle.lnbd_course.proofs.Holding.{no_history, nothing_is_on_course, opens_on_course, settling_keeps, calls_keep, turned_keeps, removed, removed_keeps, take_drop}
@@ -243,11 +243,11 @@ module _ (how : How) (has : ℕ → Bool) (slices : List Slice) (wanted : Option
   abbrev Both : board.Seen → Histories → Type 0
   Both = Knows (Stood how has slices) has wanted known
 
-  both_of : (now : board.Seen) (calls : List wire.Call) (seens : List (Seen Ticket)) (t : Told how has slices now calls seens wanted known) → Both now t.course.histories
+  both_of : (now : board.Seen) (calls : List wire.Call) (seens : List (Seen Ticket)) (t : ToldCourse how has slices now calls seens wanted known) → Both now t.course.histories
   both_of now calls seens t = record { stood = t.course.stood; maps = t.maps; knows = t.knows; heeds = t.heeds; awaits = t.awaits; unfailed = t.unfailed }
 
   told_of : (now : board.Seen) (calls : List wire.Call) (seens : List (Seen Ticket)) (c : Course how has slices now calls seens) → Both now c.histories →
-      Told how has slices now calls seens wanted known
+      ToldCourse how has slices now calls seens wanted known
   told_of now calls seens c b = record { course = c; maps = b.maps; knows = b.knows; heeds = b.heeds; awaits = b.awaits; unfailed = b.unfailed }
 
   module _ (link : ℕ) (event : Event Ticket) (before after : Histories) (happens : Happens link event before after) where
@@ -347,8 +347,8 @@ board_moves_tell how has slices now now' calls seens wanted known t earlier same
     (knows_alike (Stood how has slices) (Stood how has slices) has known now now' t.course.histories earlier c.stood wanted (both_of how has slices wanted known now calls seens t) alike)
 
 -- Where no extents are waited for, it does not matter what the board was told of them.
-pub unasked_moves_tell : (how : How) (has : ℕ → Bool) (slices : List Slice) (now now' : board.Seen) (calls : List wire.Call) (seens : List (Seen Ticket)) (known : Known) → Told how has slices now calls seens None known → (now'.error ≡ None → now.error ≡ None) → CountsSame now now' →
-    ((source destination : List sides.Request) → Keeps how now.rows source destination now'.rows source destination) → Told how has slices now' calls seens None known
+pub unasked_moves_tell : (how : How) (has : ℕ → Bool) (slices : List Slice) (now now' : board.Seen) (calls : List wire.Call) (seens : List (Seen Ticket)) (known : Known) → ToldCourse how has slices now calls seens None known → (now'.error ≡ None → now.error ≡ None) → CountsSame now now' →
+    ((source destination : List sides.Request) → Keeps how now.rows source destination now'.rows source destination) → ToldCourse how has slices now' calls seens None known
 unfolding board_moves_keep
 unasked_moves_tell how has slices now now' calls seens known t earlier same keeps =
     let c = board_moves_keep how has slices now now' calls seens t.course earlier same keeps in
@@ -401,7 +401,7 @@ windows_tell start (first ∷ windows) window p e = go (nat_lt p (start + first.
 -- The end.
 
 removed_tells : (how : How) (has : ℕ → Bool) (slices : List Slice) (now : board.Seen) (calls : List wire.Call) (seens : List (Seen Ticket)) (wanted : Option (ℕ × ℕ)) (known : Known) (index : ℕ) (seen : Seen Ticket) (limit : ℕ) (handle : Machine Ticket) →
-    Told how has slices now calls seens wanted known → slice_get seens index ≡ Some seen → StandsFor limit seen.history handle → Told how has slices now calls (removed index seens) wanted known
+    ToldCourse how has slices now calls seens wanted known → slice_get seens index ≡ Some seen → StandsFor limit seen.history handle → ToldCourse how has slices now calls (removed index seens) wanted known
 unfolding removed_keeps
 removed_tells how has slices now calls seens wanted known index seen limit handle t there stands =
     record {
@@ -416,7 +416,7 @@ removed_tells how has slices now calls seens wanted known index seen limit handl
 
 pub taking_tells : TakingTells
 taking_tells how has slices now calls seens wanted known index seen limit handle t there stands =
-    subst (λ (l : List (Seen Ticket)). Told how has slices now calls l wanted known) (take_drop index seens) (removed_tells how has slices now calls seens wanted known index seen limit handle t there stands)
+    subst (λ (l : List (Seen Ticket)). ToldCourse how has slices now calls l wanted known) (take_drop index seens) (removed_tells how has slices now calls seens wanted known index seen limit handle t there stands)
 
 module _ (from : Place) (has : ℕ → Bool) (calls : List wire.Call) (histories : Histories) (says : (link : ℕ) → DrivenSays (histories link) (on_link link calls)) (of : AreOfSource from calls has) (p : ℕ) (z : IsToldZero has histories p) where
   -- the block status was wholly written, and so it was asked of the export

@@ -40,7 +40,7 @@ use Rattle.lnbd_course.specs.Between.{AreSettled, Between, BetweenOf, place_of}
 use Rattle.lnbd_course.specs.Course.{Stood, beside, on_side}
 use Rattle.lnbd_course.specs.Failed.{AllStand}
 use Rattle.lnbd_course.specs.Slices.{AsksExtentsOf, QuietAsks}
-use Rattle.lnbd_course.specs.Told.{Known, Told}
+use Rattle.lnbd_course.specs.Told.{Known, ToldCourse}
 use Rattle.lnbd_course.specs.UnderWay.{AllHeld, AreUnderWay, AsksExtents, NoneWrites, QuietAwaits, QuietCounts, is_block_status}
 use Rattle.lnbd_course.proofs.Address.{both, name_is, target_is}
 use Rattle.lnbd_course.proofs.Failing.{IsThere, of, says, there_or_apart, written_here}
@@ -236,7 +236,7 @@ module _ (from to : Place) (size : Option ℕ) (how : How) (has : ℕ → Bool) 
         ∙ waits
 
   -- a command of another board's handles is one of these
-  module _ (range : ℕ × ℕ) (known : Known) (told : Told how has slices now calls seens (Some range) known) where
+  module _ (range : ℕ × ℕ) (known : Known) (told : ToldCourse how has slices now calls seens (Some range) known) where
     abbrev others : Histories
     others = told.course.histories
 

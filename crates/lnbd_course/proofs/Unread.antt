@@ -9,7 +9,7 @@ use Rattle.lnbd_history.specs.Events.{History}
 use Rattle.lnbd_history.specs.History.{reading, request}
 use Rattle.lnbd_history.specs.Laws.{Lawful, is_closed}
 use Rattle.lnbd_asked.specs.Driven.{Drives, Begins, Does, Passes, Writes, Writes_none, Reads, Reads_none, Arrives, Ends, Fails_to_read, Fails_to_write, AllSpell, written}
-use Rattle.lnbd_asked.specs.Exports.{WasTold, name_set}
+use Rattle.lnbd_asked.specs.Exports.{HasToldSize, name_set}
 use Rattle.lnbd_asked.specs.Link.{Both, Link, after_read}
 use Rattle.lnbd_asked.specs.Transcript.{after_calls, after_read_told, after_write_told, asked_on, bare, export_told, name_asked, on_link, size_at, size_told, untold}
 use Rattle.lnbd_asked.proofs.Calls.{others_pass, reads_join}
@@ -24,7 +24,7 @@ use Rattle.lnbd_asked.proofs.Wished.{Since, read_keeps, since_keep}
 pub record AsksSo {K : Type 0} (history : History K) (link : Link) : Type 0 where
   pub requests : (cookie : ℕ) → asked_on link cookie ≡ (if nat_le cookie (written history) then option_map bare (request history cookie) else None)
   pub name : (name : List ℕ) → name_asked link.wishes ≡ Some name → name ≡ name_set history
-  pub told : (size : ℕ) → WasTold history size → (size_told link ≡ Some size) × (name_asked link.wishes ≡ Some (name_set history))
+  pub told : (size : ℕ) → HasToldSize history size → (size_told link ≡ Some size) × (name_asked link.wishes ≡ Some (name_set history))
 
 -- A call more on the link.
 

@@ -10,7 +10,7 @@ use Rattle.lnbd_board.specs.declared.how.How.{How}
 use Rattle.lnbd_board.specs.Files as board
 use Rattle.lnbd_tracks.specs.Laws.{IsDone}
 use Rattle.lnbd_course.specs.Between.{Between}
-use Rattle.lnbd_course.specs.Told.{Known, Told}
+use Rattle.lnbd_course.specs.Told.{Known, ToldCourse}
 
 -- each request that was asked of an export is done: none was answered by an error, and none is unanswered
 abbrev pub AreAllDone : Dealt → Type 0
@@ -25,4 +25,4 @@ pub record WereAllDone (from to : Place) (calls : List Call) : Type 0 where
 -- from one place to another asked is done.
 abbrev pub EndedAreAllDone : Type 0
 EndedAreAllDone = (from to : Place) (size : ℕ) (how : How) (has : ℕ → Bool) (slices : List Slice) (now : board.Seen) (calls : List Call) (known : Known) →
-    Between from to (Some size) how has slices now calls [] → Told how has slices now calls [] None known → now.rows ≡ [] → now.error ≡ None → (now.flushing ≡ true → now.flushed ≡ true) → from ≢ to → WereAllDone from to calls
+    Between from to (Some size) how has slices now calls [] → ToldCourse how has slices now calls [] None known → now.rows ≡ [] → now.error ≡ None → (now.flushing ≡ true → now.flushed ≡ true) → from ≢ to → WereAllDone from to calls

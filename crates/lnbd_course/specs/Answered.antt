@@ -15,7 +15,7 @@ use Rattle.lnbd_board.specs.declared.how.How.{How}
 use Rattle.lnbd_board.specs.Carried.{IsUnread}
 use Rattle.lnbd_board.specs.Files as board
 use Rattle.lnbd_course.specs.Course.{Course}
-use Rattle.lnbd_course.specs.Told.{AreOfSource, Known, Told}
+use Rattle.lnbd_course.specs.Told.{AreOfSource, Known, ToldCourse}
 
 -- A block status that was asked, and is done, has the position within its request.
 pub record WasAnswered (dealt : Dealt) (p : ℕ) : Type 0 where
@@ -41,7 +41,7 @@ pub record WasAnsweredFirst (from : Place) (p : ℕ) (calls : List Call) : Type 
 -- With no handle held, where the range whose extents are waited for was answered, each of its positions was.
 abbrev pub RangesWereAnswered : Type 0
 RangesWereAnswered = (from : Place) (how : How) (has : ℕ → Bool) (slices : List Slice) (now : board.Seen) (calls : List Call) (range : ℕ × ℕ) (known : Known) →
-    Told how has slices now calls [] (Some range) known → now.mapped ≡ true → AreOfSource from calls has → (p : ℕ) → within range p ≡ true → WasAnswered (dealt_with from calls) p
+    ToldCourse how has slices now calls [] (Some range) known → now.mapped ≡ true → AreOfSource from calls has → (p : ℕ) → within range p ≡ true → WasAnswered (dealt_with from calls) p
 
 -- With no handle held and no error told, nothing is read behind the end of what is planned.
 abbrev pub NothingIsReadBehind : Type 0

@@ -6,7 +6,7 @@ use Rattle.lnbd_link.specs.Numbers.{is_given}
 use Rattle.lnbd_link.specs.Traffic.{target_of}
 use Rattle.lnbd_history.specs.Events.{Event, History}
 use Rattle.lnbd_asked.specs.Driven.{Spells, is_inward}
-use Rattle.lnbd_asked.specs.Exports.{DrivenIsOf, WasTold, name_set}
+use Rattle.lnbd_asked.specs.Exports.{DrivenIsOf, HasToldSize, name_set}
 use Rattle.lnbd_asked.specs.Transcript.{on_link}
 use Rattle.lnbd_poll.specs.Alone.{AreApart}
 use Rattle.lnbd_poll.specs.Seen.{Seen}
@@ -33,7 +33,7 @@ pub record SideWasTold (source : Bool) (size : ℕ) (calls : List wire.Call) (ha
   pub link : ℕ
   pub given : is_given link calls ≡ true
   pub side : has link ≡ source
-  pub told : WasTold (histories link) size
+  pub told : HasToldSize (histories link) size
 
 -- The source's size was told, and that of the destination, which is no smaller.
 pub record WereTold (size : ℕ) (calls : List wire.Call) (has : ℕ → Bool) (histories : Histories) : Type 0 where

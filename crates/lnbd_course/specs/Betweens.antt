@@ -9,7 +9,7 @@ use Rattle.lnbd_history.specs.Events.{Event, History, Issue}
 use Rattle.lnbd_machine.specs.Machine.{Machine}
 use Rattle.lnbd_standing.specs.Standing.{StandsFor}
 use Rattle.lnbd_asked.specs.Driven.{Spells}
-use Rattle.lnbd_asked.specs.Exports.{WasTold, is_naming, name_set}
+use Rattle.lnbd_asked.specs.Exports.{HasToldSize, is_naming, name_set}
 use Rattle.lnbd_poll.specs.Alone.{calls_on}
 use Rattle.lnbd_poll.specs.Seen.{Seen}
 use Rattle.lnbd_poll.specs.Turns.{Turns, Whole}
@@ -48,8 +48,8 @@ SettlingKeepsBetween = (from to : Place) (size : Option ℕ) (how how' : How) (h
 -- and where a handle of each side was told its size, and the destination's is no smaller: then the source's is settled.
 abbrev pub AgreeingSettles : Type 0
 AgreeingSettles = (from to : Place) (how : How) (has : ℕ → Bool) (slices : List Slice) (now : board.Seen) (calls : List wire.Call) (seens : List (Seen Ticket)) (index index' : ℕ) (one other : Seen Ticket) (size room : ℕ) →
-    Between from to None how has slices now calls seens → slice_get seens index ≡ Some one → has one.link ≡ true → WasTold one.history size →
-    slice_get seens index' ≡ Some other → has other.link ≡ false → WasTold other.history room → size ≤ room → Between from to (Some size) how has slices now calls seens
+    Between from to None how has slices now calls seens → slice_get seens index ≡ Some one → has one.link ≡ true → HasToldSize one.history size →
+    slice_get seens index' ≡ Some other → has other.link ≡ false → HasToldSize other.history room → size ≤ room → Between from to (Some size) how has slices now calls seens
 
 -- Turns.
 

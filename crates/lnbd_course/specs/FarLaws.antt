@@ -9,7 +9,7 @@ use Rattle.lnbd_history.specs.Events.{Event, History, Issue}
 use Rattle.lnbd_machine.specs.Machine.{Machine}
 use Rattle.lnbd_standing.specs.Standing.{StandsFor}
 use Rattle.lnbd_asked.specs.Driven.{Spells}
-use Rattle.lnbd_asked.specs.Exports.{WasTold, is_naming, name_set}
+use Rattle.lnbd_asked.specs.Exports.{HasToldSize, is_naming, name_set}
 use Rattle.lnbd_asked.specs.Honest.{IsHonest}
 use Rattle.lnbd_asked.specs.Transcript.{dealt_with}
 use Rattle.lnbd_poll.specs.Alone.{calls_on}
@@ -64,7 +64,7 @@ SettlingKeepsFar = (far : Far) (at : Place) (size : Option ℕ) (how how' : How)
 abbrev pub AgreeingSettlesFar : Type 0
 AgreeingSettlesFar = (far : Far) (at : Place) (how : How) (slices : List Slice) (now : board.Seen) (calls : List wire.Call) (seens : List (Seen Ticket)) (wanted : Option (ℕ × ℕ)) (known : Known)
     (index : ℕ) (seen : Seen Ticket) (size : ℕ) →
-    FarCourse far at None how slices now calls seens wanted known → slice_get seens index ≡ Some seen → WasTold seen.history size → FarCourse far at (Some size) how slices now calls seens wanted known
+    FarCourse far at None how slices now calls seens wanted known → slice_get seens index ≡ Some seen → HasToldSize seen.history size → FarCourse far at (Some size) how slices now calls seens wanted known
 
 -- Turns.
 

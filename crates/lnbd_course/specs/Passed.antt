@@ -17,7 +17,7 @@ use Rattle.lnbd_tracks.specs.Heeding.{holds_told}
 use Rattle.lnbd_tracks.specs.Unanswered.{AreUnanswered}
 use Rattle.lnbd_course.specs.Failed.{AllStand}
 use Rattle.lnbd_course.specs.Reached.{WasTold}
-use Rattle.lnbd_course.specs.Told.{AreOfSource, Known, Told}
+use Rattle.lnbd_course.specs.Told.{AreOfSource, Known, ToldCourse}
 use Rattle.lnbd_course.specs.UnderWay.{AllHeld, is_block_status}
 
 -- By these calls a BLOCK_STATUS of this export is done, the position is within its request, and it is one of the first so many.
@@ -37,15 +37,15 @@ pub record WasFirst (grain : ℕ) (from : Place) (p : ℕ) (calls : List wire.Ca
 -- Where the range whose extents are waited for was answered, each position of it that the board holds as told of was told of by the calls,
 abbrev pub HeardWereTold : Type 0
 HeardWereTold = (from : Place) (how : How) (has : ℕ → Bool) (slices : List Slice) (now : board.Seen) (calls : List wire.Call) (seens : List (Seen Ticket)) (range : ℕ × ℕ) (known : Known) →
-    Told how has slices now calls seens (Some range) known → now.error ≡ None → now.mapped ≡ true → AllStand seens → AllHeld calls seens → ((link : ℕ) → is_of from calls link ≡ true → has link ≡ true) → AreOfSource from calls has →
+    ToldCourse how has slices now calls seens (Some range) known → now.error ≡ None → now.mapped ≡ true → AllStand seens → AllHeld calls seens → ((link : ℕ) → is_of from calls link ≡ true → has link ≡ true) → AreOfSource from calls has →
     (p : ℕ) → holds_told range now p ≡ true → WasTold from p calls
 
 -- and each of its first positions is one of the first that were asked for. (No handle is held.)
 abbrev pub HeardWereFirst : Type 0
 HeardWereFirst = (from : Place) (how : How) (has : ℕ → Bool) (slices : List Slice) (now : board.Seen) (calls : List wire.Call) (range : ℕ × ℕ) (known : Known) →
-    Told how has slices now calls [] (Some range) known → now.mapped ≡ true → AreOfSource from calls has → (grain p : ℕ) → within range p ≡ true → p < range.0 + grain → WasFirst grain from p calls
+    ToldCourse how has slices now calls [] (Some range) known → now.mapped ≡ true → AreOfSource from calls has → (grain p : ℕ) → within range p ≡ true → p < range.0 + grain → WasFirst grain from p calls
 
 -- Where no extents are waited for, and no error was told, no BLOCK_STATUS of the source is unanswered. (No handle is held.)
 abbrev pub NoneAreAwaited : Type 0
 NoneAreAwaited = (from : Place) (how : How) (has : ℕ → Bool) (slices : List Slice) (now : board.Seen) (calls : List wire.Call) (known : Known) →
-    Told how has slices now calls [] None known → now.error ≡ None → ((link : ℕ) → is_of from calls link ≡ true → has link ≡ true) → AreUnanswered is_block_status (dealt_with from calls) 0
+    ToldCourse how has slices now calls [] None known → now.error ≡ None → ((link : ℕ) → is_of from calls link ≡ true → has link ≡ true) → AreUnanswered is_block_status (dealt_with from calls) 0

@@ -14,7 +14,7 @@ use Rattle.lnbd_board.specs.declared.ticket.Ticket.{Ticket}
 use Rattle.lnbd_board.specs.Files as board
 use Rattle.lnbd_tracks.specs.Saying.{told_at}
 use Rattle.lnbd_course.specs.Failed.{AllStand}
-use Rattle.lnbd_course.specs.Told.{Known, Told}
+use Rattle.lnbd_course.specs.Told.{Known, ToldCourse}
 use Rattle.lnbd_course.specs.UnderWay.{AllHeld}
 
 -- By these calls a BLOCK_STATUS of this export is done, and it told of the position: the position is within its request, and extents of base:allocation that were told
@@ -33,5 +33,5 @@ pub record WasTold (from : Place) (p : ℕ) (calls : List wire.Call) : Type 0 wh
 -- Where no error was told, and extents that are waited for were not told to the board, each position that was told of is known so.
 abbrev pub ToldAreKnown : Type 0
 ToldAreKnown = (from : Place) (how : How) (has : ℕ → Bool) (slices : List Slice) (now : board.Seen) (calls : List wire.Call) (seens : List (Seen Ticket)) (wanted : Option (ℕ × ℕ)) (known : Known) →
-    Told how has slices now calls seens wanted known → now.error ≡ None → (is_some wanted ≡ true → now.mapped ≡ false) → AllStand seens → AllHeld calls seens → ((link : ℕ) → is_of from calls link ≡ true → has link ≡ true) →
+    ToldCourse how has slices now calls seens wanted known → now.error ≡ None → (is_some wanted ≡ true → now.mapped ≡ false) → AllStand seens → AllHeld calls seens → ((link : ℕ) → is_of from calls link ≡ true → has link ≡ true) →
     (p : ℕ) → WasTold from p calls → known.reach p ≡ true

@@ -23,7 +23,7 @@ use Rattle.lnbd_board.specs.Pieces.{detects, zeroing_kind}
 use Rattle.lnbd_course.specs.Asks.{EachAsked}
 use Rattle.lnbd_course.specs.Between.{Between}
 use Rattle.lnbd_course.specs.Failed.{AllStand}
-use Rattle.lnbd_course.specs.Told.{Known, Told}
+use Rattle.lnbd_course.specs.Told.{Known, ToldCourse}
 
 -- WRITE_ZEROES
 abbrev pub is_zeroing : Kind → Bool
@@ -41,7 +41,7 @@ counts_zero how start bytes p = detects how && in_zero_block how.block start byt
 
 -- A change is a longest run of a READ that is done. It lies within the READ, and has a byte, and at each of its positions it puts the byte that was read there. WRITE_ZEROES has only
 -- positions that count as zero, and WRITE only others; and the position just before it counts otherwise, if it was read, and so does that just behind it.
-pub record IsRun (how : How) (source : Dealt) (change : Command Nobody) : Type 0 where
+pub record IsRunOfRead (how : How) (source : Dealt) (change : Command Nobody) : Type 0 where
   pub link : ℕ
   pub cookie : ℕ
   pub read : Command Nobody
@@ -64,21 +64,21 @@ pub record IsOfTold (how : How) (source : Dealt) (change : Command Nobody) : Typ
 
 -- Each change of the destination is a longest run of what was read, or it has only positions that were told as zero.
 abbrev pub WritesRuns : How → (source destination : Dealt) → Type 0
-WritesRuns how source destination = EachAsked (λ command. changes command.kind ≡ true → IsRun how source command ⊎ IsOfTold how source command) destination
+WritesRuns how source destination = EachAsked (λ command. changes command.kind ≡ true → IsRunOfRead how source command ⊎ IsOfTold how source command) destination
 
 -- Where zeros are not looked for, a run is a WRITE of all that its READ read.
 abbrev pub RunsAreWhole : Type 0
-RunsAreWhole = (how : How) (source : Dealt) (change : Command Nobody) (run : IsRun how source change) → detects how ≡ false →
+RunsAreWhole = (how : How) (source : Dealt) (change : Command Nobody) (run : IsRunOfRead how source change) → detects how ≡ false →
     (is_zeroing change.kind ≡ false) × (change.offset ≡ run.read.offset) × (change.length ≡ run.read.length)
 
 -- Of two runs of one READ that touch, one is a WRITE_ZEROES, and the other is not.
 abbrev pub RunsThatTouchDiffer : Type 0
-RunsThatTouchDiffer = (how : How) (source : Dealt) (one other : Command Nobody) (run : IsRun how source one) (run' : IsRun how source other) → run.link ≡ run'.link → run.cookie ≡ run'.cookie →
+RunsThatTouchDiffer = (how : How) (source : Dealt) (one other : Command Nobody) (run : IsRunOfRead how source one) (run' : IsRunOfRead how source other) → run.link ≡ run'.link → run.cookie ≡ run'.cookie →
     one.offset + one.length ≡ other.offset → is_zeroing other.kind ≡ not (is_zeroing one.kind)
 
 -- So it is after a part of a turn from a board without an error, where the slices that were begun, with those still to come, plan no position twice, and each
 -- position that is planned as zero is known so.
 abbrev pub PartsWriteRuns : Type 0
 PartsWriteRuns = (from to : Place) (size : Option ℕ) (how : How) (has : ℕ → Bool) (slices rest : List Slice) (now now' : board.Seen) (calls part : List Call) (before after : List (Seen Ticket)) (ending : Ending) (cells : Cells) (told : ℕ → Bool) (end : ℕ) (wanted : Option (ℕ × ℕ)) (known : Known) →
-    Between from to size how has slices now calls before → Told how has slices now calls before wanted known → now.error ≡ None → Turns (OneByOne board.Files) before now part after now' ending → AllStand after → ((p : ℕ) → IsPlannedOnce cells told 0 end p (slices ++ rest)) → from ≢ to →
+    Between from to size how has slices now calls before → ToldCourse how has slices now calls before wanted known → now.error ≡ None → Turns (OneByOne board.Files) before now part after now' ending → AllStand after → ((p : ℕ) → IsPlannedOnce cells told 0 end p (slices ++ rest)) → from ≢ to →
     ((p : ℕ) → told p ≡ true → known.zero p ≡ true) → WritesRuns how (dealt_with from (calls ++ part)) (dealt_with to (calls ++ part))

@@ -22,7 +22,7 @@ use Rattle.lnbd_tracks.specs.Unanswered.{AreUnanswered}
 use Rattle.lnbd_course.specs.Between.{Between}
 use Rattle.lnbd_course.specs.Failed.{AllStand}
 use Rattle.lnbd_course.specs.Runs.{counts_zero}
-use Rattle.lnbd_course.specs.Told.{Known, Told}
+use Rattle.lnbd_course.specs.Told.{Known, ToldCourse}
 use Rattle.lnbd_course.specs.UnderWay.{AllHeld, AreUnderWay, NoneWrites, is_block_status}
 
 -- One request of an export, of this kind, asks for all of a slice and no more; and it came to something of this kind.
@@ -131,5 +131,5 @@ pub record AsksExtentsOf (range : ℕ × ℕ) (from : Place) (calls : List wire.
 -- Where extents are waited for, and the board was not told that they were answered, the one BLOCK_STATUS asks for their range.
 abbrev pub QuietAsks : Type 0
 QuietAsks = (from to : Place) (size : Option ℕ) (how : How) (has : ℕ → Bool) (slices : List Slice) (now : board.Seen) (calls : List wire.Call) (seens : List (Seen Ticket)) (range : ℕ × ℕ) (known : Known) →
-    Between from to size how has slices now calls seens → Told how has slices now calls seens (Some range) known → now.error ≡ None → now.mapped ≡ false → AllStand seens → NoneWrites seens → AllHeld calls seens → from ≢ to →
+    Between from to size how has slices now calls seens → ToldCourse how has slices now calls seens (Some range) known → now.error ≡ None → now.mapped ≡ false → AllStand seens → NoneWrites seens → AllHeld calls seens → from ≢ to →
     AsksExtentsOf range from calls

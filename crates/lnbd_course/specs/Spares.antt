@@ -17,7 +17,7 @@ use Rattle.lnbd_board.specs.Requests.{reads}
 use Rattle.lnbd_tracks.specs.Heeding.{is_whole}
 use Rattle.lnbd_course.specs.Asks.{EachAsked}
 use Rattle.lnbd_course.specs.Between.{Between}
-use Rattle.lnbd_course.specs.Told.{Known, Told}
+use Rattle.lnbd_course.specs.Told.{Known, ToldCourse}
 
 -- One block status that is done told as zero the whole block of this size that has the position, within its request.
 pub record WasToldWhole (block : ℕ) (dealt : Dealt) (p : ℕ) : Type 0 where
@@ -37,7 +37,7 @@ ReadsNoZeros block dealt = (p : ℕ) → WasToldWhole block dealt p → EachAske
 -- With no handle held and no extents waited for, where each block of this size that is known was planned as zero, and no position was planned twice, none was read.
 abbrev pub EndedSpares : Type 0
 EndedSpares = (from : Place) (how : How) (has : ℕ → Bool) (slices rest : List Slice) (now : board.Seen) (calls : List Call) (known : Known) (cells : Cells) (told : ℕ → Bool) (end block : ℕ) →
-    Told how has slices now calls [] None known → now.error ≡ None → ((link : ℕ) → is_of from calls link ≡ true → has link ≡ true) → ((p : ℕ) → IsPlannedOnce cells told 0 end p (slices ++ rest)) →
+    ToldCourse how has slices now calls [] None known → now.error ≡ None → ((link : ℕ) → is_of from calls link ≡ true → has link ≡ true) → ((p : ℕ) → IsPlannedOnce cells told 0 end p (slices ++ rest)) →
     ((p : ℕ) → known.whole block p ≡ true → told p ≡ true) → ReadsNoZeros block (dealt_with from calls)
 
 -- Where zeros are looked for, no WRITE that was asked contains a whole block that is all zeros.

@@ -18,7 +18,7 @@ use Rattle.lnbd_tracks.specs.Laws.{moves_bytes}
 use Rattle.lnbd_tracks.specs.Unanswered.{AreUnanswered}
 use Rattle.lnbd_course.specs.Between.{Between}
 use Rattle.lnbd_course.specs.Failed.{AllStand}
-use Rattle.lnbd_course.specs.Told.{Known, Told}
+use Rattle.lnbd_course.specs.Told.{Known, ToldCourse}
 
 abbrev pub is_block_status : Kind → Bool
 is_block_status Read = false
@@ -58,4 +58,4 @@ QuietCounts = (from to : Place) (size : Option ℕ) (how : How) (has : ℕ → B
 -- One BLOCK_STATUS is where extents are waited for, and the board was not told that they were answered.
 abbrev pub QuietAwaits : Type 0
 QuietAwaits = (from to : Place) (size : Option ℕ) (how : How) (has : ℕ → Bool) (slices : List Slice) (now : board.Seen) (calls : List wire.Call) (seens : List (Seen Ticket)) (range : ℕ × ℕ) (known : Known) →
-    Between from to size how has slices now calls seens → Told how has slices now calls seens (Some range) known → now.error ≡ None → now.mapped ≡ false → AllStand seens → NoneWrites seens → AllHeld calls seens → from ≢ to → AsksExtents from calls
+    Between from to size how has slices now calls seens → ToldCourse how has slices now calls seens (Some range) known → now.error ≡ None → now.mapped ≡ false → AllStand seens → NoneWrites seens → AllHeld calls seens → from ≢ to → AsksExtents from calls

@@ -5,6 +5,7 @@ ghost use Rattle.lnbd_course.specs.FarLaws.{NothingIsFar, OpensFar, SettlingKeep
 ghost use Rattle.lnbd_course.specs.FarLaws.{BoardMovesKeepFar, UnaskedMovesKeepFar, ChangesKeepFar, FirstChangesKeepFar, ReadsKeepFar, HearingKeepsFar, FewerKeepFar};
 ghost use Rattle.lnbd_course.specs.FarLaws.{SizeWasToldFar, KnownWasToldFar, ToFileEnds, FromFileEnds};
 ghost use Rattle.lnbd_course.specs.FarShows.{QuietCountsFar, TurnsFailFar, TurnsTellContentFar, UnfailedShowsFar};
+ghost use Rattle.lnbd_course.specs.Spared.{PartsSpareFar};
 ghost use Rattle.lnbd_course.specs.FarEnds.{EndedAsksOnceFar, EndedSumsFar, EndedFlushesOnceFar, EndedUnflushedFar, EndedFlushedFar, EndedAreAllDoneFar, EndedSparesFar, EndedAreDenseFar};
 
 /// A copy to or from a file is on its course before it has a handle, with each one that begins on a link which
@@ -93,4 +94,10 @@ pub fn ended_flushes_far()
 pub fn ended_spares_far()
     ensures reads { EndedSparesFar }
     ensures writes { EndedAreDenseFar }
+{}
+
+/// In a turn, whole or short, no READ of a copy to a file covers a block that one answer told as zero whole, where such
+/// blocks are planned as zero, and extents are waited for behind all that is planned.
+pub fn parts_spare_far()
+    ensures { PartsSpareFar }
 {}

@@ -9,7 +9,7 @@ mod laws;
 pub use far::{
     asking_keeps_far, beginning_keeps_far, board_keeps_far, calls_show_far, ended_asks_once_far,
     ended_far, ended_flushes_far, ended_spares_far, file_keeps_far, hearing_keeps_far,
-    turns_keep_far,
+    parts_spare_far, turns_keep_far,
 };
 pub use laws::{
     asking_keeps, asking_keeps_between, asking_tells, beginning_keeps, beginning_keeps_between,

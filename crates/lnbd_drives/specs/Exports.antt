@@ -10,7 +10,7 @@ use Rattle.lnbd_history.specs.Answers.{state_after, info_after, direction_after}
 use Rattle.lnbd_history.specs.Events.{History}
 use Rattle.lnbd_machine.specs.Machine.{Machine}
 use Rattle.lnbd_standing.specs.Standing.{StandsFor}
-use Rattle.lnbd_asked.specs.Exports.{DrivenIsOf, DrivenTells, WasTold, WasToldExport}
+use Rattle.lnbd_asked.specs.Exports.{DrivenIsOf, DrivenTells, HasToldSize, WasToldExport}
 use Rattle.lnbd_asked.specs.Transcript.{on_link}
 use Rattle.lnbd_poll.specs.Seen.{Seen}
 use Rattle.lnbd_poll.specs.Turns.{Ending, Turns}
@@ -36,7 +36,7 @@ ExportWasTold K = (history : History K) (info : ExportInfo) → state_after hist
 
 -- So it was told the size.
 abbrev pub InfoWasTold : Type 0 → Type 0
-InfoWasTold K = (history : History K) (info : ExportInfo) → state_after history ≡ state.Ready → direction_after history ≡ 1 → info_after history ≡ Some info → WasTold history info.size
+InfoWasTold K = (history : History K) (info : ExportInfo) → state_after history ≡ state.Ready → direction_after history ≡ 1 → info_after history ≡ Some info → HasToldSize history info.size
 
 -- A turn makes no link.
 abbrev pub TurnsGiveNone : {K World : Type 0} → (World → List (Call K) → World → Type 0) → Type 0

@@ -26,7 +26,7 @@ use Rattle.lnbd_link.specs.Traffic.{target_of}
 use Rattle.lnbd_link.proofs.Parts.{grows_none, grows_on, grows_once, takes_none}
 use Rattle.lnbd_link.proofs.Openings.{is_given-append}
 use Rattle.lnbd_link.specs.Part.{Adds, Grows, Takes}
-use Rattle.lnbd_asked.specs.Exports.{WasTold as WasToldSize}
+use Rattle.lnbd_asked.specs.Exports.{HasToldSize as WasToldSize}
 use Rattle.lnbd_asked.specs.Driven.{DrivenSays, Passes, written}
 use Rattle.lnbd_asked.specs.Honest.{IsHonest, changes}
 use Rattle.lnbd_asked.specs.Link.{Nobody}
@@ -44,10 +44,10 @@ use Rattle.lnbd_dump.specs.declared.reader.Reader.{Reader}
 use Rattle.lnbd_dump.specs.declared.stop.Stop.{Stop}
 use Rattle.lnbd_dump.specs.declared.stop.Stop.TheVariants as stop
 use Rattle.lnbd_dump.specs.Conduct.{Asked, Conduct, Dumped, Dumps, Has_talked, HasCause, IsWhole, Not_begun, Not_connected, Not_held, Talked, Unasked, WasFailed, WasKnown}
-use Rattle.lnbd_dump.specs.Ends.{Conversed, DumpedAll, DumpedOn, IsDump, IsFit, IsLeft, IsMade}
+use Rattle.lnbd_dump.specs.Ends.{Conversed, DumpedAll, DumpedOn, IsDump, IsFit, IsLeft, IsDumped}
 use Rattle.lnbd_dump.specs.Leads.{Grown, Tells}
 use Rattle.lnbd_reel.specs.Ranges.{length_given, length_shown, range_of}
-use Rattle.lnbd_dump.specs.Shown.{Shows, ShowsFront, WasTold}
+use Rattle.lnbd_dump.specs.Shown.{Shows, ShowsFront, WasToldByte}
 use Rattle.lnbd_reel.specs.Said.{AreTold, Shown, ShownFront}
 use Rattle.lnbd_reel.specs.Said.{ShownPart}
 use Rattle.lnbd_dump.specs.Stops.{IsEnd, IsToldAs, IsToldDead}
@@ -84,7 +84,7 @@ end_cause offset given history (stop.Uneven size block) told end is = subst (Has
 one_part : (told told' : Option (List wire.Call)) (made all part : List wire.Call) → Grows told told' made → told' ≡ Some all → Grows told told' part → part ≡ made
 one_part told told' made all part grown is grows = grows_once told told' part made all grows grown is
 
-pub was_told : (place : Place) (told told' : Option (List wire.Call)) (made : List wire.Call) (p byte : ℕ) → Grows told told' made → Told (dealt_with place made) p byte → WasTold place told told' p byte
+pub was_told : (place : Place) (told told' : Option (List wire.Call)) (made : List wire.Call) (p byte : ℕ) → Grows told told' made → Told (dealt_with place made) p byte → WasToldByte place told told' p byte
 was_told place told told' made p byte grown t all part is grows = subst (λ (l : List wire.Call). Told (dealt_with place l) p byte) (sym (one_part told told' made all part grown is grows)) t
 
 pub shown_told : (told told' : ℕ → ℕ → Type 0) (offset count : ℕ) (taken taken' : Option (List ℕ)) → ((p byte : ℕ) → told p byte → told' p byte) → Shown told offset count taken taken' → Shown told' offset count taken taken'
@@ -318,7 +318,7 @@ module _ (place : Place) (link : ℕ) (offset : ℕ) (given : Option ℕ) (small
     front_made : (count : ℕ) → ShownPart (Tells c.ended.history) offset count taken taken' → ShownPart (Told (dealt_with place made)) offset count taken taken'
     front_made count s = record { bytes = s.bytes; told_are = λ i lt. told_made (offset + i) (get_or s.bytes i 0) (s.told_are i lt); few = s.few; text = s.text; takes = s.takes; front = s.front }
 
-    left_made : (a : Result ℕ DumpFault) → IsLeft a offset given taken taken' c.ended.history → IsMade place made offset given taken taken' a
+    left_made : (a : Result ℕ DumpFault) → IsLeft a offset given taken taken' c.ended.history → IsDumped place made offset given taken taken' a
     left_made (Ok count) l = (fit count l.0, shown_told (Tells c.ended.history) (Told (dealt_with place made)) offset count taken taken' told_made l.1)
     left_made (Err why) (inl same) = inl same
     left_made (Err why) (inr l) = inr (l.0, fit l.0 l.1, front_made l.0 l.2)
@@ -338,7 +338,7 @@ module _ (place : Place) (link : ℕ) (offset : ℕ) (given : Option ℕ) (small
     is = record {
       uses = conversations_use_one_link place.to link [] (converse_none link);
       dumps = Not_held (Connect place.to (Some link) ∷ Shut link ∷ []) answer link refl is;
-      made_is = subst (IsMade place (Connect place.to (Some link) ∷ Shut link ∷ []) offset given taken taken) (sym is) (inl refl);
+      made_is = subst (IsDumped place (Connect place.to (Some link) ∷ Shut link ∷ []) offset given taken taken) (sym is) (inl refl);
     };
   }
 
@@ -353,7 +353,7 @@ not_connected place offset given told told' taken answer before after is adds = 
   is = record {
     uses = failed_use place.to;
     dumps = Not_connected (Connect place.to None ∷ []) answer refl (fault.Link before after, is, (before, after, refl));
-    made_is = subst (IsMade place (Connect place.to None ∷ []) offset given taken taken) (sym is) (inl refl);
+    made_is = subst (IsDumped place (Connect place.to None ∷ []) offset given taken taken) (sym is) (inl refl);
   };
 }
 
@@ -361,7 +361,7 @@ pub not_begun : (place : Place) (offset : ℕ) (given : Option ℕ) (told : Opti
 not_begun place offset given told taken answer is = record {
   calls = [];
   grown = grows_none told;
-  is = record { uses = no_calls_use place.to; dumps = Not_begun [] answer refl is; made_is = subst (IsMade place [] offset given taken taken) (sym is) (inl refl) };
+  is = record { uses = no_calls_use place.to; dumps = Not_begun [] answer refl is; made_is = subst (IsDumped place [] offset given taken taken) (sym is) (inl refl) };
 }
 
 -- ---- The clauses of a dump.
@@ -370,8 +370,8 @@ module _ (place : Place) (offset : ℕ) (given : Option ℕ) (told told' : Optio
   pub dumped_is : (answer : Result ℕ DumpFault) → DumpedAll place offset given told told' taken taken' answer → Dumped place offset given told told' answer
   dumped_is answer d = record { calls = d.calls; grown = d.grown; uses = d.is.uses; dumps = d.is.dumps }
 
-  pub clause_shown : (answer : Result ℕ DumpFault) → DumpedAll place offset given told told' taken taken' answer → IfOk answer (λ count. Shown (WasTold place told told') offset count taken taken')
-  clause_shown (Ok count) d = shown_told (Told (dealt_with place d.calls)) (WasTold place told told') offset count taken taken' (λ p byte t. was_told place told told' d.calls p byte d.grown t) d.is.made_is.1
+  pub clause_shown : (answer : Result ℕ DumpFault) → DumpedAll place offset given told told' taken taken' answer → IfOk answer (λ count. Shown (WasToldByte place told told') offset count taken taken')
+  clause_shown (Ok count) d = shown_told (Told (dealt_with place d.calls)) (WasToldByte place told told') offset count taken taken' (λ p byte t. was_told place told told' d.calls p byte d.grown t) d.is.made_is.1
   clause_shown (Err why) d = tt
 
   pub clause_shows : (answer : Result ℕ DumpFault) → DumpedAll place offset given told told' taken taken' answer → IfOk answer (λ count. Shows place offset given count told told' taken taken')
@@ -383,13 +383,13 @@ module _ (place : Place) (offset : ℕ) (given : Option ℕ) (told told' : Optio
   none_takes : taken' ≡ taken → Takes taken taken' []
   none_takes same = subst (λ (t : Option (List ℕ)). Takes taken t []) (sym same) (takes_none taken)
 
-  pub clause_front : (answer : Result ℕ DumpFault) → DumpedAll place offset given told told' taken taken' answer → OnErr answer (ShownFront (WasTold place told told') offset taken taken')
+  pub clause_front : (answer : Result ℕ DumpFault) → DumpedAll place offset given told told' taken taken' answer → OnErr answer (ShownFront (WasToldByte place told told') offset taken taken')
   clause_front (Ok count) d = tt
   clause_front (Err why) d = go d.is.made_is
     where
-      go : (taken' ≡ taken) ⊎ ((count : ℕ) × IsFit place d.calls offset given count × ShownPart (Told (dealt_with place d.calls)) offset count taken taken') → ShownFront (WasTold place told told') offset taken taken'
-      go (inl same) = none_front (WasTold place told told') offset taken taken' (none_takes same)
-      go (inr s) = front_told (Told (dealt_with place d.calls)) (WasTold place told told') offset s.0 taken taken' (λ p byte t. was_told place told told' d.calls p byte d.grown t) s.2
+      go : (taken' ≡ taken) ⊎ ((count : ℕ) × IsFit place d.calls offset given count × ShownPart (Told (dealt_with place d.calls)) offset count taken taken') → ShownFront (WasToldByte place told told') offset taken taken'
+      go (inl same) = none_front (WasToldByte place told told') offset taken taken' (none_takes same)
+      go (inr s) = front_told (Told (dealt_with place d.calls)) (WasToldByte place told told') offset s.0 taken taken' (λ p byte t. was_told place told told' d.calls p byte d.grown t) s.2
 
   pub clause_fronts : (answer : Result ℕ DumpFault) → DumpedAll place offset given told told' taken taken' answer → OnErr answer (ShowsFront place offset given told told' taken taken')
   clause_fronts (Ok count) d = tt

@@ -16,7 +16,7 @@ use Rattle.lnbd_link.specs.Call as wire
 use Rattle.lnbd_link.specs.Call.{Connect}
 use Rattle.lnbd_link.specs.Traffic.{target_of}
 use Rattle.lnbd_asked.specs.Driven.{DrivenSays, outcome_after, written}
-use Rattle.lnbd_asked.specs.Exports.{DrivenIsOf, WasTold, name_set}
+use Rattle.lnbd_asked.specs.Exports.{DrivenIsOf, HasToldSize, name_set}
 use Rattle.lnbd_asked.specs.Honest.{Untouched, changes, has}
 use Rattle.lnbd_asked.specs.Link.{Link}
 use Rattle.lnbd_asked.specs.Transcript.{Dealt, answered, asked_on, bare, dealt_with, is_name, is_of, is_target, name_asked, on_link, only_if, size_told, told_zero}
@@ -91,7 +91,7 @@ module _ (place : Place) (made : List wire.Call) (seen : Seen Reader) (course : 
       }
 
   -- the size that was told
-  pub size_dealt : (size : ℕ) → WasTold seen.history size → (dealt_with place made).size seen.link ≡ Some size
+  pub size_dealt : (size : ℕ) → HasToldSize seen.history size → (dealt_with place made).size seen.link ≡ Some size
   size_dealt size t =
       let told : size_told link ≡ Some size = of.told size t in
       let here : is_of place made seen.link ≡ true = ap (λ (b : Bool). b && is_name place.name (name_asked link.wishes)) course.target ∙ named place.name (name_set seen.history) (name_asked link.wishes) (of.size size told).0 course.name in

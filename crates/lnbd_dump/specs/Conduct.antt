@@ -1,5 +1,5 @@
 -- What a dump asks of an export, in which order, and why it ends.
-use Rattle.std.specs.Prelude.{◌≡◌, ◌≢◌, ◌⊎◌, ◌<◌, ◌≤◌, ◌+◌, ◌-◌, ◌%◌, ◌^◌, ◌||◌, ℕ, Bool, true, false, List, [], ◌∷◌, ◌++◌, Option, Some, None, Result, Ok, Err, bytes_eq, min, nat_lt, if◌then◌else◌}
+use Rattle.std.specs.Prelude.{◌≡◌, ◌≢◌, ◌⊎◌, ◌<◌, ◌≤◌, ◌+◌, ◌-◌, ◌%◌, ◌||◌, ℕ, Bool, true, false, List, [], ◌∷◌, ◌++◌, Option, Some, None, Result, Ok, Err, bytes_eq, min, nat_lt, if◌then◌else◌}
 use Rattle.lnbd_model.specs.declared.breach.Breach.{Breach}
 use Rattle.lnbd_model.specs.declared.breach.Breach.TheVariants as breach
 use Rattle.lnbd_model.specs.declared.breach.Broken.{Broken}
@@ -30,7 +30,7 @@ use Rattle.lnbd_waits.specs.Begun.{base_allocation, begun}
 use Rattle.lnbd_dump.specs.declared.fault.DumpFault.{DumpFault}
 use Rattle.lnbd_dump.specs.declared.fault.DumpFault.TheVariants as fault
 use Rattle.lnbd_dump.specs.declared.reader.Reader.{Reader}
-use Rattle.lnbd_ask.specs.Maps.{block_of, max_asked}
+use Rattle.lnbd_ask.specs.Maps.{block_of, max_asked, size_end}
 use Rattle.lnbd_reel.specs.Ranges.{IsUneven, length_given, length_shown}
 use Rattle.lnbd_reel.specs.Reel.{IsInWhole}
 
@@ -143,7 +143,7 @@ pub record WasFailed (history : History Reader) (error : ℕ) : Type 0 where
 -- what was told of the export is no export's
 abbrev pub IsMistold : History Reader → Breach → Type 0
 IsMistold history broke = ((state_after history ≡ state.Ready) × (info_after history ≡ None) × (broke ≡ breach.NoExportInfo)) ⊎
-    ((info : ExportInfo) × WasKnown history info × (2 ^ 63 ≤ info.size) × (broke ≡ breach.SizeTooBig))
+    ((info : ExportInfo) × WasKnown history info × (size_end ≤ info.size) × (broke ≡ breach.SizeTooBig))
 
 abbrev pub IsBroken : History Reader → Broken → Type 0
 IsBroken history (broken.Breach broke) = (state_after history ≡ state.Dead (cause.Broke broke)) ⊎ IsMistold history broke

@@ -50,15 +50,15 @@ pub record IsFit (place : Place) (made : List wire.Call) (offset : ℕ) (given :
   pub is : count ≡ length_shown offset given size
 
 -- what was shown, by what was dealt with the export
-abbrev pub IsMade : (place : Place) → (made : List wire.Call) → (offset : ℕ) → (given : Option ℕ) → (taken taken' : Option (List ℕ)) → Result ℕ DumpFault → Type 0
-IsMade place made offset given taken taken' (Ok count) = IsFit place made offset given count × Shown (Told (dealt_with place made)) offset count taken taken'
-IsMade place made offset given taken taken' (Err why) = (taken' ≡ taken) ⊎ ((count : ℕ) × IsFit place made offset given count × ShownPart (Told (dealt_with place made)) offset count taken taken')
+abbrev pub IsDumped : (place : Place) → (made : List wire.Call) → (offset : ℕ) → (given : Option ℕ) → (taken taken' : Option (List ℕ)) → Result ℕ DumpFault → Type 0
+IsDumped place made offset given taken taken' (Ok count) = IsFit place made offset given count × Shown (Told (dealt_with place made)) offset count taken taken'
+IsDumped place made offset given taken taken' (Err why) = (taken' ≡ taken) ⊎ ((count : ℕ) × IsFit place made offset given count × ShownPart (Told (dealt_with place made)) offset count taken taken')
 
 -- a dump, by all its calls
 pub record IsDump (place : Place) (offset : ℕ) (given : Option ℕ) (made : List wire.Call) (taken taken' : Option (List ℕ)) (answer : Result ℕ DumpFault) : Type 0 where
   pub uses : UseOneLink place.to made
   pub dumps : Dumps place offset given made answer
-  pub made_is : IsMade place made offset given taken taken' answer
+  pub made_is : IsDumped place made offset given taken taken' answer
 
 -- what follows the connect that gave this link
 pub record DumpedOn (link : ℕ) (place : Place) (offset : ℕ) (given : Option ℕ) (told told' : Option (List wire.Call)) (taken taken' : Option (List ℕ)) (answer : Result ℕ DumpFault) : Type 0 where

@@ -8,6 +8,7 @@ use Rattle.lnbd_history.specs.Entries.{calls}
 use Rattle.lnbd_history.specs.Events.{Event, History}
 use Rattle.lnbd_history.specs.History.{reading, request}
 use Rattle.lnbd_history.specs.Laws.{Lawful, is_closed}
+use Rattle.lnbd_handle.specs.Histories.{max_unretired}
 use Rattle.lnbd_link.specs.Call as wire
 use Rattle.lnbd_link.specs.Numbers.{is_given}
 use Rattle.lnbd_asked.specs.Driven.{outcome_after, zero_after}
@@ -72,7 +73,7 @@ IsTied world history = (world.short ≡ false) → kept world ≡ told_by None (
 
 -- a history that a handle may have which is not closed
 abbrev pub IsGoing : History Reader → Type 0
-IsGoing history = Lawful 1024 history × (is_closed history ≡ false)
+IsGoing history = Lawful max_unretired history × (is_closed history ≡ false)
 
 -- What was asked, what came of it and what was told as zero is so still.
 pub record Grown (before after : History Reader) : Type 0 where

@@ -11,8 +11,8 @@ use Rattle.lnbd_reel.specs.Ranges.{range_of}
 use Rattle.lnbd_dump.specs.Told.{Told}
 
 -- The calls by which a transcript grew, where it is told, told this byte of the export at this place.
-abbrev pub WasTold : Place → (told told' : Option (List wire.Call)) → ℕ → ℕ → Type 0
-WasTold place told told' p byte = (all part : List wire.Call) → told' ≡ Some all → Grows told told' part → Told (dealt_with place part) p byte
+abbrev pub WasToldByte : Place → (told told' : Option (List wire.Call)) → ℕ → ℕ → Type 0
+WasToldByte place told told' p byte = (all part : List wire.Call) → told' ≡ Some all → Grows told told' part → Told (dealt_with place part) p byte
 
 -- ---- Over an export that is honest and wasn't changed.
 

@@ -1,5 +1,5 @@
 -- What is known of the export once negotiation came to a stand.
-use Rattle.std.specs.Prelude.{◌≡◌, ◌⊎◌, ℕ, ◌≤◌, ◌<◌, ◌+◌, ◌^◌, false, List, [], ◌∷◌, Option, Some, None, Result, Ok, Err}
+use Rattle.std.specs.Prelude.{◌≡◌, ◌⊎◌, ℕ, ◌≤◌, ◌<◌, ◌+◌, false, List, [], ◌∷◌, Option, Some, None, Result, Ok, Err}
 use Rattle.lnbd_model.specs.declared.breach.Breach.TheVariants as breach
 use Rattle.lnbd_model.specs.declared.export.ExportInfo.{ExportInfo}
 use Rattle.lnbd_model.specs.declared.state.State.{State}
@@ -13,7 +13,7 @@ use Rattle.lnbd_reel.specs.declared.reel.Run.{Run}
 use Rattle.lnbd_dump.specs.declared.stop.Stop.{Stop}
 use Rattle.lnbd_dump.specs.declared.stop.Stop.TheVariants as stop
 use Rattle.lnbd_dump.specs.declared.terms.Terms.{Terms}
-use Rattle.lnbd_ask.specs.Maps.{block_of}
+use Rattle.lnbd_ask.specs.Maps.{block_of, size_end}
 use Rattle.lnbd_dump.specs.Conduct.{is_agreed, piece_of}
 use Rattle.lnbd_reel.specs.Ranges.{Covers, IsUneven, length_given, length_shown}
 
@@ -23,11 +23,11 @@ pub record AreTerms (info : ExportInfo) (terms : Terms) : Type 0 where
   pub piece : terms.piece ≡ piece_of info
   pub agreed : terms.agreed ≡ is_agreed info.contexts
 
--- Where the handle is ready, nothing waits to go out and an export is known of a size below 2 ^ 63, these are its terms; else it is stopped.
+-- Where the handle is ready, nothing waits to go out and an export is known of a size below `size_end`, these are its terms; else it is stopped.
 abbrev pub IsKnownAt : State → (direction : ℕ) → Option ExportInfo → Result Terms Stop → Type 0
-IsKnownAt at direction told (Ok terms) = (at ≡ state.Ready) × (direction ≡ 1) × (info : ExportInfo) × (told ≡ Some info) × (info.size < 2 ^ 63) × AreTerms info terms
+IsKnownAt at direction told (Ok terms) = (at ≡ state.Ready) × (direction ≡ 1) × (info : ExportInfo) × (told ≡ Some info) × (info.size < size_end) × AreTerms info terms
 IsKnownAt at direction told (Err (stop.Died cause)) = at ≡ state.Dead cause
-IsKnownAt at direction told (Err (stop.Broke broke)) = ((told ≡ None) × (at ≡ state.Ready) × (broke ≡ breach.NoExportInfo)) ⊎ ((at ≡ state.Ready) × (direction ≡ 1) × (info : ExportInfo) × (told ≡ Some info) × (2 ^ 63 ≤ info.size) × (broke ≡ breach.SizeTooBig))
+IsKnownAt at direction told (Err (stop.Broke broke)) = ((told ≡ None) × (at ≡ state.Ready) × (broke ≡ breach.NoExportInfo)) ⊎ ((at ≡ state.Ready) × (direction ≡ 1) × (info : ExportInfo) × (told ≡ Some info) × (size_end ≤ info.size) × (broke ≡ breach.SizeTooBig))
 IsKnownAt at direction told (Err (stop.Halted why)) = Unit {0}
 IsKnownAt at direction told (Err (stop.Failed error)) = ⊥
 IsKnownAt at direction told (Err stop.Output) = ⊥

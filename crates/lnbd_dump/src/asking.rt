@@ -6,6 +6,8 @@ ghost use Rattle.lnbd_dump.specs.Asks.{AsksRead, AsksStatus};
 ghost use Rattle.lnbd_dump.specs.Leads.{Acts};
 ghost use Rattle.lnbd_dump.specs.Showing.{StaysWell};
 ghost use Rattle.lnbd_dump.specs.Stops.{HasStop, IsPlain};
+ghost use Rattle.lnbd_ask.specs.Maps.{max_asked};
+ghost use Rattle.lnbd_dump.specs.Conduct.{max_piece};
 
 use crate::reader::{Latest, Reader};
 use crate::stop::Stop;
@@ -55,7 +57,7 @@ pub(crate) fn ask_status(
     size: u64,
 ) -> Result<u64, Stop>
     requires one { length handles.old ≡ 1 }
-    requires size { size ≤ 134217728 }
+    requires size { size ≤ max_asked }
     ensures asks { Acts handles.old handles.new (λ before after. HasStop result after.history × OnErr result (StaysWell before.history after.history) × IfOk result (λ cookie. AsksStatus cookie offset size before.history after.history)) }
     ensures world { OnOk result (world.new ≡ world.old) }
     ensures plain { IsPlain result }
@@ -93,7 +95,7 @@ fn ask_into(
     offset: u64,
 ) -> Result<u64, Stop>
     requires one { length handles.old ≡ 1 }
-    requires size { length buf.items ≤ 262144 }
+    requires size { length buf.items ≤ max_piece }
     ensures asks { Acts handles.old handles.new (λ before after. HasStop result after.history × OnErr result (StaysWell before.history after.history) × IfOk result (λ cookie. AsksRead cookie offset (length buf.items) before.history after.history)) }
     ensures world { OnOk result (world.new ≡ world.old) }
     ensures plain { IsPlain result }
@@ -121,7 +123,7 @@ pub(crate) fn ask_read(
     size: u64,
 ) -> Result<u64, Stop>
     requires one { length handles.old ≡ 1 }
-    requires size { size ≤ 262144 }
+    requires size { size ≤ max_piece }
     ensures asks { Acts handles.old handles.new (λ before after. HasStop result after.history × OnErr result (StaysWell before.history after.history) × IfOk result (λ cookie. AsksRead cookie offset size before.history after.history)) }
     ensures world { OnOk result (world.new ≡ world.old) }
     ensures plain { IsPlain result }

@@ -12,7 +12,7 @@ ghost use Rattle.lnbd_waits.specs.Waits.{Holds};
 ghost use Rattle.lnbd_dump.specs.Conduct.{Dumped, IfLink, IfSilent};
 ghost use Rattle.lnbd_dump.specs.Ends.{Conversed, DumpedAll, DumpedOn, IsShort};
 ghost use Rattle.lnbd_dump.specs.Heard.{kept};
-ghost use Rattle.lnbd_dump.specs.Shown.{Shows, ShowsFront, WasTold};
+ghost use Rattle.lnbd_dump.specs.Shown.{Shows, ShowsFront, WasToldByte};
 ghost use Rattle.lnbd_reel.specs.Said.{Shown, ShownFront};
 
 use crate::fault::DumpFault;
@@ -220,8 +220,8 @@ pub fn dump<W: Wires, O: Sink>(
     ensures dumps { Dumped place.now offset length (W.told wires.old) (W.told wires.new) result }
 
     // What was shown is what was told.
-    ensures shown { IfOk result (λ count. Shown (WasTold place.now (W.told wires.old) (W.told wires.new)) offset count (O.taken out.old) (O.taken out.new)) }
-    ensures front { OnErr result (ShownFront (WasTold place.now (W.told wires.old) (W.told wires.new)) offset (O.taken out.old) (O.taken out.new)) }
+    ensures shown { IfOk result (λ count. Shown (WasToldByte place.now (W.told wires.old) (W.told wires.new)) offset count (O.taken out.old) (O.taken out.new)) }
+    ensures front { OnErr result (ShownFront (WasToldByte place.now (W.told wires.old) (W.told wires.new)) offset (O.taken out.old) (O.taken out.new)) }
 
     // Over an export that is honest and wasn't changed, that is the dump of its bytes, or a front of it.
     ensures shows { IfOk result (λ count. Shows place.now offset length count (W.told wires.old) (W.told wires.new) (O.taken out.old) (O.taken out.new)) }

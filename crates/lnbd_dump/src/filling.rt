@@ -1,6 +1,6 @@
 //! Parts of a range are begun, sixteen at a time. What they tell is no matter here.
 
-ghost use Rattle.std.specs.Prelude.{◌≡◌, ◌≤◌, ◌<◌, ◌+◌, ◌^◌, ℕ, IfOk, OnErr, OnOk, Some, length, slice_get};
+ghost use Rattle.std.specs.Prelude.{◌≡◌, ◌≤◌, ◌<◌, ◌+◌, ℕ, IfOk, OnErr, OnOk, Some, length, slice_get};
 ghost use Rattle.lnbd_poll.specs.Seen.{Seen};
 ghost use Rattle.lnbd_waits.specs.Waits.{Holds};
 ghost use Rattle.lnbd_dump.specs.Filling.{AreInOrder, BeginsPart, Continues, FollowEach, IsLeft};
@@ -8,6 +8,7 @@ ghost use Rattle.lnbd_dump.specs.Leads.{Acts};
 ghost use Rattle.lnbd_dump.specs.Showing.{StaysWell};
 ghost use Rattle.lnbd_dump.specs.Stops.{HasStop, IsPlain};
 ghost use Rattle.lnbd_dump.specs.declared.reader.Reader.{Reader as Calls};
+ghost use Rattle.lnbd_dump.specs.Conduct.{max_piece};
 
 use crate::asking::{Plan, ask_read};
 use crate::reader::{Latest, Reader};
@@ -29,7 +30,7 @@ fn part_of(
     run: Run,
 ) -> Result<Part, Stop>
     requires one { length handles.old ≡ 1 }
-    requires some { (plan.at < run.end) × (0 < plan.piece) × (plan.piece ≤ 262144) }
+    requires some { (plan.at < run.end) × (0 < plan.piece) × (plan.piece ≤ max_piece) }
     ensures begins { Acts handles.old handles.new (λ before after. HasStop result after.history × OnErr result (StaysWell before.history after.history) × IfOk result (λ part. BeginsPart plan run part before.history after.history)) }
     ensures world { OnOk result (world.new ≡ world.old) }
     ensures start { IfOk result (λ part. part.start ≡ plan.at) }
@@ -80,7 +81,7 @@ fn begin(
     requires one { length handles.old ≡ 1 }
     requires run { slice_get runs.old 0 ≡ Some run }
     requires order { AreInOrder plan.old.at runs.old plan.old.known }
-    requires some { (plan.old.at < run.end) × (run.end ≤ plan.old.known) × (0 < plan.old.piece) × (plan.old.piece ≤ 262144) }
+    requires some { (plan.old.at < run.end) × (run.end ≤ plan.old.known) × (0 < plan.old.piece) × (plan.old.piece ≤ max_piece) }
     ensures begins { Acts handles.old handles.new (λ before after. HasStop result after.history × Continues result plan.old runs.old reel.old world.old before.history plan.new runs.new reel.new world.new after.history) }
     ensures order { OnOk result (AreInOrder plan.new.at runs.new plan.new.known) }
     ensures follow { OnOk result ((from : ℕ) → FollowEach from reel.old plan.old.at → FollowEach from reel.new plan.new.at) }
@@ -110,7 +111,7 @@ pub(crate) fn fill(
 ) -> Result<(), Stop>
     requires reached { (seen : Seen Calls) × Holds handles.old seen }
     requires order { AreInOrder plan.old.at runs.old plan.old.known }
-    requires piece { (0 < plan.old.piece) × (plan.old.piece ≤ 262144) }
+    requires piece { (0 < plan.old.piece) × (plan.old.piece ≤ max_piece) }
     ensures begins { Acts handles.old handles.new (λ before after. HasStop result after.history × Continues result plan.old runs.old reel.old world.old before.history plan.new runs.new reel.new world.new after.history) }
     ensures order { OnOk result (AreInOrder plan.new.at runs.new plan.new.known) }
     ensures follow { OnOk result ((from : ℕ) → FollowEach from reel.old plan.old.at → FollowEach from reel.new plan.new.at) }

@@ -1,6 +1,6 @@
 //! A range is shown, part by part in order.
 
-ghost use Rattle.std.specs.Prelude.{◌≡◌, ◌<◌, ◌≤◌, ◌+◌, ◌-◌, ◌^◌, ◌++◌, [], ℕ, IfNone, IfOk, OnOk, Err, length, take, drop, replicate, option_to_list};
+ghost use Rattle.std.specs.Prelude.{◌≡◌, ◌<◌, ◌≤◌, ◌+◌, ◌-◌, ◌++◌, [], ℕ, IfNone, IfOk, OnOk, Err, length, take, drop, replicate, option_to_list};
 ghost use Rattle.lnbd_link.specs.Contents.{Keeps};
 ghost use Rattle.lnbd_link.specs.Count.{Rises, patience};
 ghost use Rattle.lnbd_hexdump.specs.Said.{Fed, reach};
@@ -12,6 +12,9 @@ ghost use Rattle.lnbd_reel.specs.Said.{shown_to};
 ghost use Rattle.lnbd_dump.specs.Showing.{FinishesWith, HasNext, HasNoCause, Says, Shows, ShowsPart};
 ghost use Rattle.lnbd_dump.specs.Stops.{HasStop, IsDry, IsLoud, IsPlain, is_failed};
 ghost use Rattle.lnbd_dump.specs.declared.reader.Reader.{Reader as Calls};
+ghost use Rattle.lnbd_records.specs.Limits.{max_minimum_block};
+ghost use Rattle.lnbd_ask.specs.Maps.{size_end};
+ghost use Rattle.lnbd_dump.specs.Conduct.{max_piece};
 
 use crate::asking::Plan;
 use crate::reader::{Latest, Reader};
@@ -26,7 +29,7 @@ use lnbd_waits::Halt;
 use std::alloc::Global;
 
 fn say_zeros(dumper: &mut Dumper, count: u64, text: &mut Vec<u8>) -> Result<(), Stop>
-    requires { reach dumper.old + count ≤ 2 ^ 63 }
+    requires { reach dumper.old + count ≤ size_end }
     ensures stops { HasNoCause result }
     ensures fed { OnOk result (Fed dumper.old dumper.new (replicate count 0) text.old.items text.new.items) }
     ensures reach { OnOk result (reach dumper.new ≡ reach dumper.old + count) }
@@ -39,7 +42,7 @@ fn say_zeros(dumper: &mut Dumper, count: u64, text: &mut Vec<u8>) -> Result<(), 
 }
 
 fn say_bytes(dumper: &mut Dumper, bytes: &[u8], text: &mut Vec<u8>) -> Result<(), Stop>
-    requires { reach dumper.old + length bytes.now ≤ 2 ^ 63 }
+    requires { reach dumper.old + length bytes.now ≤ size_end }
     ensures stops { HasNoCause result }
     ensures fed { OnOk result (Fed dumper.old dumper.new bytes.now text.old.items text.new.items) }
     ensures reach { OnOk result (reach dumper.new ≡ reach dumper.old + length bytes.now) }
@@ -62,7 +65,7 @@ fn say(
 ) -> Result<(), Stop>
     requires one { length handles.old ≡ 1 }
     requires order { offset ≤ end }
-    requires room { (part.start + part.length ≤ 2 ^ 63) × (end ≤ 2 ^ 63) }
+    requires room { (part.start + part.length ≤ size_end) × (end ≤ size_end) }
     requires reach { reach dumper.old ≤ offset + shown_to offset end part.start }
     requires empty { text.old.items ≡ [] }
     ensures says { Acts handles.old handles.new (λ before after. HasStop result after.history × Says result offset end part dumper.old dumper.new text.new.items before.history after.history) }
@@ -90,7 +93,7 @@ fn show_part<O: Sink>(
     out: &mut O,
 ) -> Result<(), Stop>
     requires one { length handles.old ≡ 1 }
-    requires room { (part.start + part.length ≤ 2 ^ 63) × (offset + count ≤ 2 ^ 63) }
+    requires room { (part.start + part.length ≤ size_end) × (offset + count ≤ size_end) }
     requires reach { reach dumper.old ≤ offset + shown_to offset (offset + count) part.start }
     requires empty { text.old.items ≡ [] }
     ensures shows { Acts handles.old handles.new (λ before after. HasStop result after.history × ShowsPart result offset count part dumper.old dumper.new (O.taken out.old) (O.taken out.new) before.history after.history) }
@@ -147,8 +150,8 @@ fn next_part<W: Wires>(
 ) -> Result<Option<Part>, Stop>
     requires reached { (seen : Seen Calls) × Holds handles.old seen }
     requires order { AreInOrder plan.old.at runs.old plan.old.known }
-    requires some { (plan.old.at ≤ plan.old.end) × (plan.old.known ≤ plan.old.end) × (plan.old.end ≤ 2 ^ 63) }
-    requires block { (0 < plan.old.block) × (plan.old.block ≤ 65536) × (0 < plan.old.piece) × (plan.old.piece ≤ 262144) }
+    requires some { (plan.old.at ≤ plan.old.end) × (plan.old.known ≤ plan.old.end) × (plan.old.end ≤ size_end) }
+    requires block { (0 < plan.old.block) × (plan.old.block ≤ max_minimum_block) × (0 < plan.old.piece) × (plan.old.piece ≤ max_piece) }
     requires started { start ≤ W.idles wires.old }
     ensures goes { GoesTo (is_failed result) (W.told wires.old) (W.told wires.new) (W.faults wires.old) (W.faults wires.new) handles.old handles.new (λ before after. HasStop result after.history × HasNext result plan.old runs.old reel.old world.old before.history plan.new runs.new reel.new world.new after.history) }
     ensures order { OnOk result (AreInOrder plan.new.at runs.new plan.new.known) }
@@ -189,10 +192,10 @@ pub(crate) fn show<W: Wires, O: Sink>(
 ) -> Result<(), Stop>
     requires reached { (seen : Seen Calls) × Holds handles.old seen }
     requires begins { plan.at ≤ offset }
-    requires ends { (offset + count ≤ plan.end) × (plan.end ≤ 2 ^ 63) }
+    requires ends { (offset + count ≤ plan.end) × (plan.end ≤ size_end) }
     requires order { AreInOrder plan.at runs plan.known }
     requires some { (plan.at ≤ plan.end) × (plan.known ≤ plan.end) }
-    requires block { (0 < plan.block) × (plan.block ≤ 65536) × (0 < plan.piece) × (plan.piece ≤ 262144) }
+    requires block { (0 < plan.block) × (plan.block ≤ max_minimum_block) × (0 < plan.piece) × (plan.piece ≤ max_piece) }
     requires started { start ≤ W.idles wires.old }
     ensures shows { Comes (is_failed result) (W.told wires.old) (W.told wires.new) (W.faults wires.old) (W.faults wires.new) handles.old handles.new (λ before after ended. HasStop result after.history × Shows result plan runs world.old offset count (O.taken out.old) (O.taken out.new) before.history after.history ended.history) }
     ensures silent { result ≡ Err (Stop.Halted Halt.Silent) → Rises patience start (W.idles wires.new) }

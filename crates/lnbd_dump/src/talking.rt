@@ -1,6 +1,6 @@
 //! The conversation on a link: negotiation, the range, and the end.
 
-ghost use Rattle.std.specs.Prelude.{◌≡◌, ◌≤◌, ◌<◌, ◌^◌, IfOk, IsOk, OnOk, Err, not, true};
+ghost use Rattle.std.specs.Prelude.{◌≡◌, ◌≤◌, ◌<◌, IfOk, IsOk, OnOk, Err, not, true};
 ghost use Rattle.lnbd_link.specs.Contents.{Keeps};
 ghost use Rattle.lnbd_link.specs.Count.{Rises, patience};
 ghost use Rattle.lnbd_poll.specs.Seen.{Seen};
@@ -10,6 +10,9 @@ ghost use Rattle.lnbd_reel.specs.Ranges.{Covers};
 ghost use Rattle.lnbd_dump.specs.Talks.{EndsAs, Reads, ShowsSpan, is_parting};
 ghost use Rattle.lnbd_dump.specs.Stops.{HasStop, is_failed};
 ghost use Rattle.lnbd_dump.specs.declared.reader.Reader.{Reader as Calls};
+ghost use Rattle.lnbd_records.specs.Limits.{max_minimum_block};
+ghost use Rattle.lnbd_ask.specs.Maps.{size_end};
+ghost use Rattle.lnbd_dump.specs.Conduct.{max_piece};
 
 use crate::reader::{Latest, Reader};
 use crate::showing::show;
@@ -49,8 +52,8 @@ fn show_span<W: Wires, O: Sink>(
 ) -> Result<u64, Stop>
     requires reached { (seen : Seen Calls) × Holds handles.old seen }
     requires covers { 0 < span.count → Covers offset span.count terms.size terms.block span.first span.last }
-    requires size { terms.size < 2 ^ 63 }
-    requires block { (0 < terms.block) × (terms.block ≤ 65536) × (0 < terms.piece) × (terms.piece ≤ 262144) }
+    requires size { terms.size < size_end }
+    requires block { (0 < terms.block) × (terms.block ≤ max_minimum_block) × (0 < terms.piece) × (terms.piece ≤ max_piece) }
     requires started { start ≤ W.idles wires.old }
     ensures shows { Comes (is_failed result) (W.told wires.old) (W.told wires.new) (W.faults wires.old) (W.faults wires.new) handles.old handles.new (λ before after ended. HasStop result after.history × ShowsSpan result terms world.old offset span.count (O.taken out.old) (O.taken out.new) before.history after.history ended.history) }
     ensures count { IfOk result (λ count. count ≡ span.count) }

@@ -1,16 +1,17 @@
 //! What is known of the export once negotiation came to a stand, and what is asked of it then.
 
-ghost use Rattle.std.specs.Prelude.{◌≡◌, ◌≤◌, ◌<◌, ◌+◌, ◌^◌, [], IfOk, length, if◌then◌else◌};
+ghost use Rattle.std.specs.Prelude.{◌≡◌, ◌≤◌, ◌<◌, ◌+◌, [], IfOk, length, if◌then◌else◌};
 ghost use Rattle.std.specs.Option.{option_copied};
 ghost use Rattle.lnbd_history.specs.Refusals.{payload_limit};
 ghost use Rattle.lnbd_poll.specs.Seen.{Seen};
 ghost use Rattle.lnbd_waits.specs.Waits.{Holds};
-ghost use Rattle.lnbd_ask.specs.Maps.{least_block};
-ghost use Rattle.lnbd_dump.specs.Conduct.{is_agreed, whole_blocks};
+ghost use Rattle.lnbd_ask.specs.Maps.{least_block, size_end};
+ghost use Rattle.lnbd_dump.specs.Conduct.{is_agreed, whole_blocks, max_piece};
 ghost use Rattle.lnbd_dump.specs.Terms.{AreTerms, BeginsWith, IsKnown, IsKnownAt, IsSpan};
 ghost use Rattle.lnbd_dump.specs.Showing.{HasNoCause};
 ghost use Rattle.lnbd_dump.specs.Stops.{IsPlain};
 ghost use Rattle.lnbd_dump.specs.declared.reader.Reader.{Reader as Calls};
+ghost use Rattle.lnbd_records.specs.Limits.{max_minimum_block};
 
 use crate::asking::Plan;
 use crate::reader::{Reader, is_allocation};
@@ -46,10 +47,10 @@ fn limit_of(told: Option<Blocks>) -> u64
 
 /// Whole blocks of so many bytes, but one at least.
 fn whole_blocks(block: u64, size: u64) -> u64
-    requires { (0 < block) × (block ≤ 65536) }
+    requires { (0 < block) × (block ≤ max_minimum_block) }
     ensures value { result ≡ whole_blocks block size }
     ensures some { 0 < result }
-    ensures most { size ≤ 262144 → result ≤ 262144 }
+    ensures most { size ≤ max_piece → result ≤ max_piece }
 {
     if size < block {
         return block;
@@ -84,8 +85,8 @@ pub(crate) struct Terms {
 
 fn terms_of(info: &ExportInfo) -> Terms
     ensures terms { AreTerms info.now result }
-    ensures block { (0 < result.block) × (result.block ≤ 65536) }
-    ensures piece { (0 < result.piece) × (result.piece ≤ 262144) }
+    ensures block { (0 < result.block) × (result.block ≤ max_minimum_block) }
+    ensures piece { (0 < result.piece) × (result.piece ≤ max_piece) }
 {
     let block = least_block(info.blocks);
     Terms {
@@ -102,9 +103,9 @@ const READING: u32 = 1;
 /// What is known of the export of which this was told, where the handle is in this state and waits in this direction.
 fn known_at(at: State, direction: u32, info: Option<&ExportInfo>) -> Result<Terms, Stop>
     ensures known { IsKnownAt at direction (option_copied info.entry) result }
-    ensures block { IfOk result (λ terms. (0 < terms.block) × (terms.block ≤ 65536)) }
-    ensures piece { IfOk result (λ terms. (0 < terms.piece) × (terms.piece ≤ 262144)) }
-    ensures size { IfOk result (λ terms. terms.size < 2 ^ 63) }
+    ensures block { IfOk result (λ terms. (0 < terms.block) × (terms.block ≤ max_minimum_block)) }
+    ensures piece { IfOk result (λ terms. (0 < terms.piece) × (terms.piece ≤ max_piece)) }
+    ensures size { IfOk result (λ terms. terms.size < size_end) }
     ensures plain { IsPlain result }
 {
     match at {
@@ -129,9 +130,9 @@ fn known_at(at: State, direction: u32, info: Option<&ExportInfo>) -> Result<Term
 pub(crate) fn known(handles: &Handles<Reader>) -> Result<Terms, Stop>
     requires { length handles.now ≡ 1 }
     ensures known { (seen : Seen Calls) → Holds handles.now seen → IsKnown result seen.history }
-    ensures block { IfOk result (λ terms. (0 < terms.block) × (terms.block ≤ 65536)) }
-    ensures piece { IfOk result (λ terms. (0 < terms.piece) × (terms.piece ≤ 262144)) }
-    ensures size { IfOk result (λ terms. terms.size < 2 ^ 63) }
+    ensures block { IfOk result (λ terms. (0 < terms.block) × (terms.block ≤ max_minimum_block)) }
+    ensures piece { IfOk result (λ terms. (0 < terms.piece) × (terms.piece ≤ max_piece)) }
+    ensures size { IfOk result (λ terms. terms.size < size_end) }
     ensures plain { IsPlain result }
 {
     let handle = handles.get(0);
@@ -140,8 +141,8 @@ pub(crate) fn known(handles: &Handles<Reader>) -> Result<Terms, Stop>
 
 /// The blocks that have the range, or why there are none.
 pub(crate) fn judge(terms: Terms, offset: u64, length: Option<u64>) -> Result<Span, Stop>
-    requires block { (0 < terms.block) × (terms.block ≤ 65536) }
-    requires size { terms.size < 2 ^ 63 }
+    requires block { (0 < terms.block) × (terms.block ≤ max_minimum_block) }
+    requires size { terms.size < size_end }
     ensures judges { IsSpan terms offset length result }
     ensures plain { IsPlain result }
 {

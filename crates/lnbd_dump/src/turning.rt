@@ -1,6 +1,6 @@
 //! What is awaited of the handle, and what is asked of blocks before they are read.
 
-ghost use Rattle.std.specs.Prelude.{◌≡◌, ◌≤◌, ◌<◌, ◌+◌, ◌^◌, [], ℕ, IfOk, OnOk, Err, length};
+ghost use Rattle.std.specs.Prelude.{◌≡◌, ◌≤◌, ◌<◌, ◌+◌, [], ℕ, IfOk, OnOk, Err, length};
 ghost use Rattle.lnbd_link.specs.Contents.{Keeps};
 ghost use Rattle.lnbd_link.specs.Count.{Rises, patience};
 ghost use Rattle.lnbd_poll.specs.Seen.{Seen};
@@ -9,6 +9,9 @@ ghost use Rattle.lnbd_dump.specs.Filling.{AreInOrder, Continues, FollowEach, Lea
 ghost use Rattle.lnbd_dump.specs.Leads.{GoesTo, GoesQuietly};
 ghost use Rattle.lnbd_dump.specs.Stops.{HasEnd, HasStop, IsDry, IsPlain, is_failed};
 ghost use Rattle.lnbd_dump.specs.declared.reader.Reader.{Reader as Calls};
+ghost use Rattle.lnbd_records.specs.Limits.{max_minimum_block};
+ghost use Rattle.lnbd_ask.specs.Maps.{size_end};
+ghost use Rattle.lnbd_dump.specs.Conduct.{max_piece};
 
 use crate::asking::{Plan, ask_status, clear_log};
 use crate::filling::fill;
@@ -102,8 +105,8 @@ fn ask_more<W: Wires>(
 ) -> Result<(), Stop>
     requires reached { (seen : Seen Calls) × Holds handles.old seen }
     requires none { runs.old ≡ [] }
-    requires some { (plan.old.at ≡ plan.old.known) × (plan.old.at < plan.old.end) × (plan.old.end ≤ 2 ^ 63) }
-    requires block { (0 < plan.old.block) × (plan.old.block ≤ 65536) }
+    requires some { (plan.old.at ≡ plan.old.known) × (plan.old.at < plan.old.end) × (plan.old.end ≤ size_end) }
+    requires block { (0 < plan.old.block) × (plan.old.block ≤ max_minimum_block) }
     requires started { start ≤ W.idles wires.old }
     ensures goes { GoesTo (is_failed result) (W.told wires.old) (W.told wires.new) (W.faults wires.old) (W.faults wires.new) handles.old handles.new (λ before after. HasStop result after.history × Learns result plan.old runs.old world.old before.history plan.new runs.new world.new after.history) }
     ensures order { OnOk result (AreInOrder plan.new.at runs.new plan.new.known) }
@@ -150,8 +153,8 @@ fn learn<W: Wires>(
 ) -> Result<(), Stop>
     requires reached { (seen : Seen Calls) × Holds handles.old seen }
     requires order { AreInOrder plan.old.at runs.old plan.old.known }
-    requires some { (plan.old.at < plan.old.end) × (plan.old.known ≤ plan.old.end) × (plan.old.end ≤ 2 ^ 63) }
-    requires block { (0 < plan.old.block) × (plan.old.block ≤ 65536) }
+    requires some { (plan.old.at < plan.old.end) × (plan.old.known ≤ plan.old.end) × (plan.old.end ≤ size_end) }
+    requires block { (0 < plan.old.block) × (plan.old.block ≤ max_minimum_block) }
     requires started { start ≤ W.idles wires.old }
     ensures goes { GoesTo (is_failed result) (W.told wires.old) (W.told wires.new) (W.faults wires.old) (W.faults wires.new) handles.old handles.new (λ before after. HasStop result after.history × Learns result plan.old runs.old world.old before.history plan.new runs.new world.new after.history) }
     ensures order { OnOk result (AreInOrder plan.new.at runs.new plan.new.known) }
@@ -183,8 +186,8 @@ pub(crate) fn next_batch<W: Wires>(
 ) -> Result<(), Stop>
     requires reached { (seen : Seen Calls) × Holds handles.old seen }
     requires order { AreInOrder plan.old.at runs.old plan.old.known }
-    requires some { (plan.old.at < plan.old.end) × (plan.old.known ≤ plan.old.end) × (plan.old.end ≤ 2 ^ 63) }
-    requires block { (0 < plan.old.block) × (plan.old.block ≤ 65536) × (0 < plan.old.piece) × (plan.old.piece ≤ 262144) }
+    requires some { (plan.old.at < plan.old.end) × (plan.old.known ≤ plan.old.end) × (plan.old.end ≤ size_end) }
+    requires block { (0 < plan.old.block) × (plan.old.block ≤ max_minimum_block) × (0 < plan.old.piece) × (plan.old.piece ≤ max_piece) }
     requires started { start ≤ W.idles wires.old }
     ensures goes { GoesTo (is_failed result) (W.told wires.old) (W.told wires.new) (W.faults wires.old) (W.faults wires.new) handles.old handles.new (λ before after. HasStop result after.history × Continues result plan.old runs.old reel.old world.old before.history plan.new runs.new reel.new world.new after.history) }
     ensures order { OnOk result (AreInOrder plan.new.at runs.new plan.new.known) }

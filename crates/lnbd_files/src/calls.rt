@@ -1,10 +1,24 @@
 //! The calls of the system on one file, which may be missing: each once, and again where a signal broke it off.
 
 ghost use Rattle.std.specs.Prelude.{◌<◌, ◌≤◌, ◌^◌, IfSome, length};
+ghost use Rattle.lnbd_store.specs.Answers.{part_len};
 
+use lnbd_store::StorePart;
 use std::fs::{File, Files, OpenFile, OpenOptions};
 use std::io::ErrorKind;
+use std::os::fd::AsRawFd;
 use std::os::unix::fs::{FileExt, MetadataExt};
+
+/// What lseek of Linux looks for, from its offset on: the next data, and the next hole.
+const SEEK_DATA: i32 = 3;
+
+const SEEK_HOLE: i32 = 4;
+
+/// The error that it leaves where the file has no more data.
+const ENXIO: i32 = 6;
+
+/// What is told where nothing is known: all may be bytes.
+const UNKNOWN: StorePart = StorePart::Bytes(u64::MAX);
 
 /// The file at a path. For writing, a missing one is made, and one that is there keeps its bytes. What is there and is no regular file is
 /// not opened: a pipe would wait for its other end.
@@ -77,4 +91,32 @@ pub(crate) fn cut(file: Option<&File>, length: u64) -> Option<()> {
 /// Whether the file has reached the medium.
 pub(crate) fn sync(file: Option<&File>) -> Option<()> {
     file?.sync_all().ok()
+}
+
+/// Where the system finds the next data or the next hole, at the offset or behind it. The descriptor's own position moves with it, which no
+/// call here reads from or writes at.
+fn seek(file: &File, offset: i64, whence: i32) -> Option<u64> {
+    u64::try_from(libc::lseek(file.as_raw_fd(), offset, whence)).ok()
+}
+
+/// What lies in the file from the offset on: a hole is zeros. Bytes where its file system knows of no holes, or where nothing is told; and also
+/// where the file ends at or before the offset: then a read tells so.
+pub(crate) fn part(file: Option<&File>, offset: u64) -> StorePart
+    ensures { 0 < part_len result }
+{
+    let (Some(file), Ok(place)) = (file, i64::try_from(offset)) else {
+        return UNKNOWN;
+    };
+    match seek(file, place, SEEK_DATA) {
+        Some(data) if data > offset => StorePart::Zeros(data - offset),
+        Some(_) => match seek(file, place, SEEK_HOLE) {
+            Some(hole) if hole > offset => StorePart::Bytes(hole - offset),
+            _ => UNKNOWN,
+        },
+        None if os::errno() == ENXIO => match seek(file, 0, libc::SEEK_END) {
+            Some(end) if end > offset => StorePart::Zeros(end - offset),
+            _ => UNKNOWN,
+        },
+        None => UNKNOWN,
+    }
 }

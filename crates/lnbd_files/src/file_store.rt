@@ -5,7 +5,7 @@ ghost use Rattle.std.specs.Prelude.{None};
 use crate::calls;
 use lnbd_link::raised;
 use lnbd_model::Text;
-use lnbd_store::{Store, StoreFailed, StoreGot, StoreTook};
+use lnbd_store::{Store, StoreFailed, StoreGot, StorePart, StoreTook};
 use std::alloc::Global;
 use std::fs::{File, Files};
 
@@ -151,6 +151,10 @@ impl<'a, R: Files<File = File>> Store for FileStore<'a, R> {
                 Err(StoreFailed)
             }
         }
+    }
+
+    fn part_at(&mut self, file: u32, offset: u64) -> StorePart {
+        calls::part(file_of(&self.opened, file), offset)
     }
 
     fn faults(&self) -> u64 {

@@ -4,7 +4,8 @@ use Rattle.lnbd_records.specs.Content.{Data}
 use Rattle.lnbd_callbacks.specs.Calls.{Call}
 use Rattle.lnbd_chunks.specs.Chunk.{Waiting}
 use Rattle.lnbd_commands.specs.Commands.{Commands}
-use Rattle.lnbd_commands.specs.Takes.{MayCome, TakesUnder}
+use Rattle.lnbd_commands.specs.Takes.{TakesUnder}
+use Rattle.lnbd_structured.specs.Told.{MayCome}
 use Rattle.lnbd_history.specs.Entries.{Framed}
 use Rattle.lnbd_machine.specs.Machine.{file_in}
 use Rattle.lnbd_model.specs.declared.export.Context.{Context as MetaContext}

@@ -8,7 +8,7 @@ ghost use Rattle.lnbd_history.specs.declared.kinds.Phase.TheVariants.{Greeting, 
 ghost use Rattle.lnbd_history.specs.declared.kinds.Stage.TheVariants.{Open};
 ghost use Rattle.lnbd_history.specs.Arrivals.{has_bit};
 ghost use Rattle.lnbd_machine.specs.Machine.{waited};
-ghost use Rattle.lnbd_commands.specs.Seen.{seen_waiting};
+ghost use Rattle.lnbd_structured.specs.Waiting.{seen_waiting};
 ghost use Rattle.lnbd_handle.specs.Seen.{IsSound, state_of};
 ghost use Rattle.lnbd_handle.specs.Announcing.{is_speaking};
 ghost use Rattle.lnbd_handle.specs.Turns.{AreAgreed, TurnMeans, takes_options};

@@ -1,8 +1,13 @@
 -- The texts of a map and of its totals: nbdinfo(1), "Map". A map is a list of extents, laid end to end from offset 0 on.
-use Rattle.std.specs.Prelude.{◌≡◌, ℕ, ◌+◌, ◌-◌, ◌*◌, ◌/◌, ◌%◌, ◌<◌, ◌≤◌, Bool, if◌then◌else◌, ◌==◌, List, [], ◌∷◌, ◌++◌, codes, decimal, flat_map, length, replicate}
+use Rattle.std.specs.Prelude.{◌≡◌, ℕ, ◌+◌, ◌-◌, ◌*◌, ◌/◌, ◌%◌, ◌<◌, ◌≤◌, ◌^◌, Bool, if◌then◌else◌, ◌==◌, List, [], ◌∷◌, ◌++◌, codes, decimal, flat_map, length, replicate}
 use Rattle.lnbd_model.specs.declared.export.Extent.{Extent}
+use Rattle.lnbd_records.specs.Flags.{state_hole, state_zero}
 use Rattle.lnbd_keyed.specs.Keyed.{value_at, IsRising}
 use Rattle.lnbd_extents.specs.Lists.{AreJoined, by_flags, flags_at, span, total_at}
+
+-- the first size that no export has (libnbd: sizes are below 2 ^ 63), and so the most bytes of a map
+abbrev pub size_end : ℕ
+size_end = 2 ^ 63
 
 -- ---- what is told of positions becomes a map
 
@@ -32,9 +37,9 @@ right places text = replicate (places - length text) 32 ++ text
 abbrev pub allocation_text : ℕ → List ℕ
 allocation_text flags =
     if flags == 0 then codes "data"
-    else if flags == 1 then codes "hole"
-    else if flags == 2 then codes "zero"
-    else if flags == 3 then codes "hole,zero"
+    else if flags == state_hole then codes "hole"
+    else if flags == state_zero then codes "zero"
+    else if flags == state_hole + state_zero then codes "hole,zero"
     else codes "unknown"
 
 -- the flags, and where they are of base:allocation the words for them

@@ -1,18 +1,10 @@
 -- Yes or no questions about an export: nbdinfo(1), "--is" and "--can". Most are answered by one of the protocol's "Transmission flags".
-use Rattle.std.specs.Prelude.{ℕ, Bool, true, false, not}
+use Rattle.std.specs.Prelude.{Bool, true, false, not}
 use Rattle.lnbd_model.specs.declared.export.ExportInfo.{ExportInfo}
-use Rattle.lnbd_records.specs.Flags.{flag_read_only, flag_send_cache, flag_send_df, flag_send_fast_zero, flag_send_flush, flag_send_fua, flag_send_trim, flag_send_write_zeroes}
+use Rattle.lnbd_records.specs.Flags.{flag_can_multi_conn, flag_read_only, flag_rotational, flag_send_cache, flag_send_df, flag_send_fast_zero, flag_send_flush, flag_send_fua, flag_send_trim, flag_send_write_zeroes}
 use Rattle.lnbd_records.specs.Numbers.{has_bit}
 use Rattle.lnbd_args.specs.declared.asked.Predicate.{Predicate}
 use Rattle.lnbd_args.specs.declared.asked.Predicate.TheVariants.{IsReadOnly, IsRotational, IsTls, CanCache, CanDf, CanFastZero, CanFlush, CanFua, CanMultiConn, CanTrim, CanZero, CanWrite, CanRead, CanConnect, CanStructuredReply}
-
--- NBD_FLAG_ROTATIONAL
-abbrev pub flag_rotational : ℕ
-flag_rotational = 16
-
--- NBD_FLAG_CAN_MULTI_CONN
-abbrev pub flag_can_multi_conn : ℕ
-flag_can_multi_conn = 256
 
 -- the answer, by what was told of the export: TLS is never spoken, and an export that was told of can be connected to and read
 abbrev pub is_true_of : Predicate → ExportInfo → Bool

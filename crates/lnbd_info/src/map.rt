@@ -1,8 +1,8 @@
 //! The lines of a map and of its totals, and the joining of what was told into a map.
 
-ghost use Rattle.std.specs.Prelude.{◌≡◌, ℕ, ◌+◌, ◌^◌, ◌<◌, ◌≤◌, ◌++◌, All, List, OnErr, OnOk, IfOk, string_bytes};
+ghost use Rattle.std.specs.Prelude.{◌≡◌, ℕ, ◌+◌, ◌<◌, ◌≤◌, ◌++◌, All, List, OnErr, OnOk, IfOk, string_bytes};
 ghost use Rattle.lnbd_extents.specs.Lists.{span};
-ghost use Rattle.lnbd_info.specs.Map.{AreFilled, IsMapOf, IsPartOf, IsTotalsText, allocation_text, flags_text, map_line, map_text, right, tenths, tenths_text, totals_line, totals_lines};
+ghost use Rattle.lnbd_info.specs.Map.{AreFilled, IsMapOf, IsPartOf, IsTotalsText, allocation_text, flags_text, map_line, map_text, right, size_end, tenths, tenths_text, totals_line, totals_lines};
 
 use lnbd_extents::{push_joined, totals};
 use lnbd_model::{Extent, NoMemory};
@@ -10,7 +10,7 @@ use std::alloc::{AllocError, Global};
 
 /// The extents that were told, laid end to end and with equal neighbours joined: the map that they make.
 pub fn joined(alloc: Global, told: &[Extent]) -> Result<Vec<Extent>, NoMemory>
-    requires { span told.now ≤ 2 ^ 63 }
+    requires { span told.now ≤ size_end }
     ensures { IfOk result (λ map. IsMapOf told.now map.items) }
 {
     let mut map = Vec::new(alloc);
@@ -30,7 +30,7 @@ pub fn write_map(
     allocation: bool,
     out: &mut Vec<u8>,
 ) -> Result<(), NoMemory>
-    requires { span map.now ≤ 2 ^ 63 }
+    requires { span map.now ≤ size_end }
     ensures ok { OnOk result (out.new.items ≡ out.old.items ++ map_text allocation map.now) }
     ensures err { OnErr result (out.new.items ≡ out.old.items) }
 {
@@ -41,7 +41,7 @@ pub fn write_map(
 }
 
 fn push_map(text: &mut String, map: &[Extent], allocation: bool) -> Result<(), AllocError>
-    requires { span map.now ≤ 2 ^ 63 }
+    requires { span map.now ≤ size_end }
     ensures { OnOk result (string_bytes text.new ≡ string_bytes text.old ++ map_text allocation map.now) }
 {
     let mut offset = 0u64;
@@ -101,7 +101,7 @@ pub fn write_totals(
     out: &mut Vec<u8>,
 ) -> Result<(), NoMemory>
     requires filled { AreFilled map.now }
-    requires room { span map.now ≤ 2 ^ 63 }
+    requires room { span map.now ≤ size_end }
     ensures ok { OnOk result ((text : List ℕ) × IsTotalsText allocation map.now text × (out.new.items ≡ out.old.items ++ text)) }
     ensures err { OnErr result (out.new.items ≡ out.old.items) }
 {
@@ -164,7 +164,7 @@ fn tenths_of(sum: u64, whole: u64) -> u64
 
 /// How many bytes the extents span.
 fn whole_of(map: &[Extent]) -> u64
-    requires { span map.now ≤ 2 ^ 63 }
+    requires { span map.now ≤ size_end }
     ensures { result ≡ span map.now }
 {
     let mut whole = 0u64;

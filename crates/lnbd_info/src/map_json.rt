@@ -1,11 +1,12 @@
 //! The JSON of a map and of its totals: an array on one line, written one object after another, so that
 //! no more than one of them is held as a value at a time.
 
-ghost use Rattle.std.specs.Prelude.{◌≡◌, ℕ, ◌^◌, ◌≤◌, ◌++◌, List, IfOk, OnErr, OnOk, map as each, string_bytes};
+ghost use Rattle.std.specs.Prelude.{◌≡◌, ℕ, ◌≤◌, ◌++◌, List, IfOk, OnErr, OnOk, map as each, string_bytes};
 ghost use Rattle.serde_json.specs.View.{items_of, members_view};
 ghost use Rattle.serde_json.specs.Written.{comma_if, compact_text};
 ghost use Rattle.lnbd_extents.specs.Lists.{span};
 ghost use Rattle.lnbd_info.specs.Json.{array_of, with_members};
+ghost use Rattle.lnbd_info.specs.Map.{size_end};
 ghost use Rattle.lnbd_info.specs.MapJson.{IsTotalsJson, allocation_member, extent_data, extents_data, map_json, total_data};
 
 use crate::map::allocation_words;
@@ -25,7 +26,7 @@ pub fn write_map_json(
     allocation: bool,
     out: &mut Vec<u8>,
 ) -> Result<(), NoMemory>
-    requires { span map.now ≤ 2 ^ 63 }
+    requires { span map.now ≤ size_end }
     ensures ok { OnOk result (out.new.items ≡ out.old.items ++ map_json allocation map.now) }
     ensures err { OnErr result (out.new.items ≡ out.old.items) }
 {
@@ -42,7 +43,7 @@ fn push_extents(
     map: &[Extent],
     allocation: bool,
 ) -> Result<(), AllocError>
-    requires { span map.now ≤ 2 ^ 63 }
+    requires { span map.now ≤ size_end }
     ensures { OnOk result (string_bytes text.new ≡ string_bytes text.old ++ compact_text (array_of (extents_data allocation 0 map.now))) }
 {
     text.push_str("[")?;
@@ -108,7 +109,7 @@ pub fn write_totals_json(
     allocation: bool,
     out: &mut Vec<u8>,
 ) -> Result<(), NoMemory>
-    requires { span map.now ≤ 2 ^ 63 }
+    requires { span map.now ≤ size_end }
     ensures ok { OnOk result ((text : List ℕ) × IsTotalsJson allocation map.now text × (out.new.items ≡ out.old.items ++ text)) }
     ensures err { OnErr result (out.new.items ≡ out.old.items) }
 {

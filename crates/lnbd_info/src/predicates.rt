@@ -7,27 +7,10 @@ ghost use Rattle.lnbd_info.specs.Listing.{key_of};
 
 use lnbd_args::Predicate;
 use lnbd_model::ExportInfo;
-
-// Transmission flags (NBD protocol, "Transmission flags").
-const READ_ONLY: u16 = 2;
-
-const SEND_FLUSH: u16 = 4;
-
-const SEND_FUA: u16 = 8;
-
-const ROTATIONAL: u16 = 16;
-
-const SEND_TRIM: u16 = 32;
-
-const SEND_WRITE_ZEROES: u16 = 64;
-
-const SEND_DF: u16 = 128;
-
-const CAN_MULTI_CONN: u16 = 256;
-
-const SEND_CACHE: u16 = 1024;
-
-const SEND_FAST_ZERO: u16 = 2048;
+use lnbd_records::names::{
+    FLAG_CAN_MULTI_CONN, FLAG_READ_ONLY, FLAG_ROTATIONAL, FLAG_SEND_CACHE, FLAG_SEND_DF,
+    FLAG_SEND_FAST_ZERO, FLAG_SEND_FLUSH, FLAG_SEND_FUA, FLAG_SEND_TRIM, FLAG_SEND_WRITE_ZEROES,
+};
 
 /// The questions that a listing answers, in the order of its lines.
 pub(crate) const QUESTIONS: [Predicate; 10] = [
@@ -49,18 +32,18 @@ pub fn is_true(predicate: Predicate, info: &ExportInfo) -> bool
 {
     let flags = info.flags;
     match predicate {
-        Predicate::IsReadOnly => has(flags, READ_ONLY),
-        Predicate::IsRotational => has(flags, ROTATIONAL),
+        Predicate::IsReadOnly => has(flags, FLAG_READ_ONLY),
+        Predicate::IsRotational => has(flags, FLAG_ROTATIONAL),
         Predicate::IsTls => false,
-        Predicate::CanCache => has(flags, SEND_CACHE),
-        Predicate::CanDf => has(flags, SEND_DF),
-        Predicate::CanFastZero => has(flags, SEND_FAST_ZERO),
-        Predicate::CanFlush => has(flags, SEND_FLUSH),
-        Predicate::CanFua => has(flags, SEND_FUA),
-        Predicate::CanMultiConn => has(flags, CAN_MULTI_CONN),
-        Predicate::CanTrim => has(flags, SEND_TRIM),
-        Predicate::CanZero => has(flags, SEND_WRITE_ZEROES),
-        Predicate::CanWrite => !has(flags, READ_ONLY),
+        Predicate::CanCache => has(flags, FLAG_SEND_CACHE),
+        Predicate::CanDf => has(flags, FLAG_SEND_DF),
+        Predicate::CanFastZero => has(flags, FLAG_SEND_FAST_ZERO),
+        Predicate::CanFlush => has(flags, FLAG_SEND_FLUSH),
+        Predicate::CanFua => has(flags, FLAG_SEND_FUA),
+        Predicate::CanMultiConn => has(flags, FLAG_CAN_MULTI_CONN),
+        Predicate::CanTrim => has(flags, FLAG_SEND_TRIM),
+        Predicate::CanZero => has(flags, FLAG_SEND_WRITE_ZEROES),
+        Predicate::CanWrite => !has(flags, FLAG_READ_ONLY),
         Predicate::CanRead | Predicate::CanConnect => true,
         Predicate::CanStructuredReply => info.structured,
     }

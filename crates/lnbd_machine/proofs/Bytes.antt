@@ -61,7 +61,7 @@ module _ {K : Type 0} (before : History K) (earlier : List (Call K)) where
           ∙ ap (λ (l : ℕ). Some (waiting q.kind q.offset l row.facts.faults)) (row_length q mine)
           ∙ ap (λ (n : ℕ). Some (waiting q.kind q.offset q.length n)) (row_faults q mine live)
 
-  waits_are : (state : State K) (known : Known K) → Stands before state known → (c : ℕ) → m.waited state c ≡ h.waited before known c
+  pub waits_are : (state : State K) (known : Known K) → Stands before state known → (c : ℕ) → m.waited state c ≡ h.waited before known c
   waits_are state known stands c =
       ap (λ (n : ℕ). waited_of (nat_le c n) (value_at c state.rows)) stands.speaks.written_is
       ∙ ap (λ r. waited_of (nat_le c (whole known.parts (asked before).wrote)) r) (stands.tabled.rows_are c)

@@ -215,7 +215,7 @@ module _ {K : Type 0} where
     pub row_faults : (row_of q own).facts.faults ≡ faults_in q own
     row_faults = ap (λ (a : Facts). a.faults) (row_facts q own live) ∙ (stand q own).faults
 
-    row_judges : (contexts : List MetaContext) (content : Content) → is_bad (query_in (row_of q own)) contexts (row_of q own).facts content ≡ has_fault (query_of q) (pieces own) contexts content
+    pub row_judges : (contexts : List MetaContext) (content : Content) → is_bad (query_in (row_of q own)) contexts (row_of q own).facts content ≡ has_fault (query_of q) (pieces own) contexts content
     row_judges contexts content =
         ap (λ a. is_bad a contexts (row_of q own).facts content) (row_query q own)
         ∙ ap (λ a. is_bad (without_payload (query_of q)) contexts a content) (row_facts q own live)

@@ -343,6 +343,10 @@ module _ {K : Type 0} where
       let done = event_both limit before (machine before) (pair_at limit before lawful.0) event lawful.2 in
       record { stands = done.stands; pending = done.pending }
 
+  -- the machine's state of a lawful history beside what is known
+  pub stands_at : (limit : ℕ) (history : History K) → Lawful limit history → Stands history (machine history).known (reading history).known
+  stands_at limit history lawful = (pair_at limit history lawful).stands
+
   pub calls_are_told : CallsAreTold K
   unfolding earlier know
   calls_are_told limit event before lawful = sym (event_both limit before (machine before) (pair_at limit before lawful.0) event lawful.2).calls

@@ -7,7 +7,7 @@ use Rattle.lnbd_plan.proofs.GridLaws.{no_multiple, end_begins}
 use Rattle.lnbd_plan.specs.declared.grid.Slice.{Slice}
 use Rattle.lnbd_plan.specs.declared.cells.Cells.{Cells}
 use Rattle.lnbd_plan.specs.Slices.{slice, unlike, growing, slices_of}
-use Rattle.lnbd_plan.specs.Plans.{is_multiple, is_cut, copied, window_slices, run_slices, runs_slices, AreRuns, IsRun}
+use Rattle.lnbd_plan.specs.Plans.{is_multiple, is_cut, copied, window_slices, run_slices, runs_slices, AreRuns, IsAlikeRun}
 use Rattle.lnbd_plan.proofs.SliceLaws.{Ends, run_first, unlike_same}
 use Rattle.lnbd_plan.proofs.SliceLaws.Ends.{Nothing, Cut, Other}
 use Rattle.lnbd_plan.proofs.BlockLaws.{choose}
@@ -104,7 +104,7 @@ kind_cut cells told z p e = ap (λ (b : Bool). cond b (is_multiple cells.zero_ce
     ∙ elim z as (λ b. cond b (is_multiple cells.zero_cell p) (is_multiple cells.cell p) ≡ is_multiple (cond b cells.zero_cell cells.cell) p) [ true ↦ refl | false ↦ refl ]
 
 -- a window is its first run and what is behind it
-pub window_step : (cells : Cells) (told : ℕ → Bool) (at end : ℕ) (run : Slice) → IsRun told at end run
+pub window_step : (cells : Cells) (told : ℕ → Bool) (at end : ℕ) (run : Slice) → IsAlikeRun told at end run
     → window_slices cells told at (end - at) ≡ cond (cells.zeros || not run.zero) (run_slices cells run) [] ++ window_slices cells told (at + run.length) (end - (at + run.length))
 window_step cells told at end run is =
     let begins = is.begins in

@@ -6,7 +6,7 @@ use Rattle.lnbd_extents.specs.Positions.{within, holds}
 use Rattle.lnbd_extents.specs.Ranges.{IsFrom, AreUpTo}
 use Rattle.lnbd_extents.proofs.SpotLaws.{start_le, some_length, up_to_at}
 use Rattle.lnbd_plan.specs.Slices.{slice}
-use Rattle.lnbd_plan.specs.Plans.{IsRun}
+use Rattle.lnbd_plan.specs.Plans.{IsAlikeRun}
 use Rattle.lnbd_plan.specs.Walks.{end_in_front, start_behind, IsPlace}
 use Rattle.lnbd_plan.proofs.BlockLaws.{choose}
 
@@ -63,7 +63,7 @@ front_ends rs (suc k) i from le lt = elim (same_or_apart i k) [
 
 -- the range in front of the place holds the position
 pub zero_run : (rs : List (ℕ × ℕ)) (at end place : ℕ) → IsPlace rs at place → at < end → at < end_in_front rs place
-    → IsRun (holds rs) at end (slice at (min (end_in_front rs place) end - at) true)
+    → IsAlikeRun (holds rs) at end (slice at (min (end_in_front rs place) end - at) true)
 zero_run rs at end zero is some more = absurd (omega arith)
 zero_run rs at end (suc k) is some more =
     let inside : k < length rs = omega (arith, is.bounded) in
@@ -115,7 +115,7 @@ start_held rs place end from less =
 
 -- no range holds the position
 pub data_run : (rs : List (ℕ × ℕ)) (at end place : ℕ) → IsPlace rs at place → at < end → end_in_front rs place ≤ at
-    → IsRun (holds rs) at end (slice at (start_behind rs place end - at) false)
+    → IsAlikeRun (holds rs) at end (slice at (start_behind rs place end - at) false)
 data_run rs at end place is some less =
     let size = start_some rs at place end is some in
     let low = size.0 in

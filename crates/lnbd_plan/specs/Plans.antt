@@ -44,7 +44,7 @@ pub record Planned : Type 0 where
   pub cells : Cells
 
 -- a run of positions told alike begins here, and what ends it
-pub record IsRun (told : ℕ → Bool) (at end : ℕ) (run : Slice) : Type 0 where
+pub record IsAlikeRun (told : ℕ → Bool) (at end : ℕ) (run : Slice) : Type 0 where
   pub begins : run.start ≡ at
   pub some : 0 < run.length
   pub within : at + run.length ≤ end

@@ -4,7 +4,7 @@
 ghost use Rattle.std.specs.Prelude.{◌≡◌, ℕ, ◌+◌, ◌-◌, ◌<◌, ◌≤◌, ◌^◌, [], ◌∷◌, ◌++◌, OnOk, OnErr, IsSome, IfOk, IfNone, option_to_list, ◌↔◌, ◌||◌, not, if◌then◌else◌, length, take};
 ghost use Rattle.lnbd_extents.specs.Positions.{holds};
 ghost use Rattle.lnbd_plan.specs.Walks.{end_in_front, start_behind, place_behind, IsPlace};
-ghost use Rattle.lnbd_plan.specs.Plans.{window_slices, run_slices, runs_slices, AreCells, AreRuns, Planned, IsRun};
+ghost use Rattle.lnbd_plan.specs.Plans.{window_slices, run_slices, runs_slices, AreCells, AreRuns, Planned, IsAlikeRun};
 
 use crate::cells::Cells;
 use crate::grid::{Slice, rest_of_cell};
@@ -222,7 +222,7 @@ fn run_at(zero: &Ranges, place: usize, at: u64, end: u64) -> Slice
     requires place { IsPlace zero.now at place }
     requires some { at < end }
     requires room { end ≤ 2 ^ 63 }
-    ensures run { IsRun (holds zero.now) at end result }
+    ensures run { IsAlikeRun (holds zero.now) at end result }
     ensures behind { at + result.length < end → IsPlace zero.now (at + result.length) (place_behind result.zero place) }
 {
     let until = end_before(zero, place);

@@ -2,11 +2,11 @@
 use Rattle.std.proofs.Common.{◌≡◌, ℕ, true, List, [], ◌∷◌, Some, refl}
 use Rattle.lnbd_callbacks.specs.Calls.{Call}
 use Rattle.lnbd_history.specs.Events.{Start}
-use Rattle.lnbd_handle.specs.Placing.{data_to_come, place_size}
 use Rattle.lnbd_link.specs.Call.{Read, Write, Moved, Unready, Sent}
 use Rattle.lnbd_poll.specs.declared.noticed.Noticed.TheVariants as noticed
 use Rattle.lnbd_poll.specs.declared.noticed.Turn.TheVariants as turn
 use Rattle.lnbd_poll.specs.Alone.{calls_on}
+use Rattle.lnbd_poll.specs.Coming.{data_to_come_after}
 use Rattle.lnbd_poll.specs.Seen.{Seen}
 use Rattle.lnbd_poll.specs.Notices.{ReadsOnce, WritesOnce, is_reading}
 use Rattle.lnbd_poll.specs.Turns.{moved_by, together, turn_of}
@@ -32,7 +32,7 @@ started_writes_nothing : WritesOnce 7 noticed.Idle started.history [] started.hi
 started_writes_nothing = (refl, refl, refl)
 
 nothing_has_come : ReadsOnce none noticed.NotReady started 0 (Read 7 65536 Unready ∷ []) started 0
-unfolding place_size data_to_come
+unfolding data_to_come_after
 nothing_has_come = (Unready, refl, (refl, (refl, refl)))
 
 -- Three bytes on one link and a failure of another make three; a failure alone is no stillness.

@@ -1,4 +1,5 @@
 pub mod AloneLemmas
+pub mod ComingLemmas
 pub mod Example
 pub mod HeldLemmas
 pub mod InboxLemmas

@@ -22,6 +22,7 @@ use Rattle.lnbd_poll.specs.declared.noticed.Noticed.TheVariants as noticed
 use Rattle.lnbd_poll.specs.Seen.{Seen, IsAt, Goes, Follows, inbox_room, is_empty}
 use Rattle.lnbd_poll.specs.Notices.{Arrives, Hears, ReadsIf, ReadsOn, ReadsOnce, Sends, WritesIf, WritesOnce, is_reading, is_waiting, room_after, room_of}
 use Rattle.lnbd_poll.specs.Steps.{Becomes}
+use Rattle.lnbd_poll.proofs.ComingLemmas.{place_stands}
 
 module _ {K World : Type 0} (steps : World → List (Call K) → World → Type 0) (unread : List ℕ) (old new : Machine K) (first end : World) where
   -- An event happened.
@@ -114,7 +115,7 @@ module _ {K World : Type 0} (steps : World → List (Call K) → World → Type 
     read_made told told' (byte ∷ bytes) answer none adds becomes seen at = absurd (false≢true none)
     read_made told told' [] answer none adds becomes seen at =
         let b = becomes seen at.stands at.unread in
-        let room : room_of (place_size old) ≡ room_after seen.history = ap (λ m. room_of (place_size m)) at.stands.same in
+        let room : room_of (place_size old) ≡ room_after seen.history = ap room_of (place_stands 1024 seen.history old at.stands) in
         record {
           calls = Read seen.link (room_after seen.history) answer ∷ [];
           after = b.0;

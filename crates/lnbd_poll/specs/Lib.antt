@@ -1,4 +1,5 @@
 pub mod Alone
+pub mod Coming
 pub mod Held
 pub mod Lends
 pub mod Notices

@@ -1,14 +1,13 @@
 -- What one read and one write do, by what the wires answered.
-use Rattle.std.specs.Prelude.{◌≡◌, ◌≤◌, ◌<◌, ◌==◌, ℕ, zero, suc, Bool, true, false, not, List, [], ◌∷◌, length, take, drop}
+use Rattle.std.specs.Prelude.{◌≡◌, ◌≤◌, ◌<◌, ◌==◌, ◌-◌, ℕ, zero, suc, Bool, true, false, not, List, [], ◌∷◌, length, take, drop}
 use Rattle.lnbd_callbacks.specs.Calls.{Call}
 use Rattle.lnbd_history.specs.Events.{Answer, History, Arrived, End, LinkFailed, Wrote}
 use Rattle.lnbd_history.specs.Answers.{direction_after, out_after}
-use Rattle.lnbd_machine.specs.Machine.{machine}
-use Rattle.lnbd_handle.specs.Placing.{place_size}
 use Rattle.lnbd_link.specs.Call as wire
 use Rattle.lnbd_link.specs.Call.{Read, Write, ReadTold, WriteTold, Moved, Unready, Ended, ReadFault, Sent, Full, WriteFault}
 use Rattle.lnbd_poll.specs.declared.noticed.Noticed.{Noticed}
 use Rattle.lnbd_poll.specs.declared.noticed.Noticed.TheVariants as noticed
+use Rattle.lnbd_poll.specs.Coming.{data_to_come_after}
 use Rattle.lnbd_poll.specs.Seen.{Seen, Follows, Stays, inbox_room}
 
 -- how many bytes a read takes at most: as many as the handle's place has, or where it has none as an inbox
@@ -16,9 +15,9 @@ abbrev pub room_of : (place : ℕ) → ℕ
 room_of zero = inbox_room
 room_of (suc n) = suc n
 
--- the same of a handle, whose place has the data that are still to come of a reply to READ, the last one left out
+-- the same after a history: the place has the data that are still to come of the reply to READ whose front has come, the last one left out
 abbrev pub room_after : {K : Type 0} → History K → ℕ
-room_after history = room_of (place_size (machine history))
+room_after history = room_of (data_to_come_after history - 1)
 
 module _ {K World : Type 0} (steps : World → List (Call K) → World → Type 0) where
   -- These bytes arrive: all of them, or where memory runs out the first of them, and the others are left unread.

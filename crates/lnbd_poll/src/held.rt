@@ -1,6 +1,6 @@
 //! One handle with its link: its part of a turn, and what it waits for.
 
-ghost use Rattle.std.specs.Prelude.{◌≡◌, ◌≢◌, ◌≤◌, ◌<◌, ◌+◌, ◌++◌, ℕ, List, [], All, IfOk, OnErr, true, slice_get, vec_len, vec_capacity};
+ghost use Rattle.std.specs.Prelude.{◌≡◌, ◌≢◌, ◌≤◌, ◌<◌, ℕ, List, All, IfOk, OnErr, true, slice_get, vec_len, vec_capacity};
 ghost use Rattle.lnbd_history.specs.Events.{History};
 ghost use Rattle.lnbd_history.specs.Outgoing.{total};
 ghost use Rattle.lnbd_standing.specs.Standing.{StandsFor};
@@ -9,16 +9,17 @@ ghost use Rattle.lnbd_link.specs.Contents.{Keeps};
 ghost use Rattle.lnbd_poll.specs.Seen.{Goes, IsAt, Seen};
 ghost use Rattle.lnbd_poll.specs.Turns.{Blames, Told, WritesTold, is_lost, is_moved};
 ghost use Rattle.lnbd_poll.specs.Turned.{TakesPart, TurnsShort, TurnsWhole};
-ghost use Rattle.lnbd_poll.specs.Held.{AllClose, AreAt, all_held, is_on_its_way, seen_held, want_now, wants_now, with_want};
+ghost use Rattle.lnbd_poll.specs.Held.{AllClose, AreAt, all_held, seen_held, want_now, wants_now};
 ghost use Rattle.lnbd_poll.specs.Steps.{HasWritten, TookEnough, TookShort};
 
 use crate::inbox::Inbox;
 use crate::noticed::{Noticed, Turn};
 use crate::notify::{notify_read, notify_write};
+use crate::wanting::{push_want, want_of};
 use lnbd_callbacks::Caller;
 use lnbd_handle::{Closed, Handle};
 use lnbd_link::{Want, Wires};
-use lnbd_model::{NoMemory, State};
+use lnbd_model::NoMemory;
 
 /// A handle, the number of its link, and what was read from the link and not taken.
 pub struct Held<K> {
@@ -172,37 +173,7 @@ impl<K> Held<K> {
     fn want(&self) -> Option<Want>
         ensures { result ≡ want_now (seen_held self.now) }
     {
-        let wants = is_on_its_way(self.handle.state())
-            || self.handle.in_flight() != 0
-            || self.handle.is_waiting();
-        if wants {
-            Some(Want {
-                link: self.link,
-                direction: self.handle.direction(),
-            })
-        } else {
-            None
-        }
-    }
-}
-
-/// Whether a handle negotiates, or asked for the end of its connection.
-fn is_on_its_way(state: State) -> bool
-    ensures { result ≡ is_on_its_way state }
-{
-    matches!(state, State::Negotiating | State::Closing)
-}
-
-/// Adds what a pause is to wait for, if anything.
-fn push_want(wants: &mut Vec<Want>, want: Option<Want>)
-    requires { vec_len wants.old < vec_capacity wants.old }
-    ensures items { wants.new.items ≡ wants.old.items ++ with_want want [] }
-    ensures len { vec_len wants.new ≤ vec_len wants.old + 1 }
-    ensures room { vec_capacity wants.new ≡ vec_capacity wants.old }
-{
-    match want {
-        Some(want) => wants.push_reserved(want),
-        None => {}
+        want_of(&self.handle, self.link)
     }
 }
 

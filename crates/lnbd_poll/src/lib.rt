@@ -7,9 +7,11 @@ mod held;
 mod inbox;
 mod noticed;
 mod notify;
+mod wanting;
 
 pub use handles::Handles;
 pub use held::Held;
 pub use inbox::Inbox;
 pub use noticed::{Noticed, Turn};
 pub use notify::{notify_read, notify_write, read_placed};
+pub use wanting::{is_wanting, push_want, want_of};

@@ -1,12 +1,12 @@
 //! Rounds over all handles of a script until none has anything left to do.
 
-ghost use Rattle.std.specs.Prelude.{◌≡◌, ◌≤◌, ◌<◌, ◌+◌, ◌++◌, ◌||◌, List, [], IfOk, OnErr, OnOk, Err, true, false, vec_len, vec_capacity};
+ghost use Rattle.std.specs.Prelude.{◌≡◌, ◌≤◌, List, [], IfOk, OnErr, OnOk, Err, true, false, vec_len, vec_capacity};
 ghost use Rattle.std.specs.List.{list_any};
 ghost use Rattle.lnbd_machine.specs.Now.{direction_now, in_flight_now, state_now};
 ghost use Rattle.lnbd_link.specs.Call.{Pause};
 ghost use Rattle.lnbd_link.specs.Count.{Rises, patience};
 ghost use Rattle.lnbd_link.specs.Part.{Adds};
-ghost use Rattle.lnbd_poll.specs.Held.{is_on_its_way, want_of, with_want};
+ghost use Rattle.lnbd_poll.specs.Held.{want_of};
 ghost use Rattle.lnbd_script.specs.Rounds.{PartShort, Round, Settles, TakesPart};
 ghost use Rattle.lnbd_script.specs.Scenes.{Held, Scene};
 ghost use Rattle.lnbd_script.specs.Seen.{Blames, Counts};
@@ -22,32 +22,15 @@ use crate::sessions::Sessions;
 use crate::told::Halt;
 use crate::turns::{either, turn};
 use lnbd_link::{Want, Wires, is_long};
-use lnbd_model::{NoMemory, State};
-use lnbd_poll::Inbox;
-
-/// Whether a handle negotiates, or asked for the end of its connection.
-fn is_on_its_way(state: State) -> bool
-    ensures { result ≡ is_on_its_way state }
-{
-    matches!(state, State::Negotiating | State::Closing)
-}
+use lnbd_model::NoMemory;
+use lnbd_poll::{Inbox, push_want, want_of};
 
 impl Session {
     /// What a pause is to wait for on the link, if on anything.
     fn want(&self, link: u32) -> Option<Want>
         ensures { result ≡ want_of link (state_now self.now.handle.machine.known) (in_flight_now self.now.handle.machine.known) (direction_now self.now.handle.machine.known) }
     {
-        let wants = is_on_its_way(self.handle.state())
-            || self.handle.in_flight() != 0
-            || self.handle.is_waiting();
-        if wants {
-            Some(Want {
-                link,
-                direction: self.handle.direction(),
-            })
-        } else {
-            None
-        }
+        want_of(&self.handle, link)
     }
 }
 
@@ -127,19 +110,6 @@ fn is_any_busy(places: &[Place]) -> bool
     ensures { result ≡ list_any is_busy_place places.now }
 {
     places.iter().any(|place| place.is_busy())
-}
-
-/// Adds what a pause is to wait for, if anything.
-fn push_want(wants: &mut Vec<Want>, want: Option<Want>)
-    requires { vec_len wants.old < vec_capacity wants.old }
-    ensures items { wants.new.items ≡ wants.old.items ++ with_want want [] }
-    ensures len { vec_len wants.new ≤ vec_len wants.old + 1 }
-    ensures room { vec_capacity wants.new ≡ vec_capacity wants.old }
-{
-    match want {
-        Some(want) => wants.push_reserved(want),
-        None => {}
-    }
 }
 
 /// Lists what a pause is to wait for.

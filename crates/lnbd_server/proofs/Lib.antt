@@ -7,3 +7,4 @@ pub mod Frames
 pub mod Takes
 pub mod Descriptors
 pub mod Answering
+pub mod Heads

@@ -1,6 +1,7 @@
 -- What the bytes of a client say: its handshake flags, then option requests, and then requests, one after another: the protocol's
 -- "Newstyle negotiation", "Option haggling" and "Transmission phase". Which of them is read, the stage of the session says.
 use Rattle.std.specs.Prelude.{ℕ, ◌+◌, Bool, true, false, not, ◌&&◌, ◌||◌, List, take, drop, Option, Some, None, if◌then◌else◌, ◌==◌, nat_le}
+use Rattle.lnbd_model.specs.Kind.{type_of}
 use Rattle.lnbd_model.specs.declared.kind.Kind.{Kind}
 use Rattle.lnbd_model.specs.declared.kind.Kind.TheVariants.{Read, Write, Flush, Trim, Cache, Zero, BlockStatus}
 use Rattle.lnbd_records.specs.Flags.{flag_fixed_newstyle, flag_no_zeroes, cmd_flag_payload_len}
@@ -65,13 +66,13 @@ says_option bytes =
 -- the command of a type, if one has it
 abbrev pub kind_of : ℕ → Option Kind
 kind_of type =
-    if type == 0 then Some Read
-    else if type == type_write then Some Write
-    else if type == 3 then Some Flush
-    else if type == 4 then Some Trim
-    else if type == 5 then Some Cache
-    else if type == 6 then Some Zero
-    else if type == 7 then Some BlockStatus
+    if type == type_of Read then Some Read
+    else if type == type_of Write then Some Write
+    else if type == type_of Flush then Some Flush
+    else if type == type_of Trim then Some Trim
+    else if type == type_of Cache then Some Cache
+    else if type == type_of Zero then Some Zero
+    else if type == type_of BlockStatus then Some BlockStatus
     else None
 
 -- how many bytes of data follow a head: those of a write, and with extended headers of each request that says so

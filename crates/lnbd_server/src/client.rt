@@ -9,15 +9,21 @@ use crate::stage::Stage;
 use lnbd_export::Request;
 use lnbd_model::Kind;
 use lnbd_records::names::{
-    CMD_FLAG_PAYLOAD_LEN, EXTENDED_REQUEST_MAGIC, FLAG_FIXED_NEWSTYLE, FLAG_NO_ZEROES, MAX_DATA,
-    OPTION_MAGIC, REQUEST_MAGIC, TYPE_DISC, TYPE_WRITE,
+    CMD_FLAG_PAYLOAD_LEN, FLAG_FIXED_NEWSTYLE, FLAG_NO_ZEROES, MAX_DATA, OPTION_MAGIC, TYPE_DISC,
+    TYPE_WRITE,
 };
-use lnbd_records::{u16_at, u32_at, u64_at};
+use lnbd_records::{u32_at, u64_at};
+use lnbd_wire::{Read, read_request, read_request_ext};
 
 /// What each client has to say, and what it may say.
 const FIXED_NEWSTYLE: u32 = FLAG_FIXED_NEWSTYLE as u32;
 
 const BOTH: u32 = (FLAG_FIXED_NEWSTYLE | FLAG_NO_ZEROES) as u32;
+
+/// The bytes of a request's head: with extended headers it has a length of 64 bits.
+const REQUEST_HEAD_SIZE: usize = 28;
+
+const EXTENDED_HEAD_SIZE: usize = 32;
 
 /// The longest data of an option request that is read.
 const MAX_OPTION_REQUEST: u32 = 131_072;
@@ -122,48 +128,44 @@ fn look_for_option(bytes: &[u8]) -> Seen
     Seen::OptionRequest { option, length }
 }
 
-#[tactic(auto, unfolding(crate::specs::Client::says_request, lnbd_stream::specs::Grammar::once, lnbd_stream::specs::Grammar::wants))]
 fn look_for_request(bytes: &[u8]) -> Seen
     ensures said { says_request bytes.now ≡ heard_of result bytes.now }
     ensures there { IsThere result bytes.now }
 {
-    if bytes.len() < 4 {
-        return Seen::Nothing;
+    match read_request(bytes) {
+        Read::NeedMore => Seen::Nothing,
+        Read::BadMagic(_) => Seen::Stray,
+        Read::Value(head) => look_for_data(
+            false,
+            REQUEST_HEAD_SIZE,
+            head.kind,
+            head.flags,
+            head.cookie,
+            head.offset,
+            head.length as u64,
+            bytes,
+        ),
     }
-    if u32_at(bytes, 0) != REQUEST_MAGIC {
-        return Seen::Stray;
-    }
-    if bytes.len() < 28 {
-        return Seen::Nothing;
-    }
-    let flags = u16_at(bytes, 4);
-    let kind = u16_at(bytes, 6);
-    let cookie = u64_at(bytes, 8);
-    let offset = u64_at(bytes, 16);
-    let length = u32_at(bytes, 24) as u64;
-    look_for_data(false, 28, kind, flags, cookie, offset, length, bytes)
 }
 
-#[tactic(auto, unfolding(crate::specs::Client::says_extended, lnbd_stream::specs::Grammar::once, lnbd_stream::specs::Grammar::wants))]
 fn look_for_extended(bytes: &[u8]) -> Seen
     ensures said { says_extended bytes.now ≡ heard_of result bytes.now }
     ensures there { IsThere result bytes.now }
 {
-    if bytes.len() < 4 {
-        return Seen::Nothing;
+    match read_request_ext(bytes) {
+        Read::NeedMore => Seen::Nothing,
+        Read::BadMagic(_) => Seen::Stray,
+        Read::Value(head) => look_for_data(
+            true,
+            EXTENDED_HEAD_SIZE,
+            head.kind,
+            head.flags,
+            head.cookie,
+            head.offset,
+            head.length,
+            bytes,
+        ),
     }
-    if u32_at(bytes, 0) != EXTENDED_REQUEST_MAGIC {
-        return Seen::Stray;
-    }
-    if bytes.len() < 32 {
-        return Seen::Nothing;
-    }
-    let flags = u16_at(bytes, 4);
-    let kind = u16_at(bytes, 6);
-    let cookie = u64_at(bytes, 8);
-    let offset = u64_at(bytes, 16);
-    let length = u64_at(bytes, 24);
-    look_for_data(true, 32, kind, flags, cookie, offset, length, bytes)
 }
 
 /// A request whose head was read, with the data that follows it.
@@ -233,14 +235,5 @@ fn lacks_data(extended: bool, kind: u16, flags: u16) -> bool
 fn kind_of(kind: u16) -> Option<Kind>
     ensures { result ≡ kind_of kind }
 {
-    match kind {
-        0 => Some(Kind::Read),
-        TYPE_WRITE => Some(Kind::Write),
-        3 => Some(Kind::Flush),
-        4 => Some(Kind::Trim),
-        5 => Some(Kind::Cache),
-        6 => Some(Kind::Zero),
-        7 => Some(Kind::BlockStatus),
-        _ => None,
-    }
+    Kind::from_code(kind)
 }

@@ -3,6 +3,8 @@ use Rattle.std.specs.Prelude.{◌≡◌, ℕ}
 use Rattle.lnbd_link.specs.Count.{raised_by}
 use Rattle.lnbd_store.specs.declared.store.StoreGot.{StoreGot}
 use Rattle.lnbd_store.specs.declared.store.StoreGot.TheVariants as got
+use Rattle.lnbd_store.specs.declared.store.StorePart.{StorePart}
+use Rattle.lnbd_store.specs.declared.store.StorePart.TheVariants as part
 use Rattle.lnbd_store.specs.declared.store.StoreTook.{StoreTook}
 use Rattle.lnbd_store.specs.declared.store.StoreTook.TheVariants as took
 
@@ -49,3 +51,8 @@ took_len took.Failed = 0
 abbrev pub TakesMore : StoreTook → ℕ → ℕ → Type 0
 TakesMore (took.Bytes n) old new = new ≡ raised_by n old
 TakesMore took.Failed old new = new ≡ old
+
+-- of how many positions a part tells
+abbrev pub part_len : StorePart → ℕ
+part_len (part.Bytes n) = n
+part_len (part.Zeros n) = n

@@ -3,6 +3,7 @@ use Rattle.std.specs.Prelude.{ℕ, Bool, true, false, List, take, Option, Some, 
 use Rattle.lnbd_store.specs.declared.store.StoreFailed.{StoreFailed}
 use Rattle.lnbd_store.specs.declared.store.StoreGot.{StoreGot}
 use Rattle.lnbd_store.specs.declared.store.StoreGot.TheVariants as got
+use Rattle.lnbd_store.specs.declared.store.StorePart.{StorePart}
 use Rattle.lnbd_store.specs.declared.store.StoreTook.{StoreTook}
 use Rattle.lnbd_store.specs.declared.store.StoreTook.TheVariants as took
 
@@ -18,7 +19,8 @@ pub data WriteTold : Type 0 where
   WriteFault : WriteTold
 
 -- A call. An open holds the number that it gave, if any, and a length how many bytes it told; a read how
--- many bytes it would take, and a write how many it offered; a cut and a sync whether they were done.
+-- many bytes it would take, and a write how many it offered; a cut and a sync whether they were done; the last
+-- what it told to lie from a place on.
 pub data Call : Type 0 where
   Open : (path : List ℕ) (write : Bool) (number : Option ℕ) → Call
   Length : (file : ℕ) (length : Option ℕ) → Call
@@ -26,6 +28,7 @@ pub data Call : Type 0 where
   WriteAt : (file offset offered : ℕ) (answer : WriteTold) → Call
   Cut : (file length : ℕ) (done : Bool) → Call
   Sync : (file : ℕ) (done : Bool) → Call
+  PartAt : (file offset : ℕ) (answer : StorePart) → Call
 
 -- the number that an open or a length answered
 abbrev pub number_told : Result ℕ StoreFailed → Option ℕ

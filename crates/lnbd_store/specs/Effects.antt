@@ -1,8 +1,10 @@
 -- What each call does to the files of a store that tells them, by its answer. A call that failed changes nothing.
-use Rattle.std.specs.Prelude.{◌≡◌, ℕ, ◌+◌, ◌<◌, ◌≤◌, List, length, take, drop, Bool, Result, Ok, Err}
+use Rattle.std.specs.Prelude.{◌≡◌, ℕ, ◌+◌, ◌<◌, ◌≤◌, List, length, take, drop, slice_index, Bool, Result, Ok, Err}
 use Rattle.lnbd_store.specs.declared.store.StoreFailed.{StoreFailed}
 use Rattle.lnbd_store.specs.declared.store.StoreGot.{StoreGot}
 use Rattle.lnbd_store.specs.declared.store.StoreGot.TheVariants as got
+use Rattle.lnbd_store.specs.declared.store.StorePart.{StorePart}
+use Rattle.lnbd_store.specs.declared.store.StorePart.TheVariants as part
 use Rattle.lnbd_store.specs.declared.store.StoreTook.{StoreTook}
 use Rattle.lnbd_store.specs.declared.store.StoreTook.TheVariants as took
 use Rattle.lnbd_store.specs.Bytes.{put_at, cut_to}
@@ -44,3 +46,12 @@ CutsAs file n (Err e) was now = Same was now
 abbrev pub SyncsAs : (file : ℕ) → Result (Unit {0}) StoreFailed → Shelf → Shelf → Type 0
 SyncsAs file (Ok done) was now = Reads file (λ bytes. Unit {0}) was now
 SyncsAs file (Err e) was now = Same was now
+
+-- each of so many positions from one on is zero, where it lies among the bytes
+pub record AreZeros (offset n : ℕ) (bytes : List ℕ) : Type 0 where
+  pub are : (p : ℕ) → offset ≤ p → p < offset + n → p < length bytes → slice_index bytes p ≡ 0
+
+-- what is told to be zeros is; of bytes nothing is told
+abbrev pub PartsAs : (file offset : ℕ) → StorePart → Shelf → Shelf → Type 0
+PartsAs file offset (part.Bytes n) was now = Same was now
+PartsAs file offset (part.Zeros n) was now = Reads file (AreZeros offset n) was now

@@ -1,6 +1,6 @@
 -- The calls that are kept.
 use Rattle.std.specs.Prelude.{ℕ, List}
-use Rattle.lnbd_store.specs.Call.{Call, Open, Length, ReadAt, WriteAt, Cut, Sync, ReadTold, Gave, Ended, ReadFault, WriteTold, Took, WriteFault}
+use Rattle.lnbd_store.specs.Call.{Call, Open, Length, ReadAt, WriteAt, Cut, Sync, PartAt, ReadTold, Gave, Ended, ReadFault, WriteTold, Took, WriteFault}
 use Rattle.lnbd_store.specs.declared.store.StoreGot.{StoreGot}
 use Rattle.lnbd_store.specs.declared.store.StoreGot.TheVariants as got
 use Rattle.lnbd_store.specs.declared.store.StoreTook.{StoreTook}
@@ -26,3 +26,4 @@ call_of (kept.ReadAt file offset room got bytes) = ReadAt file offset room (read
 call_of (kept.WriteAt file offset offered took bytes) = WriteAt file offset offered (write_as took bytes.items)
 call_of (kept.Cut file length done) = Cut file length done
 call_of (kept.Sync file done) = Sync file done
+call_of (kept.PartAt file offset answer) = PartAt file offset answer

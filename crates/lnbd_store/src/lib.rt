@@ -16,4 +16,4 @@ pub use file::StoreFile;
 pub use memory::MemoryStore;
 pub use serving::{Content, Serving};
 pub use side::Side;
-pub use store::{Store, StoreFailed, StoreGot, StoreTook};
+pub use store::{Store, StoreFailed, StoreGot, StorePart, StoreTook};

@@ -4,10 +4,10 @@ ghost use Rattle.std.specs.Prelude.{◌≡◌, ◌≤◌, [], Some, None, length
 ghost use Rattle.lnbd_link.specs.Part.{Adds};
 ghost use Rattle.lnbd_store.specs.Answers.{got_len, took_len};
 ghost use Rattle.lnbd_store.specs.Call.{number_told, done_told, read_told, write_told};
-ghost use Rattle.lnbd_store.specs.Call.{Open, Length, ReadAt, WriteAt, Cut, Sync};
+ghost use Rattle.lnbd_store.specs.Call.{Open, Length, ReadAt, WriteAt, Cut, Sync, PartAt};
 ghost use Rattle.lnbd_store.specs.Log.{call_of};
 
-use crate::store::{StoreFailed, StoreGot, StoreTook};
+use crate::store::{StoreFailed, StoreGot, StorePart, StoreTook};
 use lnbd_model::{NoMemory, Text};
 use std::alloc::Global;
 use std::marker::Model;
@@ -46,6 +46,11 @@ pub(crate) enum Kept {
     Sync {
         file: u32,
         done: bool,
+    },
+    PartAt {
+        file: u32,
+        offset: u64,
+        answer: StorePart,
     },
 }
 

@@ -5,10 +5,10 @@ ghost use Rattle.std.specs.Prelude.{◌≡◌, ◌<◌, ◌≤◌, ◌^◌, ℕ,
 ghost use Rattle.lnbd_link.specs.Count.{Rises, raised_by};
 ghost use Rattle.lnbd_link.specs.FailAt.{is_call};
 ghost use Rattle.lnbd_link.specs.Part.{Adds};
-ghost use Rattle.lnbd_store.specs.Answers.{IfGot, GotFailed, GivesMore, IfTook, TookFailed, TakesMore};
+ghost use Rattle.lnbd_store.specs.Answers.{IfGot, GotFailed, GivesMore, IfTook, TookFailed, TakesMore, part_len};
 ghost use Rattle.lnbd_store.specs.Call.{number_told, done_told, read_told, write_told};
-ghost use Rattle.lnbd_store.specs.Call.{Open, Length, ReadAt, WriteAt, Cut, Sync};
-ghost use Rattle.lnbd_store.specs.Effects.{OpensAs, MeasuresAs, ReadsAs, WritesAs, CutsAs, SyncsAs};
+ghost use Rattle.lnbd_store.specs.Call.{Open, Length, ReadAt, WriteAt, Cut, Sync, PartAt};
+ghost use Rattle.lnbd_store.specs.Effects.{OpensAs, MeasuresAs, ReadsAs, WritesAs, CutsAs, SyncsAs, PartsAs};
 ghost use Rattle.lnbd_store.specs.Log.{call_of};
 ghost use Rattle.lnbd_store.specs.Memory.{Counts, IsDue, IsMissing, Blames, Stays, file_in, shelf_of};
 ghost use Rattle.lnbd_store.specs.Shelf.{Goes};
@@ -16,7 +16,7 @@ ghost use Rattle.lnbd_store.specs.Shelf.{Goes};
 use crate::file::StoreFile;
 use crate::files::{Files, Lack, give};
 use crate::log::{Kept, Log, kept_cut, kept_length, kept_open, kept_read, kept_sync, kept_write};
-use crate::store::{Store, StoreFailed, StoreGot, StoreTook};
+use crate::store::{Store, StoreFailed, StoreGot, StorePart, StoreTook};
 use lnbd_link::raised;
 use lnbd_model::{NoMemory, Text};
 use std::alloc::Global;
@@ -411,6 +411,26 @@ impl Store for MemoryStore {
     {
         let answer = self.syncs(file);
         self.tell(Ok(kept_sync(file, answer)));
+        answer
+    }
+
+    /// It looks for no zeros. Where there is no memory to tell the call, nothing is told from then on, and it has not failed.
+    #[tactic(auto, using(crate::proofs::StoreLemmas::goes_told, crate::proofs::StoreLemmas::same_filed))]
+    fn part_at(&mut self, file: u32, offset: u64) -> StorePart
+        ensures told { Adds self.old.told self.new.told (PartAt file offset result) }
+        ensures shelf { Goes (Some (shelf_of self.old.filed)) (Some (shelf_of self.new.filed)) (PartsAs file offset result) }
+        ensures some { 0 < part_len result }
+        ensures faults { self.new.faults ≡ self.old.faults }
+        ensures given { self.new.given ≡ self.old.given }
+        ensures taken { self.new.taken ≡ self.old.taken }
+        ensures same { self.new ≡ record self.old { told = self.new.told } }
+    {
+        let answer = StorePart::Bytes(u64::MAX);
+        let _ = self.log.add(Kept::PartAt {
+            file,
+            offset,
+            answer,
+        });
         answer
     }
 

@@ -5,9 +5,9 @@ ghost use Rattle.lnbd_link.specs.Count.{Rises};
 ghost use Rattle.lnbd_link.specs.Part.{Adds};
 ghost use Rattle.lnbd_store.specs.Shelf.{Shelf, Goes};
 ghost use Rattle.lnbd_store.specs.Call.{Call, number_told, done_told, read_told, write_told};
-ghost use Rattle.lnbd_store.specs.Call.{Open, Length, ReadAt, WriteAt, Cut, Sync};
-ghost use Rattle.lnbd_store.specs.Answers.{IfGot, GotFailed, GivesMore, got_len, IfTook, TookFailed, TakesMore, took_len};
-ghost use Rattle.lnbd_store.specs.Effects.{OpensAs, MeasuresAs, ReadsAs, WritesAs, CutsAs, SyncsAs};
+ghost use Rattle.lnbd_store.specs.Call.{Open, Length, ReadAt, WriteAt, Cut, Sync, PartAt};
+ghost use Rattle.lnbd_store.specs.Answers.{IfGot, GotFailed, GivesMore, got_len, IfTook, TookFailed, TakesMore, took_len, part_len};
+ghost use Rattle.lnbd_store.specs.Effects.{OpensAs, MeasuresAs, ReadsAs, WritesAs, CutsAs, SyncsAs, PartsAs};
 
 use lnbd_model::Text;
 
@@ -57,6 +57,15 @@ impl StoreTook {
             StoreTook::Failed => 0,
         }
     }
+}
+
+/// What lies in a file from a place on, up to its end.
+#[derive(Clone, Copy, Debug, PartialEq, Eq)]
+pub enum StorePart {
+    /// So many bytes, which have to be read: they may be any.
+    Bytes(u64),
+    /// So many zeros.
+    Zeros(u64),
 }
 
 /// Files by their paths. A store may tell its transcript, the list of all calls with their answers, and
@@ -136,6 +145,15 @@ pub trait Store {
         ensures shelf { Goes (shelf self.old) (shelf self.new) (SyncsAs file result) }
         ensures faults { faults self.old ≤ faults self.new }
         ensures cause { OnErr result (Rises 1 (faults self.old) (faults self.new)) }
+        ensures given { given self.new ≡ given self.old }
+        ensures taken { taken self.new ≡ taken self.old };
+
+    /// What lies in the file from a place on, for at least one position. It never fails: what is not known is bytes, up to `u64::MAX`.
+    fn part_at(&mut self, file: u32, offset: u64) -> StorePart
+        ensures told { Adds (told self.old) (told self.new) (PartAt file offset result) }
+        ensures shelf { Goes (shelf self.old) (shelf self.new) (PartsAs file offset result) }
+        ensures some { 0 < part_len result }
+        ensures faults { faults self.new ≡ faults self.old }
         ensures given { given self.new ≡ given self.old }
         ensures taken { taken self.new ≡ taken self.old };
 

@@ -1,5 +1,5 @@
 pub mod Shift
-pub mod Asked
+pub mod Waiting
 pub mod Assembly
 pub mod Steps
 pub mod Laws

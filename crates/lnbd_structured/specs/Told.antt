@@ -1,7 +1,8 @@
 -- What a chunk tells, as the code has it.
-use Rattle.std.specs.Prelude.{◌≡◌, ℕ, true, length, Option, Some, None}
+use Rattle.std.specs.Prelude.{◌≡◌, ◌<◌, ℕ, Bool, true, false, length, Option, Some, None}
 use Rattle.lnbd_chunks.specs.Chunk.{Waiting, lies_within}
 use Rattle.lnbd_model.specs.Kind.{is_read}
+use Rattle.lnbd_records.specs.Limits.{max_faults}
 use Rattle.lnbd_records.specs.Content.{Content, Data, Hole, Status, Error, ErrorAt, Nothing, Bare}
 use Rattle.lnbd_structured.specs.declared.told.Told.{Told}
 use Rattle.lnbd_structured.specs.declared.told.Told.TheVariants as told
@@ -26,3 +27,8 @@ IsInside waiting (Error number) = Unit {0}
 IsInside waiting (ErrorAt number offset) = Unit {0}
 IsInside waiting Nothing = Unit {0}
 IsInside waiting Bare = Unit {0}
+
+-- A chunk may come for a command in flight: its content lies in what was asked, and only the last may come once as many chunks as may be had faults.
+pub record MayCome (known : Waiting) (content : Content) (last : Bool) : Type 0 where
+  pub inside : IsInside known content
+  pub few : last ≡ false → known.faults < max_faults

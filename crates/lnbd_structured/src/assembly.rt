@@ -18,7 +18,7 @@ ghost use Rattle.lnbd_structured.specs.declared.effect.Effect.{Effect};
 ghost use Rattle.lnbd_structured.specs.declared.effect.ChunkFault.{ChunkFault};
 
 use crate::effect::{ChunkFault, Effect, Judged};
-use crate::grammar::{Asked, breach_shown, form_of};
+use crate::grammar::{Waiting, breach_shown, form_of};
 use crate::status::{all_told, any_empty, is_agreed, is_among};
 use crate::told::Told;
 use lnbd_chunks::Form;
@@ -107,13 +107,13 @@ impl Assembly {
     fn breach_in(&self, head: &ExtHead, fixed: &[u8]) -> Option<Breach>
         ensures { result ≡ breach_shown self.now (head_of head.now) fixed.now }
     {
-        let asked = Asked {
+        let waiting = Waiting {
             kind: self.kind,
             offset: self.offset,
             length: self.length,
-            faults: u64::from(self.faults),
+            faults: self.faults,
         };
-        breach_shown(&asked, self.extended, head, fixed)
+        breach_shown(&waiting, self.extended, head, fixed)
     }
 
     /// Where the data of a chunk go.

@@ -7,7 +7,7 @@ ghost use Rattle.lnbd_records.specs.Flags.{reply_flag_done};
 ghost use Rattle.lnbd_records.specs.Numbers.{has_bit};
 ghost use Rattle.lnbd_chunks.specs.Laws.{breach_in, breach_of};
 ghost use Rattle.lnbd_structured.specs.Assembly.{head_of};
-ghost use Rattle.lnbd_structured.specs.Asked.{waiting_in};
+ghost use Rattle.lnbd_structured.specs.Waiting.{seen_waiting};
 
 use lnbd_chunks::Form;
 use lnbd_model::{Breach, Kind};
@@ -19,15 +19,15 @@ use lnbd_records::names::{
 use lnbd_records::{u16_at, u32_at, u64_at};
 use lnbd_wire::ExtHead;
 
-/// By what a command's chunks are judged.
+/// What is known of a command in flight: by this its replies are judged.
 #[derive(Clone, Copy, Debug, PartialEq, Eq)]
-pub struct Asked {
+pub struct Waiting {
     pub kind: Kind,
     /// In bytes, and so the length.
     pub offset: u64,
     pub length: u64,
     /// How many of its chunks so far were errors or had a content fault.
-    pub faults: u64,
+    pub faults: u32,
 }
 
 /// Whether a chunk with these flags is the last of its command (NBD protocol, "Structured reply flags").
@@ -143,10 +143,10 @@ pub fn fits_message(form: Form, n: u64, message: u16) -> bool
     }
 }
 
-impl Asked {
+impl Waiting {
     /// Whether so many bytes from this place of the export on lie within what the command asked for.
     pub fn lies_within(&self, offset: u64, size: u64) -> bool
-        ensures { result ≡ lies_within (waiting_in self.now) offset size }
+        ensures { result ≡ lies_within (seen_waiting self.now) offset size }
     {
         if offset < self.offset {
             return false;
@@ -158,13 +158,13 @@ impl Asked {
 
 /// The breach of a place whose data have n bytes less its own.
 #[tactic(auto, unfolding(lnbd_chunks::specs::Chunk::shows_data, lnbd_stream::specs::Grammar::once, lnbd_stream::specs::Grammar::wants))]
-fn data_breach(asked: &Asked, n: u64, fixed: &[u8]) -> Option<Breach>
-    ensures { result ≡ breach_in (shows_data (λ breach. Some breach) (λ content. None) (waiting_in asked.now) n fixed.now) }
+fn data_breach(waiting: &Waiting, n: u64, fixed: &[u8]) -> Option<Breach>
+    ensures { result ≡ breach_in (shows_data (λ breach. Some breach) (λ content. None) (seen_waiting waiting.now) n fixed.now) }
 {
     if fixed.len() < 8 {
         return None;
     }
-    if !asked.lies_within(u64_at(fixed, 0), n.saturating_sub(8)) {
+    if !waiting.lies_within(u64_at(fixed, 0), n.saturating_sub(8)) {
         return Some(Breach::OutOfRange);
     }
     None
@@ -172,20 +172,20 @@ fn data_breach(asked: &Asked, n: u64, fixed: &[u8]) -> Option<Breach>
 
 /// The breach of zeros: their place is judged first.
 #[tactic(auto, unfolding(lnbd_chunks::specs::Chunk::shows_hole, lnbd_stream::specs::Grammar::once, lnbd_stream::specs::Grammar::wants))]
-fn hole_breach(asked: &Asked, fixed: &[u8]) -> Option<Breach>
-    ensures { result ≡ breach_in (shows_hole (λ breach. Some breach) (λ content. None) (waiting_in asked.now) fixed.now) }
+fn hole_breach(waiting: &Waiting, fixed: &[u8]) -> Option<Breach>
+    ensures { result ≡ breach_in (shows_hole (λ breach. Some breach) (λ content. None) (seen_waiting waiting.now) fixed.now) }
 {
     if fixed.len() < 8 {
         return None;
     }
     let offset = u64_at(fixed, 0);
-    if !asked.lies_within(offset, 0) {
+    if !waiting.lies_within(offset, 0) {
         return Some(Breach::OutOfRange);
     }
     if fixed.len() < 12 {
         return None;
     }
-    if !asked.lies_within(offset, u64::from(u32_at(fixed, 8))) {
+    if !waiting.lies_within(offset, u64::from(u32_at(fixed, 8))) {
         return Some(Breach::OutOfRange);
     }
     None
@@ -224,13 +224,13 @@ fn error_breach(form: Form, n: u64, fixed: &[u8]) -> Option<Breach>
 
 /// The breach that a payload of n bytes shows by its first ones.
 #[tactic(auto, unfolding(lnbd_chunks::specs::Chunk::shows_status, lnbd_stream::specs::Grammar::once))]
-fn payload_breach(asked: &Asked, form: Form, n: u64, fixed: &[u8]) -> Option<Breach>
-    ensures { result ≡ breach_in (shows_payload (λ breach. Some breach) (λ content. None) form (waiting_in asked.now) n fixed.now) }
+fn payload_breach(waiting: &Waiting, form: Form, n: u64, fixed: &[u8]) -> Option<Breach>
+    ensures { result ≡ breach_in (shows_payload (λ breach. Some breach) (λ content. None) form (seen_waiting waiting.now) n fixed.now) }
 {
     match form {
         Form::Empty => None,
-        Form::Data => data_breach(asked, n, fixed),
-        Form::Hole => hole_breach(asked, fixed),
+        Form::Data => data_breach(waiting, n, fixed),
+        Form::Hole => hole_breach(waiting, fixed),
         Form::Status => None,
         Form::ExtendedStatus => count_breach(n, fixed),
         Form::Error => error_breach(Form::Error, n, fixed),
@@ -243,19 +243,24 @@ fn payload_breach(asked: &Asked, form: Form, n: u64, fixed: &[u8]) -> Option<Bre
 /// The breach that a chunk of this command shows by its head and the bytes behind it, of which the first twelve show all. A head without
 /// extended headers is handed in with offset 0 (NBD protocol, "Structured reply chunk message" and "Extended reply chunk message").
 #[tactic(auto, unfolding(lnbd_chunks::specs::Chunk::shows_chunk, lnbd_stream::specs::Grammar::wants))]
-pub fn breach_shown(asked: &Asked, extended: bool, head: &ExtHead, fixed: &[u8]) -> Option<Breach>
-    ensures { result ≡ breach_of extended (waiting_in asked.now) (head_of head.now) fixed.now }
+pub fn breach_shown(
+    waiting: &Waiting,
+    extended: bool,
+    head: &ExtHead,
+    fixed: &[u8],
+) -> Option<Breach>
+    ensures { result ≡ breach_of extended (seen_waiting waiting.now) (head_of head.now) fixed.now }
 {
     let form = form_of(extended, head.kind);
     let done = is_done(head.flags);
     if !fits_length(form, head.length) {
         return Some(Breach::BadChunkLength);
     }
-    if !fits_command(form, done, asked.kind) {
+    if !fits_command(form, done, waiting.kind) {
         return Some(Breach::BadChunkType);
     }
-    if !may_come(asked.faults, form, done) {
+    if !may_come(u64::from(waiting.faults), form, done) {
         return Some(Breach::TooManyErrors);
     }
-    payload_breach(asked, form, head.length, fixed)
+    payload_breach(waiting, form, head.length, fixed)
 }

@@ -20,7 +20,7 @@ pub use assembly::Assembly;
 pub use descriptors::{descriptors_in, extended_descriptors_in};
 pub use effect::{ChunkFault, Effect, Judged};
 pub use grammar::{
-    Asked, breach_shown, fits_command, fits_length, fits_message, form_of, is_done, may_come,
+    Waiting, breach_shown, fits_command, fits_length, fits_message, form_of, is_done, may_come,
 };
 pub use laws::{
     effects_are_heard, faults_stay_few, parts_tell_the_chunk, stands_for_its_chunks,

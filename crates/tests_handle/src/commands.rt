@@ -6,7 +6,7 @@ ghost use Rattle.lnbd_model.specs.Kind.{is_read};
 ghost use Rattle.lnbd_structured.specs.Told.{content_in, IsInside};
 ghost use Rattle.lnbd_chunks.specs.Chunk.{lies_within};
 ghost use Rattle.lnbd_commands.specs.Commands.{waiting_at};
-ghost use Rattle.lnbd_commands.specs.Seen.{seen_waiting};
+ghost use Rattle.lnbd_structured.specs.Waiting.{seen_waiting};
 ghost use Rattle.lnbd_commands.specs.Takes.{IsReply};
 
 use crate::support::{Scribe, contexts};

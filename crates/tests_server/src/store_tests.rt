@@ -1,9 +1,9 @@
 //! Files in memory as a store: what each call answers, and what the files then hold.
 
-use crate::store_tests::Ask::{Counts, Cut, Held, Length, Open, Read, Sync, Write};
+use crate::store_tests::Ask::{Counts, Cut, Held, Length, Open, Part, Read, Sync, Write};
 use crate::told::{Told, same, text};
 use lnbd_model::NoMemory;
-use lnbd_store::{Contents, MemoryStore, Side, Store, StoreFile, StoreGot, StoreTook};
+use lnbd_store::{Contents, MemoryStore, Side, Store, StoreFile, StoreGot, StorePart, StoreTook};
 use std::alloc::Global;
 
 /// A call on a store, or a look at a file or at the counts.
@@ -16,6 +16,7 @@ enum Ask {
     Write(u32, u64, &'static [u8]),
     Cut(u32, u64),
     Sync(u32),
+    Part(u32, u64),
     Held(&'static str),
     Counts,
 }
@@ -52,10 +53,11 @@ const CALLS: &[Ask] = &[
     Counts,
 ];
 
-/// The third call fails, whatever it is, and leaves the files as they were.
+/// The third call fails, whatever it is, and leaves the files as they were. What lies at a place is none of those that are counted.
 const THIRD: &[Ask] = &[
     Open("b", true),
     Length(0),
+    Part(0, 0),
     Write(0, 0, b"ab"),
     Held("b"),
     Write(0, 0, b"ab"),
@@ -126,6 +128,14 @@ fn push_written(told: &mut Told, store: &mut MemoryStore, file: u32, offset: u64
     }
 }
 
+/// Appends how many bytes are told to lie from a place on.
+fn push_part(told: &mut Told, store: &mut MemoryStore, file: u32, offset: u64) {
+    match store.part_at(file, offset) {
+        StorePart::Bytes(n) => told.number(n),
+        StorePart::Zeros(_) => told.push("zeros"),
+    }
+}
+
 fn push_held(told: &mut Told, store: &MemoryStore, path: &str) {
     match store.bytes_at(path.as_bytes()) {
         Some(bytes) => push_bytes(told, bytes),
@@ -150,6 +160,7 @@ fn push_answer(told: &mut Told, alloc: Global, store: &mut MemoryStore, ask: Ask
         Write(file, offset, from) => push_written(told, store, file, offset, from),
         Cut(file, length) => told.holds(store.cut(file, length).is_ok()),
         Sync(file) => told.holds(store.sync(file).is_ok()),
+        Part(file, offset) => push_part(told, store, file, offset),
         Held(path) => push_held(told, store, path),
         Counts => push_counts(told, store),
     }
@@ -188,7 +199,7 @@ fn calls_of_files_in_memory_are_answered(rt: HostRuntime) -> Result<(), NoMemory
         &told,
         "failed, 0, 6, ef, end, end, 2, aXYdef, 3, aXYdeghi, 1, aXYdeghi..Z, true, true, aXY.., \
 1, , 2, aX, true, none, 1 4 6, failed, failed, failed, false, false, 6 4 6, \
-0, 0, failed, , 2, ab, 1 0 2, true",
+0, 0, 18446744073709551615, failed, , 2, ab, 1 0 2, true",
     );
     Ok(())
 }

@@ -1,8 +1,7 @@
 use Rattle.std.proofs.Common.{◌≡◌, ◌∙◌, ℕ, ◌+◌, Some, length, drop, ap, refl, arith}
 use Rattle.std.specs.Option.{option_map}
 use Rattle.lnbd_records.specs.Numbers.{number_at}
-use Rattle.lnbd_commands.specs.Seen.{seen_waiting}
-use Rattle.lnbd_structured.specs.Asked.{waiting_in}
+use Rattle.lnbd_structured.specs.Waiting.{seen_waiting}
 use Rattle.lnbd_structured.specs.Assembly.{head_of}
 use Rattle.lnbd_arrivals.specs.Frames.{is_extended}
 use Rattle.lnbd_arrivals.specs.Heads.{head_size}
@@ -17,8 +16,8 @@ pub returns-in-Some-breach_shown : goal.returns-in-Some-breach_shown
 returns-in-Some-breach_shown c waited e =
     let part : c.split_at.result.1.now ≡ drop (head_size (is_extended c.args.replies)) c.args.bytes.now =
     begins_at c.is_extended-extended.result (is_extended c.args.replies) c.head_size.result c.split_at.result.1.now c.args.bytes.now c.is_extended-extended.ensures c.head_size.ensures c.split_at.ensures.back in
-    let judged = judged_by c.is_extended-extended.result (is_extended c.args.replies) (waiting_in c.asked.result) (seen_waiting c.in-Some.command) (head_of c.args.head.now) c.split_at.result.1.now
-    (drop (head_size (is_extended c.args.replies)) c.args.bytes.now) c.breach_shown.result c.breach_shown.ensures c.is_extended-extended.ensures c.asked.ensures part in
+    let judged = judged_by c.is_extended-extended.result (is_extended c.args.replies) (seen_waiting c.in-Some.command) (seen_waiting c.in-Some.command) (head_of c.args.head.now) c.split_at.result.1.now
+    (drop (head_size (is_extended c.args.replies)) c.args.bytes.now) c.breach_shown.result c.breach_shown.ensures c.is_extended-extended.ensures refl part in
     let waits : waited (number_at 8 8 c.args.bytes.now) ≡ Some (seen_waiting c.in-Some.command) = e ∙ ap (option_map seen_waiting) c.in-Some.is in
     chunk_broken c.args.replies waited c.args.bytes.now c.args.head.now c.requires.agreed c.requires.head (seen_waiting c.in-Some.command) waits c.in-Some-breach_shown.breach (judged ∙ c.in-Some-breach_shown.is)
 
@@ -27,8 +26,8 @@ pub returns-in-Some-data_begun : goal.returns-in-Some-data_begun
 returns-in-Some-data_begun c waited e =
     let part : c.split_at.result.1.now ≡ drop (head_size (is_extended c.args.replies)) c.args.bytes.now =
     begins_at c.is_extended-extended.result (is_extended c.args.replies) c.head_size.result c.split_at.result.1.now c.args.bytes.now c.is_extended-extended.ensures c.head_size.ensures c.split_at.ensures.back in
-    let judged = judged_by c.is_extended-extended.result (is_extended c.args.replies) (waiting_in c.asked.result) (seen_waiting c.in-Some.command) (head_of c.args.head.now) c.split_at.result.1.now
-    (drop (head_size (is_extended c.args.replies)) c.args.bytes.now) c.breach_shown.result c.breach_shown.ensures c.is_extended-extended.ensures c.asked.ensures part in
+    let judged = judged_by c.is_extended-extended.result (is_extended c.args.replies) (seen_waiting c.in-Some.command) (seen_waiting c.in-Some.command) (head_of c.args.head.now) c.split_at.result.1.now
+    (drop (head_size (is_extended c.args.replies)) c.args.bytes.now) c.breach_shown.result c.breach_shown.ensures c.is_extended-extended.ensures refl part in
     let waits : waited (number_at 8 8 c.args.bytes.now) ≡ Some (seen_waiting c.in-Some.command) = e ∙ ap (option_map seen_waiting) c.in-Some.is in
     let fair = judged ∙ c.in_default.is in
     begun c.args.replies waited c.args.bytes.now c.in-Some-data_begun.announced
@@ -39,8 +38,8 @@ pub returns-in-None-data_begun : goal.returns-in-None-data_begun
 returns-in-None-data_begun c waited e =
     let part : c.split_at.result.1.now ≡ drop (head_size (is_extended c.args.replies)) c.args.bytes.now =
     begins_at c.is_extended-extended.result (is_extended c.args.replies) c.head_size.result c.split_at.result.1.now c.args.bytes.now c.is_extended-extended.ensures c.head_size.ensures c.split_at.ensures.back in
-    let judged = judged_by c.is_extended-extended.result (is_extended c.args.replies) (waiting_in c.asked.result) (seen_waiting c.in-Some.command) (head_of c.args.head.now) c.split_at.result.1.now
-    (drop (head_size (is_extended c.args.replies)) c.args.bytes.now) c.breach_shown.result c.breach_shown.ensures c.is_extended-extended.ensures c.asked.ensures part in
+    let judged = judged_by c.is_extended-extended.result (is_extended c.args.replies) (seen_waiting c.in-Some.command) (seen_waiting c.in-Some.command) (head_of c.args.head.now) c.split_at.result.1.now
+    (drop (head_size (is_extended c.args.replies)) c.args.bytes.now) c.breach_shown.result c.breach_shown.ensures c.is_extended-extended.ensures refl part in
     let waits : waited (number_at 8 8 c.args.bytes.now) ≡ Some (seen_waiting c.in-Some.command) = e ∙ ap (option_map seen_waiting) c.in-Some.is in
     let fair = judged ∙ c.in_default.is in (
       chunk_nothing c.args.replies waited c.args.bytes.now c.args.head.now c.requires.agreed c.requires.head (seen_waiting c.in-Some.command) waits fair (omega (arith, ap length part, c.if-payload-head.true)),
@@ -51,8 +50,8 @@ pub returns-else-payload-head : goal.returns-else-payload-head
 returns-else-payload-head c waited e =
     let part : c.split_at.result.1.now ≡ drop (head_size (is_extended c.args.replies)) c.args.bytes.now =
     begins_at c.is_extended-extended.result (is_extended c.args.replies) c.head_size.result c.split_at.result.1.now c.args.bytes.now c.is_extended-extended.ensures c.head_size.ensures c.split_at.ensures.back in
-    let judged = judged_by c.is_extended-extended.result (is_extended c.args.replies) (waiting_in c.asked.result) (seen_waiting c.in-Some.command) (head_of c.args.head.now) c.split_at.result.1.now
-    (drop (head_size (is_extended c.args.replies)) c.args.bytes.now) c.breach_shown.result c.breach_shown.ensures c.is_extended-extended.ensures c.asked.ensures part in
+    let judged = judged_by c.is_extended-extended.result (is_extended c.args.replies) (seen_waiting c.in-Some.command) (seen_waiting c.in-Some.command) (head_of c.args.head.now) c.split_at.result.1.now
+    (drop (head_size (is_extended c.args.replies)) c.args.bytes.now) c.breach_shown.result c.breach_shown.ensures c.is_extended-extended.ensures refl part in
     let waits : waited (number_at 8 8 c.args.bytes.now) ≡ Some (seen_waiting c.in-Some.command) = e ∙ ap (option_map seen_waiting) c.in-Some.is in
     chunk_whole c.args.replies waited c.args.bytes.now c.args.head.now c.requires.agreed c.requires.head (seen_waiting c.in-Some.command) waits (judged ∙ c.in_default.is)
     (record { extended = c.is_extended-extended.result; head = c.args.head.now; size = c.head_size-in-Some.result + c.args.head.now.length }) c.is_extended-extended.ensures refl

@@ -1,7 +1,7 @@
 use Rattle.std.proofs.Common.{◌∙◌, ap, sym, arith}
 use Rattle.std.specs.Option.{option_map}
 use Rattle.lnbd_chunks.specs.Reply.{content_size}
-use Rattle.lnbd_commands.specs.Seen.{seen_waiting}
+use Rattle.lnbd_structured.specs.Waiting.{seen_waiting}
 use Rattle.lnbd_arrivals.specs.declared.announced.Carrier.TheVariants.{Reply}
 use Rattle.lnbd_arrivals.proofs.Frames.{simple_unknown, for_read, no_data, whole}
 use Rattle.lnbd_arrivals.proofs.Fronts.{begun, simple_says}

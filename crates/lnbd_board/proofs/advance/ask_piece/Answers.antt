@@ -1,4 +1,5 @@
-use Rattle.lnbd_board.proofs.Cutting.{unskipped, cut_rest, part_inside, piece_inside, whole_inside, zeroes_taken}
+use Rattle.std.proofs.Common.{◌∷◌}
+use Rattle.lnbd_board.proofs.Cutting.{unskipped, cut_data, cut_rest, part_inside, piece_inside, whole_inside, zeroes_taken}
 use Rattle.lnbd_board.proofs.Moves.{zero_step, part_step, last_step}
 use Rattle.lnbd_board.proofs.advance.ask_piece.Goals as goal
 
@@ -28,7 +29,13 @@ returns-then-piece-clause-inside c = (
 )
 
 pub returns-then-piece-slice-clause-inside : goal.returns-then-piece-slice-clause-inside
-returns-then-piece-slice-clause-inside c = whole_inside c.args.how c.args.slice c.args.bytes c.args.piece c.args.left c.requires.cut c.if-piece-slice.true
+returns-then-piece-slice-clause-inside c = (
+  whole_inside c.args.how c.args.slice c.args.bytes c.args.piece c.args.left c.requires.cut c.if-piece-slice.true,
+  cut_data c.args.how c.args.slice c.args.bytes (c.args.piece ∷ c.args.left) c.requires.cut,
+)
 
 pub returns-clause-inside : goal.returns-clause-inside
-returns-clause-inside c = part_inside c.args.how c.args.slice c.args.bytes c.args.part c.args.piece c.args.left c.requires.cut (c.requires.part c.if-piece.false c.if-piece-slice.false)
+returns-clause-inside c = (
+  part_inside c.args.how c.args.slice c.args.bytes c.args.part c.args.piece c.args.left c.requires.cut (c.requires.part c.if-piece.false c.if-piece-slice.false),
+  cut_data c.args.how c.args.slice c.args.bytes (c.args.piece ∷ c.args.left) c.requires.cut,
+)

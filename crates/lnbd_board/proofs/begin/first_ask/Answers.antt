@@ -54,4 +54,4 @@ returns-then-how-clause-inside c = (record { some = λ some. some; after = omega
 pub returns-clause-inside : goal.returns-clause-inside
 returns-clause-inside c =
     let many : length c.in_ok-bytes.bytes ≡ c.args.slice.length = ap (λ (l : List ℕ). length l) c.in_ok-bytes.ensures ∙ length-replicate c.args.slice.length 0 in
-    record { some = λ some. omega (arith, many, some); after = omega arith; before = omega (arith, many) }
+    (record { some = λ some. omega (arith, many, some); after = omega arith; before = omega (arith, many) }, λ zero. c.if-how.false)

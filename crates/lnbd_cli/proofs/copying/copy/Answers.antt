@@ -1,6 +1,6 @@
 use Rattle.std.proofs.Common.{refl}
 use Rattle.lnbd_conduct.specs.Conduct.{Conducts}
-use Rattle.lnbd_cli.specs.Copies.{Copied, Failed, HasParted, WasMade}
+use Rattle.lnbd_cli.specs.Copies.{Copied, Failed, CameToEnd, WasMade}
 use Rattle.lnbd_cli.proofs.CopyLemmas.{between_words, by_words, copied_by, decided_by, grounded_by, told_link, told_silent}
 use Rattle.lnbd_cli.proofs.copying.copy.Goals as goal
 
@@ -11,7 +11,7 @@ returns-in-Ok-clause-ends g c = Copied refl (record {
       (λ apart all part is grows. (_, c.in-Ok.ensures.made apart all part is grows));
   conduct = by_words Conducts c.new.result c.args.what.from c.args.what.to c.args.what.options (g.W.Wires.told c.args.wires.now)
       (g.W.Wires.told c.run.new.wires) c.new.ensures.what c.run.ensures.conducts;
-  parted = by_words HasParted c.new.result c.args.what.from c.args.what.to c.args.what.options (g.W.Wires.told c.args.wires.now) (g.W.Wires.told c.run.new.wires) c.new.ensures.what
+  parted = by_words CameToEnd c.new.result c.args.what.from c.args.what.to c.args.what.options (g.W.Wires.told c.args.wires.now) (g.W.Wires.told c.run.new.wires) c.new.ensures.what
       (λ all part is grows. record {
         connects = c.in-Ok.ensures.connects all part is grows;
         connected = c.in-Ok.ensures.connected all part is grows;

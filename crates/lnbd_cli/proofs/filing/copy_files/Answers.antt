@@ -1,41 +1,19 @@
-use Rattle.std.proofs.Common.{◌≡◌, inl, refl, sym, subst}
-use Rattle.lnbd_store.specs.declared.side.Side.{Side}
-use Rattle.lnbd_store.specs.declared.side.Side.TheVariants as side
-use Rattle.lnbd_cli.specs.FileCopies.{FilesEnd}
+use Rattle.lnbd_cli.proofs.FilingLemmas.{files_end, files_known, files_link, files_patient, files_run, files_silent, files_storing, files_well}
 use Rattle.lnbd_cli.proofs.filing.copy_files.Goals as goal
 
-pub returns-in-File-File-clause-ends : goal.returns-in-File-File-clause-ends
-returns-in-File-File-clause-ends g c =
-    let wires = c.args.wires.now in
-    let was = c.args.store.now in
-    let now = c.duplicate.new.store in
+pub returns-in-Ok : goal.returns-in-Ok
+returns-in-Ok g c =
+    let W = g.W.Wires in
     let S = g.S.Store in
-    let told = g.W.Wires.told wires in
-    let ends = λ (from to : Side). FilesEnd c.args.options from to told told (wires ≡ wires) (S.told was) (S.told now) (S.shelf was) (S.shelf now) (S.given was) (S.given now) (S.taken was) (S.taken now)
-    (now ≡ was) c.duplicate.result in
-    subst (λ (from : Side). ends from c.args.to) (sym c.in-File-File.is-0)
-    (subst (λ (to : Side). ends (side.File c.in-File-File.from) to) (sym c.in-File-File.is-1) (c.duplicate.ensures.ends, refl))
-
-pub returns-in-File-Nbd-clause-ends : goal.returns-in-File-Nbd-clause-ends
-returns-in-File-Nbd-clause-ends g c =
-    let wires = c.args.wires.now in
-    let went = c.send.new.wires in
-    let was = c.args.store.now in
-    let now = c.send.new.store in
-    let S = g.S.Store in
-    let ends = λ (from to : Side). FilesEnd c.args.options from to (g.W.Wires.told wires) (g.W.Wires.told went) (went ≡ wires) (S.told was) (S.told now) (S.shelf was) (S.shelf now)
-    (S.given was) (S.given now) (S.taken was) (S.taken now) (now ≡ was) c.send.result in
-    subst (λ (from : Side). ends from c.args.to) (sym c.in-File-Nbd.is-0)
-    (subst (λ (to : Side). ends (side.File c.in-File-Nbd.from) to) (sym c.in-File-Nbd.is-1) (c.send.ensures.ends, inl c.send.ensures.conducts))
-
-pub returns-in-Nbd-File-clause-ends : goal.returns-in-Nbd-File-clause-ends
-returns-in-Nbd-File-clause-ends g c =
-    let wires = c.args.wires.now in
-    let went = c.fetch.new.wires in
-    let was = c.args.store.now in
-    let now = c.fetch.new.store in
-    let S = g.S.Store in
-    let ends = λ (from to : Side). FilesEnd c.args.options from to (g.W.Wires.told wires) (g.W.Wires.told went) (went ≡ wires) (S.told was) (S.told now) (S.shelf was) (S.shelf now)
-    (S.given was) (S.given now) (S.taken was) (S.taken now) (now ≡ was) c.fetch.result in
-    subst (λ (from : Side). ends from c.args.to) (sym c.in-Nbd-File.is-0)
-    (subst (λ (to : Side). ends (side.Nbd c.in-Nbd-File.from) to) (sym c.in-Nbd-File.is-1) (c.fetch.ensures.ends, inl c.fetch.ensures.conducts))
+    let is = c.end_of.ensures.end in
+    let run = files_run W.told W.faults W.idles W.contents c.args.wires.now c.run.new.wires S.told S.shelf S.given S.taken S.faults c.args.store.now c.run.new.store
+    c.in-Ok.copy c.args.options c.args.from c.args.to c.run.result c.requires.sides c.in-Ok.ensures.made c.run.ensures.between c.run.ensures.download c.run.ensures.upload in
+    record {
+      ends = files_end _ _ _ _ _ _ _ _ _ _ _ _ _ _ _ _ _ _ run is;
+      known = files_known _ _ _ _ _ _ _ _ _ _ _ _ _ _ _ _ _ _ run is c.end_of.ensures.known;
+      link = files_link _ _ _ _ _ _ _ _ _ _ _ _ _ _ _ _ _ _ run is;
+      silent = files_silent _ _ _ _ _ _ _ _ _ _ _ _ _ _ _ _ _ _ run is;
+      storing = files_storing _ _ _ _ _ _ _ _ _ _ _ _ _ _ _ _ _ _ run is;
+      well = files_well _ _ _ _ _ _ _ _ _ _ _ _ _ _ _ _ _ _ run is;
+      patient = files_patient _ _ _ _ _ _ _ _ _ _ _ _ _ _ _ _ _ _ run is;
+    }

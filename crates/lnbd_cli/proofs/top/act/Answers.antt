@@ -141,7 +141,7 @@ pub returns-in-Selftest-clause-spawning : goal.returns-in-Selftest-clause-spawni
 returns-in-Selftest-clause-spawning g c e = cc (ap (λ (r : End). is_test_status (status_of r)) (sym e) ∙ c.test.ensures.known)
 
 pub copy_files-requires : goal.copy_files-requires
-copy_files-requires g c = subst HasRoom c.in-FileCopy.is c.requires
+copy_files-requires g c = let room = subst HasRoom c.in-FileCopy.is c.requires in record { limited = room.0; sides = room.1 }
 
 pub returns-in-FileCopy-clause-well : goal.returns-in-FileCopy-clause-well
 returns-in-FileCopy-clause-well g c on = c.copy_files.ensures.well (subst IsOnWires c.in-FileCopy.is on)

@@ -1,10 +1,11 @@
-use Rattle.std.proofs.Common.{[], refl, arith}
+use Rattle.std.proofs.Common.{[], refl, ◌∙◌, arith}
 use Rattle.lnbd_copy.proofs.ConnectedLemmas.{connected_adds, connected_same, connected_then}
 use Rattle.lnbd_copy.proofs.LinkLemmas.{links_connected, links_end, links_refused}
 use Rattle.lnbd_copy.proofs.PauseLemmas.{unpaused_adds, unpaused_then}
 use Rattle.lnbd_connections.proofs.BoundWay.{dialed_binds, dialed_drives}
 use Rattle.lnbd_connections.proofs.FewLemmas.{few_adds, few_idly, few_then}
 use Rattle.lnbd_connections.proofs.StepLemmas.{dials}
+use Rattle.lnbd_connections.proofs.UnreadyLemmas.{awaits_dialed}
 use Rattle.lnbd_connections.proofs.UseLemmas.{uses_all, uses_unpaused}
 use Rattle.lnbd_connections.proofs.AskLemmas.{dials_only_none, dials_only_one, dials_only_refused}
 use Rattle.lnbd_connections.proofs.dialing.dial.Goals as goal
@@ -41,6 +42,12 @@ returns-in_ok-hold-in-Ok-clause-connected g c = connected_then _ _ _ (connected_
 
 pub returns-in_ok-hold-in-Ok-clause-unpaused : goal.returns-in_ok-hold-in-Ok-clause-unpaused
 returns-in_ok-hold-in-Ok-clause-unpaused g c = unpaused_then _ _ _ (unpaused_adds _ _ _ refl c.in-Ok.ensures.told) c.hold.ensures.unpaused
+
+pub returns-in_ok-hold-in-Ok-clause-awaits : goal.returns-in_ok-hold-in-Ok-clause-awaits
+returns-in_ok-hold-in-Ok-clause-awaits g c =
+    awaits_dialed _ _ _ c.args.place.now c.args.board.now _ _ _ c.in-Ok.link c.args.extents c.in_ok-handle.handle.machine c.in-Ok.ensures.told c.in-Ok.ensures.fresh c.in_ok-hold-in-Ok.ensures.told
+    c.in_ok-handle.ensures.short c.in_ok-handle.ensures.stands c.in_ok-hold-in-Ok.ensures.held (c.in_ok-hold-in-Ok.ensures.board ∙ c.in_ok-handle.ensures.board) (returns-in_ok-hold-in-Ok-clause-dials g c).stand
+    (returns-in_ok-hold-in-Ok-clause-connects g c).links (returns-in_ok-hold-in-Ok-clause-unpaused g c)
 
 pub returns-in_err-hold-in-Ok-clause-unpaused : goal.returns-in_err-hold-in-Ok-clause-unpaused
 returns-in_err-hold-in-Ok-clause-unpaused g c = unpaused_then _ _ _ (unpaused_adds _ _ _ refl c.in-Ok.ensures.told) c.hold.ensures.unpaused

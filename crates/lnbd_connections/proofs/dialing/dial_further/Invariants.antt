@@ -6,6 +6,7 @@ use Rattle.lnbd_connections.specs.Asks.{DialsOnly}
 use Rattle.lnbd_connections.specs.Bound.{BindsMore}
 use Rattle.lnbd_connections.specs.Few.{StaysFew}
 use Rattle.lnbd_connections.specs.Steps.{Dials}
+use Rattle.lnbd_connections.specs.Unready.{AwaitsMore}
 use Rattle.lnbd_connections.specs.Uses.{Uses, UsesTo}
 use Rattle.lnbd_connections.proofs.dialing.dial_further.Given as goal
 use Rattle.lnbd_copy.specs.Pauses.{Unpaused}
@@ -13,6 +14,7 @@ use Rattle.lnbd_copy.specs.Pauses.{Unpaused}
 abbrev pub invariant-connections : goal.invariant-connections
 invariant-connections g l = record {
   unpaused : Unpaused (g.W.Wires.told l.fn.wires) (g.W.Wires.told l.wires);
+  awaits : AwaitsMore l.fn.place false l.fn.board l.fn.handles (g.W.Wires.told l.fn.wires) l.board l.handles (g.W.Wires.told l.wires);
   uses : Uses false l.fn.start.idles (replicate l._connection l.fn.place.to) l.fn.handles (g.W.Wires.told l.fn.wires) (g.W.Wires.idles l.fn.wires)
       l.handles (g.W.Wires.told l.wires) (g.W.Wires.idles l.wires);
   all : UsesTo false l.fn.start.idles (replicate l._connection l.fn.place.to) l.fn.handles (g.W.Wires.told l.fn.wires) (g.W.Wires.idles l.fn.wires)

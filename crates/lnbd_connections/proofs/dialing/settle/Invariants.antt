@@ -8,7 +8,7 @@ use Rattle.lnbd_connections.specs.Asks.{AsksNone}
 use Rattle.lnbd_connections.specs.Bound.{Binds}
 use Rattle.lnbd_connections.specs.Few.{StaysFew}
 use Rattle.lnbd_connections.specs.Steps.{Goes}
-use Rattle.lnbd_connections.specs.Unmoved.{PausesUnmoved}
+use Rattle.lnbd_connections.specs.Unready.{KeepsAwaiting, PausesUnready}
 use Rattle.lnbd_connections.specs.Uses.{Uses}
 use Rattle.lnbd_connections.specs.Way.{IsUnderWay, Way}
 use Rattle.lnbd_connections.proofs.dialing.settle.Given as goal
@@ -16,7 +16,8 @@ use Rattle.lnbd_connections.proofs.dialing.settle.Given as goal
 abbrev pub invariant-turns : goal.invariant-turns
 invariant-turns g l = record {
   uses : Stand l.fn.handles → Uses true l.fn.start.idles [] l.fn.handles (g.W.Wires.told l.fn.wires) (g.W.Wires.idles l.fn.wires) l.handles (g.W.Wires.told l.wires) (g.W.Wires.idles l.wires);
-  unmoved : PausesUnmoved l.fn.board l.fn.handles (g.W.Wires.told l.fn.wires) (g.W.Wires.told l.wires);
+  unready : PausesUnready l.fn.board l.fn.handles (g.W.Wires.told l.fn.wires) (g.W.Wires.told l.wires);
+  awaits : KeepsAwaiting l.fn.board l.fn.handles (g.W.Wires.told l.fn.wires) l.board l.handles (g.W.Wires.told l.wires);
   goes : Goes l.fn.board l.fn.handles (g.W.Wires.told l.fn.wires) l.board l.handles (g.W.Wires.told l.wires);
   binds : Binds l.fn.board l.fn.handles (g.W.Wires.told l.fn.wires) l.board l.handles (g.W.Wires.told l.wires);
   few : (most : ℕ) (far : Far) (way : Way) (start : Option (List Call)) → Stand l.fn.handles → l.fn.board.rows ≡ [] →

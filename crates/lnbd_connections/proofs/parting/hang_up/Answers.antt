@@ -9,8 +9,8 @@ use Rattle.lnbd_connections.proofs.parting.hang_up.Goals as goal
 
 pub returns-clause-leaves : goal.returns-clause-leaves
 returns-clause-leaves g c =
-    leaves_one _ _ _ _ _ _ c.args.index (c.take-link.result.0, c.take-link.result.1.machine) c.take-link.ensures.value c.take-link.ensures.others (calls_filed _ _ _ c.close.ensures.world)
-    (λ history stands. let plays = (c.close.ensures.stands history stands).plays in closing_answers_none history plays.calls _ _ plays.told plays.world) c.shut.ensures.told
+    leaves_one _ _ _ _ _ _ c.args.index (c.take-link.result.0, c.take-link.result.1.machine) c.take-link.ensures.value c.take-link.ensures.others (calls_filed _ _ _ c.close-closed.ensures.world)
+    (λ history stands. let plays = (c.close-closed.ensures.stands history stands).plays in closing_answers_none history plays.calls _ _ plays.told plays.world) c.shut.ensures.told
 
 pub returns-clause-uses : goal.returns-clause-uses
 returns-clause-uses g c first =

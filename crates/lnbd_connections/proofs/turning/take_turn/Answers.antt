@@ -5,7 +5,7 @@ use Rattle.lnbd_connections.proofs.UseLemmas.{turned_still, turned_uses, uses_no
 use Rattle.lnbd_connections.proofs.AskLemmas.{asks_none, turn_asks_none}
 use Rattle.lnbd_connections.proofs.turning.take_turn.Goals as goal
 use Rattle.lnbd_copy.proofs.PauseLemmas.{unpaused_none}
-use Rattle.lnbd_connections.proofs.UnmovedLemmas.{turned_quietly}
+use Rattle.lnbd_connections.proofs.UnreadyLemmas.{awaits_turned_ok, turned_quietly}
 
 pub returns-clause-goes : goal.returns-clause-goes
 returns-clause-goes g c = turned_ok _ _ _ _ c.turn.result _ _ _ _ c.turn.ensures.ok
@@ -36,3 +36,6 @@ returns-clause-binds g c = turned_binds_ok _ _ _ _ c.turn.result _ _ _ _ c.turn.
 
 pub returns-clause-few : goal.returns-clause-few
 returns-clause-few g c = turned_few _ _ _ _ c.turn.result _ _ _ _ c.in_ok-check_calm.ensures.well c.turn.ensures.ok c.turn.ensures.cut
+
+pub returns-clause-awaits : goal.returns-clause-awaits
+returns-clause-awaits g c = awaits_turned_ok _ _ _ _ c.turn.result _ _ _ _ c.turn.ensures.ok

@@ -7,7 +7,7 @@ use Rattle.lnbd_copyfile.specs.Between.{HasCopied, HasPassed}
 use Rattle.lnbd_copyfile.specs.Calls.{HasDone, HasFilled, IsOpening, NotDone, NotFilled, NotOpened, No_source}
 use Rattle.lnbd_copyfile.proofs.CallLemmas.{done_then, undone_then}
 use Rattle.lnbd_copyfile.proofs.ShelfLemmas.{copied_goes, never_goes, passed_goes}
-use Rattle.lnbd_copyfile.proofs.SumLemmas.{no_blocks, none_skipped, summed_is}
+use Rattle.lnbd_copyfile.proofs.SumLemmas.{all_copied, no_blocks, none_skipped, summed_is}
 use Rattle.lnbd_copyfile.proofs.between.copy.Goals as goal
 
 pub returns-in-Err-clause-stopped : goal.returns-in-Err-clause-stopped
@@ -17,8 +17,11 @@ returns-in-Err-clause-stopped g c =
 pub returns-in-Ok-fill-clause-between : goal.returns-in-Ok-fill-clause-between
 returns-in-Ok-fill-clause-between g c =
     let source = c.in-Ok.source in
-    subst (λ (n : ℕ). HasCopied c.args.from.now c.args.to.now n (g.S.Store.shelf c.args.store.now) (g.S.Store.shelf c.fill.new.store)) (sym (ap (λ (s : Summary). s.read) c.summary_of.ensures))
-    (copied_goes c.args.from.now c.args.to.now c.args.options.request_size c.block_of.result source.size source.file c.in-Ok-fill.written _ _ _
+    let amounts = c.in-Ok-fill.amounts in
+    let filled = c.in-Ok-fill.ensures in
+    subst (λ (n : ℕ). HasCopied c.args.from.now c.args.to.now n (g.S.Store.shelf c.args.store.now) (g.S.Store.shelf c.fill.new.store))
+    (all_copied source.size amounts.read amounts.written c.summary_of.result c.summary_of.ensures filled.few filled.low)
+    (copied_goes c.args.from.now c.args.to.now c.args.options.request_size c.block_of.result source.size source.file amounts.written _ _ _
     c.requires.apart c.in-Ok.ensures.source c.in-Ok-fill.ensures.filled)
 
 pub returns-in-Ok-fill-clause-stores : goal.returns-in-Ok-fill-clause-stores
@@ -27,7 +30,10 @@ returns-in-Ok-fill-clause-stores g c =
     let from = c.args.from.now in
     let to = c.args.to.now in
     let options = c.args.options in
-    subst (λ (n : ℕ). Grew (g.S.Store.told c.args.store.now) (g.S.Store.told c.fill.new.store) (HasDone from to n options)) (sym (ap (λ (s : Summary). s.read) c.summary_of.ensures))
+    let amounts = c.in-Ok-fill.amounts in
+    let filled = c.in-Ok-fill.ensures in
+    subst (λ (n : ℕ). Grew (g.S.Store.told c.args.store.now) (g.S.Store.told c.fill.new.store) (HasDone from to n options))
+    (all_copied source.size amounts.read amounts.written c.summary_of.result c.summary_of.ensures filled.few filled.low)
     (grew_both _ _ _ (IsOpening from source.file source.size) (HasFilled options.request_size source.size source.file to options.flush) (HasDone from to source.size options)
     (λ xs ys p q. done_then from to source.file source.size options xs ys p q) c.in-Ok.ensures.opening c.in-Ok-fill.ensures.calls)
 
@@ -35,11 +41,13 @@ pub returns-in-Ok-fill-clause-sums : goal.returns-in-Ok-fill-clause-sums
 returns-in-Ok-fill-clause-sums g c =
     let source = c.in-Ok.ensures in
     let filled = c.in-Ok-fill.ensures in
-    summed_is c.in-Ok.source.size c.in-Ok-fill.written c.summary_of.result _ _ _ _ _ _ c.summary_of.ensures source.few filled.few source.given filled.given source.taken filled.taken
+    let amounts = c.in-Ok-fill.amounts in
+    summed_is c.in-Ok.source.size amounts.read amounts.written c.summary_of.result _ _ _ _ _ _ c.summary_of.ensures source.few filled.few filled.low source.given filled.given source.taken filled.taken
 
 pub returns-in-Ok-fill-clause-allocated : goal.returns-in-Ok-fill-clause-allocated
 returns-in-Ok-fill-clause-allocated g c = λ on.
-    none_skipped c.in-Ok.source.size c.in-Ok-fill.written c.summary_of.result c.summary_of.ensures (c.in-Ok-fill.ensures.all (c.block_of.ensures ∙ no_blocks c.args.options on))
+    let amounts = c.in-Ok-fill.amounts in
+    none_skipped c.in-Ok.source.size amounts.read amounts.written c.summary_of.result c.summary_of.ensures (c.in-Ok-fill.ensures.all (c.block_of.ensures ∙ no_blocks c.args.options on))
 
 pub returns-in-Err-fill-clause-stopped : goal.returns-in-Err-fill-clause-stopped
 returns-in-Err-fill-clause-stopped g c =
@@ -59,6 +67,6 @@ pub returns-in-Ok-fill-clause-passed : goal.returns-in-Ok-fill-clause-passed
 returns-in-Ok-fill-clause-passed g c =
     let source = c.in-Ok.source in
     let options = c.args.options in
-    let passed = passed_goes c.args.from.now c.args.to.now options source.size source.file c.block_of.result c.in-Ok-fill.written _ _ _ c.requires.apart c.block_of.ensures
+    let passed = passed_goes c.args.from.now c.args.to.now options source.size source.file c.block_of.result c.in-Ok-fill.amounts.written _ _ _ c.requires.apart c.block_of.ensures
     c.in-Ok.ensures.source c.in-Ok-fill.ensures.filled in
     subst (λ (n : ℕ). HasPassed options c.args.from.now n (g.S.Store.shelf c.fill.new.store)) (sym (ap (λ (s : Summary). s.skipped) c.summary_of.ensures)) passed

@@ -1,5 +1,5 @@
 use Rattle.std.proofs.Common.{ℕ, arith, refl, subst}
-use Rattle.std.specs.Prelude.{IfOk, OnOk}
+use Rattle.std.specs.Prelude.{IfOk}
 use Rattle.lnbd_touched.specs.Grown.{RoseBy}
 use Rattle.lnbd_touched.proofs.GrownLemmas.{done_as, err_as, grew_as, grew_both, ok_as}
 use Rattle.lnbd_copyfile.specs.declared.fault.Stop.TheVariants as stop
@@ -11,7 +11,7 @@ use Rattle.lnbd_copyfile.proofs.filling.fill_by.Goals as goal
 pub returns-in-Ok-clause-filled : goal.returns-in-Ok-clause-filled
 returns-in-Ok-clause-filled g c =
     let way = c.args.way in
-    ok_as c.transfer.result _ _ (λ n moved. filled_is way.from c.in-Ok.to way.size c.args.path.now way.cell way.block n _ _ _ c.in-Ok.ensures.blank moved) c.transfer.ensures.moved
+    ok_as c.transfer.result _ _ (λ n moved. filled_is way.from c.in-Ok.to way.size c.args.path.now way.cell way.block n.written _ _ _ c.in-Ok.ensures.blank moved) c.transfer.ensures.moved
 
 pub returns-in-Ok-clause-calls : goal.returns-in-Ok-clause-calls
 returns-in-Ok-clause-calls g c =
@@ -39,10 +39,10 @@ returns-in-Err-clause-breaks g c =
     (λ calls made. Unmade made refl) c.in-Err.ensures.unmade
 
 pub returns-in-Ok-clause-given : goal.returns-in-Ok-clause-given
-returns-in-Ok-clause-given g c = subst (λ (v : ℕ). OnOk c.transfer.result (RoseBy c.args.way.size v (g.S.Store.given c.transfer.new.store))) c.in-Ok.ensures.given c.transfer.ensures.given
+returns-in-Ok-clause-given g c = subst (λ (v : ℕ). IfOk c.transfer.result (λ n. RoseBy n.read v (g.S.Store.given c.transfer.new.store))) c.in-Ok.ensures.given c.transfer.ensures.given
 
 pub returns-in-Ok-clause-taken : goal.returns-in-Ok-clause-taken
-returns-in-Ok-clause-taken g c = subst (λ (v : ℕ). IfOk c.transfer.result (λ n. RoseBy n v (g.S.Store.taken c.transfer.new.store))) c.in-Ok.ensures.taken c.transfer.ensures.taken
+returns-in-Ok-clause-taken g c = subst (λ (v : ℕ). IfOk c.transfer.result (λ n. RoseBy n.written v (g.S.Store.taken c.transfer.new.store))) c.in-Ok.ensures.taken c.transfer.ensures.taken
 
 pub returns-in-Ok-clause-failed : goal.returns-in-Ok-clause-failed
 returns-in-Ok-clause-failed g c = λ e. let r = c.transfer.ensures.failed e in let l = c.in-Ok.ensures.later in omega (arith, r, l)

@@ -1,12 +1,11 @@
-use Rattle.std.proofs.Common.{arith, ◌≡◌, ◌+◌, ℕ, refl, sym, subst, ◌∙◌}
+use Rattle.std.proofs.Common.{arith, ◌≡◌, ◌+◌, ℕ, refl, subst, ◌∙◌}
 use Rattle.lnbd_touched.specs.Both.{Both}
-use Rattle.lnbd_touched.specs.Grown.{RoseBy}
 use Rattle.lnbd_touched.proofs.BothLemmas.{both_none}
 use Rattle.lnbd_touched.proofs.GrownLemmas.{grew_both, grew_none, rose_none, rose_then}
 use Rattle.lnbd_copyfile.specs.Calls.{Breaks, Moves}
-use Rattle.lnbd_copyfile.specs.Steps.{IsSlice, Moved}
+use Rattle.lnbd_copyfile.specs.Steps.{Moved}
 use Rattle.lnbd_copyfile.proofs.CallLemmas.{breaks_behind, moves_on}
-use Rattle.lnbd_copyfile.proofs.CountLemmas.{next_begins, slice_begins, zero_begins}
+use Rattle.lnbd_copyfile.proofs.CountLemmas.{zero_begins}
 use Rattle.lnbd_copyfile.proofs.FillLemmas.{moved_none}
 use Rattle.lnbd_copyfile.proofs.ShelfLemmas.{moves_follow, moves_lack}
 use Rattle.lnbd_copyfile.proofs.filling.move_slices.Goals as goal
@@ -17,6 +16,7 @@ slices-init g c = record {
   at = omega arith;
   begins = λ more. zero_begins c.args.way.cell;
   few = omega arith;
+  low = omega arith;
   all = λ none. refl;
   moved = both_none c.args.way.from c.args.to (Moved c.args.way.cell c.args.way.block c.args.way.size 0 0 0) _ (λ x y. moved_none c.args.way.cell c.args.way.block c.args.way.size 0 x y);
   moves = grew_none _ (Moves c.args.way.cell c.args.way.size c.args.way.from c.args.to) tt;
@@ -31,25 +31,20 @@ slices-preserved g c =
     let inv = c.slices.invariant in
     let call = c.in-Ok.ensures in
     let at = c.slices.at in
-    let count = c.min-count.result in
-    let least = c.min-count.ensures in
-    let more = c.slices-test.true in
-    let same = inv.same in
-    let few = inv.few in
-    let less = call.few in
+    let part = c.in-Ok.part in
     let here = Moves way.cell way.size way.from c.args.to in
-    let slice = subst (λ (n : ℕ). IsSlice way.cell way.size at n) (sym least) (slice_begins way.cell way.size at _ (inv.begins more) more (inv.same ∙ c.requires.room)) in
     record {
       same = call.same ∙ inv.same;
-      at = omega (arith, least, more);
-      begins = λ left. next_begins way.cell way.size at count c.requires.cell slice left;
-      few = omega (arith, few, less);
+      at = call.within;
+      begins = call.ends;
+      few = let a = inv.few in let b = call.few in omega (arith, a, b);
+      low = let a = inv.low in let b = call.low in omega (arith, a, b);
       all = λ none. let a = inv.all none in let b = call.all none in omega (arith, a, b);
-      moved = moves_follow way.cell way.block way.from c.args.to way.size 0 at (at + count) c.slices.written c.in-Ok.n _ _ _ (omega arith) (omega arith) inv.moved call.moved;
+      moved = moves_follow way.cell way.block way.from c.args.to way.size 0 at (at + part.length) c.slices.written part.amounts.written _ _ _ (omega arith) (omega arith) inv.moved call.moved;
       moves = grew_both _ _ _ here here here (λ xs ys p q. moves_on way.cell way.size way.from c.args.to xs ys p q) inv.moves call.moves;
       later = let a = inv.later in let b = call.later in omega (arith, a, b);
-      given = rose_then at count _ _ _ inv.given call.given;
-      taken = rose_then c.slices.written c.in-Ok.n _ _ _ inv.taken call.taken;
+      given = rose_then c.slices.read part.amounts.read _ _ _ inv.given call.given;
+      taken = rose_then c.slices.written part.amounts.written _ _ _ inv.taken call.taken;
     }
 
 pub returns-in-Err-clause-breaks : goal.returns-in-Err-clause-breaks
@@ -70,11 +65,5 @@ returns-clause-moved g c =
     subst (λ (k : ℕ). Both way.from c.args.to (Moved way.cell way.block way.size 0 k c.slices.written)
     (g.S.Store.shelf c.args.store.now) (g.S.Store.shelf c.slices.store)) all c.slices.invariant.moved
 
-pub returns-clause-given : goal.returns-clause-given
-returns-clause-given g c =
-    let way = c.args.way in
-    let all : c.slices.at ≡ way.size = let i = c.slices.invariant.at in let t = c.slices-test.false in omega (arith, i, t) in
-    subst (λ (k : ℕ). RoseBy k (g.S.Store.given c.args.store.now) (g.S.Store.given c.slices.store)) all c.slices.invariant.given
-
 pub returns-in-Err-clause-failed : goal.returns-in-Err-clause-failed
-returns-in-Err-clause-failed g c = λ e. let r = c.in-Err.ensures.failed e in let l = c.slices.invariant.later in omega (arith, r, l)
+returns-in-Err-clause-failed g c = λ e. let r = c.in-Err.ensures.failed (cc e) in let l = c.slices.invariant.later in omega (arith, r, l)

@@ -14,7 +14,7 @@ returns-in-Err-clause-breaks g c =
 
 pub returns-in-Ok-finish-clause-moved : goal.returns-in-Ok-finish-clause-moved
 returns-in-Ok-finish-clause-moved g c =
-    moves_kept c.args.way.cell c.args.way.block c.args.way.from c.args.to c.args.way.size 0 c.args.way.size c.in-Ok.written _ _ _ c.in-Ok.ensures.moved c.in-Ok-finish.ensures.kept
+    moves_kept c.args.way.cell c.args.way.block c.args.way.from c.args.to c.args.way.size 0 c.args.way.size c.in-Ok.amounts.written _ _ _ c.in-Ok.ensures.moved c.in-Ok-finish.ensures.kept
 
 pub returns-in-Ok-finish-clause-moves : goal.returns-in-Ok-finish-clause-moves
 returns-in-Ok-finish-clause-moves g c =
@@ -29,10 +29,10 @@ returns-in-Err-finish-clause-breaks g c =
     (λ xs ys p q. unsynced_then way.cell way.size way.from c.args.to way.flush xs ys p q) c.in-Ok.ensures.moves c.in-Err-finish.ensures.unclosed
 
 pub returns-in-Ok-finish-clause-given : goal.returns-in-Ok-finish-clause-given
-returns-in-Ok-finish-clause-given g c = subst (λ (v : ℕ). RoseBy c.args.way.size (g.S.Store.given c.args.store.now) v) (sym c.in-Ok-finish.ensures.given) c.in-Ok.ensures.given
+returns-in-Ok-finish-clause-given g c = subst (λ (v : ℕ). RoseBy c.in-Ok.amounts.read (g.S.Store.given c.args.store.now) v) (sym c.in-Ok-finish.ensures.given) c.in-Ok.ensures.given
 
 pub returns-in-Ok-finish-clause-taken : goal.returns-in-Ok-finish-clause-taken
-returns-in-Ok-finish-clause-taken g c = subst (λ (v : ℕ). RoseBy c.in-Ok.written (g.S.Store.taken c.args.store.now) v) (sym c.in-Ok-finish.ensures.taken) c.in-Ok.ensures.taken
+returns-in-Ok-finish-clause-taken g c = subst (λ (v : ℕ). RoseBy c.in-Ok.amounts.written (g.S.Store.taken c.args.store.now) v) (sym c.in-Ok-finish.ensures.taken) c.in-Ok.ensures.taken
 
 pub returns-in-Err-finish-clause-failed : goal.returns-in-Err-finish-clause-failed
 returns-in-Err-finish-clause-failed g c = λ e. let r = c.in-Err-finish.ensures.failed in let l = c.in-Ok.ensures.later in omega (arith, r, l)

@@ -1,4 +1,4 @@
-use Rattle.std.proofs.Common.{None, Some, true, arith, refl, [], ◌-◌, List, ap, length}
+use Rattle.std.proofs.Common.{None, Some, true, ◌<◌, arith, refl, [], ◌-◌, List, ap, length}
 use Rattle.lnbd_copy.proofs.CauseLemmas.{goes_then}
 use Rattle.lnbd_copy.proofs.ConnectedLemmas.{connected_links, connected_then}
 use Rattle.lnbd_connections.proofs.UseLemmas.{uses_all, uses_any, uses_end, uses_none, usesto_any}
@@ -15,9 +15,9 @@ use Rattle.lnbd_board.specs.declared.ticket.Ticket.{Ticket}
 use Rattle.lnbd_copy.proofs.PauseLemmas.{no_pauses}
 use Rattle.lnbd_copy.proofs.PausedLemmas.{told_stays}
 use Rattle.lnbd_copy.proofs.TurnLemmas.{told_begins}
-use Rattle.lnbd_connections.specs.Unmoved.{IsUnmoved}
-use Rattle.lnbd_copyfile.proofs.ToFilePauseLemmas.{holds_first, terms_found, terms_on, unmoved_full, unmoved_settled}
-use Rattle.lnbd_copyfile.proofs.HearingLemmas.{heard_begin, heard_dialed, heard_settled}
+use Rattle.lnbd_connections.specs.Unready.{IsUnready}
+use Rattle.lnbd_copyfile.proofs.ToFilePauseLemmas.{awaits_begun, awaits_further, holds_first, terms_found, terms_on, unready_full}
+use Rattle.lnbd_copyfile.proofs.HearingLemmas.{heard_begin, heard_dialed, heard_settled, led_agreed, led_dialed, led_further, led_settled}
 
 pub returns-clause-begins : goal.returns-clause-begins
 returns-clause-begins g c =
@@ -127,6 +127,22 @@ returns-clause-opens g c =
     let agreed = opens_agreed at start c.in_ok-terms.terms.size _ _ _ c.in_ok-terms.ensures.tells settled in
     let further = opens_dialed at start size _ _ _ _ _ _ c.in_ok-dial_further.ensures.board c.in_ok-dial_further.ensures.binds agreed in
     opens_settled at start size _ _ _ _ _ _ (c.in_ok-settle-2.ensures.goes.filed three) three c.in_ok-settle-2.ensures.binds further
+
+pub returns-clause-led : goal.returns-clause-led
+returns-clause-led g c =
+    let extents = c.args.options.extents in
+    let at = c.args.from.now in
+    let start = g.W.Wires.told c.args.wires.now in
+    let size = Some c.in_ok-terms.terms.size in
+    let one = c.in_ok-dial.ensures.dials.stand c.requires.begins.stand in
+    let two = c.in_ok-settle.ensures.goes.stand one in
+    let three = c.in_ok-dial_further.ensures.dials.stand two in
+    let some : 0 < length c.settle.new.handles = omega (arith, c.in_ok-dial.ensures.dials.many, c.in_ok-settle.ensures.goes.many one) in
+    let dialed = led_dialed extents at start _ _ _ _ _ _ c.in_ok-dial.ensures.board c.requires.none c.in_ok-dial.ensures.drives (opens at start _ _ c.requires.begins) in
+    let settled = led_settled extents at start None _ _ _ _ _ _ (c.in_ok-settle.ensures.goes.filed one) one c.in_ok-settle.ensures.binds dialed in
+    let agreed = led_agreed extents at start c.in_ok-terms.terms.size _ _ _ c.in_ok-terms.ensures.tells settled in
+    let further = led_further extents at start size _ _ _ _ _ _ c.in_ok-dial_further.ensures.board some c.in_ok-dial_further.ensures.binds agreed in
+    led_settled extents at start size _ _ _ _ _ _ (c.in_ok-settle-2.ensures.goes.filed three) three c.in_ok-settle-2.ensures.binds further
 
 pub returns-clause-settles : goal.returns-clause-settles
 returns-clause-settles g c =
@@ -242,65 +258,58 @@ returns-clause-connects g c =
 pub returns-clause-within : goal.returns-clause-within
 returns-clause-within g c = within_then _ _ _ _ _ _ _ _ _ _ _ _ (returns-clause-connects g c) (uses_none true _ _ _ _)
 
-pub returns-in_err-dial-clause-unmoved : goal.returns-in_err-dial-clause-unmoved
-returns-in_err-dial-clause-unmoved g c =
+pub returns-in_err-dial-clause-unready : goal.returns-in_err-dial-clause-unready
+returns-in_err-dial-clause-unready g c =
     let at = c.args.from.now in
     let start = g.W.Wires.told c.args.wires.now in
-    let d1 = told_stays start start _ c.dial.ensures.unpaused (told_begins start (no_pauses (IsUnmoved at))) in
-    d1
+    let extents = c.args.options.extents in
+    told_stays start start _ c.dial.ensures.unpaused (told_begins start (no_pauses (IsUnready extents at)))
 
-pub returns-in_err-settle-clause-unmoved : goal.returns-in_err-settle-clause-unmoved
-returns-in_err-settle-clause-unmoved g c =
+pub returns-in_err-settle-clause-unready : goal.returns-in_err-settle-clause-unready
+returns-in_err-settle-clause-unready g c =
     let at = c.args.from.now in
     let start = g.W.Wires.told c.args.wires.now in
-    let d1 = told_stays start start _ c.dial.ensures.unpaused (told_begins start (no_pauses (IsUnmoved at))) in
-    let dialed = begins_dialed at start None 1 _ _ _ _ _ _ c.in_ok-dial.ensures.board c.in_ok-dial.ensures.dials c.requires.begins in
-    let d2 = unmoved_settled at None start _ _ _ _ dialed c.settle.ensures.unmoved d1 in
-    d2
+    let extents = c.args.options.extents in
+    let first = awaits_begun at extents start _ _ _ _ _ c.requires.none c.requires.begins c.in_ok-dial.ensures.awaits in
+    c.settle.ensures.unready.on extents (ToFile []) _ start first
 
-pub returns-in_err-terms-clause-unmoved : goal.returns-in_err-terms-clause-unmoved
-returns-in_err-terms-clause-unmoved g c =
+pub returns-in_err-terms-clause-unready : goal.returns-in_err-terms-clause-unready
+returns-in_err-terms-clause-unready g c =
     let at = c.args.from.now in
     let start = g.W.Wires.told c.args.wires.now in
-    let d1 = told_stays start start _ c.dial.ensures.unpaused (told_begins start (no_pauses (IsUnmoved at))) in
-    let dialed = begins_dialed at start None 1 _ _ _ _ _ _ c.in_ok-dial.ensures.board c.in_ok-dial.ensures.dials c.requires.begins in
-    let d2 = unmoved_settled at None start _ _ _ _ dialed c.settle.ensures.unmoved d1 in
-    d2
+    let extents = c.args.options.extents in
+    let first = awaits_begun at extents start _ _ _ _ _ c.requires.none c.requires.begins c.in_ok-dial.ensures.awaits in
+    c.settle.ensures.unready.on extents (ToFile []) _ start first
 
-pub returns-in_err-dial_further-clause-unmoved : goal.returns-in_err-dial_further-clause-unmoved
-returns-in_err-dial_further-clause-unmoved g c =
+pub returns-in_err-dial_further-clause-unready : goal.returns-in_err-dial_further-clause-unready
+returns-in_err-dial_further-clause-unready g c =
     let at = c.args.from.now in
     let start = g.W.Wires.told c.args.wires.now in
-    let d1 = told_stays start start _ c.dial.ensures.unpaused (told_begins start (no_pauses (IsUnmoved at))) in
-    let dialed = begins_dialed at start None 1 _ _ _ _ _ _ c.in_ok-dial.ensures.board c.in_ok-dial.ensures.dials c.requires.begins in
-    let d2 = unmoved_settled at None start _ _ _ _ dialed c.settle.ensures.unmoved d1 in
-    told_stays start _ _ c.dial_further.ensures.unpaused d2
+    let extents = c.args.options.extents in
+    let first = awaits_begun at extents start _ _ _ _ _ c.requires.none c.requires.begins c.in_ok-dial.ensures.awaits in
+    told_stays start _ _ c.dial_further.ensures.unpaused (c.settle.ensures.unready.on extents (ToFile []) _ start first)
 
-pub returns-in_err-settle-2-clause-unmoved : goal.returns-in_err-settle-2-clause-unmoved
-returns-in_err-settle-2-clause-unmoved g c =
+pub returns-in_err-settle-2-clause-unready : goal.returns-in_err-settle-2-clause-unready
+returns-in_err-settle-2-clause-unready g c =
     let at = c.args.from.now in
     let start = g.W.Wires.told c.args.wires.now in
-    let d1 = told_stays start start _ c.dial.ensures.unpaused (told_begins start (no_pauses (IsUnmoved at))) in
-    let dialed = begins_dialed at start None 1 _ _ _ _ _ _ c.in_ok-dial.ensures.board c.in_ok-dial.ensures.dials c.requires.begins in
-    let d2 = unmoved_settled at None start _ _ _ _ dialed c.settle.ensures.unmoved d1 in
-    let agreed = begins_agreed at start c.in_ok-terms.terms.size _ _ _ c.in_ok-terms.ensures.tells (begins_settled at start None _ _ _ _ _ _ c.in_ok-settle.ensures.goes dialed) in
-    let d3 = told_stays start _ _ c.dial_further.ensures.unpaused d2 in
-    let further = begins_dialed at start (Some c.in_ok-terms.terms.size) _ _ _ _ _ _ _ c.in_ok-dial_further.ensures.board c.in_ok-dial_further.ensures.dials agreed in
-    let d4 = unmoved_settled at (Some c.in_ok-terms.terms.size) start _ _ _ _ further c.settle-2.ensures.unmoved d3 in
-    d4
+    let extents = c.args.options.extents in
+    let first = awaits_begun at extents start _ _ _ _ _ c.requires.none c.requires.begins c.in_ok-dial.ensures.awaits in
+    let one = c.in_ok-dial.ensures.dials.stand c.requires.begins.stand in
+    let further = awaits_further at extents _ _ start _ _ _ _ _ _ _ _ _ c.in_ok-dial.ensures.dials.many (c.in_ok-settle.ensures.goes.many one) c.in_ok-settle.ensures.awaits
+    c.in_ok-dial_further.ensures.awaits first in
+    c.settle-2.ensures.unready.on extents (ToFile []) _ start further
 
-pub returns-clause-unmoved : goal.returns-clause-unmoved
-returns-clause-unmoved g c =
+pub returns-clause-unready : goal.returns-clause-unready
+returns-clause-unready g c =
     let at = c.args.from.now in
     let start = g.W.Wires.told c.args.wires.now in
-    let d1 = told_stays start start _ c.dial.ensures.unpaused (told_begins start (no_pauses (IsUnmoved at))) in
-    let dialed = begins_dialed at start None 1 _ _ _ _ _ _ c.in_ok-dial.ensures.board c.in_ok-dial.ensures.dials c.requires.begins in
-    let d2 = unmoved_settled at None start _ _ _ _ dialed c.settle.ensures.unmoved d1 in
-    let agreed = begins_agreed at start c.in_ok-terms.terms.size _ _ _ c.in_ok-terms.ensures.tells (begins_settled at start None _ _ _ _ _ _ c.in_ok-settle.ensures.goes dialed) in
-    let d3 = told_stays start _ _ c.dial_further.ensures.unpaused d2 in
-    let further = begins_dialed at start (Some c.in_ok-terms.terms.size) _ _ _ _ _ _ _ c.in_ok-dial_further.ensures.board c.in_ok-dial_further.ensures.dials agreed in
-    let d4 = unmoved_settled at (Some c.in_ok-terms.terms.size) start _ _ _ _ further c.settle-2.ensures.unmoved d3 in
-    d4
+    let extents = c.args.options.extents in
+    let first = awaits_begun at extents start _ _ _ _ _ c.requires.none c.requires.begins c.in_ok-dial.ensures.awaits in
+    let one = c.in_ok-dial.ensures.dials.stand c.requires.begins.stand in
+    let further = awaits_further at extents _ _ start _ _ _ _ _ _ _ _ _ c.in_ok-dial.ensures.dials.many (c.in_ok-settle.ensures.goes.many one) c.in_ok-settle.ensures.awaits
+    c.in_ok-dial_further.ensures.awaits first in
+    c.settle-2.ensures.unready.on extents (ToFile []) _ start further
 
 pub returns-clause-ready : goal.returns-clause-ready
 returns-clause-ready g c =
@@ -319,7 +328,7 @@ returns-clause-ready g c =
           (omega (arith, none, c.in_ok-dial.ensures.dials.many, c.in_ok-settle.ensures.goes.many one, c.in_ok-dial_further.ensures.dials.many, c.in_ok-settle-2.ensures.goes.many three));
       settled = terms_on c.settle.new.handles c.settle-2.new.handles start _ _ c.args.options at c.in_ok-terms.terms c.in_ok-terms.terms made.links.lasts refl
           (terms_found c.args.options at None start _ _ _ c.in_ok-terms.terms c.in_ok-terms.ensures.settles settled);
-      pauses = unmoved_full c.args.options at start _ (returns-clause-unmoved g c);
+      pauses = unready_full c.args.options at start _ (returns-clause-unready g c);
     }
 
 pub returns-in_err-dial_further-clause-counts : goal.returns-in_err-dial_further-clause-counts
@@ -339,63 +348,63 @@ pub returns-in_err-dial-clause-heard : goal.returns-in_err-dial-clause-heard
 returns-in_err-dial-clause-heard g c =
     let at = c.args.from.now in
     let start = g.W.Wires.told c.args.wires.now in
-    let first = heard_begin at start _ _ c.requires.well c.requires.begins in
-    heard_dialed at None start _ _ _ _ c.requires.begins first c.requires.well c.dial.ensures.asks
+    let first = heard_begin c.args.options.extents at start _ _ c.requires.well c.requires.begins in
+    heard_dialed c.args.options.extents at None start _ _ _ _ c.requires.begins first c.requires.well c.dial.ensures.asks
 
 pub returns-in_err-settle-clause-heard : goal.returns-in_err-settle-clause-heard
 returns-in_err-settle-clause-heard g c =
     let at = c.args.from.now in
     let start = g.W.Wires.told c.args.wires.now in
-    let first = heard_begin at start _ _ c.requires.well c.requires.begins in
-    let dialed_heard = heard_dialed at None start _ _ _ _ c.requires.begins first c.requires.well c.dial.ensures.asks in
+    let first = heard_begin c.args.options.extents at start _ _ c.requires.well c.requires.begins in
+    let dialed_heard = heard_dialed c.args.options.extents at None start _ _ _ _ c.requires.begins first c.requires.well c.dial.ensures.asks in
     let dialed = begins_dialed at start None 1 _ _ _ _ _ _ c.in_ok-dial.ensures.board c.in_ok-dial.ensures.dials c.requires.begins in
-    heard_settled at None start _ _ _ _ dialed dialed_heard c.settle.ensures.asks
+    heard_settled c.args.options.extents at None start _ _ _ _ dialed dialed_heard c.settle.ensures.asks
 
 pub returns-in_err-terms-clause-heard : goal.returns-in_err-terms-clause-heard
 returns-in_err-terms-clause-heard g c =
     let at = c.args.from.now in
     let start = g.W.Wires.told c.args.wires.now in
-    let first = heard_begin at start _ _ c.requires.well c.requires.begins in
-    let dialed_heard = heard_dialed at None start _ _ _ _ c.requires.begins first c.requires.well c.dial.ensures.asks in
+    let first = heard_begin c.args.options.extents at start _ _ c.requires.well c.requires.begins in
+    let dialed_heard = heard_dialed c.args.options.extents at None start _ _ _ _ c.requires.begins first c.requires.well c.dial.ensures.asks in
     let dialed = begins_dialed at start None 1 _ _ _ _ _ _ c.in_ok-dial.ensures.board c.in_ok-dial.ensures.dials c.requires.begins in
-    heard_settled at None start _ _ _ _ dialed dialed_heard c.settle.ensures.asks
+    heard_settled c.args.options.extents at None start _ _ _ _ dialed dialed_heard c.settle.ensures.asks
 
 pub returns-in_err-dial_further-clause-heard : goal.returns-in_err-dial_further-clause-heard
 returns-in_err-dial_further-clause-heard g c =
     let at = c.args.from.now in
     let start = g.W.Wires.told c.args.wires.now in
-    let first = heard_begin at start _ _ c.requires.well c.requires.begins in
-    let dialed_heard = heard_dialed at None start _ _ _ _ c.requires.begins first c.requires.well c.dial.ensures.asks in
+    let first = heard_begin c.args.options.extents at start _ _ c.requires.well c.requires.begins in
+    let dialed_heard = heard_dialed c.args.options.extents at None start _ _ _ _ c.requires.begins first c.requires.well c.dial.ensures.asks in
     let dialed = begins_dialed at start None 1 _ _ _ _ _ _ c.in_ok-dial.ensures.board c.in_ok-dial.ensures.dials c.requires.begins in
-    let settled_heard = heard_settled at None start _ _ _ _ dialed dialed_heard c.settle.ensures.asks in
+    let settled_heard = heard_settled c.args.options.extents at None start _ _ _ _ dialed dialed_heard c.settle.ensures.asks in
     let size = Some c.in_ok-terms.terms.size in
     let agreed = begins_agreed at start c.in_ok-terms.terms.size _ _ _ c.in_ok-terms.ensures.tells (begins_settled at start None _ _ _ _ _ _ c.in_ok-settle.ensures.goes dialed) in
-    heard_dialed at size start _ _ _ _ agreed settled_heard c.in_ok-settle.ensures.well c.dial_further.ensures.asks
+    heard_dialed c.args.options.extents at size start _ _ _ _ agreed settled_heard c.in_ok-settle.ensures.well c.dial_further.ensures.asks
 
 pub returns-in_err-settle-2-clause-heard : goal.returns-in_err-settle-2-clause-heard
 returns-in_err-settle-2-clause-heard g c =
     let at = c.args.from.now in
     let start = g.W.Wires.told c.args.wires.now in
-    let first = heard_begin at start _ _ c.requires.well c.requires.begins in
-    let dialed_heard = heard_dialed at None start _ _ _ _ c.requires.begins first c.requires.well c.dial.ensures.asks in
+    let first = heard_begin c.args.options.extents at start _ _ c.requires.well c.requires.begins in
+    let dialed_heard = heard_dialed c.args.options.extents at None start _ _ _ _ c.requires.begins first c.requires.well c.dial.ensures.asks in
     let dialed = begins_dialed at start None 1 _ _ _ _ _ _ c.in_ok-dial.ensures.board c.in_ok-dial.ensures.dials c.requires.begins in
-    let settled_heard = heard_settled at None start _ _ _ _ dialed dialed_heard c.settle.ensures.asks in
+    let settled_heard = heard_settled c.args.options.extents at None start _ _ _ _ dialed dialed_heard c.settle.ensures.asks in
     let size = Some c.in_ok-terms.terms.size in
     let agreed = begins_agreed at start c.in_ok-terms.terms.size _ _ _ c.in_ok-terms.ensures.tells (begins_settled at start None _ _ _ _ _ _ c.in_ok-settle.ensures.goes dialed) in
-    let more_heard = heard_dialed at size start _ _ _ _ agreed settled_heard c.in_ok-settle.ensures.well c.dial_further.ensures.asks in
+    let more_heard = heard_dialed c.args.options.extents at size start _ _ _ _ agreed settled_heard c.in_ok-settle.ensures.well c.dial_further.ensures.asks in
     let further = begins_dialed at start size _ _ _ _ _ _ _ c.in_ok-dial_further.ensures.board c.in_ok-dial_further.ensures.dials agreed in
-    heard_settled at size start _ _ _ _ further more_heard c.settle-2.ensures.asks
+    heard_settled c.args.options.extents at size start _ _ _ _ further more_heard c.settle-2.ensures.asks
 
 pub returns-clause-heard : goal.returns-clause-heard
 returns-clause-heard g c =
     let at = c.args.from.now in
     let start = g.W.Wires.told c.args.wires.now in
-    let first = heard_begin at start _ _ c.requires.well c.requires.begins in
-    let dialed_heard = heard_dialed at None start _ _ _ _ c.requires.begins first c.requires.well c.dial.ensures.asks in
+    let first = heard_begin c.args.options.extents at start _ _ c.requires.well c.requires.begins in
+    let dialed_heard = heard_dialed c.args.options.extents at None start _ _ _ _ c.requires.begins first c.requires.well c.dial.ensures.asks in
     let dialed = begins_dialed at start None 1 _ _ _ _ _ _ c.in_ok-dial.ensures.board c.in_ok-dial.ensures.dials c.requires.begins in
-    let settled_heard = heard_settled at None start _ _ _ _ dialed dialed_heard c.settle.ensures.asks in
+    let settled_heard = heard_settled c.args.options.extents at None start _ _ _ _ dialed dialed_heard c.settle.ensures.asks in
     let size = Some c.in_ok-terms.terms.size in
     let agreed = begins_agreed at start c.in_ok-terms.terms.size _ _ _ c.in_ok-terms.ensures.tells (begins_settled at start None _ _ _ _ _ _ c.in_ok-settle.ensures.goes dialed) in
-    let more_heard = heard_dialed at size start _ _ _ _ agreed settled_heard c.in_ok-settle.ensures.well c.dial_further.ensures.asks in
+    let more_heard = heard_dialed c.args.options.extents at size start _ _ _ _ agreed settled_heard c.in_ok-settle.ensures.well c.dial_further.ensures.asks in
     let further = begins_dialed at start size _ _ _ _ _ _ _ c.in_ok-dial_further.ensures.board c.in_ok-dial_further.ensures.dials agreed in
-    heard_settled at size start _ _ _ _ further more_heard c.settle-2.ensures.asks
+    heard_settled c.args.options.extents at size start _ _ _ _ further more_heard c.settle-2.ensures.asks

@@ -1,10 +1,12 @@
 use Rattle.std.proofs.lemmas.Result.{IfOk-weaker, on_ok_weaker}
+use Rattle.std.proofs.Common.{inl, inr}
 use Rattle.lnbd_copy.proofs.CauseLemmas.{goes_then}
+use Rattle.lnbd_copy.proofs.TurnLemmas.{told_map}
 use Rattle.lnbd_copyfile.proofs.LinkClauses.{told_then, within_then}
 use Rattle.lnbd_copyfile.proofs.PassedRunLemmas.{passed_by}
 use Rattle.lnbd_copyfile.proofs.to_file.copy.Goals as goal
 use Rattle.lnbd_copyfile.specs.Sharing.{Is_settled, Not_settled}
-use Rattle.lnbd_copyfile.proofs.ToFilePauseLemmas.{unmoved_full}
+use Rattle.lnbd_copyfile.proofs.ToFilePauseLemmas.{unready_full}
 
 pub returns-clause-within : goal.returns-clause-within
 returns-clause-within g c = within_then _ _ _ _ _ _ _ _ _ _ _ _ c.in_ok-terms.ensures.connects c.fill_file.ensures.uses
@@ -14,7 +16,7 @@ returns-clause-connects g c =
     on_ok_weaker c.fill_file.result (λ parted. told_then _ _ _ _ _ _ _ _ _ _ _ _ _ c.in_ok-terms.ensures.connects c.fill_file.ensures.uses) c.fill_file.ensures.parted
 
 pub returns-in_err-terms-clause-full : goal.returns-in_err-terms-clause-full
-returns-in_err-terms-clause-full g c = unmoved_full c.args.options c.args.from.now _ _ c.connect.ensures.unmoved
+returns-in_err-terms-clause-full g c = unready_full c.args.options c.args.from.now _ _ c.connect.ensures.unready
 
 pub returns-clause-full : goal.returns-clause-full
 returns-clause-full g c = c.fill_file.ensures.full c.args.options c.args.from.now _ c.in_ok-terms.ensures.begins c.in_ok-terms.ensures.ready
@@ -36,7 +38,21 @@ returns-clause-passes g c =
     (c.fill_file.ensures.shares from _ c.in_ok-terms.ensures.begins c.in_ok-terms.ensures.opens) c.in_ok-terms.ensures.settles (passes from _ c.in_ok-terms.ensures.begins)) c.fill_file.ensures.passes
 
 pub returns-clause-asks : goal.returns-clause-asks
-returns-clause-asks g c = c.fill_file.ensures.asks c.args.from.now _ c.in_ok-terms.ensures.begins c.connect.ensures.asks
+returns-clause-asks g c = c.fill_file.ensures.asks c.args.from.now _ c.in_ok-terms.ensures.begins (told_map _ _ (λ calls is. is.once) c.connect.ensures.asks)
+
+pub returns-in_err-terms-clause-asks : goal.returns-in_err-terms-clause-asks
+returns-in_err-terms-clause-asks g c = told_map _ _ (λ calls is. is.once) c.connect.ensures.asks
+
+pub returns-in_err-terms-clause-spared : goal.returns-in_err-terms-clause-spared
+returns-in_err-terms-clause-spared g c = told_map _ _ (λ calls is. inl is.none) c.connect.ensures.asks
+
+pub returns-clause-spared : goal.returns-clause-spared
+returns-clause-spared g c =
+    told_map _ _ (λ calls is. inr is) (c.fill_file.ensures.spares c.args.from.now _ c.in_ok-terms.ensures.begins c.in_ok-terms.ensures.blocks c.connect.ensures.asks)
+
+pub returns-clause-spares : goal.returns-clause-spares
+returns-clause-spares g c =
+    on_ok_weaker c.fill_file.result (λ parted. c.fill_file.ensures.spares c.args.from.now _ c.in_ok-terms.ensures.begins c.in_ok-terms.ensures.blocks c.connect.ensures.asks) c.fill_file.ensures.parted
 
 pub returns-clause-heard : goal.returns-clause-heard
-returns-clause-heard g c = c.fill_file.ensures.heard c.args.from.now _ c.in_ok-terms.ensures.begins c.connect.ensures.heard
+returns-clause-heard g c = c.fill_file.ensures.heard c.args.options.extents c.args.from.now _ c.in_ok-terms.ensures.begins c.in_ok-terms.ensures.led c.connect.ensures.heard

@@ -9,8 +9,8 @@ use Rattle.lnbd_copyfile.proofs.ShareLemmas.{shares_always, shares_later}
 use Rattle.lnbd_board.specs.Files.{Seen}
 use Rattle.lnbd_copyfile.proofs.TakenLemmas.{reads_grew}
 use Rattle.lnbd_copyfile.proofs.ToFilePauseLemmas.{full_grew}
-use Rattle.lnbd_copyfile.proofs.SparingLemmas.{spares_grew}
-use Rattle.lnbd_copyfile.proofs.HearingLemmas.{reads_heard_grew}
+use Rattle.lnbd_copyfile.proofs.SparingLemmas.{spared_grew, spares_grew}
+use Rattle.lnbd_copyfile.proofs.HearingLemmas.{answered_grew}
 
 pub copy-told-requires-clause-begins : goal.copy-told-requires-clause-begins
 copy-told-requires-clause-begins g c = begins c.args.from.now _ _ _ _ c.new-board.ensures c.new-handles.ensures
@@ -90,7 +90,13 @@ returns-in-Ok-clause-passed g c =
     passed_grew c.args.options c.args.from.now c.in-Ok.summary.skipped _ _ _ (ap (λ w. g.W.Wires.told w) parted) c.in-Ok.ensures.passes
 
 pub returns-in-Ok-clause-heard : goal.returns-in-Ok-clause-heard
-returns-in-Ok-clause-heard g c = reads_heard_grew c.args.from.now _ _ _ c.shut_all.ensures.asks c.copy-told.ensures.heard
+returns-in-Ok-clause-heard g c = answered_grew c.args.options.extents c.args.from.now _ _ _ c.shut_all.ensures.asks c.copy-told.ensures.heard
 
 pub returns-in-Err-clause-heard : goal.returns-in-Err-clause-heard
-returns-in-Err-clause-heard g c = reads_heard_grew c.args.from.now _ _ _ c.shut_all.ensures.asks c.copy-told.ensures.heard
+returns-in-Err-clause-heard g c = answered_grew c.args.options.extents c.args.from.now _ _ _ c.shut_all.ensures.asks c.copy-told.ensures.heard
+
+pub returns-in-Ok-clause-spared : goal.returns-in-Ok-clause-spared
+returns-in-Ok-clause-spared g c = spared_grew c.args.from.now _ _ _ c.shut_all.ensures.asks c.copy-told.ensures.spared
+
+pub returns-in-Err-clause-spared : goal.returns-in-Err-clause-spared
+returns-in-Err-clause-spared g c = spared_grew c.args.from.now _ _ _ c.shut_all.ensures.asks c.copy-told.ensures.spared

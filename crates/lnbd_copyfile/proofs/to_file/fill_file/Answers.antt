@@ -5,6 +5,7 @@ use Rattle.lnbd_copyfile.proofs.ToFileRunLemmas.{copying_ready}
 use Rattle.lnbd_copyfile.proofs.to_file.fill_file.Goals as goal
 use Rattle.lnbd_connections.proofs.FewLemmas.{few_same}
 use Rattle.lnbd_copyfile.specs.Sharing.{share}
+use Rattle.lnbd_copyfile.proofs.SparingLemmas.{none_spares, spares_whole}
 
 pub store_slices-requires-clause-ready : goal.store_slices-requires-clause-ready
 store_slices-requires-clause-ready g c =
@@ -35,7 +36,17 @@ returns-clause-passes g c =
     IfOk-weaker c.store_slices.result _ _ (λ summary passes at before begins. passes at before (c.in_ok-job.ensures.begins at before _ begins)) c.store_slices.ensures.passes
 
 pub returns-in_err-job-clause-heard : goal.returns-in_err-job-clause-heard
-returns-in_err-job-clause-heard g c at before begins heard = heard
+returns-in_err-job-clause-heard g c extents at before begins led heard = heard
 
 pub returns-clause-heard : goal.returns-clause-heard
-returns-clause-heard g c at before begins heard = c.store_slices.ensures.heard at before (c.in_ok-job.ensures.begins at before _ begins) (c.in_ok-job.ensures.hears at before _ begins)
+returns-clause-heard g c extents at before begins led heard =
+    c.store_slices.ensures.heard extents at before (c.in_ok-job.ensures.begins at before _ begins) (c.in_ok-job.ensures.hears extents at before _ begins led)
+
+pub store_slices-requires-clause-grain : goal.store_slices-requires-clause-grain
+store_slices-requires-clause-grain g c = c.requires.cells.2
+
+pub returns-in_err-job-clause-spares : goal.returns-in_err-job-clause-spares
+returns-in_err-job-clause-spares g c at before begins was none = spares_whole at c.args.terms.grain before _ was (none_spares at c.args.terms.grain before _ none)
+
+pub returns-clause-spares : goal.returns-clause-spares
+returns-clause-spares g c at before begins was none = c.store_slices.ensures.spares at before (c.in_ok-job.ensures.begins at before _ begins) was none

@@ -8,8 +8,8 @@ use Rattle.lnbd_connections.proofs.FewLemmas.{few_same}
 use Rattle.lnbd_copyfile.specs.Sharing.{share}
 use Rattle.lnbd_copyfile.proofs.PassedRunLemmas.{passed}
 use Rattle.lnbd_copyfile.proofs.ToFilePauseLemmas.{full_stored}
-use Rattle.lnbd_copyfile.proofs.SparingLemmas.{is_spared}
-use Rattle.lnbd_copyfile.proofs.TakenLemmas.{more_lasts}
+use Rattle.lnbd_copyfile.proofs.SparingLemmas.{none_spares, spares_whole}
+use Rattle.lnbd_copyfile.proofs.TakenLemmas.{more_spares}
 use Rattle.lnbd_copyfile.proofs.HearingLemmas.{heard_reads}
 
 pub returns-in_err-file-clause-stopped : goal.returns-in_err-file-clause-stopped
@@ -68,12 +68,28 @@ returns-clause-cuts g c at before set =
     c.in_ok-take_turns.ensures.parting c.in_ok-take_turns.ensures.parted c.in_ok-check_well.ensures c.summary_of.ensures
     (stored_all c.args.to.now c.in_ok-file.file c.args.terms.size c.args.terms.flush _ _ _ _ c.in_ok-file.ensures.made c.in_ok-take_turns.ensures.writes c.in_ok-finish.ensures.closed)
 
+pub returns-in_err-file-clause-spares : goal.returns-in_err-file-clause-spares
+returns-in_err-file-clause-spares g c at before set was none = spares_whole at c.args.terms.grain before _ was (none_spares at c.args.terms.grain before _ none)
+
+pub returns-in_err-take_turns-clause-spares : goal.returns-in_err-take_turns-clause-spares
+returns-in_err-take_turns-clause-spares g c at before set was none =
+    more_spares _ _ _ _ _ _ _ _ c.take_turns.ensures.asks at c.args.terms.grain before _ _ (set c.in_ok-file.file _ _) (ap (λ (t : Terms). t.grain) c.requires.terms) c.requires.grain was none
+
+pub returns-in_err-check_well-clause-spares : goal.returns-in_err-check_well-clause-spares
+returns-in_err-check_well-clause-spares g c at before set was none =
+    more_spares _ _ _ _ _ _ _ _ c.take_turns.ensures.asks at c.args.terms.grain before _ _ (set c.in_ok-file.file _ _) (ap (λ (t : Terms). t.grain) c.requires.terms) c.requires.grain was none
+
+pub returns-in_err-check_counts-clause-spares : goal.returns-in_err-check_counts-clause-spares
+returns-in_err-check_counts-clause-spares g c at before set was none =
+    more_spares _ _ _ _ _ _ _ _ c.take_turns.ensures.asks at c.args.terms.grain before _ _ (set c.in_ok-file.file _ _) (ap (λ (t : Terms). t.grain) c.requires.terms) c.requires.grain was none
+
+pub returns-in_err-finish-clause-spares : goal.returns-in_err-finish-clause-spares
+returns-in_err-finish-clause-spares g c at before set was none =
+    more_spares _ _ _ _ _ _ _ _ c.take_turns.ensures.asks at c.args.terms.grain before _ _ (set c.in_ok-file.file _ _) (ap (λ (t : Terms). t.grain) c.requires.terms) c.requires.grain was none
+
 pub returns-clause-spares : goal.returns-clause-spares
-returns-clause-spares g c at before set was =
-    let begins = set c.in_ok-file.file _ _ in
-    is_spared c.in_ok-file.file at c.args.terms.grain before _ c.take_turns.new.job _ _ _ _ _ _ (c.in_ok-take_turns.ensures.on.on at before _ _ begins)
-    (ap (λ (t : Terms). t.grain) (c.take_turns.ensures.terms ∙ c.requires.terms)) c.in_ok-take_turns.ensures.parting c.in_ok-take_turns.ensures.parted c.in_ok-check_well.ensures
-    (more_lasts _ _ _ _ _ _ _ _ c.take_turns.ensures.asks at c.args.terms.grain before _ _ begins was)
+returns-clause-spares g c at before set was none =
+    more_spares _ _ _ _ _ _ _ _ c.take_turns.ensures.asks at c.args.terms.grain before _ _ (set c.in_ok-file.file _ _) (ap (λ (t : Terms). t.grain) c.requires.terms) c.requires.grain was none
 
 pub returns-clause-passes : goal.returns-clause-passes
 returns-clause-passes g c at before set =
@@ -120,19 +136,19 @@ pub returns-in_err-file-clause-full : goal.returns-in_err-file-clause-full
 returns-in_err-file-clause-full g c options at before set empty ready = ready.pauses
 
 pub returns-in_err-file-clause-heard : goal.returns-in_err-file-clause-heard
-returns-in_err-file-clause-heard g c at before set heard = heard_reads at _ before _ heard
+returns-in_err-file-clause-heard g c extents at before set heard = heard_reads extents at _ before _ heard
 
 pub returns-in_err-take_turns-clause-heard : goal.returns-in_err-take_turns-clause-heard
-returns-in_err-take_turns-clause-heard g c at before set heard = c.take_turns.ensures.heard.on at before _ _ (set c.in_ok-file.file _ _) heard
+returns-in_err-take_turns-clause-heard g c extents at before set heard = c.take_turns.ensures.heard.on extents at before _ _ (set c.in_ok-file.file _ _) heard
 
 pub returns-in_err-check_well-clause-heard : goal.returns-in_err-check_well-clause-heard
-returns-in_err-check_well-clause-heard g c at before set heard = c.take_turns.ensures.heard.on at before _ _ (set c.in_ok-file.file _ _) heard
+returns-in_err-check_well-clause-heard g c extents at before set heard = c.take_turns.ensures.heard.on extents at before _ _ (set c.in_ok-file.file _ _) heard
 
 pub returns-in_err-check_counts-clause-heard : goal.returns-in_err-check_counts-clause-heard
-returns-in_err-check_counts-clause-heard g c at before set heard = c.take_turns.ensures.heard.on at before _ _ (set c.in_ok-file.file _ _) heard
+returns-in_err-check_counts-clause-heard g c extents at before set heard = c.take_turns.ensures.heard.on extents at before _ _ (set c.in_ok-file.file _ _) heard
 
 pub returns-in_err-finish-clause-heard : goal.returns-in_err-finish-clause-heard
-returns-in_err-finish-clause-heard g c at before set heard = c.take_turns.ensures.heard.on at before _ _ (set c.in_ok-file.file _ _) heard
+returns-in_err-finish-clause-heard g c extents at before set heard = c.take_turns.ensures.heard.on extents at before _ _ (set c.in_ok-file.file _ _) heard
 
 pub returns-clause-heard : goal.returns-clause-heard
-returns-clause-heard g c at before set heard = c.take_turns.ensures.heard.on at before _ _ (set c.in_ok-file.file _ _) heard
+returns-clause-heard g c extents at before set heard = c.take_turns.ensures.heard.on extents at before _ _ (set c.in_ok-file.file _ _) heard

@@ -51,7 +51,7 @@ turns-preserved g c =
           (c.rest_unless.ensures.few (share terms) from);
       terms = c.turn.ensures.terms ∙ was.terms;
       writes = grew_both _ _ _ (Writes c.args.file) (Writes c.args.file) (Writes c.args.file) (λ calls more f h. writes_on c.args.file calls more f h) was.writes c.in_ok-happened.ensures.writes;
-      asks = more_then _ _ _ _ _ _ _ _ _ _ _ _ _ _ was.on was.asks (more_idly _ _ _ _ _ _ _ _ _ c.turn.ensures.asks c.rest_unless.ensures.asks);
+      asks = more_then _ _ _ _ _ _ _ _ _ _ _ _ _ _ was.on was.terms was.asks (more_idly _ _ _ _ _ _ _ _ _ c.turn.ensures.asks c.rest_unless.ensures.asks);
       hears = hears_further _ _ _ _ _ _ _ _ _ _ _ _ _ _ _ was.on was.hears (hears_idly _ _ _ _ _ _ _ _ _ _ c.in_ok-happened.ensures.hears c.rest_unless.ensures.asks);
       counts = goes_then _ _ _ _ _ _ _ _ _ was.counts (goes_then _ _ _ _ _ _ _ _ _ c.turn.ensures.counts c.rest_unless.ensures.counts);
       later = (let a = was.later in let b = c.turn.ensures.later in omega (arith, a, b));
@@ -83,13 +83,13 @@ returns-in_err-rest_unless-clause-breaks g c =
     c.turns.invariant.writes c.in_ok-happened.ensures.writes)
 
 pub returns-in_err-happened-clause-asks : goal.returns-in_err-happened-clause-asks
-returns-in_err-happened-clause-asks g c = more_then _ _ _ _ _ _ _ _ _ _ _ _ _ _ c.turns.invariant.on c.turns.invariant.asks c.turn.ensures.asks
+returns-in_err-happened-clause-asks g c = more_then _ _ _ _ _ _ _ _ _ _ _ _ _ _ c.turns.invariant.on c.turns.invariant.terms c.turns.invariant.asks c.turn.ensures.asks
 
 pub returns-then-is_finished-clause-asks : goal.returns-then-is_finished-clause-asks
-returns-then-is_finished-clause-asks g c = more_then _ _ _ _ _ _ _ _ _ _ _ _ _ _ c.turns.invariant.on c.turns.invariant.asks c.turn.ensures.asks
+returns-then-is_finished-clause-asks g c = more_then _ _ _ _ _ _ _ _ _ _ _ _ _ _ c.turns.invariant.on c.turns.invariant.terms c.turns.invariant.asks c.turn.ensures.asks
 
 pub returns-in_err-rest_unless-clause-asks : goal.returns-in_err-rest_unless-clause-asks
-returns-in_err-rest_unless-clause-asks g c = more_then _ _ _ _ _ _ _ _ _ _ _ _ _ _ c.turns.invariant.on c.turns.invariant.asks (more_idly _ _ _ _ _ _ _ _ _ c.turn.ensures.asks c.rest_unless.ensures.asks)
+returns-in_err-rest_unless-clause-asks g c = more_then _ _ _ _ _ _ _ _ _ _ _ _ _ _ c.turns.invariant.on c.turns.invariant.terms c.turns.invariant.asks (more_idly _ _ _ _ _ _ _ _ _ c.turn.ensures.asks c.rest_unless.ensures.asks)
 
 pub returns-then-is_finished-clause-on : goal.returns-then-is_finished-clause-on
 returns-then-is_finished-clause-on g c = further_then _ _ _ _ _ _ _ _ _ _ _ _ _ _ _ _ _ _ _ c.turns.invariant.on c.in_ok-happened.ensures.on

@@ -2,7 +2,7 @@ use Rattle.std.proofs.Common.{◌+◌, ◌-◌, ◌<◌, arith, subst, sym, ◌�
 use Rattle.lnbd_extents.specs.Positions.{holds}
 use Rattle.lnbd_plan.specs.declared.grid.Slice.{Slice}
 use Rattle.lnbd_plan.specs.Slices.{slice}
-use Rattle.lnbd_plan.specs.Plans.{IsRun}
+use Rattle.lnbd_plan.specs.Plans.{IsAlikeRun}
 use Rattle.lnbd_plan.specs.Walks.{place_behind, IsPlace}
 use Rattle.lnbd_plan.proofs.WalkLaws.{zero_run, data_run, start_some, place_behind_zero, place_behind_data}
 use Rattle.lnbd_plan.proofs.planning.run_at.Goals as goal
@@ -11,7 +11,7 @@ pub returns-then-at-until-clause-run : goal.returns-then-at-until-clause-run
 returns-then-at-until-clause-run c =
     let until = c.end_before-until.ensures in
     let same = c.run.ensures ∙ ap (λ (n : ℕ). slice c.args.at (n - c.args.at) true) (c.min.ensures ∙ ap (λ (n : ℕ). min n c.args.end) until) in
-    subst (λ (r : Slice). IsRun (holds c.args.zero.now) c.args.at c.args.end r) (sym same)
+    subst (λ (r : Slice). IsAlikeRun (holds c.args.zero.now) c.args.at c.args.end r) (sym same)
     (zero_run c.args.zero.now c.args.at c.args.end c.args.place c.requires.place c.requires.some (omega arith))
 
 pub returns-then-at-until-clause-behind : goal.returns-then-at-until-clause-behind
@@ -32,7 +32,7 @@ pub returns-clause-run : goal.returns-clause-run
 returns-clause-run c =
     let same = c.run-2.ensures ∙ ap (λ (n : ℕ). slice c.args.at (n - c.args.at) false) c.start_from.ensures in
     let until = c.end_before-until.ensures in
-    subst (λ (r : Slice). IsRun (holds c.args.zero.now) c.args.at c.args.end r) (sym same)
+    subst (λ (r : Slice). IsAlikeRun (holds c.args.zero.now) c.args.at c.args.end r) (sym same)
     (data_run c.args.zero.now c.args.at c.args.end c.args.place c.requires.place c.requires.some (omega arith))
 
 pub returns-clause-behind : goal.returns-clause-behind

@@ -17,7 +17,7 @@ invariant_of-self-2 c =
     let one = c.in-Some-checked_add.ensures.1 in
     let count = c.count.ensures.count in
     let k = kept_begun c.self.inside.how c.self.inside.begun row c.self.inside.rows.rows c.self.inside.came.items (deque_capacity c.self.inside.came) (deque_capacity c.reserve.new.self)
-    (ap is_busy c.stage_of.ensures ∙ first_busy c.args.slice.zero) c.requires.room (subst (λ (x : Stage). Sits c.self.inside.how c.args.slice x) (sym c.stage_of.ensures) (first_sits c.self.inside.how c.args.slice c.args.slice.zero)) (omega (arith, long, len, room, one, count)) c.self.invariant in
+    (ap is_busy c.stage_of.ensures ∙ first_busy c.args.slice.zero) c.requires.room (subst (λ (x : Stage). Sits c.self.inside.how c.args.slice x) (sym c.stage_of.ensures) (first_sits c.self.inside.how c.args.slice c.args.slice.zero refl)) (omega (arith, long, len, room, one, count)) c.self.invariant in
     rw (c.in-Ok.ensures.rows, c.reserve.ensures.items, c.in-Some.ensures.1) k
 
 pub returns-clause-ok : goal.returns-clause-ok

@@ -2,9 +2,11 @@ use Rattle.std.proofs.Common.{Some, refl, ap, sym, subst, ◌∙◌}
 use Rattle.std.proofs.lemmas.Result.{on_ok_weaker}
 use Rattle.lnbd_copy.specs.Copier.{HasJob, IsOnItsWay, Seen}
 use Rattle.lnbd_copy.proofs.CopierLemmas.{if_ok_leads}
-use Rattle.lnbd_copy.proofs.EndLemmas.{after_acting, job_dealt, job_may, job_writes}
+use Rattle.lnbd_copy.proofs.EndLemmas.{after_acting, job_dealt, job_fit, job_may, job_writes}
+use Rattle.lnbd_copy.specs.Fewest.{GoesToFewest}
+use Rattle.lnbd_copy.proofs.FewestLemmas.{job_takes}
 use Rattle.lnbd_copy.proofs.MovingLemmas.{job_changed}
-use Rattle.lnbd_copy.proofs.SpreadLemmas.{on_ok_four}
+use Rattle.lnbd_copy.proofs.SpreadLemmas.{on_ok_six}
 use Rattle.lnbd_copy.proofs.UnderWayLemmas.{busy_after}
 use Rattle.lnbd_copy.specs.Awaiting.{AwaitsAll}
 use Rattle.lnbd_copy.proofs.AwaitLemmas.{act_awaits}
@@ -12,15 +14,21 @@ use Rattle.lnbd_copy.proofs.copier.Copier.act.Goals as goal
 
 pub returns-clause-on : goal.returns-clause-on
 returns-clause-on c =
-    on_ok_four c.act.result
-    (λ acts full spreads may start told on. after_acting _ start told c.in-Some.job c.act.new.self c.act.new.board c.act.new.handles c.in-Some.is c.act.ensures.terms full.most acts spreads may c.act.ensures.parting (subst (λ (s : Seen). IsOnItsWay start told s) (sym c.self.view_is) on))
-    c.act.ensures.acts c.act.ensures.full c.act.ensures.spread c.act.ensures.may
+    on_ok_six c.act.result
+    (λ acts full spreads takes may well start told on. after_acting _ start told c.in-Some.job c.act.new.self c.act.new.board c.act.new.handles c.in-Some.is c.act.ensures.terms full.most acts spreads takes may well c.act.ensures.parting (subst (λ (s : Seen). IsOnItsWay start told s) (sym c.self.view_is) on))
+    c.act.ensures.acts c.act.ensures.full c.act.ensures.spread c.act.ensures.fewest c.act.ensures.may c.act.ensures.well
 
 pub returns-clause-busy : goal.returns-clause-busy
 returns-clause-busy c =
     on_ok_weaker c.act.result
     (λ full start told on. busy_after _ start told c.in-Some.job c.act.new.self c.act.new.board c.in-Some.is full (subst (λ (s : Seen). IsOnItsWay start told s) (sym c.self.view_is) on))
     c.act.ensures.full
+
+pub returns-clause-fewest : goal.returns-clause-fewest
+returns-clause-fewest c =
+    on_ok_weaker c.act.result
+    (λ takes. subst (λ (s : Seen). GoesToFewest s.job (Some c.act.new.self) s.board c.act.new.board) c.self.view_is (job_takes _ c.in-Some.job c.act.new.self _ c.act.new.board c.in-Some.is c.act.ensures.terms takes))
+    c.act.ensures.fewest
 
 pub act-requires-clause-how : goal.act-requires-clause-how
 act-requires-clause-how c = job_writes _ c.in-Some.job (subst HasJob (sym c.self.view_is) c.requires.job) c.in-Some.is
@@ -42,6 +50,9 @@ returns-clause-idle c = if_ok_leads c.act.result (λ acted idle nothing. idle (s
 
 pub act-requires-clause-may : goal.act-requires-clause-may
 act-requires-clause-may c = job_may _ c.in-Some.job (subst HasJob (sym c.self.view_is) c.requires.job) c.in-Some.is
+
+pub act-requires-clause-fit : goal.act-requires-clause-fit
+act-requires-clause-fit c = job_fit _ c.in-Some.job (subst HasJob (sym c.self.view_is) c.requires.job) c.in-Some.is
 
 pub act-requires-clause-dealt : goal.act-requires-clause-dealt
 act-requires-clause-dealt c = job_dealt _ c.in-Some.job (subst HasJob (sym c.self.view_is) c.requires.job) c.in-Some.is

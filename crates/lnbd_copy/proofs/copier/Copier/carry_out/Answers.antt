@@ -8,6 +8,7 @@ use Rattle.lnbd_copy.proofs.FaultLemmas.{behaves_idly}
 use Rattle.lnbd_copy.proofs.FlushLemmas.{done_flushes}
 use Rattle.lnbd_copy.proofs.SummedLemmas.{done_sums}
 use Rattle.lnbd_copy.proofs.GroundLemmas.{grounded_later, if_err_leads}
+use Rattle.lnbd_copy.proofs.AccountLemmas.{done_fairly}
 use Rattle.lnbd_copy.proofs.PausedLemmas.{done_pauses, told_stays}
 use Rattle.lnbd_copy.proofs.ConnectLemmas.{connects_as_told, connects_within, told_end, within_end}
 use Rattle.lnbd_copy.proofs.LinkLemmas.{links_kept}
@@ -58,6 +59,9 @@ returns-clause-flushes g c two = done_flushes c.args.self c.copy-told.new.self _
 
 pub returns-clause-pauses : goal.returns-clause-pauses
 returns-clause-pauses g c two = done_pauses c.args.self c.copy-told.new.self _ _ _ c.copy-told.ensures.kept c.end.ensures.unpaused two c.copy-told.ensures.pauses
+
+pub returns-clause-fewest : goal.returns-clause-fewest
+returns-clause-fewest g c two = done_fairly c.args.self c.copy-told.new.self _ _ _ c.copy-told.ensures.kept c.end.ensures.unpaused two c.copy-told.ensures.fewest
 
 pub returns-clause-driven : goal.returns-clause-driven
 returns-clause-driven g c =

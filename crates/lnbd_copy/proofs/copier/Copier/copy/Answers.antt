@@ -12,6 +12,7 @@ use Rattle.lnbd_copy.proofs.FlushLemmas.{flushed_on}
 use Rattle.lnbd_copy.proofs.PauseLemmas.{pauses_unpaused, told_same}
 use Rattle.lnbd_copy.proofs.SummedLemmas.{summed_on}
 use Rattle.lnbd_copy.proofs.GroundLemmas.{grounded_as, handed_on}
+use Rattle.lnbd_copy.proofs.AccountLemmas.{KeepsAccounts, accounts_open, accounts_rest, accounts_turn, fairly_held, fairly_open, fairly_turn, keeps_fairly, way_bears_out}
 use Rattle.lnbd_copy.proofs.PausedLemmas.{IsFine, fine_open, fine_rest, fine_turn, fine_held, told_stays, waits_rest, wants_rest}
 use Rattle.lnbd_copy.proofs.ConnectLemmas.{told_end, within_told}
 use Rattle.lnbd_copy.proofs.LinkLemmas.{links_as, links_begin, links_then}
@@ -50,6 +51,8 @@ turns-preserved g c =
             (moved_on start _ c.turn.new.self c.in_ok-turn.field-0 _ w.in-Moved.is (turn.turns start was.on)));
         pauses = subst (λ (s : Seen). IsFine s start (g.W.Wires.told c.match-branch-4.wires)) (sym w.self-is)
             (subst (λ (t : Option (List Call)). IsFine c.turn.new.self start t) (sym (ap g.W.Wires.told w.wires-is)) (fine_turn c.turns.self c.turn.new.self start _ _ turn.kept turn.unpaused was.pauses));
+        accounts = subst (λ (s : Seen). KeepsAccounts s start (g.W.Wires.told c.match-branch-4.wires)) (sym w.self-is)
+            (subst (λ (t : Option (List Call)). KeepsAccounts c.turn.new.self start t) (sym (ap g.W.Wires.told w.wires-is)) (accounts_turn c.turns.self c.turn.new.self start _ _ turn.kept turn.unpaused turn.fewest was.on was.accounts));
         writes = told_same _ start _ _ (ap g.W.Wires.told w.wires-is) ((pauses_unpaused _ _ turn.unpaused).on start was.writes);
         connects = told_end _ _ _ _ _ _ _ _ _ was.connects (links_as _ _ _ _ _ _ _ (ap (λ (s : Seen). s.held) w.self-is) (ap g.W.Wires.told w.wires-is) turn.links);
         fair = λ two. subst (λ (t : Option (List Call)). Told start t (Behaves c.args.self.now.options c.args.self.now.from c.args.self.now.to)) (sym (ap g.W.Wires.told w.wires-is)) (fair_on c.args.self.now c.turns.self (g.W.Wires.told c.args.wires.now) _ _ c.turns.invariant.kept (c.turn.ensures.fair (g.W.Wires.told c.args.wires.now)) c.turns.invariant.on c.turns.invariant.fair two);
@@ -76,6 +79,11 @@ turns-preserved g c =
             pauses = subst (λ (s : Seen). IsFine s start (g.W.Wires.told c.match-branch-4.wires)) (sym w.self-is)
                 (subst (λ (t : Option (List Call)). IsFine w.rest.new.self start t) (sym (ap g.W.Wires.told w.wires-is))
                 (fine_rest c.turn.new.self w.rest.new.self start _ _ rest.kept rest.pauses (λ two. turn.under_way start was.on two) (fine_turn c.turns.self c.turn.new.self start _ _ turn.kept turn.unpaused was.pauses)));
+            accounts = subst (λ (s : Seen). KeepsAccounts s start (g.W.Wires.told c.match-branch-4.wires)) (sym w.self-is)
+                (subst (λ (t : Option (List Call)). KeepsAccounts w.rest.new.self start t) (sym (ap g.W.Wires.told w.wires-is))
+                (accounts_rest c.turn.new.self w.rest.new.self start _ _ rest.kept rest.pauses (still_on start _ c.turn.new.self c.in_ok-turn.field-0 w.in-Still.is (turn.turns start was.on))
+                (λ two none. way_bears_out c.turn.new.self start _ turn.busy (still_on start _ c.turn.new.self c.in_ok-turn.field-0 w.in-Still.is (turn.turns start was.on)) two none)
+                (accounts_turn c.turns.self c.turn.new.self start _ _ turn.kept turn.unpaused turn.fewest was.on was.accounts)));
             writes = told_same _ start _ _ (ap g.W.Wires.told w.wires-is) ((pauses_full _ _ _ _ (turn.still w.in-Still.is) rest.pauses).on start was.writes);
             connects = told_end _ _ _ _ _ _ _ _ _ was.connects (links_as _ _ _ _ _ _ _ (ap (λ (s : Seen). s.held) w.self-is) (ap g.W.Wires.told w.wires-is) (links_then _ _ _ _ _ _ turn.links rest.links));
             fair = λ two. subst (λ (t : Option (List Call)). Told start t (Behaves c.args.self.now.options c.args.self.now.from c.args.self.now.to)) (sym (ap g.W.Wires.told w.wires-is)) (behaves_idly _ _ _ start _ _ w.rest.ensures.idly (fair_on c.args.self.now c.turns.self (g.W.Wires.told c.args.wires.now) _ _ c.turns.invariant.kept (c.turn.ensures.fair (g.W.Wires.told c.args.wires.now)) c.turns.invariant.on c.turns.invariant.fair two));
@@ -103,7 +111,7 @@ turns-preserved g c =
 pub turns-init : goal.turns-init
 turns-init g c =
     let begun = c.in_ok-begin.ensures in
-    record { start = begun.began; kept = begun.kept; on = begun.begins; pauses = fine_open c.args.self.now c.begin.new.self _ _ begun.kept begun.unready; writes = begun.writes; connects = begun.connects; fair = λ two. told_behaves _ _ _ _ _ c.begin.ensures.unasked; waits = begun.waits; counts = begun.counts; reads = begun.reads; wanted = begun.wanted; little = little_begins _ _ _ _ _ begun.little; wants_all = begun.wants_all; waited = waited_any true _ _ _ _ begun.patient; tried = left_none _ _ (λ wanted since left. absurd left) begun.tried; paced = begun.paced; awaits = begun.awaits }
+    record { start = begun.began; kept = begun.kept; on = begun.begins; pauses = fine_open c.args.self.now c.begin.new.self _ _ begun.kept begun.unready; accounts = accounts_open c.args.self.now c.begin.new.self _ _ begun.kept begun.unready begun.begins; writes = begun.writes; connects = begun.connects; fair = λ two. told_behaves _ _ _ _ _ c.begin.ensures.unasked; waits = begun.waits; counts = begun.counts; reads = begun.reads; wanted = begun.wanted; little = little_begins _ _ _ _ _ begun.little; wants_all = begun.wants_all; waited = waited_any true _ _ _ _ begun.patient; tried = left_none _ _ (λ wanted since left. absurd left) begun.tried; paced = begun.paced; awaits = begun.awaits }
 
 pub turn-requires-clause-going : goal.turn-requires-clause-going
 turn-requires-clause-going g c = record { start = g.W.Wires.told c.args.wires.now; on = c.turns.invariant.on }
@@ -113,6 +121,10 @@ returns-in-Finished-clause-done g c = finished_on _ _ _ _ _ c.in-Finished.is (c.
 
 pub returns-in-Finished-clause-pauses : goal.returns-in-Finished-clause-pauses
 returns-in-Finished-clause-pauses g c = fine_turn c.turns.self c.turn.new.self (g.W.Wires.told c.args.wires.now) _ _ c.turn.ensures.kept c.turn.ensures.unpaused c.turns.invariant.pauses
+
+pub returns-in-Finished-clause-fewest : goal.returns-in-Finished-clause-fewest
+returns-in-Finished-clause-fewest g c =
+    fairly_turn c.turns.self c.turn.new.self (g.W.Wires.told c.args.wires.now) _ _ c.turn.ensures.kept c.turn.ensures.unpaused (keeps_fairly c.turns.self _ _ c.turns.invariant.on c.turns.invariant.accounts)
 
 pub returns-in-Finished-clause-sums : goal.returns-in-Finished-clause-sums
 returns-in-Finished-clause-sums g c = summed_on _ _ c.turn.new.self c.in_ok-turn.field-0 _ c.in-Finished.is (c.in_ok-turn.ensures.sums (g.W.Wires.told c.args.wires.now) c.turns.invariant.on)
@@ -178,6 +190,24 @@ returns-in_err-begin-clause-pauses g c = fine_open c.args.self.now c.begin.new.s
 
 pub returns-in_err-turn-clause-pauses : goal.returns-in_err-turn-clause-pauses
 returns-in_err-turn-clause-pauses g c = fine_turn c.turns.self c.turn.new.self (g.W.Wires.told c.args.wires.now) _ _ c.turn.ensures.kept c.turn.ensures.unpaused c.turns.invariant.pauses
+
+pub returns-in_err-begin-clause-fewest : goal.returns-in_err-begin-clause-fewest
+returns-in_err-begin-clause-fewest g c = fairly_open c.args.self.now c.begin.new.self _ _ c.begin.ensures.kept c.begin.ensures.unready
+
+pub returns-in_err-check_patience-clause-fewest : goal.returns-in_err-check_patience-clause-fewest
+returns-in_err-check_patience-clause-fewest g c = keeps_fairly c.turns.self _ _ c.turns.invariant.on c.turns.invariant.accounts
+
+pub returns-in_err-turn-clause-fewest : goal.returns-in_err-turn-clause-fewest
+returns-in_err-turn-clause-fewest g c =
+    fairly_turn c.turns.self c.turn.new.self (g.W.Wires.told c.args.wires.now) _ _ c.turn.ensures.kept c.turn.ensures.unpaused (keeps_fairly c.turns.self _ _ c.turns.invariant.on c.turns.invariant.accounts)
+
+pub returns-in_err-rest-in-Still-clause-fewest : goal.returns-in_err-rest-in-Still-clause-fewest
+returns-in_err-rest-in-Still-clause-fewest g c =
+    fairly_held c.turn.new.self c.rest.new.self (g.W.Wires.told c.args.wires.now) _ _ c.rest.ensures.kept c.in_err-rest-in-Still.ensures.still
+    (fairly_turn c.turns.self c.turn.new.self (g.W.Wires.told c.args.wires.now) _ _ c.turn.ensures.kept c.turn.ensures.unpaused (keeps_fairly c.turns.self _ _ c.turns.invariant.on c.turns.invariant.accounts))
+
+pub returns-clause-fewest : goal.returns-clause-fewest
+returns-clause-fewest g c = keeps_fairly c.turns.self _ _ c.turns.invariant.on c.turns.invariant.accounts
 
 pub returns-in_err-turn-clause-writes : goal.returns-in_err-turn-clause-writes
 returns-in_err-turn-clause-writes g c = (pauses_unpaused _ _ c.turn.ensures.unpaused).on (g.W.Wires.told c.args.wires.now) c.turns.invariant.writes
@@ -297,7 +327,7 @@ returns-in_err-check_patience-clause-tries g c = left_tried _ _ c.turns.invarian
 pub returns-in_err-check_patience-clause-decides : goal.returns-in_err-check_patience-clause-decides
 returns-in_err-check_patience-clause-decides g c =
     handed_on _ c.from_residual-in_err-check_patience.result _ c.from_residual-in_err-check_patience.ensures.1
-    (decided_all c.args.self.now c.turns.self _ _ _ c.turns.invariant.kept (looked_decided c.turns.self _ _ _ c.in_err-check_patience.ensures.calm c.in_err-check_patience.ensures.free c.turns.invariant.on))
+    (decided_all c.args.self.now c.turns.self _ _ _ c.turns.invariant.kept (looked_decided c.turns.self _ _ _ c.in_err-check_patience.ensures.free c.turns.invariant.on))
 
 pub returns-in_err-begin-clause-few : goal.returns-in_err-begin-clause-few
 returns-in_err-begin-clause-few g c = waited_within _ _ _ _ _ c.in_err-begin.ensures.impatient

@@ -11,6 +11,7 @@ use Rattle.lnbd_copy.specs.Tried.{IsLeft, TriedBut}
 use Rattle.lnbd_conduct.specs.Told.{Told}
 use Rattle.lnbd_copy.specs.Connects.{LinksGoAsTold}
 use Rattle.lnbd_conduct.specs.Changes.{Behaves}
+use Rattle.lnbd_copy.proofs.AccountLemmas.{KeepsAccounts}
 use Rattle.lnbd_copy.proofs.copier.Copier.copy.Given as goal
 
 abbrev pub invariant-turns : goal.invariant-turns
@@ -19,6 +20,7 @@ invariant-turns g l = record {
   kept : l.self ≡ record l.fn.self { start = l.self.start; held = l.self.held; board = l.self.board; job = l.self.job };
   on : IsOnItsWay (g.W.Wires.told l.fn.wires) (g.W.Wires.told l.wires) l.self;
   pauses : l.self.from ≢ l.self.to → Told (g.W.Wires.told l.fn.wires) (g.W.Wires.told l.wires) (PausesAreFull l.self.options l.self.from l.self.to);
+  accounts : KeepsAccounts l.self (g.W.Wires.told l.fn.wires) (g.W.Wires.told l.wires);
   writes : Told (g.W.Wires.told l.fn.wires) (g.W.Wires.told l.wires) (AtEachPause WantsOnlyFull);
   connects : LinksGoAsTold l.fn.self.options l.fn.self.from l.fn.self.to l.fn.self.held (g.W.Wires.told l.fn.wires) l.self.held (g.W.Wires.told l.wires);
   fair : l.fn.self.from ≢ l.fn.self.to → Told (g.W.Wires.told l.fn.wires) (g.W.Wires.told l.wires) (Behaves l.fn.self.options l.fn.self.from l.fn.self.to);

@@ -1,9 +1,12 @@
-use Rattle.std.proofs.Common.{◌≡◌, ◌==◌, ℕ, zero, suc, not, refl, ap, sym, ◌∙◌}
+use Rattle.std.proofs.Common.{◌≡◌, ◌==◌, ℕ, zero, suc, not, Option, refl, ap, sym, subst, ◌∙◌}
 use Rattle.std.proofs.lemmas.Bool.{eqb-true, false≢true, not-false}
 use Rattle.lnbd_poll.specs.declared.noticed.Turn.{Turn}
 use Rattle.lnbd_poll.specs.declared.noticed.Turn.TheVariants as turn
 use Rattle.lnbd_copy.specs.Copier.{Seen}
 use Rattle.lnbd_copy.specs.Moving.{HasMoved, Stirs}
+use Rattle.lnbd_copy.specs.Fewest.{GoesToFewest}
+use Rattle.lnbd_copy.specs.Job.{Seen as Task}
+use Rattle.lnbd_copy.proofs.FewestLemmas.{goes_after}
 use Rattle.lnbd_copy.proofs.CauseLemmas.{goes_then}
 use Rattle.lnbd_copy.proofs.EndLemmas.{finished, has_job, way_answers, way_asks}
 use Rattle.lnbd_copy.proofs.FaultLemmas.{behaves_idly}
@@ -30,7 +33,7 @@ pub returns-then-is_finished-clause-turns : goal.returns-then-is_finished-clause
 returns-then-is_finished-clause-turns g c start on =
     let parting = c.if-is_finished.ensures.parting refl in
     let left = c.part-parted.ensures.on start (c.in_ok-acted.ensures.on start _ (c.in_ok-moved.ensures.on start on)) in
-    finished _ start _ parting.job parting.there parting.parts (c.if-is_finished.ensures.parted refl) (sym (ap (λ (s : Seen). s.board.error) c.self.view_is) ∙ c.in_ok-check_well.ensures) left
+    finished _ start _ parting.job parting.there parting.parts (c.if-is_finished.ensures.parted refl) left.well left
 
 pub returns-clause-turns : goal.returns-clause-turns
 returns-clause-turns g c start on = c.progress_of.ensures.on start _ _ (c.part-parted.ensures.on start (c.in_ok-acted.ensures.on start _ (c.in_ok-moved.ensures.on start on)))
@@ -41,18 +44,18 @@ act-requires-clause-job g c = has_job c.requires.going.start _ _ (c.in_ok-moved.
 pub returns-then-is_finished-clause-asks : goal.returns-then-is_finished-clause-asks
 returns-then-is_finished-clause-asks g c start on two =
     let left = c.part-parted.ensures.on start (c.in_ok-acted.ensures.on start _ (c.in_ok-moved.ensures.on start on)) in
-    way_asks _ start _ (sym (ap (λ (s : Seen). s.board.error) c.self.view_is) ∙ c.in_ok-check_well.ensures) left two
+    way_asks _ start _ left.well left two
 
 pub returns-clause-asks : goal.returns-clause-asks
 returns-clause-asks g c start on two =
     let left = c.part-parted.ensures.on start (c.in_ok-acted.ensures.on start _ (c.in_ok-moved.ensures.on start on)) in
-    way_asks _ start _ (sym (ap (λ (s : Seen). s.board.error) c.self.view_is) ∙ c.in_ok-check_well.ensures) left two
+    way_asks _ start _ left.well left two
 
 pub returns-then-is_finished-clause-sums : goal.returns-then-is_finished-clause-sums
 returns-then-is_finished-clause-sums g c start on two =
     let parting = c.if-is_finished.ensures.parting refl in
     let left = c.part-parted.ensures.on start (c.in_ok-acted.ensures.on start _ (c.in_ok-moved.ensures.on start on)) in
-    summed _ start _ c.summary.result parting.job c.summary.ensures.counted parting.there parting.parts (c.if-is_finished.ensures.parted refl) (sym (ap (λ (s : Seen). s.board.error) c.self.view_is) ∙ c.in_ok-check_well.ensures) left two
+    summed _ start _ c.summary.result parting.job c.summary.ensures.counted parting.there parting.parts (c.if-is_finished.ensures.parted refl) left.well left two
 
 pub returns-clause-sums : goal.returns-clause-sums
 returns-clause-sums g c start on = c.progress_of.ensures.sums start (g.W.Wires.told c.part-parted.new.wires) c.part-parted.new.self
@@ -61,7 +64,7 @@ pub returns-then-is_finished-clause-flushes : goal.returns-then-is_finished-clau
 returns-then-is_finished-clause-flushes g c start on two =
     let parting = c.if-is_finished.ensures.parting refl in
     let left = c.part-parted.ensures.on start (c.in_ok-acted.ensures.on start _ (c.in_ok-moved.ensures.on start on)) in
-    flushed _ start _ c.summary.result parting.job c.summary.ensures.counted parting.there parting.parts (c.if-is_finished.ensures.parted refl) (sym (ap (λ (s : Seen). s.board.error) c.self.view_is) ∙ c.in_ok-check_well.ensures) left two
+    flushed _ start _ c.summary.result parting.job c.summary.ensures.counted parting.there parting.parts (c.if-is_finished.ensures.parted refl) left.well left two
 
 pub returns-clause-flushes : goal.returns-clause-flushes
 returns-clause-flushes g c start on = c.progress_of.ensures.flushes start (g.W.Wires.told c.part-parted.new.wires) c.part-parted.new.self
@@ -76,43 +79,43 @@ pub returns-then-is_finished-clause-under_way : goal.returns-then-is_finished-cl
 returns-then-is_finished-clause-under_way g c start on two =
     let left = c.part-parted.ensures.on start (c.in_ok-acted.ensures.on start _ (c.in_ok-moved.ensures.on start on)) in
     let busy = c.part-parted.ensures.busy (c.in_ok-acted.ensures.busy c.requires.going.start _ (c.in_ok-moved.ensures.on c.requires.going.start c.requires.going.on)) in
-    way_all_asked _ start _ (sym (ap (λ (s : Seen). s.board.error) c.self.view_is) ∙ c.in_ok-check_well.ensures) busy left two
+    way_all_asked _ start _ left.well busy left two
 
 pub returns-clause-under_way : goal.returns-clause-under_way
 returns-clause-under_way g c start on two =
     let left = c.part-parted.ensures.on start (c.in_ok-acted.ensures.on start _ (c.in_ok-moved.ensures.on start on)) in
     let busy = c.part-parted.ensures.busy (c.in_ok-acted.ensures.busy c.requires.going.start _ (c.in_ok-moved.ensures.on c.requires.going.start c.requires.going.on)) in
-    way_all_asked _ start _ (sym (ap (λ (s : Seen). s.board.error) c.self.view_is) ∙ c.in_ok-check_well.ensures) busy left two
+    way_all_asked _ start _ left.well busy left two
 
 pub returns-then-is_finished-clause-shares : goal.returns-then-is_finished-clause-shares
 returns-then-is_finished-clause-shares g c start on two =
     let left = c.part-parted.ensures.on start (c.in_ok-acted.ensures.on start _ (c.in_ok-moved.ensures.on start on)) in
-    way_shares _ start _ (sym (ap (λ (s : Seen). s.board.error) c.self.view_is) ∙ c.in_ok-check_well.ensures) left two
+    way_shares _ start _ left.well left two
 
 pub returns-clause-shares : goal.returns-clause-shares
 returns-clause-shares g c start on two =
     let left = c.part-parted.ensures.on start (c.in_ok-acted.ensures.on start _ (c.in_ok-moved.ensures.on start on)) in
-    way_shares _ start _ (sym (ap (λ (s : Seen). s.board.error) c.self.view_is) ∙ c.in_ok-check_well.ensures) left two
+    way_shares _ start _ left.well left two
 
 pub returns-then-is_finished-clause-little : goal.returns-then-is_finished-clause-little
 returns-then-is_finished-clause-little g c start on =
     let left = c.part-parted.ensures.on start (c.in_ok-acted.ensures.on start _ (c.in_ok-moved.ensures.on start on)) in
-    way_little _ start _ (sym (ap (λ (s : Seen). s.board.error) c.self.view_is) ∙ c.in_ok-check_well.ensures) left
+    way_little _ start _ left.well left
 
 pub returns-clause-little : goal.returns-clause-little
 returns-clause-little g c start on =
     let left = c.part-parted.ensures.on start (c.in_ok-acted.ensures.on start _ (c.in_ok-moved.ensures.on start on)) in
-    way_little _ start _ (sym (ap (λ (s : Seen). s.board.error) c.self.view_is) ∙ c.in_ok-check_well.ensures) left
+    way_little _ start _ left.well left
 
 pub returns-then-is_finished-clause-answered : goal.returns-then-is_finished-clause-answered
 returns-then-is_finished-clause-answered g c start on two =
     let left = c.part-parted.ensures.on start (c.in_ok-acted.ensures.on start _ (c.in_ok-moved.ensures.on start on)) in
-    way_answers _ start _ (sym (ap (λ (s : Seen). s.board.error) c.self.view_is) ∙ c.in_ok-check_well.ensures) left two
+    way_answers _ start _ left.well left two
 
 pub returns-clause-answered : goal.returns-clause-answered
 returns-clause-answered g c start on two =
     let left = c.part-parted.ensures.on start (c.in_ok-acted.ensures.on start _ (c.in_ok-moved.ensures.on start on)) in
-    way_answers _ start _ (sym (ap (λ (s : Seen). s.board.error) c.self.view_is) ∙ c.in_ok-check_well.ensures) left two
+    way_answers _ start _ left.well left two
 
 pub returns-then-is_finished-clause-unpaused : goal.returns-then-is_finished-clause-unpaused
 returns-then-is_finished-clause-unpaused g c = unpaused_then _ _ _ (c.take_turn.ensures.unpaused c.requires.going.on.stand) c.part-parted.ensures.unpaused
@@ -129,9 +132,6 @@ returns-clause-still g c still =
           let same = c.part-parted.ensures.still (eqb-true c.part-parted.result 0 (not-false _ (sym w.progress_of-is ∙ none))) in
           vain_same _ _ _ _ _ (same.0 ∙ c.in_ok-acted.ensures.still w.if-acted.false) (ap g.W.Wires.told same.1) (c.in_ok-moved.ensures.still (c.progress_of.ensures.moved still) c.requires.going.on.stand)
     ]
-
-pub returns-in_err-check_well-clause-counts : goal.returns-in_err-check_well-clause-counts
-returns-in_err-check_well-clause-counts g c = goes_then _ _ _ _ _ _ _ _ _ c.take_turn.ensures.counts c.part-parted.ensures.counts
 
 pub returns-in_err-check_counts-clause-counts : goal.returns-in_err-check_counts-clause-counts
 returns-in_err-check_counts-clause-counts g c = goes_then _ _ _ _ _ _ _ _ _ c.take_turn.ensures.counts c.part-parted.ensures.counts
@@ -152,13 +152,19 @@ returns-clause-spread g c =
     let start = c.requires.going.start in
     way_spread _ start _ (c.part-parted.ensures.on start (c.in_ok-acted.ensures.on start _ (c.in_ok-moved.ensures.on start c.requires.going.on)))
 
+pub returns-then-is_finished-clause-fewest : goal.returns-then-is_finished-clause-fewest
+returns-then-is_finished-clause-fewest g c =
+    subst (λ (job : Option Task). GoesToFewest job c.part-parted.new.self.job c.args.self.now.board c.part-parted.new.self.board) (ap (λ (s : Seen). s.job) c.take_turn.ensures.kept)
+    (c.part-parted.ensures.fewest _ _ (goes_after _ _ _ _ _ (c.in_ok-moved.ensures.leaves c.requires.going.on.stand) c.in_ok-acted.ensures.fewest))
+
+pub returns-clause-fewest : goal.returns-clause-fewest
+returns-clause-fewest g c =
+    subst (λ (job : Option Task). GoesToFewest job c.part-parted.new.self.job c.args.self.now.board c.part-parted.new.self.board) (ap (λ (s : Seen). s.job) c.take_turn.ensures.kept)
+    (c.part-parted.ensures.fewest _ _ (goes_after _ _ _ _ _ (c.in_ok-moved.ensures.leaves c.requires.going.on.stand) c.in_ok-acted.ensures.fewest))
+
 pub returns-in_err-acted-clause-links : goal.returns-in_err-acted-clause-links
 returns-in_err-acted-clause-links g c =
     links_then _ _ _ _ _ _ (c.in_ok-moved.ensures.links c.requires.going.on.stand) (links_same _ _ _ c.in_err-acted.ensures.links)
-
-pub returns-in_err-check_well-clause-links : goal.returns-in_err-check_well-clause-links
-returns-in_err-check_well-clause-links g c =
-    links_then _ _ _ _ _ _ (c.in_ok-moved.ensures.links c.requires.going.on.stand) (links_then _ _ _ _ _ _ (links_same _ _ _ c.in_ok-acted.ensures.links) c.part-parted.ensures.links)
 
 pub returns-then-is_finished-clause-links : goal.returns-then-is_finished-clause-links
 returns-then-is_finished-clause-links g c =
@@ -174,17 +180,11 @@ returns-then-is_finished-clause-fair g c start on two fair = behaves_idly _ _ _ 
 pub returns-clause-fair : goal.returns-clause-fair
 returns-clause-fair g c start on two fair = behaves_idly _ _ _ start _ _ c.part-parted.ensures.idly (c.take_turn.ensures.fair start on two fair)
 
-pub returns-in_err-check_well-clause-fair : goal.returns-in_err-check_well-clause-fair
-returns-in_err-check_well-clause-fair g c start on two fair = behaves_idly _ _ _ start _ _ c.part-parted.ensures.idly (c.take_turn.ensures.fair start on two fair)
-
 pub returns-in_err-moved-clause-unpaused : goal.returns-in_err-moved-clause-unpaused
 returns-in_err-moved-clause-unpaused g c = c.take_turn.ensures.unpaused c.requires.going.on.stand
 
 pub returns-in_err-acted-clause-unpaused : goal.returns-in_err-acted-clause-unpaused
 returns-in_err-acted-clause-unpaused g c = c.take_turn.ensures.unpaused c.requires.going.on.stand
-
-pub returns-in_err-check_well-clause-unpaused : goal.returns-in_err-check_well-clause-unpaused
-returns-in_err-check_well-clause-unpaused g c = unpaused_then _ _ _ (c.take_turn.ensures.unpaused c.requires.going.on.stand) c.part-parted.ensures.unpaused
 
 pub returns-clause-moved : goal.returns-clause-moved
 returns-clause-moved g c count moves = go c.in_ok-moved.moved refl
@@ -233,9 +233,6 @@ returns-then-is_finished-clause-drives g c start on = driven_idly _ _ _ start _ 
 pub returns-clause-drives : goal.returns-clause-drives
 returns-clause-drives g c start on = driven_idly _ _ _ start _ _ c.part-parted.ensures.idly (c.take_turn.ensures.drives start on)
 
-pub returns-in_err-check_well-clause-drives : goal.returns-in_err-check_well-clause-drives
-returns-in_err-check_well-clause-drives g c start on = driven_idly _ _ _ start _ _ c.part-parted.ensures.idly (c.take_turn.ensures.drives start on)
-
 pub returns-in_err-check_counts-clause-drives : goal.returns-in_err-check_counts-clause-drives
 returns-in_err-check_counts-clause-drives g c start on = driven_idly _ _ _ start _ _ c.part-parted.ensures.idly (c.take_turn.ensures.drives start on)
 
@@ -261,9 +258,6 @@ returns-in_err-moved-clause-once g c start on = c.take_turn.ensures.once start o
 
 pub returns-in_err-acted-clause-once : goal.returns-in_err-acted-clause-once
 returns-in_err-acted-clause-once g c start on = c.take_turn.ensures.once start on
-
-pub returns-in_err-check_well-clause-once : goal.returns-in_err-check_well-clause-once
-returns-in_err-check_well-clause-once g c start on = tires_behind 1 _ _ _ (c.take_turn.ensures.once start on) (untired_idly _ _ c.part-parted.ensures.idly)
 
 pub returns-in_err-check_counts-clause-once : goal.returns-in_err-check_counts-clause-once
 returns-in_err-check_counts-clause-once g c start on = tires_behind 1 _ _ _ (c.take_turn.ensures.once start on) (untired_idly _ _ c.part-parted.ensures.idly)
@@ -307,9 +301,6 @@ returns-clause-stirs g c count moves start nothing = go c.in_ok-moved.moved refl
     go : (told : Turn) → c.in_ok-moved.moved ≡ told → Is
     go (turn.Moved n) is = stirs_behind c.args.self.now.held (g.W.Wires.told c.args.wires.now) (g.W.Wires.told c.take_turn.new.wires) (g.W.Wires.told c.part-parted.new.wires) (c.in_ok-moved.ensures.moved n is c.requires.going.on.stand) c.part-parted.ensures.unpaused
     go turn.Still is = parts c.part-parted.result refl is
-
-pub returns-in_err-check_well-clause-decides : goal.returns-in_err-check_well-clause-decides
-returns-in_err-check_well-clause-decides g c = handed_on _ c.from_residual-in_err-check_well.result _ c.from_residual-in_err-check_well.ensures.1 (λ start on. memory_decided _ _ _ _ start _ refl)
 
 pub returns-in_err-check_counts-clause-grounds : goal.returns-in_err-check_counts-clause-grounds
 returns-in_err-check_counts-clause-grounds g c = handed_on _ c.from_residual-in_err-check_counts.result _ c.from_residual-in_err-check_counts.ensures.1 (λ start on. none_grounded _ _ _ _ _ _ c.in_err-check_counts.ensures.free)

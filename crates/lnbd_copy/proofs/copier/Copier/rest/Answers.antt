@@ -4,6 +4,7 @@ use Rattle.lnbd_link.specs.Call.{Pause}
 use Rattle.lnbd_link.specs.Part.{Adds}
 use Rattle.lnbd_poll.specs.Held.{wants_now}
 use Rattle.lnbd_copy.specs.Copier.{IsOnItsWay, Seen}
+use Rattle.lnbd_copy.specs.Ready.{AreLive}
 use Rattle.lnbd_copy.specs.Waits.{AreUnparted}
 use Rattle.lnbd_copy.proofs.EndLemmas.{after_turn}
 use Rattle.lnbd_copy.proofs.ReadyLemmas.{may_go_still, ready_same}
@@ -12,7 +13,7 @@ use Rattle.lnbd_copy.proofs.copier.Copier.rest.Goals as goal
 pub returns-clause-on : goal.returns-clause-on
 returns-clause-on g c =
     on_ok_weaker c.wait.result
-    (λ goes start on. after_turn _ start c.self.inside.board c.wait.new.handles (g.W.Wires.told c.args.wires.now) (g.W.Wires.told c.wait.new.wires) (λ j. may_go_still j _ _ (ready_same _ _ c.wait.ensures.same)) (goes c.self.inside.board) (subst (λ (s : Seen). IsOnItsWay start (g.W.Wires.told c.args.wires.now) s) (sym c.self.view_is) on))
+    (λ goes start on. after_turn _ start c.self.inside.board c.wait.new.handles (g.W.Wires.told c.args.wires.now) (g.W.Wires.told c.wait.new.wires) (λ j. may_go_still j _ _ (ready_same _ _ c.wait.ensures.same) (subst AreLive (sym c.wait.ensures.same))) (λ none. none) (goes c.self.inside.board) (subst (λ (s : Seen). IsOnItsWay start (g.W.Wires.told c.args.wires.now) s) (sym c.self.view_is) on))
     c.wait.ensures.goes
 
 pub returns-clause-pauses : goal.returns-clause-pauses

@@ -12,7 +12,7 @@ returns-clause-copies g c two =
 
 pub returns-clause-conducts : goal.returns-clause-conducts
 returns-clause-conducts g c =
-    conducts c.args.self.options c.args.self.from c.args.self.to _ _ c.carry_out.ensures.links c.carry_out.ensures.within c.carry_out.ensures.behaves c.carry_out.ensures.pauses
+    conducts c.args.self.options c.args.self.from c.args.self.to _ _ c.carry_out.ensures.links c.carry_out.ensures.within c.carry_out.ensures.behaves c.carry_out.ensures.pauses c.carry_out.ensures.fewest
     c.carry_out.ensures.waits c.carry_out.ensures.writes c.carry_out.ensures.reads c.carry_out.ensures.wanted c.carry_out.ensures.drives c.carry_out.ensures.tries c.carry_out.ensures.little c.carry_out.ensures.wants_all c.carry_out.ensures.few c.carry_out.ensures.paces
 
 pub returns-clause-made : goal.returns-clause-made

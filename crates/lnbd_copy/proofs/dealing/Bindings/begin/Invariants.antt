@@ -1,9 +1,11 @@
 use Rattle.std.proofs.Common.{◌≡◌, ◌≤◌, ◌<◌, length, not}
-use Rattle.lnbd_copy.specs.Dealt.{Deals}
+use Rattle.lnbd_copy.specs.Dealt.{AreDealt, Deals}
 use Rattle.lnbd_copy.specs.Dealing.{Begins}
+use Rattle.lnbd_copy.specs.Fewest.{AddsFewest}
 use Rattle.lnbd_copy.specs.UnderWay.{unfinished}
 use Rattle.lnbd_copy.specs.Links.{HaveSameLinks}
 use Rattle.lnbd_copy.specs.Ready.{StaysReady}
+use Rattle.lnbd_copy.specs.Windows.{AllFit}
 use Rattle.lnbd_copy.proofs.dealing.Bindings.begin.Given as goal
 
 abbrev pub invariant-slices : goal.invariant-slices
@@ -21,6 +23,8 @@ invariant-slices l = record {
   none : l.board.begun ≡ l.fn.board.begun → l.done ≡ 0;
   links : HaveSameLinks l.fn.handles l.handles;
   ready : StaysReady l.fn.handles l.handles;
+  fits : AllFit l.fn.windows.size l.fn.windows.plan.cells l.fn.board.rows → AllFit l.fn.windows.size l.fn.windows.plan.cells l.board.rows;
   begins : Begins l.fn.board.how l.fn.self.sides l.fn.windows l.windows l.fn.board l.board l.fn.handles l.handles;
   dealt : Deals l.limit l.fn.self.sides l.fn.self.bound l.self.bound l.fn.board.rows l.board.rows;
+  fewest : AreDealt l.limit l.fn.self.sides l.fn.self.bound l.fn.board.rows → AddsFewest l.fn.self.sides l.fn.board l.board;
 }

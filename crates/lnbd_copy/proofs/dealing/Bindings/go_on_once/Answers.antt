@@ -4,6 +4,8 @@ use Rattle.lnbd_conduct.specs.Sides.{is_source}
 use Rattle.lnbd_course.specs.Orders.{command_of}
 use Rattle.lnbd_copy.specs.Ready.{MayTake}
 use Rattle.lnbd_copy.proofs.DealingLemmas.{asks_keeps, over_keeps}
+use Rattle.lnbd_copy.proofs.FitLemmas.{fit_nothing, fit_on, fit_over}
+use Rattle.lnbd_copy.proofs.FewestLemmas.{fewer_nothing, fewer_on, fewer_over}
 use Rattle.lnbd_copy.proofs.LawfulLemmas.{next_taken}
 use Rattle.lnbd_copy.proofs.ReadyLemmas.{of_side_ready}
 use Rattle.lnbd_copy.proofs.MovingLemmas.{on_came, on_fewer, over_came, over_fewer}
@@ -38,6 +40,26 @@ pub returns-in_ok-change_destination-in-Asks-clause-dealt : goal.returns-in_ok-c
 returns-in_ok-change_destination-in-Asks-clause-dealt c limit =
     deals_on limit c.args.self.now.sides c.args.board.now.how c.in-Asks.slice c.in-Asks.destination c.in-Asks.change c.in_ok-next.next c.args.board.now c.next.new.self c.change_destination.new.board c.args.self.now.bound c.in-Asks.is c.in_ok-next.ensures.ok c.in_ok-change_destination-in-Asks.ensures.board
 
+pub returns-in-Nothing-clause-fits : goal.returns-in-Nothing-clause-fits
+returns-in-Nothing-clause-fits c size cells fit = fit_nothing size cells c.args.board.now.how c.in_ok-next.next c.args.board.now c.next.new.self c.in-Nothing.is c.in_ok-next.ensures.ok fit
+
+pub returns-in-Over-clause-fits : goal.returns-in-Over-clause-fits
+returns-in-Over-clause-fits c size cells fit = fit_over size cells c.args.board.now.how c.in-Over.slice c.in-Over.source c.in-Over.destination c.in_ok-next.next c.args.board.now c.next.new.self c.in-Over.is c.in_ok-next.ensures.ok fit
+
+pub returns-in_ok-change_destination-in-Asks-clause-fits : goal.returns-in_ok-change_destination-in-Asks-clause-fits
+returns-in_ok-change_destination-in-Asks-clause-fits c size cells fit =
+    fit_on size cells c.args.board.now.how c.in-Asks.slice c.in-Asks.destination c.in-Asks.change c.in_ok-next.next c.args.board.now c.next.new.self c.change_destination.new.board c.in-Asks.is c.in_ok-next.ensures.ok c.in_ok-change_destination-in-Asks.ensures.board fit
+
+pub returns-in-Nothing-clause-leaves : goal.returns-in-Nothing-clause-leaves
+returns-in-Nothing-clause-leaves c = fewer_nothing c.args.board.now.how c.in_ok-next.next c.args.board.now c.next.new.self c.in-Nothing.is c.in_ok-next.ensures.ok
+
+pub returns-in-Over-clause-leaves : goal.returns-in-Over-clause-leaves
+returns-in-Over-clause-leaves c = fewer_over c.args.board.now.how c.in-Over.slice c.in-Over.source c.in-Over.destination c.in_ok-next.next c.args.board.now c.next.new.self c.in-Over.is c.in_ok-next.ensures.ok
+
+pub returns-in_ok-change_destination-in-Asks-clause-leaves : goal.returns-in_ok-change_destination-in-Asks-clause-leaves
+returns-in_ok-change_destination-in-Asks-clause-leaves c =
+    fewer_on c.args.board.now.how c.in-Asks.slice c.in-Asks.destination c.in-Asks.change c.in_ok-next.next c.args.board.now c.next.new.self c.change_destination.new.board c.in-Asks.is c.in_ok-next.ensures.ok c.in_ok-change_destination-in-Asks.ensures.board
+
 pub returns-in-Over-clause-none : goal.returns-in-Over-clause-none
 returns-in-Over-clause-none c none = over_came c.args.board.now.how c.in-Over.slice c.in-Over.source c.in-Over.destination c.in_ok-next.next c.args.board.now c.next.new.self c.in-Over.is c.in_ok-next.ensures.ok none
 
@@ -64,7 +86,7 @@ change_destination-requires-clause-here c =
     (asked_within c.args.board.now.how c.args.self.now.sides c.args.self.now.bound c.in-Asks.slice c.in-Asks.destination c.in-Asks.change c.in_ok-next.next c.args.board.now c.next.new.self c.in-Asks.is c.in_ok-next.ensures.ok c.requires.dealt)
 
 pub change_destination-requires-clause-many : goal.change_destination-requires-clause-many
-change_destination-requires-clause-many c = c.requires.may.ready.many ∙ ap (λ (s : Sides). s.source + s.destination) (sym c.sides.ensures.same)
+change_destination-requires-clause-many c = c.requires.may.may.ready.many ∙ ap (λ (s : Sides). s.source + s.destination) (sym c.sides.ensures.same)
 
 pub returns-in-Over-clause-fewer : goal.returns-in-Over-clause-fewer
 returns-in-Over-clause-fewer c went = over_fewer c.args.board.now.how c.in-Over.slice c.in-Over.source c.in-Over.destination c.in_ok-next.next c.args.board.now c.next.new.self c.in-Over.is c.in_ok-next.ensures.ok

@@ -1,4 +1,4 @@
-use Rattle.std.proofs.Common.{arith, ℕ, Option, is_some, true, refl, ap, sym, subst, ◌∙◌}
+use Rattle.std.proofs.Common.{arith, ◌≤◌, ℕ, Option, is_some, true, refl, ap, sym, subst, ◌∙◌}
 use Rattle.lnbd_copy.specs.Job.{Acts, Seen}
 use Rattle.lnbd_copy.specs.UnderWay.{HasAsked, IsWantedOf}
 use Rattle.lnbd_copy.specs.Ready.{MayAct}
@@ -33,7 +33,8 @@ returns-in-None-clause-asks c =
 pub ask_extents-requires-clause-may : goal.ask_extents-requires-clause-may
 ask_extents-requires-clause-may c =
     let was : Seen = record { terms = c.self.inside.terms; windows = c.self.inside.windows; asked = c.self.inside.asked; phase = c.self.inside.phase; bound = c.self.inside.bindings.bound } in
-    job_asks was c.args.handles.now c.in-Some.wanted.length c.in-Some.wanted.offset (ap (λ (o : Option (ℕ × ℕ)). is_some o) (sym c.in-Some.ensures)) (subst (λ (j : Seen). MayAct j c.args.handles.now) (sym c.self.view_is) c.requires.may)
+    job_asks was c.args.handles.now (c.in-Some.wanted.offset, c.in-Some.wanted.length) (sym c.in-Some.ensures) c.self.invariant.size
+    (subst (λ (j : Seen). j.windows.plan.end ≤ j.windows.at) (sym c.self.view_is) c.may_ask.ensures.ahead) (subst (λ (j : Seen). MayAct j c.args.handles.now) (sym c.self.view_is) c.requires.may)
 
 pub ask_extents-requires-clause-held : goal.ask_extents-requires-clause-held
 ask_extents-requires-clause-held c = let many = c.requires.may.may.ready.many in let some = c.requires.may.may.some in omega (arith, many, some)

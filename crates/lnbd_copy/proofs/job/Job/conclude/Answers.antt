@@ -4,7 +4,7 @@ use Rattle.lnbd_copy.specs.Job.{Acts, IsOver, Seen}
 use Rattle.lnbd_copy.proofs.JobLemmas.{acts_flushing, acts_parting}
 use Rattle.lnbd_copy.specs.Ready.{MayAct}
 use Rattle.lnbd_copy.proofs.LawfulLemmas.{job_flushes}
-use Rattle.lnbd_copy.proofs.ReadyLemmas.{asked_ready, may_act_still, may_alive}
+use Rattle.lnbd_copy.proofs.ReadyLemmas.{asked_ready, may_act_still, may_alive, may_go, may_live}
 use Rattle.lnbd_copy.proofs.UnderWayLemmas.{flushing_past, parting_past}
 use Rattle.lnbd_copy.proofs.job.Job.conclude.Goals as goal
 
@@ -26,13 +26,13 @@ pub returns-clause-past : goal.returns-clause-past
 returns-clause-past c = parting_past c.leave.new.self c.args.board.now c.args.board.now (ap (λ (j : Seen). j.phase) c.leave.ensures.others) refl
 
 pub returns-then-self-clause-may : goal.returns-then-self-clause-may
-returns-then-self-clause-may c = λ going.
+returns-then-self-clause-may c =
     let was : Seen = record { terms = c.self.inside.terms; windows = c.self.inside.windows; asked = c.self.inside.asked; phase = c.self.inside.phase; bound = c.self.inside.bindings.bound } in
     let new : Seen = record { terms = c.self.inside.terms; windows = c.self.inside.windows; asked = c.self.inside.asked; phase = phase.Flushing; bound = c.self.inside.bindings.bound } in
-    may_act_still was new c.args.handles.now c.ask_flush.new.handles refl refl (asked_ready 1 _ c.args.handles.now c.ask_flush.new.handles c.in_ok-ask_flush.ensures.asked) (subst (λ (j : Seen). MayAct j c.args.handles.now) (sym c.self.view_is) c.requires.may)
+    may_go new c.ask_flush.new.handles (may_act_still was new c.args.handles.now c.ask_flush.new.handles refl refl (asked_ready 1 _ c.args.handles.now c.ask_flush.new.handles c.in_ok-ask_flush.ensures.asked) (subst (λ (j : Seen). MayAct j c.args.handles.now) (sym c.self.view_is) c.requires.may))
 
 pub returns-clause-may : goal.returns-clause-may
-returns-clause-may c = λ going. absurd (going (ap (λ (j : Seen). j.phase) c.leave.ensures.others))
+returns-clause-may c = record { act = λ going. absurd (going (ap (λ (j : Seen). j.phase) c.leave.ensures.others)); live = (c.leave.ensures.parts c.args.board.now).live (may_live c.args.self.now c.args.handles.now c.requires.may) }
 
 pub ask_flush-requires-clause-may : goal.ask_flush-requires-clause-may
 ask_flush-requires-clause-may c =

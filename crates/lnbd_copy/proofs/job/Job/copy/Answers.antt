@@ -2,7 +2,9 @@ use Rattle.std.proofs.Common.{ap, inl, inr, refl, sym, ◌∙◌}
 use Rattle.std.proofs.lemmas.Bool.{false≢true}
 use Rattle.lnbd_copy.specs.Job.{Seen}
 use Rattle.lnbd_copy.proofs.AwaitLemmas.{asks_no_more, board_unflushed, copying_waits, flushing_waits}
+use Rattle.lnbd_copy.proofs.FewestLemmas.{copy_takes, past_takes}
 use Rattle.lnbd_copy.proofs.JobLemmas.{acts_then}
+use Rattle.lnbd_copy.proofs.ReadyLemmas.{may_go}
 use Rattle.lnbd_copy.proofs.SpreadLemmas.{spreads_all, spreads_past}
 use Rattle.lnbd_copy.proofs.UnderWayLemmas.{past_refills, refilled}
 use Rattle.lnbd_copy.proofs.job.Job.copy.Goals as goal
@@ -44,6 +46,20 @@ returns-then-heard-clause-spread c = spreads_all _ _ _ _ _ _ _ _ _ c.in_ok-went.
 pub returns-else-heard-clause-spread : goal.returns-else-heard-clause-spread
 returns-else-heard-clause-spread c = spreads_all _ _ _ _ _ _ _ _ _ c.in_ok-went.ensures.spread c.hear.ensures.terms c.in_ok-heard.ensures.bound c.in_ok-asked.ensures.asks c.in_ok-begun.ensures.spread
 
+pub returns-then-is_copied-clause-fewest : goal.returns-then-is_copied-clause-fewest
+returns-then-is_copied-clause-fewest c =
+    past_takes c.args.self.now.terms.sides _ c.args.board.now c.begin.new.board c.conclude.new.board
+    (copy_takes c.args.self.now c.go_on.new.self c.hear.new.self c.ask.new.self c.args.board.now c.go_on.new.board c.ask.new.board c.begin.new.board c.in_ok-went.ensures.spread (ap (λ (j : Seen). j.terms) c.go_on.ensures.job) c.in_ok-went.ensures.leaves c.hear.ensures.terms c.in_ok-heard.ensures.bound c.in_ok-asked.ensures.asks c.in_ok-begun.ensures.fewest c.requires.dealt)
+    c.in_ok-conclude.ensures.past c.in_ok-conclude.ensures.begun
+
+pub returns-then-heard-clause-fewest : goal.returns-then-heard-clause-fewest
+returns-then-heard-clause-fewest c =
+    copy_takes c.args.self.now c.go_on.new.self c.hear.new.self c.ask.new.self c.args.board.now c.go_on.new.board c.ask.new.board c.begin.new.board c.in_ok-went.ensures.spread (ap (λ (j : Seen). j.terms) c.go_on.ensures.job) c.in_ok-went.ensures.leaves c.hear.ensures.terms c.in_ok-heard.ensures.bound c.in_ok-asked.ensures.asks c.in_ok-begun.ensures.fewest c.requires.dealt
+
+pub returns-else-heard-clause-fewest : goal.returns-else-heard-clause-fewest
+returns-else-heard-clause-fewest c =
+    copy_takes c.args.self.now c.go_on.new.self c.hear.new.self c.ask.new.self c.args.board.now c.go_on.new.board c.ask.new.board c.begin.new.board c.in_ok-went.ensures.spread (ap (λ (j : Seen). j.terms) c.go_on.ensures.job) c.in_ok-went.ensures.leaves c.hear.ensures.terms c.in_ok-heard.ensures.bound c.in_ok-asked.ensures.asks c.in_ok-begun.ensures.fewest c.requires.dealt
+
 pub returns-then-is_copied-clause-awaits : goal.returns-then-is_copied-clause-awaits
 returns-then-is_copied-clause-awaits c unflushed =
     flushing_waits _ _ c.in_ok-conclude.ensures.past.past (c.in_ok-conclude.ensures.flushed ∙ board_unflushed c.args.board.now c.go_on.new.board c.ask.new.board c.begin.new.board c.hear.new.self c.ask.new.self c.begin.new.self c.in_ok-went.ensures.others c.in_ok-asked.ensures.asks c.in_ok-begun.ensures.fills unflushed)
@@ -71,7 +87,7 @@ pub ask-requires-clause-may : goal.ask-requires-clause-may
 ask-requires-clause-may c = c.in_ok-heard.ensures.may c.go_on.new.handles c.in_ok-went.ensures.may
 
 pub returns-then-heard-clause-may : goal.returns-then-heard-clause-may
-returns-then-heard-clause-may c going = c.in_ok-begun.ensures.may
+returns-then-heard-clause-may c = may_go _ _ c.in_ok-begun.ensures.may
 
 pub returns-else-heard-clause-may : goal.returns-else-heard-clause-may
-returns-else-heard-clause-may c going = c.in_ok-begun.ensures.may
+returns-else-heard-clause-may c = may_go _ _ c.in_ok-begun.ensures.may

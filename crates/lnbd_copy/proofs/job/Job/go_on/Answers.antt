@@ -1,12 +1,13 @@
 use Rattle.std.proofs.Common.{refl, ap, sym, subst, ◌∙◌}
 use Rattle.lnbd_board.specs.Files as board
-use Rattle.lnbd_copy.specs.Dealt.{HasDealt, Spreads}
+use Rattle.lnbd_copy.specs.Dealt.{HasDealt, HasFit, Spreads}
 use Rattle.lnbd_copy.specs.Job.{Acts, Seen}
 use Rattle.lnbd_copy.specs.Ready.{MayAct}
 use Rattle.lnbd_copy.proofs.JobLemmas.{acts_keeps}
-use Rattle.lnbd_copy.proofs.LawfulLemmas.{bindings_may}
+use Rattle.lnbd_copy.proofs.LawfulLemmas.{bindings_serve}
 use Rattle.lnbd_copy.proofs.ReadyLemmas.{may_act_still}
 use Rattle.lnbd_copy.proofs.SpreadLemmas.{acts_bound, job_deals, spreads_deals}
+use Rattle.lnbd_conduct.specs.Slices.{cells_of}
 use Rattle.lnbd_copy.proofs.job.Job.go_on.Goals as goal
 
 pub returns-clause-acts : goal.returns-clause-acts
@@ -20,12 +21,13 @@ pub returns-clause-spread : goal.returns-clause-spread
 returns-clause-spread c =
     let was : Seen = record { terms = c.self.inside.terms; windows = c.self.inside.windows; asked = c.self.inside.asked; phase = c.self.inside.phase; bound = c.self.inside.bindings.bound } in
     let new : Seen = record { terms = c.self.inside.terms; windows = c.self.inside.windows; asked = c.self.inside.asked; phase = c.self.inside.phase; bound = c.go_on.new.self.bound } in
-    subst (λ (j : Seen). Spreads j new c.args.board.now c.go_on.new.board) c.self.view_is (spreads_deals was new c.self.inside.bindings.sides c.args.board.now c.go_on.new.board refl c.self.invariant.bound (c.in_ok-went.ensures.dealt was.terms.limit))
+    subst (λ (j : Seen). Spreads j new c.args.board.now c.go_on.new.board) c.self.view_is (spreads_deals was new c.self.inside.bindings.sides c.args.board.now c.go_on.new.board refl c.self.invariant.bound (c.in_ok-went.ensures.dealt was.terms.limit) (c.in_ok-went.ensures.fits was.terms.size (cells_of was.terms)))
 
 pub go_on-requires-clause-may : goal.go_on-requires-clause-may
 go_on-requires-clause-may c =
     let was : Seen = record { terms = c.self.inside.terms; windows = c.self.inside.windows; asked = c.self.inside.asked; phase = c.self.inside.phase; bound = c.self.inside.bindings.bound } in
-    bindings_may was c.self.inside.bindings.sides c.args.board.now.how c.args.handles.now c.self.invariant.bound (c.requires.how ∙ sym (ap (λ (j : Seen). j.terms.how) c.self.view_is)) (subst (λ (j : Seen). MayAct j c.args.handles.now) (sym c.self.view_is) c.requires.may)
+    bindings_serve was c.self.inside.bindings.sides c.args.board.now.how c.args.handles.now c.self.invariant.bound (c.requires.how ∙ sym (ap (λ (j : Seen). j.terms.how) c.self.view_is)) (subst (λ (j : Seen). MayAct j c.args.handles.now) (sym c.self.view_is) c.requires.may)
+    c.args.board.now.rows (subst (λ (j : Seen). HasFit j c.args.board.now) (sym c.self.view_is) c.requires.fit)
 
 pub go_on-requires-clause-dealt : goal.go_on-requires-clause-dealt
 go_on-requires-clause-dealt c =

@@ -107,14 +107,14 @@ returns-clause-runs g c =
     let told = g.W.Wires.told c.args.wires.now in
     c.in_ok-job.ensures.runs c.args.to.now told _ (c.in_ok-join.ensures.on told c.in_ok-terms.ensures.met)
 
-pub returns-in_err-join-clause-unmoved : goal.returns-in_err-join-clause-unmoved
-returns-in_err-join-clause-unmoved g c = c.join.ensures.unmoved _ c.in_ok-terms.ensures.met c.meet.ensures.unmoved
+pub returns-in_err-join-clause-unready : goal.returns-in_err-join-clause-unready
+returns-in_err-join-clause-unready g c = c.join.ensures.unready _ c.in_ok-terms.ensures.awaits
 
-pub returns-in_err-job-clause-unmoved : goal.returns-in_err-job-clause-unmoved
-returns-in_err-job-clause-unmoved g c = c.join.ensures.unmoved _ c.in_ok-terms.ensures.met c.meet.ensures.unmoved
+pub returns-in_err-job-clause-unready : goal.returns-in_err-job-clause-unready
+returns-in_err-job-clause-unready g c = c.join.ensures.unready _ c.in_ok-terms.ensures.awaits
 
-pub returns-clause-unmoved : goal.returns-clause-unmoved
-returns-clause-unmoved g c = c.join.ensures.unmoved _ c.in_ok-terms.ensures.met c.meet.ensures.unmoved
+pub returns-clause-unready : goal.returns-clause-unready
+returns-clause-unready g c = c.join.ensures.unready _ c.in_ok-terms.ensures.awaits
 
 pub returns-clause-full : goal.returns-clause-full
 returns-clause-full g c = λ file shelf given.
@@ -131,4 +131,4 @@ returns-clause-full g c = λ file shelf given.
     (c.in_ok-join.ensures.many stand ∙ ap (λ (n : ℕ). n + more) c.in_ok-terms.ensures.one)))
     c.in_ok-job.ensures.fresh.1
     (terms_last options to _ _ _ c.in_ok-terms.terms c.in_ok-job.job.terms (c.join.ensures.links stand).uses.links.lasts c.in_ok-job.ensures.terms c.in_ok-terms.ensures.settles)
-    c.in_ok-job.ensures.fresh.0 (returns-clause-unmoved g c)
+    c.in_ok-job.ensures.fresh.0 (returns-clause-unready g c)

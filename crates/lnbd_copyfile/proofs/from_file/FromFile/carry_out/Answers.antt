@@ -20,7 +20,7 @@ use Rattle.lnbd_copyfile.proofs.GivenLemmas.{began_on, on_behaves, unasked_behav
 use Rattle.lnbd_copyfile.proofs.ShareFromLemmas.{shared_ends, shared_so, shared_steps}
 use Rattle.lnbd_copyfile.specs.SharingFrom.{Not_settled}
 use Rattle.lnbd_copyfile.proofs.ShownLemmas.{shown_later}
-use Rattle.lnbd_copyfile.proofs.FromFilePauseLemmas.{unmoved_full_from}
+use Rattle.lnbd_copyfile.proofs.FromFilePauseLemmas.{unready_full_from}
 
 pub turns-preserved : goal.turns-preserved
 turns-preserved g c =
@@ -158,7 +158,7 @@ turns-init g c = record {
 }
 
 pub returns-in-Err-clause-full : goal.returns-in-Err-clause-full
-returns-in-Err-clause-full g c = unmoved_full_from c.args.self.now.options c.args.to.now _ _ c.begin.ensures.unmoved
+returns-in-Err-clause-full g c = unready_full_from c.args.self.now.options c.args.to.now _ _ c.begin.ensures.unready
 
 pub returns-in-Ok-Some-clause-full : goal.returns-in-Ok-Some-clause-full
 returns-in-Ok-Some-clause-full g c = c.step.ensures.pauses.on c.args.self.now.options c.args.to.now _ _ _ c.turns.invariant.full

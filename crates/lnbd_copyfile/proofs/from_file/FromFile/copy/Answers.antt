@@ -17,7 +17,7 @@ use Rattle.lnbd_copyfile.specs.Given.{Had_not, Had_opened}
 use Rattle.lnbd_copyfile.proofs.GivenLemmas.{opens_first}
 use Rattle.lnbd_copyfile.specs.SharingFrom.{Not_settled}
 use Rattle.lnbd_connections.proofs.FewLemmas.{few_same}
-use Rattle.lnbd_copyfile.proofs.FromFilePauseLemmas.{first_unmoved, unmoved_full_from}
+use Rattle.lnbd_copyfile.proofs.FromFilePauseLemmas.{first_unready, unready_full_from}
 use Rattle.lnbd_copy.proofs.PauseLemmas.{unpaused_none}
 
 pub returns-in-Ok-clause-stores : goal.returns-in-Ok-clause-stores
@@ -65,4 +65,4 @@ pub returns-in-Err-clause-within : goal.returns-in-Err-clause-within
 returns-in-Err-clause-within g c = within_first _ _ _ _ _ _ _ _ _ (uses_nowhere _ _ _ _ _ _)
 
 pub returns-in-Err-clause-full : goal.returns-in-Err-clause-full
-returns-in-Err-clause-full g c = unmoved_full_from c.args.self.now.options c.args.to.now _ _ (first_unmoved c.args.to.now _ _ (unpaused_none _))
+returns-in-Err-clause-full g c = unready_full_from c.args.self.now.options c.args.to.now _ _ (first_unready c.args.to.now _ _ (unpaused_none _))

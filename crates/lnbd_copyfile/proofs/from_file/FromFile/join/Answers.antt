@@ -1,4 +1,4 @@
-use Rattle.std.proofs.Common.{sym, subst, ap, ◌∙◌, ◌+◌, length, Some, ◌-◌, [], ℕ, true, false, replicate, List, Option, ◌≡◌, None}
+use Rattle.std.proofs.Common.{sym, subst, ap, ◌∙◌, ◌+◌, length, ◌-◌, [], ℕ, true, false, replicate, List, Option, ◌≡◌, None}
 use Rattle.lnbd_link.specs.Call.{Call}
 use Rattle.lnbd_touched.proofs.GrownLemmas.{done_as}
 use Rattle.lnbd_connections.specs.Steps.{Goes}
@@ -14,8 +14,8 @@ use Rattle.lnbd_copyfile.proofs.GivenLemmas.{joins_dials, joins_turns}
 use Rattle.lnbd_copyfile.proofs.ShareFromLemmas.{join_few, opening_joins}
 use Rattle.lnbd_copyfile.specs.SharingFrom.{HaveMet}
 use Rattle.lnbd_connections.specs.Bound.{Binds}
-use Rattle.lnbd_copyfile.proofs.FromFilePauseLemmas.{made_unmoved}
-use Rattle.lnbd_copyfile.proofs.FromFileLemmas.{made_dialed}
+use Rattle.lnbd_copyfile.specs.FromFilePauses.{IsAwaited}
+use Rattle.lnbd_copyfile.proofs.FromFilePauseLemmas.{awaits_more, unready_settled}
 use Rattle.lnbd_copy.proofs.PausedLemmas.{told_stays}
 
 pub returns-clause-on : goal.returns-clause-on
@@ -103,17 +103,16 @@ returns-clause-connected g c =
     let three = c.in_ok-dial_further.ensures.dials.stand (subst (λ (s : Seen). Stand s.held) (sym c.self.view_is) stand) in
     connected_then _ _ _ c.in_ok-dial_further.ensures.connected (connected_links _ _ _ _ (c.settle.ensures.uses three).links))
 
-pub returns-in_err-dial_further-clause-unmoved : goal.returns-in_err-dial_further-clause-unmoved
-returns-in_err-dial_further-clause-unmoved g c = λ start met unmoved. told_stays start _ _ c.dial_further.ensures.unpaused unmoved
+pub returns-in_err-dial_further-clause-unready : goal.returns-in_err-dial_further-clause-unready
+returns-in_err-dial_further-clause-unready g c = λ start awaits. told_stays start _ _ c.dial_further.ensures.unpaused awaits.so.pauses
 
-pub returns-clause-unmoved : goal.returns-clause-unmoved
-returns-clause-unmoved g c = λ start met unmoved.
+pub returns-clause-unready : goal.returns-clause-unready
+returns-clause-unready g c = λ start awaits.
     let was : Seen = record { options = c.self.inside.options; start = c.self.inside.start; held = c.self.inside.handles; board = c.self.inside.board } in
     let mid : Seen = record { options = c.self.inside.options; start = c.self.inside.start; held = c.dial_further.new.handles; board = c.dial_further.new.board } in
-    let had = subst (λ (s : Seen). HasMet c.args.to.now c.args.terms start (g.W.Wires.told c.args.wires.now) s) (sym c.self.view_is) met in
-    made_unmoved c.args.to.now (Some had.room) start _ _ mid
-    (made_dialed c.args.to.now (Some had.room) start _ _ was mid c.saturating_sub-more.result c.in_ok-dial_further.ensures.board c.in_ok-dial_further.ensures.dials had.made) c.settle.ensures.unmoved
-    (told_stays start _ _ c.dial_further.ensures.unpaused unmoved)
+    unready_settled c.args.to.now start _ _ mid c.settle.ensures.unready
+    (awaits_more c.args.to.now start _ _ was mid c.in_ok-dial_further.ensures.awaits
+    (subst (λ (s : Seen). IsAwaited c.args.to.now start (g.W.Wires.told c.args.wires.now) s) (sym c.self.view_is) awaits))
 
 pub returns-clause-many : goal.returns-clause-many
 returns-clause-many g c =

@@ -1,4 +1,4 @@
-use Rattle.std.proofs.Common.{[], ◌∷◌, ◌+◌, length, List, None, IfOk, true, false, ap, sym, subst, ◌∙◌}
+use Rattle.std.proofs.Common.{[], ◌∷◌, ◌+◌, length, List, IfOk, true, false, ap, sym, subst, ◌∙◌}
 use Rattle.lnbd_touched.proofs.GrownLemmas.{ok_as, ok_both}
 use Rattle.lnbd_copy.proofs.ConnectedLemmas.{connected_links, connected_then}
 use Rattle.lnbd_connections.specs.Uses.{Uses, UsesTo}
@@ -15,8 +15,7 @@ use Rattle.lnbd_copyfile.proofs.ShareFromLemmas.{met_few, opening_meets, terms_m
 use Rattle.lnbd_copyfile.specs.SharingFrom.{FindsTermsFrom, HasTermsFrom, HaveMet}
 use Rattle.lnbd_copyfile.specs.Shown.{FindsShown, HasShown}
 use Rattle.lnbd_copyfile.proofs.ShownLemmas.{met_shown}
-use Rattle.lnbd_copyfile.proofs.FromFilePauseLemmas.{first_unmoved, made_unmoved}
-use Rattle.lnbd_copyfile.proofs.FromFileLemmas.{made_dialed, made_first}
+use Rattle.lnbd_copyfile.proofs.FromFilePauseLemmas.{awaits_met, awaits_settled, first_unready, unready_settled}
 
 pub returns-clause-met : goal.returns-clause-met
 returns-clause-met g c =
@@ -132,26 +131,31 @@ returns-clause-shows g c =
     (λ terms. HasShown c.self.inside.options c.args.size to (g.W.Wires.told c.args.wires.now) (g.W.Wires.told c.settle.new.wires) terms)
     (λ terms met finds. met_shown c.self.inside.options c.args.size to _ _ new terms met finds) (returns-clause-met g c) c.agree.ensures.finds)
 
-pub returns-in_err-dial-clause-unmoved : goal.returns-in_err-dial-clause-unmoved
-returns-in_err-dial-clause-unmoved g c = first_unmoved c.args.to.now _ _ c.dial.ensures.unpaused
+pub returns-in_err-dial-clause-unready : goal.returns-in_err-dial-clause-unready
+returns-in_err-dial-clause-unready g c = first_unready c.args.to.now _ _ c.dial.ensures.unpaused
 
-pub returns-in_err-settle-clause-unmoved : goal.returns-in_err-settle-clause-unmoved
-returns-in_err-settle-clause-unmoved g c =
+pub returns-in_err-settle-clause-unready : goal.returns-in_err-settle-clause-unready
+returns-in_err-settle-clause-unready g c =
     let was : Seen = record { options = c.self.inside.options; start = c.self.inside.start; held = c.self.inside.handles; board = c.self.inside.board } in
     let mid : Seen = record { options = c.self.inside.options; start = c.self.inside.start; held = c.dial.new.handles; board = c.dial.new.board } in
-    made_unmoved c.args.to.now None (g.W.Wires.told c.args.wires.now) _ _ mid
-    (made_dialed c.args.to.now None (g.W.Wires.told c.args.wires.now) _ _ was mid 1 c.in_ok-dial.ensures.board c.in_ok-dial.ensures.dials
-    (made_first c.args.to.now (g.W.Wires.told c.args.wires.now) was (subst HasNotBegun (sym c.self.view_is) c.requires.begun))) c.settle.ensures.unmoved
-    (first_unmoved c.args.to.now _ _ c.dial.ensures.unpaused)
+    unready_settled c.args.to.now (g.W.Wires.told c.args.wires.now) _ _ mid c.settle.ensures.unready
+    (awaits_met c.args.to.now (g.W.Wires.told c.args.wires.now) _ was mid (subst HasNotBegun (sym c.self.view_is) c.requires.begun) c.in_ok-dial.ensures.awaits)
 
-pub returns-clause-unmoved : goal.returns-clause-unmoved
-returns-clause-unmoved g c =
+pub returns-clause-unready : goal.returns-clause-unready
+returns-clause-unready g c =
     let was : Seen = record { options = c.self.inside.options; start = c.self.inside.start; held = c.self.inside.handles; board = c.self.inside.board } in
     let mid : Seen = record { options = c.self.inside.options; start = c.self.inside.start; held = c.dial.new.handles; board = c.dial.new.board } in
-    made_unmoved c.args.to.now None (g.W.Wires.told c.args.wires.now) _ _ mid
-    (made_dialed c.args.to.now None (g.W.Wires.told c.args.wires.now) _ _ was mid 1 c.in_ok-dial.ensures.board c.in_ok-dial.ensures.dials
-    (made_first c.args.to.now (g.W.Wires.told c.args.wires.now) was (subst HasNotBegun (sym c.self.view_is) c.requires.begun))) c.settle.ensures.unmoved
-    (first_unmoved c.args.to.now _ _ c.dial.ensures.unpaused)
+    unready_settled c.args.to.now (g.W.Wires.told c.args.wires.now) _ _ mid c.settle.ensures.unready
+    (awaits_met c.args.to.now (g.W.Wires.told c.args.wires.now) _ was mid (subst HasNotBegun (sym c.self.view_is) c.requires.begun) c.in_ok-dial.ensures.awaits)
+
+pub returns-clause-awaits : goal.returns-clause-awaits
+returns-clause-awaits g c =
+    let was : Seen = record { options = c.self.inside.options; start = c.self.inside.start; held = c.self.inside.handles; board = c.self.inside.board } in
+    let mid : Seen = record { options = c.self.inside.options; start = c.self.inside.start; held = c.dial.new.handles; board = c.dial.new.board } in
+    let new : Seen = record { options = c.self.inside.options; start = c.self.inside.start; held = c.settle.new.handles; board = c.settle.new.board } in
+    ok_anyway c.agree.result _
+    (awaits_settled c.args.to.now (g.W.Wires.told c.args.wires.now) _ _ mid new c.in_ok-settle.ensures.awaits
+    (awaits_met c.args.to.now (g.W.Wires.told c.args.wires.now) _ was mid (subst HasNotBegun (sym c.self.view_is) c.requires.begun) c.in_ok-dial.ensures.awaits))
 
 pub returns-clause-one : goal.returns-clause-one
 returns-clause-one g c =

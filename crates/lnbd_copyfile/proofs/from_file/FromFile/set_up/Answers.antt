@@ -8,6 +8,7 @@ use Rattle.lnbd_connections.specs.Way.{Way}
 use Rattle.lnbd_copyfile.specs.declared.from_file_job.Phase.TheVariants.{Copying}
 use Rattle.lnbd_copyfile.specs.FromFile.{HasMet, IsGoing, Seen}
 use Rattle.lnbd_copyfile.specs.FromFileJob.{IsJob}
+use Rattle.lnbd_copyfile.specs.Holes.{nowhere}
 use Rattle.lnbd_copyfile.proofs.FromFileLemmas.{going_first}
 use Rattle.lnbd_copyfile.proofs.ShareFromLemmas.{sharing_sets_up}
 use Rattle.lnbd_copyfile.proofs.from_file.FromFile.set_up.Goals as goal
@@ -19,7 +20,7 @@ returns-clause-begins c =
     ok_both c.new-2.result
     (λ job. job.phase ≡ Copying)
     (λ job. (way : Way) (now : board.Seen) (room : ℕ) → way.size ≡ Some room → terms.size ≤ room → way.how ≡ terms.how → now.how ≡ terms.how → way.slices ≡ [] → way.asked ≡ None → now.flushing ≡
-    false → IsJob job way now)
+    false → IsJob job nowhere way now)
     (λ job. (to : Place) (file : ℕ) (start told : Option (List Call)) (shelf : Option Shelf) (given : ℕ) → HasMet to terms start told c.args.self.now → IsGoing to
     file job start told new shelf shelf given given)
     (λ job copying begins to file start told shelf given met. going_first to file terms start told c.args.self.now new job shelf given (ap (λ (s : Seen). s.held) c.self.view_is)

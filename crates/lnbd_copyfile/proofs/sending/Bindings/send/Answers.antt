@@ -12,12 +12,12 @@ begin-requires g c = record {
 pub returns-then-begun-clause-sends : goal.returns-then-begun-clause-sends
 returns-then-begun-clause-sends g c =
     passes_sent c.args.source.file c.args.windows.now c.begin.new.windows c.args.board.now c.go_on.new.board c.begin.new.board c.go_on-2.new.board c.args.handles.now c.go_on.new.handles
-    c.go_on-2.new.handles _ _ _ _ c.in-Ok.ensures.passes c.in-Ok-begin.ensures.begins c.in-Ok-go_on.ensures.passes
+    c.begin.new.handles c.go_on-2.new.handles _ _ _ _ c.in-Ok.ensures.passes c.in-Ok-begin.ensures.begins c.in-Ok-go_on.ensures.passes
 
 pub returns-else-begun-clause-sends : goal.returns-else-begun-clause-sends
 returns-else-begun-clause-sends g c =
     passes_sent c.args.source.file c.args.windows.now c.begin.new.windows c.args.board.now c.go_on.new.board c.begin.new.board c.go_on-2.new.board c.args.handles.now c.go_on.new.handles
-    c.go_on-2.new.handles _ _ _ _ c.in-Ok.ensures.passes c.in-Ok-begin.ensures.begins c.in-Ok-go_on.ensures.passes
+    c.begin.new.handles c.go_on-2.new.handles _ _ _ _ c.in-Ok.ensures.passes c.in-Ok-begin.ensures.begins c.in-Ok-go_on.ensures.passes
 
 pub returns-then-begun-clause-deals : goal.returns-then-begun-clause-deals
 returns-then-begun-clause-deals g c =
